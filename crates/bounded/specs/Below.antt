@@ -1,0 +1,12 @@
+-- A test at every number below a bound.
+use mathlib.Core.Bool.{Bool, true, false, not, _&&_}
+use Prim.Native.Nat.{ℕ, zero, suc}
+
+-- p holds at every number below n
+unfoldable pub allBelow : (ℕ → Bool) → ℕ → Bool
+allBelow p zero = true
+allBelow p (suc n) = allBelow p n && p n
+
+-- p holds at some number below n
+unfoldable pub someBelow : (ℕ → Bool) → ℕ → Bool
+someBelow p n = not (allBelow (λ k. not (p k)) n)

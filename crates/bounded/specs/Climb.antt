@@ -1,0 +1,23 @@
+-- From a number to its parent, and so on, up to a given number: with a bound on the steps as a test, with none as a proposition.
+use mathlib.Core.Path.{_≡_}
+use mathlib.Core.Bool.{Bool, _||_}
+use Prim.Native.Nat.{ℕ, zero, suc, _≤_, _<_}
+use lib.Dec.{eqb}
+
+-- d, k steps up
+unfoldable pub climb : (ℕ → ℕ) → ℕ → ℕ → ℕ
+climb up zero d = d
+climb up (suc k) d = climb up k (up d)
+
+-- some number of steps leads from d to a
+abbrev pub Leads : (ℕ → ℕ) → ℕ → ℕ → Type 0
+Leads up a d = (k : ℕ) × (climb up k d ≡ a)
+
+-- at most k steps do
+unfoldable pub leadsB : (ℕ → ℕ) → ℕ → ℕ → ℕ → Bool
+leadsB up a zero d = eqb d a
+leadsB up a (suc k) d = eqb d a || leadsB up a k (up d)
+
+-- each of the numbers 1 to n but a has its parent among them
+abbrev pub Closed : (ℕ → ℕ) → ℕ → ℕ → Type 0
+Closed up a n = (x : ℕ) → 0 < x → x ≤ n → (x ≡ a → ⊥) → (0 < up x) × (up x ≤ n)

@@ -1,0 +1,6 @@
+pub mod Below
+pub mod Search
+pub mod Update
+pub mod Count
+pub mod Climb
+pub mod Reflect
