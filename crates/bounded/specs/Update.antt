@@ -13,6 +13,6 @@ unfoldable pub upd : {A : Type 0} → (ℕ → A) → ℕ → A → ℕ → A
 upd f p v q = choose (ℕ-discrete q p) v (f q)
 
 -- what a function that differs from f only at p, where it is v, has at q: r
-pub data At {A : Type 0} (f : ℕ → A) (p : ℕ) (v : A) (q : ℕ) (r : A) : Type 0 where
-  here : q ≡ p → r ≡ v → At f p v q r
-  there : q ≢ p → r ≡ f q → At f p v q r
+pub data Changed {A : Type 0} (f : ℕ → A) (p : ℕ) (v : A) (q : ℕ) (r : A) : Type 0 where
+  here : q ≡ p → r ≡ v → Changed f p v q r
+  there : q ≢ p → r ≡ f q → Changed f p v q r
