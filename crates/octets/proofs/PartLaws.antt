@@ -1,0 +1,227 @@
+-- Parts and splices: every frame law of the layout follows from part-apart and part-in.
+use Prim.Native.Nat.{ℕ, zero, suc, _+_, _*_, _-_, _≤_, _<_, min, max}
+use mathlib.Core.Path.{_≡_, refl, sym, ap, _∙_}
+use mathlib.Core.List.{List, [], _∷_, _++_, append-assoc}
+use native.Mathlib.Omega.{arith}
+use native.Mathlib.Nat.{add-zero}
+use native.Mathlib.Decide.{decLt}
+use native.Mathlib.Numerals.{add-one}
+use lib.ListN.{getD, set, take, drop, length, replicate, length-set, length-take, length-drop, length-append, length-replicate, replicate-append-replicate}
+use lib.Seq.{set-comm, set-set, sets, sets-eq, drop-drop, take-take, getD-set-same, getD-set-other, getD-take, getD-drop, ext-getD, take-suc}
+use borrow.Rule.Slice.PartMut.{putMid}
+use Rattle.octets.specs.Octets.{part, splice, Apart, zeroed, copied}
+
+-- ---- lengths, and single bytes
+pub length-splice : (s : List ℕ) (o : ℕ) (xs : List ℕ) → length (splice s o xs) ≡ length s
+unfolding splice
+length-splice s o [] = refl
+length-splice s o (x ∷ xs) = length-splice (set s o x) (o + 1) xs ∙ length-set s o x
+
+pub length-part : (s : List ℕ) (o k : ℕ) → length (part s o k) ≡ min k (length s - o)
+unfolding part
+length-part s o k = simp (length-take, length-drop)
+
+-- a part that lies inside
+pub length-inside : (s : List ℕ) (o k : ℕ) → o + k ≤ length s → length (part s o k) ≡ k
+length-inside s o k h = length-part s o k ∙ omega arith
+
+pub getD-part : (s : List ℕ) (o k j : ℕ) → j < k → getD (part s o k) j 0 ≡ getD s (o + j) 0
+unfolding part
+getD-part s o k j h = rw (getD-take, getD-drop)
+
+pub splice-out : (s : List ℕ) (o : ℕ) (xs : List ℕ) (k : ℕ) → Apart k 1 o (length xs) → getD (splice s o xs) k 0 ≡ getD s k 0
+unfolding splice
+splice-out s o [] k h = refl
+splice-out s o (x ∷ xs) k h = splice-out (set s o x) (o + 1) xs k (omega arith) ∙ getD-set-other s o k x 0 (omega arith)
+
+pub splice-in : (s : List ℕ) (o : ℕ) (xs : List ℕ) (j : ℕ) → o + length xs ≤ length s → j < length xs → getD (splice s o xs) (o + j) 0 ≡ getD xs j 0
+unfolding splice
+splice-in s o [] j f h = omega arith
+splice-in s o (x ∷ xs) zero f h = rw (add-zero, splice-out (set s o x) (o + 1) xs o (omega arith), getD-set-same s o x 0 (omega arith))
+splice-in s o (x ∷ xs) (suc j) f h =
+    let e : o + suc j ≡ o + 1 + j = omega arith in
+    rw e (splice-in (set s o x) (o + 1) xs j (rw length-set (omega arith)) (omega arith))
+
+-- ---- a part after a splice
+-- apart from it
+pub part-apart : (s : List ℕ) (o k p : ℕ) (xs : List ℕ) → Apart o k p (length xs) → part (splice s p xs) o k ≡ part s o k
+part-apart s o k p xs h =
+    ext-getD 0 _ _ (rw (length-part, length-part, length-splice))
+    (λ i b.
+    let b′ : i < min k (length (splice s p xs) - o) = rw length-part at b in
+    let hk : i < k = omega arith in
+    rw (getD-part (splice s p xs) o k i hk, getD-part s o k i hk, splice-out s p xs (o + i) (omega arith)))
+
+-- inside of it
+pub part-in : (s : List ℕ) (o : ℕ) (xs : List ℕ) (a k : ℕ) → o + length xs ≤ length s → a + k ≤ length xs → part (splice s o xs) (o + a) k ≡ part xs a k
+part-in s o xs a k f h =
+    ext-getD 0 _ _ (rw (length-part, length-part, length-splice) (omega arith))
+    (λ i b.
+    let b′ : i < min k (length (splice s o xs) - (o + a)) = rw length-part at b in
+    let hk : i < k = omega arith in
+    let e : o + a + i ≡ o + (a + i) = omega arith in
+    rw (getD-part (splice s o xs) (o + a) k i hk, getD-part xs a k i hk, e, splice-in s o xs (a + i) f (omega arith)))
+
+pub part-all : (s : List ℕ) (k : ℕ) → length s ≡ k → part s 0 k ≡ s
+part-all s k e =
+    ext-getD 0 _ _ (rw length-part (omega arith))
+    (λ i b.
+    let b′ : i < min k (length s - 0) = rw length-part at b in
+    getD-part s 0 k i (omega arith) ∙ ap (λ (j : ℕ). getD s j 0) (omega arith))
+
+-- at the same place
+pub part-same : (s : List ℕ) (o : ℕ) (xs : List ℕ) (k : ℕ) → length xs ≡ k → o + k ≤ length s → part (splice s o xs) o k ≡ xs
+part-same s o xs k e f =
+    let z : o ≡ o + 0 = omega arith in
+    ap (λ (p : ℕ). part (splice s o xs) p k) z ∙ part-in s o xs 0 k (omega arith) (omega arith) ∙ part-all xs k e
+
+-- around it: the part with the same bytes spliced in
+pub part-around : (s : List ℕ) (o k a : ℕ) (xs : List ℕ) → a + length xs ≤ k → o + k ≤ length s → part (splice s (o + a) xs) o k ≡ splice (part s o k) a xs
+part-around s o k a xs h f =
+    ext-getD 0 _ _ (rw (length-part, length-splice, length-splice, length-part))
+    (λ i b.
+    let b′ : i < min k (length (splice s (o + a) xs) - o) = rw length-part at b in
+    let hk : i < k = omega arith in
+    rw (getD-part (splice s (o + a) xs) o k i hk) (at i hk))
+  where
+    inside : (i : ℕ) → i < k → a ≤ i → i < a + length xs → getD (splice s (o + a) xs) (o + i) 0 ≡ getD (splice (part s o k) a xs) i 0
+    inside i hk l m =
+        let e : o + i ≡ o + a + (i - a) = omega arith in
+        let g : i ≡ a + (i - a) = omega arith in
+        let n : length (part s o k) ≡ k = length-inside s o k f in
+        ap (λ (j : ℕ). getD (splice s (o + a) xs) j 0) e
+        ∙ splice-in s (o + a) xs (i - a) (omega arith) (omega arith)
+        ∙ sym (splice-in (part s o k) a xs (i - a) (omega arith) (omega arith))
+        ∙ ap (λ (j : ℕ). getD (splice (part s o k) a xs) j 0) (sym g)
+
+    outside : (i : ℕ) → i < k → Apart i 1 a (length xs) → getD (splice s (o + a) xs) (o + i) 0 ≡ getD (splice (part s o k) a xs) i 0
+    outside i hk l =
+        splice-out s (o + a) xs (o + i) (omega arith) ∙ sym (getD-part s o k i hk) ∙ sym (splice-out (part s o k) a xs i (omega arith))
+
+    at : (i : ℕ) → i < k → getD (splice s (o + a) xs) (o + i) 0 ≡ getD (splice (part s o k) a xs) i 0
+    at i hk = go (decLt i a) (decLt i (a + length xs))
+      where
+        go : Dec (i < a) → Dec (i < a + length xs) → getD (splice s (o + a) xs) (o + i) 0 ≡ getD (splice (part s o k) a xs) i 0
+        go (yes l) d = outside i hk (omega arith)
+        go (no l) (yes m) = inside i hk (omega arith) m
+        go (no l) (no m) = outside i hk (omega arith)
+
+-- a part of a part
+pub part-part : (s : List ℕ) (o k a m : ℕ) → a + m ≤ k → part (part s o k) a m ≡ part s (o + a) m
+part-part s o k a m h =
+    ext-getD 0 _ _ (rw (length-part, length-part, length-part) (omega arith))
+    (λ i b.
+    let b′ : i < min m (length (part s o k) - a) = rw length-part at b in
+    let hm : i < m = omega arith in
+    let e : o + (a + i) ≡ o + a + i = omega arith in
+    rw (getD-part (part s o k) a m i hm, getD-part s o k (a + i) (omega arith), getD-part s (o + a) m i hm, e))
+
+-- ---- two splices
+pub splice-append : (s : List ℕ) (o : ℕ) (xs ys : List ℕ) → splice (splice s o xs) (o + length xs) ys ≡ splice s o (xs ++ ys)
+unfolding splice
+splice-append s o [] ys = rw add-zero
+splice-append s o (x ∷ xs) ys =
+    let e : o + suc (length xs) ≡ o + 1 + length xs = omega arith in
+    rw e (splice-append (set s o x) (o + 1) xs ys)
+
+set-splice : (s : List ℕ) (o : ℕ) (xs : List ℕ) (p y : ℕ) → Apart p 1 o (length xs) → set (splice s o xs) p y ≡ splice (set s p y) o xs
+unfolding splice
+set-splice s o [] p y h = refl
+set-splice s o (x ∷ xs) p y h = set-splice (set s o x) (o + 1) xs p y (omega arith) ∙ rw (set-comm s o p x y (omega arith))
+
+-- apart from each other, in either order
+pub splice-comm : (s : List ℕ) (o : ℕ) (xs : List ℕ) (p : ℕ) (ys : List ℕ) → Apart o (length xs) p (length ys) → splice (splice s o xs) p ys ≡ splice (splice s p ys) o xs
+unfolding splice
+splice-comm s o xs p [] h = refl
+splice-comm s o xs p (y ∷ ys) h = rw (set-splice s o xs p y (omega arith)) (splice-comm (set s p y) o xs (p + 1) ys (omega arith))
+
+-- at one place: the second counts
+pub splice-twice : (s : List ℕ) (o : ℕ) (xs ys : List ℕ) → length xs ≡ length ys → splice (splice s o xs) o ys ≡ splice s o ys
+unfolding splice
+splice-twice s o [] ys e = refl
+splice-twice s o (x ∷ xs) [] e = let z : ⊥ = omega arith in absurd z
+splice-twice s o (x ∷ xs) (y ∷ ys) e =
+    rw (set-splice (set s o x) (o + 1) xs o y (omega arith), set-set) (splice-twice (set s o y) (o + 1) xs ys (omega arith))
+
+-- what stands there already changes nothing
+pub splice-part : (s : List ℕ) (o k : ℕ) → o + k ≤ length s → splice s o (part s o k) ≡ s
+splice-part s o k h =
+    let n : length (part s o k) ≡ k = length-inside s o k h in
+    ext-getD 0 _ _ (length-splice s o (part s o k)) (λ i b. go i (decLt i o) (decLt i (o + k)))
+  where
+    same : length (part s o k) ≡ k
+    same = length-inside s o k h
+
+    go : (i : ℕ) → Dec (i < o) → Dec (i < o + k) → getD (splice s o (part s o k)) i 0 ≡ getD s i 0
+    go i (yes l) d = let n = same in splice-out s o (part s o k) i (omega arith)
+    go i (no l) (no m) = let n = same in splice-out s o (part s o k) i (omega arith)
+    go i (no l) (yes m) =
+        let n = same in
+        let e : i ≡ o + (i - o) = omega arith in
+        ap (λ (j : ℕ). getD (splice s o (part s o k)) j 0) e
+        ∙ splice-in s o (part s o k) (i - o) (omega arith) (omega arith)
+        ∙ getD-part s o k (i - o) (omega arith) ∙ ap (λ (j : ℕ). getD s j 0) (sym e)
+
+-- one byte more
+pub splice-snoc : (s : List ℕ) (o : ℕ) (xs : List ℕ) (k x : ℕ) → length xs ≡ k → set (splice s o xs) (o + k) x ≡ splice s o (xs ++ (x ∷ []))
+unfolding splice
+splice-snoc s o xs k x e = rw (← e) (splice-append s o xs (x ∷ []))
+
+-- ---- what the code makes of a part
+-- `&s[o..o + k]`
+pub cut : (s : List ℕ) (o k : ℕ) → take (o + k - o) (drop o s) ≡ part s o k
+unfolding part
+cut s o k = let e : o + k - o ≡ k = omega arith in rw e
+
+pub length-cut : (s : List ℕ) (o k : ℕ) → o + k ≤ length s → length (take (o + k - o) (drop o s)) ≡ k
+length-cut s o k h = rw (cut, length-part) (omega arith)
+
+splice-sets : (s : List ℕ) (o : ℕ) (ys : List ℕ) → splice s o ys ≡ sets s o ys
+unfolding splice
+splice-sets s o [] = refl
+splice-sets s o (y ∷ ys) = rw add-one (splice-sets (set s o y) (suc o) ys)
+
+-- the whole once a part that was lent, `&mut s[o..o + k]`, has come back with ys
+pub lent : (s : List ℕ) (o k : ℕ) (ys : List ℕ) → length ys ≡ k → o + k ≤ length s → putMid o (o + k - o) s ys ≡ splice s o ys
+lent s o k ys e h =
+    let q : o + k - o ≡ length ys = omega arith in
+    rw (q, splice-sets, sets-eq ys s o (omega arith), append-assoc)
+    (rw drop-drop)
+
+-- ---- ranges zeroed and copied: lengths, and one byte more
+pub length-zeroed : (s : List ℕ) (o k : ℕ) → length (zeroed s o k) ≡ length s
+unfolding zeroed
+length-zeroed s o k = length-splice s o (replicate k 0)
+
+pub length-copied : (d : List ℕ) (o : ℕ) (s : List ℕ) (p k : ℕ) → length (copied d o s p k) ≡ length d
+unfolding copied
+length-copied d o s p k = length-splice d o (part s p k)
+
+pub zeroed-none : (s : List ℕ) (o : ℕ) → s ≡ zeroed s o 0
+unfolding zeroed splice
+zeroed-none s o = refl
+
+pub zeroed-more : (s : List ℕ) (o k : ℕ) → set (zeroed s o k) (o + k) 0 ≡ zeroed s o (k + 1)
+unfolding zeroed
+zeroed-more s o k =
+    splice-snoc s o (replicate k 0) k 0 (length-replicate k 0) ∙ ap (splice s o) (replicate-append-replicate k 1 0)
+
+pub copied-none : (d : List ℕ) (o : ℕ) (s : List ℕ) (p : ℕ) → d ≡ copied d o s p 0
+unfolding copied part splice
+copied-none d o s p = refl
+
+pub part-more : (s : List ℕ) (p k : ℕ) → p + k < length s → part s p (k + 1) ≡ part s p k ++ (getD s (p + k) 0 ∷ [])
+unfolding part
+part-more s p k h = rw (add-one, take-suc (drop p s) k 0 (rw length-drop (omega arith)), getD-drop)
+
+pub copied-more : (d : List ℕ) (o : ℕ) (s : List ℕ) (p k : ℕ) → p + k < length s → set (copied d o s p k) (o + k) (getD s (p + k) 0) ≡ copied d o s p (k + 1)
+unfolding copied
+copied-more d o s p k h =
+    splice-snoc d o (part s p k) k (getD s (p + k) 0) (length-inside s p k (omega arith)) ∙ ap (splice d o) (sym (part-more s p k h))
+
+-- within one list, for two ranges apart: the byte to copy next is still there
+pub copied-kept : (s : List ℕ) (o p k j : ℕ) → Apart o k p k → j < k → p + k ≤ length s → getD (copied s o s p j) (p + j) 0 ≡ getD s (p + j) 0
+unfolding copied
+copied-kept s o p k j h l f =
+    let n : length (part s p j) ≡ j = length-inside s p j (omega arith) in
+    splice-out s o (part s p j) (p + j) (omega arith)
