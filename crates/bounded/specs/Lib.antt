@@ -4,3 +4,4 @@ pub mod Update
 pub mod Count
 pub mod Climb
 pub mod Reflect
+pub mod Table

@@ -1,0 +1,44 @@
+-- Laws of the list of a function's values, and of a loop that fills it.
+use mathlib.Core.Path.{_≡_, refl, sym, ap, ap₂, _∙_}
+use mathlib.Core.List.{List, _∷_}
+use Prim.Native.Nat.{ℕ, zero, suc, _+_, _≤_, _<_}
+use native.Mathlib.Nat.{not-suc-le-zero, le-of-suc-le-suc}
+use native.Mathlib.Decide.{ℕ-discrete}
+use native.Mathlib.Omega.{arith}
+use lib.ListN.{length, getD, set, length-set}
+use lib.Seq.{ext-getD, getD-set-same, getD-set-other}
+use Rattle.bounded.specs.Table.{table, Filled}
+
+pub length-table : (f : ℕ → ℕ) (n : ℕ) → length (table f n) ≡ n
+unfolding table
+length-table f zero = refl
+length-table f (suc n) = ap suc (length-table (λ k. f (suc k)) n)
+
+pub getD-table : (f : ℕ → ℕ) (n i : ℕ) → i < n → getD (table f n) i 0 ≡ f i
+unfolding table
+getD-table f zero i l = absurd (not-suc-le-zero l)
+getD-table f (suc n) zero l = refl
+getD-table f (suc n) (suc i) l = getD-table (λ k. f (suc k)) n i (le-of-suc-le-suc l)
+
+-- functions that are equal below n
+pub table-ext : (f g : ℕ → ℕ) (n : ℕ) → ((k : ℕ) → k < n → f k ≡ g k) → table f n ≡ table g n
+unfolding table
+table-ext f g zero h = refl
+table-ext f g (suc n) h = ap₂ (λ (x : ℕ) (l : List ℕ). x ∷ l) (h 0 (omega arith)) (table-ext (λ k. f (suc k)) (λ k. g (suc k)) n (λ k l. h (suc k) (omega arith)))
+
+-- a loop that fills a list: before it, a turn, after it
+module _ (f : ℕ → ℕ) (n : ℕ) where
+  pub filled-none : (l : List ℕ) → length l ≡ n → Filled f n 0 l
+  filled-none l e = record { long = e; each = λ i h. absurd (not-suc-le-zero h) }
+
+  pub filled-more : (k v : ℕ) (l : List ℕ) → k < n → v ≡ f k → Filled f n k l → Filled f n (k + 1) (set l k v)
+  filled-more k v l h e t = record { long = length-set l k v ∙ t .long; each = λ i p. at i p (ℕ-discrete i k) }
+    where
+      at : (i : ℕ) → i < k + 1 → Dec (i ≡ k) → getD (set l k v) i 0 ≡ f i
+      at i p (yes q) = ap (λ (j : ℕ). getD (set l k v) j 0) q ∙ getD-set-same l k v 0 (omega (arith, t .long)) ∙ e ∙ ap f (sym q)
+      at i p (no q) = getD-set-other l k i v 0 q ∙ t .each i (omega arith)
+
+  pub filled-all : (k : ℕ) (l : List ℕ) → n ≤ k → Filled f n k l → l ≡ table f n
+  filled-all k l h t =
+      ext-getD 0 l (table f n) (t .long ∙ sym (length-table f n))
+      (λ i p. t .each i (omega (arith, t .long)) ∙ sym (getD-table f n i (omega (arith, t .long))))
