@@ -43,6 +43,13 @@ pub fn get_32(s: &[u8], o: usize) -> u32
     wide_16(get_16(s, o)) + 65536 * wide_16(get_16(s, o + 2))
 }
 
+pub fn get_48(s: &[u8], o: usize) -> u64
+    requires { ⌜ o + 6 ≤ length (now s) ⌝ }
+    ensures { λ r. ⌜ r ≡ numAt 6 (now (s .entry)) o ⌝ }
+{
+    wide_32(get_32(s, o)) + 4294967296 * wide_32(wide_16(get_16(s, o + 4)))
+}
+
 pub fn get_64(s: &[u8], o: usize) -> u64
     requires { ⌜ o + 8 ≤ length (now s) ⌝ }
     ensures { λ r. ⌜ r ≡ numAt 8 (now (s .entry)) o ⌝ }

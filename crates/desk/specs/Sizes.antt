@@ -1,0 +1,35 @@
+-- "Desk, 16 + 9 × N bytes"
+use Prim.Native.Nat.{ℕ, _+_, _*_, _-_}
+
+abbrev pub deskHeaderBytes : ℕ
+deskHeaderBytes = 16
+
+-- a copied byte and an 8-byte mark word for each inode
+abbrev pub deskInodeBytes : ℕ
+deskInodeBytes = 9
+
+abbrev pub markBytes : ℕ
+markBytes = 8
+
+abbrev pub deskLength : ℕ → ℕ
+deskLength n = deskHeaderBytes + deskInodeBytes * n
+
+-- "Then N copied bytes (0 or 1) and, in parallel, N 8-byte mark words": where those of inode i stand
+abbrev pub copiedAt : ℕ → ℕ
+copiedAt i = deskHeaderBytes + (i - 1)
+
+abbrev pub marksAt : ℕ → ℕ → ℕ
+marksAt n i = deskHeaderBytes + n + markBytes * (i - 1)
+
+-- "4 state (0 idle, 1 running, 2 finished, 3 stopped)"
+abbrev pub idle : ℕ
+idle = 0
+
+abbrev pub running : ℕ
+running = 1
+
+abbrev pub finished : ℕ
+finished = 2
+
+abbrev pub stopped : ℕ
+stopped = 3

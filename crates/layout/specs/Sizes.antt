@@ -1,0 +1,40 @@
+-- The numbers of document 01's "Bytes", each under one name.
+use Prim.Native.Nat.{ℕ}
+
+-- "Header, 16 bytes"
+abbrev pub headerBytes : ℕ
+headerBytes = 16
+
+-- "inode count N (1 to 256)"
+abbrev pub mostInodes : ℕ
+mostInodes = 256
+
+-- "block count B (store 1 to 1,024, image 1 to 4,096)"
+abbrev pub mostStoreBlocks : ℕ
+mostStoreBlocks = 1024
+
+abbrev pub mostImageBlocks : ℕ
+mostImageBlocks = 4096
+
+-- "N attribute entries of 8 bytes"
+abbrev pub attributeBytes : ℕ
+attributeBytes = 8
+
+-- "N address entries of 24 bytes: twelve 16-bit block numbers"
+abbrev pub addressBytes : ℕ
+addressBytes = 24
+
+abbrev pub addressCount : ℕ
+addressCount = 12
+
+-- both entries of an inode: "16 + 32 × N + 64 × B"
+abbrev pub inodeBytes : ℕ
+inodeBytes = 32
+
+-- "B blocks of 64 bytes"
+abbrev pub blockBytes : ℕ
+blockBytes = 64
+
+-- "at most 768 bytes"
+abbrev pub mostFileBytes : ℕ
+mostFileBytes = 768

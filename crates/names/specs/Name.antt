@@ -1,0 +1,30 @@
+-- "A name is 1 to 14 bytes, none 0 or `/`, and is not `.` or `..`."
+use Prim.Native.Nat.{ℕ}
+use mathlib.Core.Bool.{Bool, not, _&&_}
+use mathlib.Core.List.{List}
+use lib.Dec.{eqb, leb}
+use lib.ListN.{length, getD}
+use Rattle.bounded.specs.Below.{allBelow}
+
+-- "1 to 14 bytes"
+abbrev pub nameBytes : ℕ
+nameBytes = 14
+
+-- the bytes of `/` and `.`
+abbrev pub slash : ℕ
+slash = 47
+
+abbrev pub dot : ℕ
+dot = 46
+
+-- "none 0 or `/`": byte k is neither
+unfoldable pub plainByte : List ℕ → ℕ → Bool
+plainByte name k = not (eqb (getD name k 0) 0) && not (eqb (getD name k 0) slash)
+
+-- "`.` or `..`": at most two bytes, each a dot
+unfoldable pub isDots : List ℕ → Bool
+isDots name = leb (length name) 2 && allBelow (λ k. eqb (getD name k 0) dot) (length name)
+
+unfoldable pub legalName : List ℕ → Bool
+legalName name =
+    leb 1 (length name) && (leb (length name) nameBytes && (allBelow (plainByte name) (length name) && not (isDots name)))

@@ -1,0 +1,159 @@
+// Names, and the 16 bytes of a directory entry.
+ghost use mathlib.Core.Path.{_≡_};
+ghost use Prim.Native.Nat.{ℕ, _+_, _<_, _≤_};
+ghost use lib.ListN.{length};
+ghost use Rattle.names.specs.Name.{nameBytes, plainByte, isDots, legalName};
+ghost use Rattle.bounded.specs.Below.{allBelow};
+ghost use Rattle.names.specs.Entry.{entryBytes, entryInode, isEmpty, nameLength, legalEntry, entryFor, wordsAt, sameWords};
+
+pub const ENTRY_BYTES: usize = 16;
+
+pub const NAME_BYTES: usize = 14;
+
+const NAME_AT: usize = 2;
+
+// A name in 14 bytes, zero-filled, as two words: names are compared word by word.
+pub struct Name {
+    pub low: u64,
+    pub high: u64,
+}
+
+impl Name {
+    // The name that starts at o.
+    fn at(s: &[u8], o: usize) -> Name
+        requires { ⌜ o + nameBytes ≤ length (now s) ⌝ }
+        ensures { λ r. ⌜ r ≡ wordsAt (now (s .entry)) o ⌝ }
+    {
+        Name {
+            low: octets::get_64(s, o),
+            high: octets::get_48(s, o + 8),
+        }
+    }
+
+    pub fn of(name: &[u8]) -> Name
+        requires { ⌜ length (now name) ≤ nameBytes ⌝ }
+        ensures { λ r. ⌜ r ≡ wordsAt (now (name .entry)) 0 ⌝ }
+    {
+        let mut filled = [0u8; 14];
+        for k in 0..name.len() {
+            filled[k] = name[k];
+        }
+        Name::at(&filled, 0)
+    }
+
+    pub fn same(self, other: Name) -> bool
+        ensures { λ r. ⌜ r ≡ sameWords self other ⌝ }
+    {
+        if self.low != other.low {
+            return false;
+        }
+        self.high == other.high
+    }
+}
+
+// The entry's name is this one.
+pub fn same_name(entry: &[u8], name: Name) -> bool
+    requires { ⌜ entryBytes ≤ length (now entry) ⌝ }
+    ensures { λ r. ⌜ r ≡ sameWords (wordsAt (now (entry .entry)) 2) name ⌝ }
+{
+    Name::at(entry, NAME_AT).same(name)
+}
+
+pub fn entry_inode(entry: &[u8]) -> u16
+    requires { ⌜ entryBytes ≤ length (now entry) ⌝ }
+    ensures { λ r. ⌜ r ≡ entryInode (now (entry .entry)) ⌝ }
+{
+    octets::get_16(entry, 0)
+}
+
+pub fn is_empty(entry: &[u8]) -> bool
+    requires { ⌜ entryBytes ≤ length (now entry) ⌝ }
+    ensures { λ r. ⌜ r ≡ isEmpty (now (entry .entry)) ⌝ }
+{
+    if octets::get_64(entry, 0) != 0 {
+        return false;
+    }
+    octets::get_64(entry, 8) == 0
+}
+
+fn is_dots(name: &[u8]) -> bool
+    ensures { λ r. ⌜ r ≡ isDots (now (name .entry)) ⌝ }
+{
+    let k = name.len();
+    if 2 < k {
+        return false;
+    }
+    for j in 0..k {
+        if name[j] != b'.' {
+            return false;
+        }
+    }
+    true
+}
+
+// No byte is 0 or a slash.
+fn is_plain(name: &[u8]) -> bool
+    ensures { λ r. ⌜ r ≡ allBelow (plainByte (now (name .entry))) (length (now (name .entry))) ⌝ }
+{
+    for j in 0..name.len() {
+        let x = name[j];
+        if x == 0 {
+            return false;
+        }
+        if x == b'/' {
+            return false;
+        }
+    }
+    true
+}
+
+pub fn legal_name(name: &[u8]) -> bool
+    ensures { λ r. ⌜ r ≡ legalName (now (name .entry)) ⌝ }
+{
+    let k = name.len();
+    if k < 1 {
+        return false;
+    }
+    if NAME_BYTES < k {
+        return false;
+    }
+    if !is_plain(name) {
+        return false;
+    }
+    !is_dots(name)
+}
+
+// How many bytes the entry's name has.
+pub fn name_length(entry: &[u8]) -> usize
+    requires { ⌜ entryBytes ≤ length (now entry) ⌝ }
+    ensures { λ r. ⌜ (r ≡ nameLength (now (entry .entry))) × (r ≤ nameBytes) ⌝ }
+{
+    for k in 0..NAME_BYTES {
+        if entry[NAME_AT + k] == 0 {
+            return k;
+        }
+    }
+    NAME_BYTES
+}
+
+// The entry holds a legal name, and zero bytes after it.
+pub fn legal_entry(entry: &[u8]) -> bool
+    requires { ⌜ entryBytes ≤ length (now entry) ⌝ }
+    ensures { λ r. ⌜ r ≡ legalEntry (now (entry .entry)) ⌝ }
+{
+    let k = name_length(entry);
+    let name = &entry[NAME_AT..NAME_AT + k];
+    if !legal_name(name) {
+        return false;
+    }
+    same_name(entry, Name::of(name))
+}
+
+pub fn put_entry(entry: &mut [u8], inode: u16, name: &[u8])
+    requires { ⌜ (length (now entry) ≡ entryBytes) × (length (now name) ≤ nameBytes) ⌝ }
+    ensures { λ _. ⌜ now (entry .exit) ≡ entryFor inode (now (name .entry)) ⌝ }
+{
+    octets::zero_range(&mut *entry, 0, ENTRY_BYTES);
+    octets::put_16(&mut *entry, 0, inode);
+    octets::copy_range(&mut *entry, NAME_AT, name, 0, name.len());
+}
