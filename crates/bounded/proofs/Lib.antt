@@ -6,3 +6,4 @@ pub mod CountLaws
 pub mod ClimbLaws
 pub mod ReflectLaws
 pub mod TableLaws
+pub mod SeenLaws

@@ -5,3 +5,4 @@ pub mod Count
 pub mod Climb
 pub mod Reflect
 pub mod Table
+pub mod Seen

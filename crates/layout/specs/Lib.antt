@@ -1,2 +1,5 @@
 pub mod Sizes
-pub mod Store
+pub mod Header
+pub mod Inode
+pub mod Block
+pub mod Free

@@ -1,6 +1,6 @@
 -- Byte lists: a part read, a part written, and numbers low byte first.
 use Prim.Native.Nat.{ℕ, zero, suc, _+_, _*_, _/_, _%_, _≤_, _<_, min, max}
-use mathlib.Core.List.{List, [], _∷_}
+use mathlib.Core.List.{List, [], _∷_, _++_}
 use lib.ListN.{getD, set, take, drop, replicate}
 
 -- the k bytes of s from o on
@@ -43,3 +43,8 @@ zeroed s o k = splice s o (replicate k 0)
 -- d with, from o on, the k bytes of s that stand from p on
 unfoldable pub copied : List ℕ → ℕ → List ℕ → ℕ → ℕ → List ℕ
 copied d o s p k = splice d o (part s p k)
+
+-- numbers of two bytes each, one after the other
+unfoldable pub wordBytes : List ℕ → List ℕ
+wordBytes [] = []
+wordBytes (v ∷ vs) = toBytes 2 v ++ wordBytes vs

@@ -1,0 +1,71 @@
+-- A loop that notes in a list each value it meets.
+use mathlib.Core.Path.{_≡_, refl, sym, ap, _∙_}
+use mathlib.Core.Bool.{Bool, true, false, not}
+use mathlib.Core.List.{List}
+use Prim.Native.Nat.{ℕ, _+_, _≤_, _<_}
+use native.Mathlib.Decide.{ℕ-discrete}
+use native.Mathlib.Omega.{arith}
+use borrow.Author.Tests.{eq-eqb, ne-eqb}
+use lib.Dec.{eqb}
+use lib.ListN.{length, getD, set, replicate, getD-replicate, length-replicate, length-set}
+use lib.Seq.{getD-set-same, getD-set-other}
+use Rattle.bounded.specs.Below.{someBelow}
+use Rattle.bounded.specs.Count.{one}
+use Rattle.bounded.specs.Seen.{Seen}
+use Rattle.bounded.proofs.BoolLaws.{same-test}
+use Rattle.bounded.proofs.BelowLaws.{some-of, some-at, none-some}
+
+-- a test that fails at m adds nothing there
+pub some-skip : (p : ℕ → Bool) (m : ℕ) → p m ≡ false → someBelow p (m + 1) ≡ someBelow p m
+some-skip p m e =
+    same-test _ _
+    (λ h. let r = some-at p (m + 1) h in go (r .0) (r .1) (r .2) (ℕ-discrete (r .0) m))
+    (λ h. let r = some-at p m h in let l : r .0 < m = r .1 in some-of p (m + 1) (r .0) (omega arith) (r .2))
+  where
+    go : (k : ℕ) → k < m + 1 → p k ≡ true → Dec (k ≡ m) → someBelow p m ≡ true
+    go k l t (yes q) = let z : _≡_ {A = Bool} true false = sym t ∙ ap p q ∙ e in let w : _≡_ {A = ℕ} 0 1 = cc in absurd (omega arith)
+    go k l t (no q) = some-of p m k (omega arith) t
+
+pub some-here : (p : ℕ → Bool) (m : ℕ) → p m ≡ true → someBelow p (m + 1) ≡ true
+some-here p m e = some-of p (m + 1) m (omega arith) e
+
+module _ (f : ℕ → ℕ) (n : ℕ) where
+  pub seen-start : Seen f n 0 (replicate n 0)
+  seen-start = record {
+    long = length-replicate n 0;
+    each = λ v h. getD-replicate n v 0 0 h ∙ sym (ap one (none-some (λ k. eqb (f k) v) 0 (λ k l. absurd (omega arith))));
+  }
+
+  pub seen-more : (m a : ℕ) (l : List ℕ) → a ≡ f m → a < n → Seen f n m l → Seen f n (m + 1) (set l a 1)
+  seen-more m a l e h s = record { long = length-set l a 1 ∙ s .long; each = λ v b. at v b (ℕ-discrete v a) }
+    where
+      at : (v : ℕ) → v < n → Dec (v ≡ a) → getD (set l a 1) v 0 ≡ one (someBelow (λ k. eqb (f k) v) (m + 1))
+      at v b (yes q) =
+          ap (λ (j : ℕ). getD (set l a 1) j 0) q ∙ getD-set-same l a 1 0 (omega (arith, s .long))
+          ∙ sym (ap one (some-here (λ k. eqb (f k) v) m (eq-eqb (f m) v (sym e ∙ sym q))))
+      at v b (no q) =
+          getD-set-other l a v 1 0 q ∙ s .each v b ∙ sym (ap one (some-skip (λ k. eqb (f k) v) m (ne-eqb (f m) v (λ z. q (sym z ∙ sym e)))))
+
+-- what a place of the list says
+one-zero : (b : Bool) → one b ≡ 0 → b ≡ false
+one-zero true e = absurd (omega arith)
+one-zero false e = refl
+
+one-not : (b : Bool) → (one b ≡ 0 → ⊥) → b ≡ true
+one-not true e = refl
+one-not false e = absurd (e refl)
+
+module _ (f : ℕ → ℕ) (n m v : ℕ) (l : List ℕ) (s : Seen f n m l) (h : v < n) where
+  pub seen-not : getD l v 0 ≡ 0 → someBelow (λ k. eqb (f k) v) m ≡ false
+  seen-not e = one-zero _ (sym (s .each v h) ∙ e)
+
+  pub seen-some : (getD l v 0 ≡ 0 → ⊥) → someBelow (λ k. eqb (f k) v) m ≡ true
+  seen-some e = one-not _ (λ z. e (s .each v h ∙ z))
+
+  -- the test that the code makes, as the definition has it
+  pub seen-test : eqb (getD l v 0) 0 ≡ not (someBelow (λ k. eqb (f k) v) m)
+  seen-test = ap (λ (x : ℕ). eqb x 0) (s .each v h) ∙ go (someBelow (λ k. eqb (f k) v) m)
+    where
+      go : (b : Bool) → eqb (one b) 0 ≡ not b
+      go true = refl
+      go false = refl

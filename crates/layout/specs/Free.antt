@@ -1,0 +1,25 @@
+-- "A call takes the lowest free inode, block or slot that it needs". n is the inode count.
+use Prim.Native.Nat.{ℕ, _*_}
+use mathlib.Core.Bool.{Bool, not}
+use mathlib.Core.List.{List}
+use lib.Dec.{eqb}
+use Rattle.bounded.specs.Below.{someBelow}
+use Rattle.bounded.specs.Search.{firstFrom}
+use Rattle.bounded.specs.declared.Found.{Found}
+use Rattle.layout.specs.Sizes.{addressCount}
+use Rattle.layout.specs.Inode.{kindOf, addressOf, freeKind}
+
+unfoldable pub isFree : List ℕ → ℕ → Bool
+isFree s i = eqb (kindOf s i) freeKind
+
+-- the lowest free inode
+unfoldable pub freeInode : List ℕ → ℕ → Found
+freeInode s n = firstFrom (isFree s) 1 n
+
+-- some address of some inode names block b
+unfoldable pub named : List ℕ → ℕ → ℕ → Bool
+named s n b = someBelow (λ x. eqb (addressOf s n x) b) (addressCount * n)
+
+-- the lowest of the b blocks that no address names
+unfoldable pub freeBlock : List ℕ → ℕ → ℕ → Found
+freeBlock s n b = firstFrom (λ c. not (named s n c)) 1 b

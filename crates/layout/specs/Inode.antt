@@ -1,0 +1,88 @@
+-- Inodes, numbered from 1: attributes and addresses, read and written. n is the inode count.
+use Prim.Native.Nat.{ℕ, _+_, _*_, _-_, _≤_}
+use mathlib.Core.List.{List, _++_}
+use lib.ListN.{length}
+use Rattle.octets.specs.Octets.{splice, numAt, toBytes, putNum, wordBytes}
+use Rattle.bounded.specs.Table.{table}
+use Rattle.layout.specs.Sizes.{headerBytes, attributeBytes, addressCount, inodeBytes, mostInodes}
+use Rattle.layout.specs.declared.inode.Inode.{Inode}
+
+-- i is an inode of n, and the inodes lie inside of s
+pub record InodeFits (s : List ℕ) (n i : ℕ) : Type 0 where
+  pub low : 1 ≤ i
+  pub high : i ≤ n
+  pub few : n ≤ mostInodes
+  pub area : headerBytes + inodeBytes * n ≤ length s
+
+-- ---- "N attribute entries of 8 bytes: kind, a zero byte, link count (2), size in bytes (2), parent directory (2)"
+-- where those of inode i start
+abbrev pub attributesAt : ℕ → ℕ
+attributesAt i = headerBytes + attributeBytes * (i - 1)
+
+unfoldable pub kindOf : List ℕ → ℕ → ℕ
+kindOf s i = numAt 1 s (attributesAt i)
+
+-- the zero byte
+unfoldable pub spareOf : List ℕ → ℕ → ℕ
+spareOf s i = numAt 1 s (attributesAt i + 1)
+
+unfoldable pub linksOf : List ℕ → ℕ → ℕ
+linksOf s i = numAt 2 s (attributesAt i + 2)
+
+unfoldable pub sizeOf : List ℕ → ℕ → ℕ
+sizeOf s i = numAt 2 s (attributesAt i + 4)
+
+unfoldable pub parentOf : List ℕ → ℕ → ℕ
+parentOf s i = numAt 2 s (attributesAt i + 6)
+
+unfoldable pub putLinks : List ℕ → ℕ → ℕ → List ℕ
+putLinks s i v = putNum 2 s (attributesAt i + 2) v
+
+unfoldable pub attributeEntry : Inode → List ℕ
+attributeEntry v = toBytes 1 (v .kind) ++ (toBytes 1 0 ++ (toBytes 2 (v .links) ++ (toBytes 2 (v .size) ++ toBytes 2 (v .parent))))
+
+unfoldable pub putAttributes : List ℕ → ℕ → Inode → List ℕ
+putAttributes s i v = splice s (attributesAt i) (attributeEntry v)
+
+-- ---- "then N address entries of 24 bytes: twelve 16-bit block numbers, 0 for none"
+-- the addresses of all inodes in a row: address k of inode i has number place i k, from 0
+abbrev pub place : ℕ → ℕ → ℕ
+place i k = addressCount * (i - 1) + k
+
+abbrev pub addressAt : ℕ → ℕ → ℕ
+addressAt n x = headerBytes + attributeBytes * n + 2 * x
+
+unfoldable pub addressOf : List ℕ → ℕ → ℕ → ℕ
+addressOf s n x = numAt 2 s (addressAt n x)
+
+unfoldable pub putAddress : List ℕ → ℕ → ℕ → ℕ → List ℕ
+putAddress s n x b = putNum 2 s (addressAt n x) b
+
+unfoldable pub addressesOf : List ℕ → ℕ → ℕ → List ℕ
+addressesOf s n i = table (λ k. addressOf s n (place i k)) addressCount
+
+unfoldable pub putAddresses : List ℕ → ℕ → ℕ → List ℕ → List ℕ
+putAddresses s n i vs = splice s (addressAt n (place i 0)) (wordBytes vs)
+
+-- ---- both entries of an inode
+unfoldable pub inodeOf : List ℕ → ℕ → ℕ → Inode
+inodeOf s n i = record {
+  kind = kindOf s i;
+  links = linksOf s i;
+  size = sizeOf s i;
+  parent = parentOf s i;
+  addresses = addressesOf s n i;
+}
+
+unfoldable pub putInode : List ℕ → ℕ → ℕ → Inode → List ℕ
+putInode s n i v = putAddresses (putAttributes s i v) n i (v .addresses)
+
+-- "0 free, 1 file, 2 directory"
+abbrev pub freeKind : ℕ
+freeKind = 0
+
+abbrev pub fileKind : ℕ
+fileKind = 1
+
+abbrev pub directoryKind : ℕ
+directoryKind = 2

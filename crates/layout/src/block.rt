@@ -1,0 +1,49 @@
+// Blocks: where they stand, how many a size uses, and which an inode uses.
+ghost use mathlib.Core.Path.{_≡_};
+ghost use Prim.Native.Nat.{ℕ, _+_, _*_, _<_, _≤_};
+ghost use lib.ListN.{length};
+ghost use Rattle.layout.specs.Sizes.{addressCount, mostInodes, mostImageBlocks};
+ghost use Rattle.layout.specs.Inode.{InodeFits};
+ghost use Rattle.layout.specs.Block.{storeLength, Sized, blockAt, zeroBlock, blocksUsed, kthBlock};
+use crate::inode::address;
+use crate::sizes::ADDRESS_COUNT;
+use crate::sizes::BLOCK_BYTES;
+use crate::sizes::HEADER_BYTES;
+use crate::sizes::INODE_BYTES;
+
+pub fn store_length(n: usize, b: usize) -> usize
+    requires { ⌜ (n ≤ mostInodes) × (b ≤ mostImageBlocks) ⌝ }
+    ensures { λ r. ⌜ r ≡ storeLength n b ⌝ }
+{
+    HEADER_BYTES + INODE_BYTES * n + BLOCK_BYTES * b
+}
+
+pub fn block_at(n: usize, b: usize) -> usize
+    requires { ⌜ (n ≤ mostInodes) × (1 ≤ b) × (b ≤ mostImageBlocks) ⌝ }
+    ensures { λ r. ⌜ r ≡ blockAt n b ⌝ }
+{
+    HEADER_BYTES + INODE_BYTES * n + BLOCK_BYTES * (b - 1)
+}
+
+pub fn zero_block(s: &mut [u8], n: usize, count: usize, b: usize)
+    requires { ⌜ Sized (now s) n count × (1 ≤ b) × (b ≤ count) ⌝ }
+    ensures { λ _. ⌜ now (s .exit) ≡ zeroBlock (now (s .entry)) n b ⌝ }
+{
+    octets::zero_range(&mut *s, block_at(n, b), BLOCK_BYTES);
+}
+
+// How many blocks a size uses.
+pub fn blocks_used(size: usize) -> usize
+    requires { ⌜ size < 65536 ⌝ }
+    ensures { λ r. ⌜ r ≡ blocksUsed size ⌝ }
+{
+    (size + (BLOCK_BYTES - 1)) / BLOCK_BYTES
+}
+
+// The k-th block of an inode.
+pub fn kth_block(s: &[u8], n: usize, i: usize, k: usize) -> u16
+    requires { ⌜ InodeFits (now s) n i × (k < addressCount) ⌝ }
+    ensures { λ r. ⌜ r ≡ kthBlock (now (s .entry)) n i k ⌝ }
+{
+    address(s, n, ADDRESS_COUNT * (i - 1) + k)
+}

@@ -1,0 +1,151 @@
+// Inodes: the record by value, and each field by itself.
+ghost use mathlib.Core.Path.{_≡_};
+ghost use Prim.Native.Nat.{ℕ, _+_, _*_, _<_, _≤_};
+ghost use lib.ListN.{length};
+ghost use Rattle.octets.specs.Octets.{splice, wordBytes};
+ghost use Rattle.bounded.specs.Table.{table};
+ghost use Rattle.layout.specs.Sizes.{headerBytes, inodeBytes, addressCount, mostInodes};
+ghost use Rattle.layout.specs.Inode.{InodeFits, attributesAt, addressAt, place, kindOf, spareOf, linksOf, sizeOf, parentOf, putLinks, putAttributes, addressOf, putAddress, addressesOf, putAddresses, inodeOf, putInode};
+use crate::sizes::ADDRESS_COUNT;
+use crate::sizes::ATTRIBUTE_BYTES;
+use crate::sizes::HEADER_BYTES;
+
+pub struct Inode {
+    pub kind: u8,
+    pub links: u16,
+    pub size: u16,
+    pub parent: u16,
+    pub addresses: [u16; 12],
+}
+
+// Where the attributes of inode i start.
+fn attributes_at(i: usize) -> usize
+    requires { ⌜ (1 ≤ i) × (i ≤ mostInodes) ⌝ }
+    ensures { λ r. ⌜ r ≡ attributesAt i ⌝ }
+{
+    HEADER_BYTES + ATTRIBUTE_BYTES * (i - 1)
+}
+
+// Where address x of all addresses in a row stands.
+fn address_at(n: usize, x: usize) -> usize
+    requires { ⌜ (n ≤ mostInodes) × (x ≤ addressCount * n) ⌝ }
+    ensures { λ r. ⌜ r ≡ addressAt n x ⌝ }
+{
+    HEADER_BYTES + ATTRIBUTE_BYTES * n + 2 * x
+}
+
+pub fn kind(s: &[u8], n: usize, i: usize) -> u8
+    requires { ⌜ InodeFits (now s) n i ⌝ }
+    ensures { λ r. ⌜ r ≡ kindOf (now (s .entry)) i ⌝ }
+{
+    octets::get_8(s, attributes_at(i))
+}
+
+pub fn spare(s: &[u8], n: usize, i: usize) -> u8
+    requires { ⌜ InodeFits (now s) n i ⌝ }
+    ensures { λ r. ⌜ r ≡ spareOf (now (s .entry)) i ⌝ }
+{
+    octets::get_8(s, attributes_at(i) + 1)
+}
+
+pub fn links(s: &[u8], n: usize, i: usize) -> u16
+    requires { ⌜ InodeFits (now s) n i ⌝ }
+    ensures { λ r. ⌜ r ≡ linksOf (now (s .entry)) i ⌝ }
+{
+    octets::get_16(s, attributes_at(i) + 2)
+}
+
+pub fn size(s: &[u8], n: usize, i: usize) -> u16
+    requires { ⌜ InodeFits (now s) n i ⌝ }
+    ensures { λ r. ⌜ r ≡ sizeOf (now (s .entry)) i ⌝ }
+{
+    octets::get_16(s, attributes_at(i) + 4)
+}
+
+pub fn parent(s: &[u8], n: usize, i: usize) -> u16
+    requires { ⌜ InodeFits (now s) n i ⌝ }
+    ensures { λ r. ⌜ r ≡ parentOf (now (s .entry)) i ⌝ }
+{
+    octets::get_16(s, attributes_at(i) + 6)
+}
+
+pub fn put_links(s: &mut [u8], n: usize, i: usize, v: u16)
+    requires { ⌜ InodeFits (now s) n i ⌝ }
+    ensures { λ _. ⌜ now (s .exit) ≡ putLinks (now (s .entry)) i v ⌝ }
+{
+    octets::put_16(&mut *s, attributes_at(i) + 2, v);
+}
+
+// Address x of all addresses in a row, twelve to an inode.
+pub fn address(s: &[u8], n: usize, x: usize) -> u16
+    requires { ⌜ (n ≤ mostInodes) × (headerBytes + inodeBytes * n ≤ length (now s)) × (x < addressCount * n) ⌝ }
+    ensures { λ r. ⌜ r ≡ addressOf (now (s .entry)) n x ⌝ }
+{
+    octets::get_16(s, address_at(n, x))
+}
+
+pub fn put_address(s: &mut [u8], n: usize, x: usize, b: u16)
+    requires { ⌜ (n ≤ mostInodes) × (headerBytes + inodeBytes * n ≤ length (now s)) × (x < addressCount * n) ⌝ }
+    ensures { λ _. ⌜ now (s .exit) ≡ putAddress (now (s .entry)) n x b ⌝ }
+{
+    octets::put_16(&mut *s, address_at(n, x), b);
+}
+
+pub fn addresses(s: &[u8], n: usize, i: usize) -> [u16; 12]
+    requires { ⌜ InodeFits (now s) n i ⌝ }
+    ensures { λ r. ⌜ r ≡ addressesOf (now (s .entry)) n i ⌝ }
+{
+    let x = ADDRESS_COUNT * (i - 1);
+    let mut a = [0u16; 12];
+    for k in 0..ADDRESS_COUNT {
+        a[k] = address(s, n, x + k);
+    }
+    a
+}
+
+// The twelve numbers from o on.
+fn put_words(s: &mut [u8], o: usize, a: [u16; 12])
+    requires { ⌜ o + 24 ≤ length (now s) ⌝ }
+    ensures { λ _. ⌜ now (s .exit) ≡ splice (now (s .entry)) o (wordBytes a) ⌝ }
+{
+    for k in 0..ADDRESS_COUNT {
+        octets::put_16(&mut *s, o + 2 * k, a[k]);
+    }
+}
+
+impl Inode {
+    pub fn read(s: &[u8], n: usize, i: usize) -> Inode
+        requires { ⌜ InodeFits (now s) n i ⌝ }
+        ensures { λ r. ⌜ r ≡ inodeOf (now (s .entry)) n i ⌝ }
+    {
+        Inode {
+            kind: kind(s, n, i),
+            links: links(s, n, i),
+            size: size(s, n, i),
+            parent: parent(s, n, i),
+            addresses: addresses(s, n, i),
+        }
+    }
+
+    // The eight bytes of the attributes alone.
+    pub fn write_attributes(self, s: &mut [u8], n: usize, i: usize)
+        requires { ⌜ InodeFits (now s) n i ⌝ }
+        ensures { λ _. ⌜ now (s .exit) ≡ putAttributes (now (s .entry)) i self ⌝ }
+    {
+        let o = attributes_at(i);
+        octets::put_8(&mut *s, o, self.kind);
+        octets::put_8(&mut *s, o + 1, 0);
+        octets::put_16(&mut *s, o + 2, self.links);
+        octets::put_16(&mut *s, o + 4, self.size);
+        octets::put_16(&mut *s, o + 6, self.parent);
+    }
+
+    pub fn write(self, s: &mut [u8], n: usize, i: usize)
+        requires { ⌜ InodeFits (now s) n i ⌝ }
+        ensures { λ _. ⌜ now (s .exit) ≡ putInode (now (s .entry)) n i self ⌝ }
+    {
+        self.write_attributes(&mut *s, n, i);
+        let a = self.addresses;
+        put_words(&mut *s, address_at(n, ADDRESS_COUNT * (i - 1)), a);
+    }
+}
