@@ -1,5 +1,6 @@
 -- "A name is 1 to 14 bytes, none 0 or `/`, and is not `.` or `..`."
-use Prim.Native.Nat.{ℕ}
+use Prim.Native.Nat.{ℕ, _≤_, _<_}
+use mathlib.Core.Path.{_≡_}
 use mathlib.Core.Bool.{Bool, not, _&&_}
 use mathlib.Core.List.{List}
 use lib.Dec.{eqb, leb}
@@ -28,3 +29,11 @@ isDots name = leb (length name) 2 && allBelow (λ k. eqb (getD name k 0) dot) (l
 unfoldable pub legalName : List ℕ → Bool
 legalName name =
     leb 1 (length name) && (leb (length name) nameBytes && (allBelow (plainByte name) (length name) && not (isDots name)))
+
+-- The same as a proposition: "1 to 14 bytes, none 0 or `/`, and is not `.` or `..`".
+pub record Legal (name : List ℕ) : Type 0 where
+  pub long : 1 ≤ length name
+  pub short : length name ≤ nameBytes
+  pub plain : (k : ℕ) → k < length name → (getD name k 0 ≡ 0 → ⊥) × (getD name k 0 ≡ slash → ⊥)
+  pub not-dot : length name ≡ 1 → getD name 0 0 ≡ dot → ⊥
+  pub not-dots : length name ≡ 2 → getD name 0 0 ≡ dot → getD name 1 0 ≡ dot → ⊥

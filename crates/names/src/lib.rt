@@ -35,9 +35,7 @@ impl Name {
         ensures { λ r. ⌜ r ≡ wordsAt (now (name .entry)) 0 ⌝ }
     {
         let mut filled = [0u8; 14];
-        for k in 0..name.len() {
-            filled[k] = name[k];
-        }
+        octets::copy_range(&mut filled, 0, name, 0, name.len());
         Name::at(&filled, 0)
     }
 

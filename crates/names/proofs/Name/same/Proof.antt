@@ -1,15 +1,17 @@
+use mathlib.Core.Path.{refl, sym}
+use borrow.Author.Tests.{eq-eqb, ne-eqb}
+use Rattle.bounded.proofs.BoolLaws.{and-false-l, chain-end}
+use Rattle.names.specs.Entry.{sameWords}
 use Rattle.names.proofs.Name.same.Statement.{statement}
 use Rattle.names.proofs.Name.same.Tie as tie
-use Rattle.names.proofs.Name.same.Reads as reads
-use Rattle.names.proofs.Name.same.Lts as lts
 
--- src/lib.rt:46:13
 returns : tie.Need-returns
-returns c = ?
+unfolding sameWords
+returns c = sym (and-false-l _ _ (ne-eqb _ _ (c .if1 .taken)))
 
--- src/lib.rt:42:5
 returns-2 : tie.Need-returns-2
-returns-2 c = ?
+unfolding sameWords
+returns-2 c = chain-end _ _ _ (eq-eqb _ _ (c .before .before .if1 .left)) refl
 
 pub same-spec : {M : Type 1} → statement M
 same-spec = tie.close (tie.spec returns returns-2)
