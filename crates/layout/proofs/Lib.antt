@@ -1,1 +1,4 @@
 pub mod InodeLaws
+pub mod View
+pub mod FrameLaws
+pub mod ViewLaws
