@@ -19,7 +19,7 @@ pub fn store_length(n: usize, b: usize) -> usize
 }
 
 pub fn block_at(n: usize, b: usize) -> usize
-    requires { ⌜ (n ≤ mostInodes) × (1 ≤ b) × (b ≤ mostImageBlocks) ⌝ }
+    requires { ⌜ (n ≤ mostInodes) × (1 ≤ b) × (b < 65536) ⌝ }
     ensures { λ r. ⌜ r ≡ blockAt n b ⌝ }
 {
     HEADER_BYTES + INODE_BYTES * n + BLOCK_BYTES * (b - 1)
