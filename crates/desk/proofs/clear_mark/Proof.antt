@@ -1,4 +1,5 @@
 use borrow.Author.Needs.{needs}
+use Rattle.desk.specs.Desk.{clearMark}
 use Rattle.desk.proofs.clear_mark.Statement.{statement}
 use Rattle.desk.proofs.clear_mark.Tie as tie
 use Rattle.desk.proofs.clear_mark.Reads as reads
@@ -25,7 +26,8 @@ same-length c = search needs
 
 -- src/lib.rt:153:1
 returns : tie.Need-returns
-returns c = ?
+unfolding clearMark
+returns c = cc
 
 pub clear-mark-spec : {M : Type 1} → statement M
 clear-mark-spec =

@@ -1,4 +1,5 @@
 use borrow.Author.Needs.{needs}
+use Rattle.desk.specs.Desk.{clearNotes}
 use Rattle.desk.proofs.clear_notes.Statement.{statement}
 use Rattle.desk.proofs.clear_notes.Tie as tie
 use Rattle.desk.proofs.clear_notes.Reads as reads
@@ -19,7 +20,8 @@ same-length c = search needs
 
 -- src/lib.rt:162:1
 returns : tie.Need-returns
-returns c = ?
+unfolding clearNotes
+returns c = cc
 
 pub clear-notes-spec : {M : Type 1} → statement M
 clear-notes-spec = tie.close (tie.spec mul-zero-range zero-range-requires same-length returns)

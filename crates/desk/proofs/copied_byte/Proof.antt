@@ -1,4 +1,5 @@
 use borrow.Author.Needs.{needs}
+use Rattle.desk.specs.Desk.{copiedOf}
 use Rattle.desk.proofs.copied_byte.Statement.{statement}
 use Rattle.desk.proofs.copied_byte.Tie as tie
 use Rattle.desk.proofs.copied_byte.Reads as reads
@@ -19,7 +20,8 @@ get-8-requires c κs = search needs
 
 -- src/lib.rt:110:1
 returns : tie.Need-returns
-returns c = ?
+unfolding copiedOf
+returns c = cc
 
 pub copied-byte-spec : {M : Type 1} → statement M
 copied-byte-spec = tie.close (tie.spec sub-get-8 add-get-8 get-8-requires returns)

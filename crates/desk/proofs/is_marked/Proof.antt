@@ -1,4 +1,5 @@
 use borrow.Author.Needs.{needs}
+use Rattle.desk.specs.Desk.{markOf}
 use Rattle.desk.proofs.is_marked.Statement.{statement}
 use Rattle.desk.proofs.is_marked.Tie as tie
 use Rattle.desk.proofs.is_marked.Reads as reads
@@ -16,7 +17,8 @@ marked-requires c κs = search needs
 
 -- src/lib.rt:138:1
 returns : tie.Need-returns
-returns c = ?
+unfolding markOf
+returns c = cc
 
 pub is-marked-spec : {M : Type 1} → statement M
 is-marked-spec = tie.close (tie.spec mark-word-requires marked-requires returns)

@@ -1,4 +1,5 @@
 use borrow.Author.Needs.{needs}
+use Rattle.desk.specs.Desk.{marksOf}
 use Rattle.desk.proofs.mark_word.Statement.{statement}
 use Rattle.desk.proofs.mark_word.Tie as tie
 use Rattle.desk.proofs.mark_word.Reads as reads
@@ -27,7 +28,8 @@ get-64-requires c κs = search needs
 
 -- src/lib.rt:124:1
 returns : tie.Need-returns
-returns c = ?
+unfolding marksOf
+returns c = cc
 
 pub mark-word-spec : {M : Type 1} → statement M
 mark-word-spec =

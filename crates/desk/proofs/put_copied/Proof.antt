@@ -1,4 +1,5 @@
 use borrow.Author.Needs.{needs}
+use Rattle.desk.specs.Desk.{putCopied}
 use Rattle.desk.proofs.put_copied.Statement.{statement}
 use Rattle.desk.proofs.put_copied.Tie as tie
 use Rattle.desk.proofs.put_copied.Reads as reads
@@ -23,7 +24,8 @@ same-length c = search needs
 
 -- src/lib.rt:117:1
 returns : tie.Need-returns
-returns c = ?
+unfolding putCopied
+returns c = cc
 
 pub put-copied-spec : {M : Type 1} → statement M
 put-copied-spec = tie.close (tie.spec sub-put-8 add-put-8 put-8-requires same-length returns)

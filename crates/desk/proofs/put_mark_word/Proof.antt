@@ -1,4 +1,5 @@
 use borrow.Author.Needs.{needs}
+use Rattle.desk.specs.Desk.{putMarks}
 use Rattle.desk.proofs.put_mark_word.Statement.{statement}
 use Rattle.desk.proofs.put_mark_word.Tie as tie
 use Rattle.desk.proofs.put_mark_word.Reads as reads
@@ -31,7 +32,8 @@ same-length c = search needs
 
 -- src/lib.rt:131:1
 returns : tie.Need-returns
-returns c = ?
+unfolding putMarks
+returns c = cc
 
 pub put-mark-word-spec : {M : Type 1} → statement M
 put-mark-word-spec =

@@ -1,4 +1,5 @@
 use borrow.Author.Needs.{needs}
+use Rattle.desk.specs.Desk.{setMark}
 use Rattle.desk.proofs.set_mark.Statement.{statement}
 use Rattle.desk.proofs.set_mark.Tie as tie
 use Rattle.desk.proofs.set_mark.Reads as reads
@@ -25,7 +26,8 @@ same-length c = search needs
 
 -- src/lib.rt:145:1
 returns : tie.Need-returns
-returns c = ?
+unfolding setMark
+returns c = cc
 
 pub set-mark-spec : {M : Type 1} → statement M
 set-mark-spec =

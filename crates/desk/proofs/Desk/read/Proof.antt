@@ -1,4 +1,5 @@
 use borrow.Author.Needs.{needs}
+use Rattle.desk.specs.Desk.{deskOf}
 use Rattle.desk.proofs.Desk.read.Statement.{statement}
 use Rattle.desk.proofs.Desk.read.Tie as tie
 use Rattle.desk.proofs.Desk.read.Reads as reads
@@ -33,7 +34,8 @@ get-32-requires c κs = search needs
 
 -- src/lib.rt:27:5
 returns : tie.Need-returns
-returns c = ?
+unfolding deskOf
+returns c = cc
 
 pub read-spec : {M : Type 1} → statement M
 read-spec =

@@ -1,4 +1,5 @@
 use borrow.Author.Needs.{needs}
+use Rattle.desk.specs.Desk.{putDesk}
 use Rattle.desk.proofs.Desk.write.Statement.{statement}
 use Rattle.desk.proofs.Desk.write.Tie as tie
 use Rattle.desk.proofs.Desk.write.Reads as reads
@@ -37,7 +38,8 @@ same-length c = search needs
 
 -- src/lib.rt:41:5
 returns : tie.Need-returns
-returns c = ?
+unfolding putDesk
+returns c = cc
 
 pub write-spec : {M : Type 1} → statement M
 write-spec =
