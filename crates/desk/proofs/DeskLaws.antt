@@ -1,14 +1,13 @@
 -- What each reader of the desk gives after each writer, and writers that follow each other. No later proof looks at an offset.
-use Prim.Native.Nat.{ℕ, _+_, _*_, _-_, _≤_, _<_, min, max}
+use Prim.Native.Nat.{ℕ, _+_, _*_, _-_, _≤_, _<_}
 use mathlib.Core.Path.{_≡_, refl, sym, ap, _∙_}
-use mathlib.Core.Bool.{Bool, true, false, _&&_}
+use mathlib.Core.Bool.{true, false}
 use mathlib.Core.List.{List}
 use mathlib.Core.Logic.{_≢_}
 use native.Mathlib.Omega.{arith}
-use lib.Dec.{eqb}
-use lib.ListN.{getD, length, replicate, getD-replicate, length-replicate}
+use lib.ListN.{length, replicate, getD-replicate, length-replicate}
 use Rattle.octets.specs.Octets.{splice, Apart, numAt, toBytes, putNum, zeroed}
-use Rattle.octets.proofs.PartLaws.{length-splice, length-zeroed}
+use Rattle.octets.proofs.PartLaws.{length-zeroed}
 use Rattle.octets.proofs.NumLaws.{num-apart, num-in, zero-num, length-num, num-same, num-other, num-twice, num-comm}
 use Rattle.marks.specs.Mark.{marked, withMark, withoutMark}
 use Rattle.marks.proofs.MarkLaws.{with-same, with-other, without-same, without-other, mark-none}
