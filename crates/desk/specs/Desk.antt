@@ -1,7 +1,8 @@
 -- The desk as bytes: its header, the copied bytes and the mark words, each read and written. n is the inode count.
 use Prim.Native.Nat.{ℕ, _*_}
-use mathlib.Core.Bool.{Bool}
+use mathlib.Core.Bool.{Bool, _&&_}
 use mathlib.Core.List.{List}
+use lib.Dec.{eqb}
 use Rattle.octets.specs.Octets.{numAt, putNum, zeroed}
 use Rattle.marks.specs.Mark.{marked, withMark, withoutMark}
 use Rattle.desk.specs.Sizes.{deskHeaderBytes, deskInodeBytes, copiedAt, marksAt}
@@ -22,6 +23,10 @@ deskOf d = record {
 unfoldable pub putDesk : List ℕ → Desk → List ℕ
 putDesk d h =
     putNum 4 (putNum 2 (putNum 2 (putNum 1 (putNum 2 (putNum 2 d 0 (h .inodes)) 2 (h .blocks)) 4 (h .state)) 6 (h .locked)) 8 (h .copied)) 12 (h .steps)
+
+-- "the rest 0": bytes 5, 10 and 11
+unfoldable pub reservedZero : List ℕ → Bool
+reservedZero d = eqb (numAt 1 d 5) 0 && eqb (numAt 2 d 10) 0
 
 -- the copied byte of inode i
 unfoldable pub copiedOf : List ℕ → ℕ → ℕ

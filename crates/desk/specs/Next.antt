@@ -4,25 +4,25 @@ use Rattle.desk.specs.Sizes.{running, finished, stopped}
 use Rattle.desk.specs.declared.Desk.{Desk}
 
 -- "sets the desk's block count and running", and zeroes the steps
-unfoldable pub starting : Desk → ℕ → Desk
+abbrev pub starting : Desk → ℕ → Desk
 starting h b = record { inodes = h .inodes; blocks = b; state = running; locked = h .locked; copied = h .copied; steps = 0 }
 
 -- "Locking zeroes desk bytes 8-9"
-unfoldable pub locking : Desk → ℕ → Desk
+abbrev pub locking : Desk → ℕ → Desk
 locking h i = record { inodes = h .inodes; blocks = h .blocks; state = h .state; locked = i; copied = 0; steps = h .steps + 1 }
 
 -- "copy the next block and add 1 to desk bytes 8-9"
-unfoldable pub copyingOne : Desk → Desk
+abbrev pub copyingOne : Desk → Desk
 copyingOne h = record { inodes = h .inodes; blocks = h .blocks; state = h .state; locked = h .locked; copied = h .copied + 1; steps = h .steps + 1 }
 
 -- "unlocking [zeroes] 6-9"
-unfoldable pub unlocking : Desk → Desk
+abbrev pub unlocking : Desk → Desk
 unlocking h = record { inodes = h .inodes; blocks = h .blocks; state = h .state; locked = 0; copied = 0; steps = h .steps + 1 }
 
 -- "state finished"
-unfoldable pub finishing : Desk → Desk
+abbrev pub finishing : Desk → Desk
 finishing h = record { inodes = h .inodes; blocks = h .blocks; state = finished; locked = h .locked; copied = h .copied; steps = h .steps + 1 }
 
 -- refusal 16 "sets state 3 and fields 6-9 to zero and changes nothing more"
-unfoldable pub stopping : Desk → Desk
+abbrev pub stopping : Desk → Desk
 stopping h = record { inodes = h .inodes; blocks = h .blocks; state = stopped; locked = 0; copied = 0; steps = h .steps }

@@ -3,7 +3,7 @@ ghost use mathlib.Core.Path.{_≡_};
 ghost use Prim.Native.Nat.{ℕ, _+_, _*_, _<_, _≤_};
 ghost use lib.ListN.{length};
 ghost use Rattle.desk.specs.Sizes.{deskHeaderBytes, deskLength};
-ghost use Rattle.desk.specs.Desk.{deskOf, putDesk, copiedOf, putCopied, marksOf, putMarks, markOf, setMark, clearMark, clearNotes};
+ghost use Rattle.desk.specs.Desk.{deskOf, putDesk, reservedZero, copiedOf, putCopied, marksOf, putMarks, markOf, setMark, clearMark, clearNotes};
 ghost use Rattle.desk.specs.Next.{starting, locking, copyingOne, unlocking, finishing, stopping};
 
 pub const DESK_HEADER_BYTES: usize = 16;
@@ -111,6 +111,14 @@ impl Desk {
         self.copied = 0;
         self
     }
+}
+
+// The bytes of the header that no field takes are 0.
+pub fn reserved_zero(d: &[u8]) -> bool
+    requires { ⌜ deskHeaderBytes ≤ length (now d) ⌝ }
+    ensures { λ r. ⌜ r ≡ reservedZero (now (d .entry)) ⌝ }
+{
+    octets::get_8(d, 5) == 0 && octets::get_16(d, 10) == 0
 }
 
 pub fn copied_byte(d: &[u8], i: usize) -> u8

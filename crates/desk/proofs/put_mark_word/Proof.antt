@@ -1,37 +1,29 @@
 use borrow.Author.Needs.{needs}
+use Rattle.desk.specs.Desk.{putMarks}
 use Rattle.desk.proofs.put_mark_word.Statement.{statement}
 use Rattle.desk.proofs.put_mark_word.Tie as tie
-use Rattle.desk.proofs.put_mark_word.Reads as reads
-use Rattle.desk.proofs.put_mark_word.Lts as lts
-use Rattle.octets.proofs.put_64.Reads as put-64-reads
 
--- src/lib.rt:135:29
 add-put-64 : tie.Need-add-put-64
 add-put-64 c = search needs
 
--- src/lib.rt:135:67
 sub-put-64 : tie.Need-sub-put-64
 sub-put-64 c = search needs
 
--- src/lib.rt:135:53
 mul-put-64 : tie.Need-mul-put-64
 mul-put-64 c = search needs
 
--- src/lib.rt:135:29
 add-put-64-2 : tie.Need-add-put-64-2
 add-put-64-2 c = search needs
 
--- src/lib.rt:135:5
 put-64-requires : tie.Need-put-64-requires
 put-64-requires c κs = search needs
 
--- src/lib.rt:131:1
 same-length : tie.Need-same-length
 same-length c = search needs
 
--- src/lib.rt:131:1
 returns : tie.Need-returns
-returns c = ?
+unfolding putMarks
+returns c = c .before .before .put-64 .ensures
 
 pub put-mark-word-spec : {M : Type 1} → statement M
 put-mark-word-spec =
