@@ -225,3 +225,14 @@ unfolding copied
 copied-kept s o p k j h l f =
     let n : length (part s p j) ≡ j = length-inside s p j (omega arith) in
     splice-out s o (part s p j) (p + j) (omega arith)
+
+-- a whole list zeroed
+pub zeroed-all : (s : List ℕ) (k : ℕ) → length s ≡ k → zeroed s 0 k ≡ replicate k 0
+unfolding zeroed
+zeroed-all s k e =
+    ext-getD 0 _ _ (length-splice s 0 (replicate k 0) ∙ e ∙ sym (length-replicate k 0))
+    (λ i b.
+    let n : length (splice s 0 (replicate k 0)) ≡ length s = length-splice s 0 (replicate k 0) in
+    let m : length (replicate {A = ℕ} k 0) ≡ k = length-replicate k 0 in
+    let q : i ≡ 0 + i = omega arith in
+    ap (λ (j : ℕ). getD (splice s 0 (replicate k 0)) j 0) q ∙ splice-in s 0 (replicate k 0) i (omega arith) (omega arith))

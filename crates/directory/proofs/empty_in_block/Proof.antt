@@ -1,8 +1,5 @@
 use Rattle.directory.proofs.empty_in_block.Statement.{statement}
 use Rattle.directory.proofs.empty_in_block.Tie as tie
-use Rattle.directory.proofs.empty_in_block.Reads as reads
-use Rattle.directory.proofs.empty_in_block.Lts as lts
-use Rattle.names.proofs.is_empty.Reads as is-empty-reads
 
 abbrev Inv-loop : tie.InvT-loop
 Inv-loop block j₀ j = ?
@@ -10,51 +7,39 @@ Inv-loop block j₀ j = ?
 abbrev μ-loop : tie.MeasureT-loop
 μ-loop block j₀ j = ?
 
--- src/lib.rt:62:5
 loop-holds : tie.Need-loop-holds Inv-loop μ-loop
 loop-holds c = ?
 
--- src/lib.rt:63:17
 mul-o : tie.Need-mul-o Inv-loop μ-loop
 mul-o c = ?
 
--- src/lib.rt:64:38
 add-is-empty : tie.Need-add-is-empty Inv-loop μ-loop
 add-is-empty c = ?
 
--- src/lib.rt:64:28
 sub-is-empty : tie.Need-sub-is-empty Inv-loop μ-loop
 sub-is-empty c = ?
 
--- src/lib.rt:64:28
 part-is-empty-start : tie.Need-part-is-empty-start Inv-loop μ-loop
 part-is-empty-start c = ?
 
--- src/lib.rt:64:28
 part-is-empty-end : tie.Need-part-is-empty-end Inv-loop μ-loop
 part-is-empty-end c = ?
 
--- src/lib.rt:64:12
 is-empty-requires : tie.Need-is-empty-requires Inv-loop μ-loop
 is-empty-requires c κs = ?
 
--- src/lib.rt:65:13
 returns : tie.Need-returns Inv-loop μ-loop
 returns c = ?
 
--- src/lib.rt:62:9
 add-j : tie.Need-add-j Inv-loop μ-loop
 add-j c = ?
 
--- src/lib.rt:62:5
 loop-less : tie.Need-loop-less Inv-loop μ-loop
 loop-less c = ?
 
--- src/lib.rt:62:5
 loop-again : tie.Need-loop-again Inv-loop μ-loop
 loop-again c = ?
 
--- src/lib.rt:58:1
 returns-2 : tie.Need-returns-2 Inv-loop μ-loop
 returns-2 c = ?
 

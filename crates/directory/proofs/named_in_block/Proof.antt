@@ -1,8 +1,5 @@
 use Rattle.directory.proofs.named_in_block.Statement.{statement}
 use Rattle.directory.proofs.named_in_block.Tie as tie
-use Rattle.directory.proofs.named_in_block.Reads as reads
-use Rattle.directory.proofs.named_in_block.Lts as lts
-use Rattle.names.proofs.same_name.Reads as same-name-reads
 
 abbrev Inv-loop : tie.InvT-loop
 Inv-loop block name j₀ j = ?
@@ -10,51 +7,39 @@ Inv-loop block name j₀ j = ?
 abbrev μ-loop : tie.MeasureT-loop
 μ-loop block name j₀ j = ?
 
--- src/lib.rt:48:5
 loop-holds : tie.Need-loop-holds Inv-loop μ-loop
 loop-holds c = ?
 
--- src/lib.rt:49:17
 mul-o : tie.Need-mul-o Inv-loop μ-loop
 mul-o c = ?
 
--- src/lib.rt:50:39
 add-same-name : tie.Need-add-same-name Inv-loop μ-loop
 add-same-name c = ?
 
--- src/lib.rt:50:29
 sub-same-name : tie.Need-sub-same-name Inv-loop μ-loop
 sub-same-name c = ?
 
--- src/lib.rt:50:29
 part-same-name-start : tie.Need-part-same-name-start Inv-loop μ-loop
 part-same-name-start c = ?
 
--- src/lib.rt:50:29
 part-same-name-end : tie.Need-part-same-name-end Inv-loop μ-loop
 part-same-name-end c = ?
 
--- src/lib.rt:50:12
 same-name-requires : tie.Need-same-name-requires Inv-loop μ-loop
 same-name-requires c κs = ?
 
--- src/lib.rt:51:13
 returns : tie.Need-returns Inv-loop μ-loop
 returns c = ?
 
--- src/lib.rt:48:9
 add-j : tie.Need-add-j Inv-loop μ-loop
 add-j c = ?
 
--- src/lib.rt:48:5
 loop-less : tie.Need-loop-less Inv-loop μ-loop
 loop-less c = ?
 
--- src/lib.rt:48:5
 loop-again : tie.Need-loop-again Inv-loop μ-loop
 loop-again c = ?
 
--- src/lib.rt:44:1
 returns-2 : tie.Need-returns-2 Inv-loop μ-loop
 returns-2 c = ?
 

@@ -8,8 +8,6 @@ use Rattle.octets.specs.Octets.{copied}
 use Rattle.octets.proofs.PartLaws.{copied-none, copied-more}
 use Rattle.octets.proofs.copy_range.Statement.{statement}
 use Rattle.octets.proofs.copy_range.Tie as tie
-use Rattle.octets.proofs.copy_range.Reads as reads
-use Rattle.octets.proofs.copy_range.Lts as lts
 
 abbrev Inv-loop : tie.InvT-loop
 Inv-loop d₀ o s p k j₀ d j = (j ≤ k) × (length d ≡ length d₀) × (d ≡ copied d₀ o s p j)
@@ -17,43 +15,33 @@ Inv-loop d₀ o s p k j₀ d j = (j ≤ k) × (length d ≡ length d₀) × (d �
 abbrev μ-loop : tie.MeasureT-loop
 μ-loop d₀ o s p k j₀ d j = k - j
 
--- src/lib.rt:98:5
 loop-holds : tie.Need-loop-holds Inv-loop μ-loop
 loop-holds c = (omega arith, refl, copied-none _ _ _ _)
 
--- src/lib.rt:99:22
 add-d : tie.Need-add-d Inv-loop μ-loop
 add-d c = search needs
 
--- src/lib.rt:99:20
 shared-slice-read-d : tie.Need-shared-slice-read-d Inv-loop μ-loop
 shared-slice-read-d c = search needs
 
--- src/lib.rt:99:11
 add-d-2 : tie.Need-add-d-2 Inv-loop μ-loop
 add-d-2 c = search needs
 
--- src/lib.rt:99:9
 slice-write-d : tie.Need-slice-write-d Inv-loop μ-loop
 slice-write-d c = search needs
 
--- src/lib.rt:98:9
 add-j : tie.Need-add-j Inv-loop μ-loop
 add-j c = search needs
 
--- src/lib.rt:98:5
 loop-less : tie.Need-loop-less Inv-loop μ-loop
 loop-less c = search needs
 
--- src/lib.rt:98:5
 loop-again : tie.Need-loop-again Inv-loop μ-loop
 loop-again c = let i = c .before .before .loop in let a = c .before .before .before .args in (omega arith, rw length-set (i .inv .1), rw (i .inv .2) (copied-more (now (a .d)) (a .o) (now (a .s)) (a .p) (i .j) (omega arith)))
 
--- src/lib.rt:94:1
 same-length : tie.Need-same-length Inv-loop μ-loop
 same-length c = search needs
 
--- src/lib.rt:94:1
 returns : tie.Need-returns Inv-loop μ-loop
 returns c = let i = c .before .loop in let a = c .before .before .args in let e : i .j ≡ a .k = omega arith in i .inv .2 ∙ ap (copied (now (a .d)) (a .o) (now (a .s)) (a .p)) e
 

@@ -2,39 +2,28 @@ use Rattle.octets.specs.Octets.{numAt}
 use borrow.Author.Needs.{needs}
 use Rattle.octets.proofs.get_16.Statement.{statement}
 use Rattle.octets.proofs.get_16.Tie as tie
-use Rattle.octets.proofs.get_16.Reads as reads
-use Rattle.octets.proofs.get_16.Lts as lts
-use Rattle.octets.proofs.wide_8.Reads as wide-8-reads
 
--- src/lib.rt:36:12
 shared-slice-read-wide-8 : tie.Need-shared-slice-read-wide-8
 shared-slice-read-wide-8 c = search needs
 
--- src/lib.rt:36:5
 wide-8-requires : tie.Need-wide-8-requires
 wide-8-requires c κs = search needs
 
--- src/lib.rt:36:35
 add-wide-8 : tie.Need-add-wide-8
 add-wide-8 c = search needs
 
--- src/lib.rt:36:33
 shared-slice-read-wide-8-2 : tie.Need-shared-slice-read-wide-8-2
 shared-slice-read-wide-8-2 c = search needs
 
--- src/lib.rt:36:26
 wide-8-requires-2 : tie.Need-wide-8-requires-2
 wide-8-requires-2 c κs = search needs
 
--- src/lib.rt:36:20
 mul-result : tie.Need-mul-result
 mul-result c = search needs
 
--- src/lib.rt:36:5
 add-result : tie.Need-add-result
 add-result c = search needs
 
--- src/lib.rt:32:1
 returns : tie.Need-returns
 unfolding numAt
 returns c = cc

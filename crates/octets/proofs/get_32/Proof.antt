@@ -3,40 +3,28 @@ use Rattle.octets.proofs.NumLaws.{num-join}
 use borrow.Author.Needs.{needs}
 use Rattle.octets.proofs.get_32.Statement.{statement}
 use Rattle.octets.proofs.get_32.Tie as tie
-use Rattle.octets.proofs.get_32.Reads as reads
-use Rattle.octets.proofs.get_32.Lts as lts
-use Rattle.octets.proofs.get_16.Reads as get-16-reads
-use Rattle.octets.proofs.wide_16.Reads as wide-16-reads
 
--- src/lib.rt:43:13
 get-16-requires : tie.Need-get-16-requires
 get-16-requires c κs = search needs
 
--- src/lib.rt:43:5
 wide-16-requires : tie.Need-wide-16-requires
 wide-16-requires c κs = search needs
 
--- src/lib.rt:43:55
 add-get-16 : tie.Need-add-get-16
 add-get-16 c = search needs
 
--- src/lib.rt:43:45
 get-16-requires-2 : tie.Need-get-16-requires-2
 get-16-requires-2 c κs = search needs
 
--- src/lib.rt:43:37
 wide-16-requires-2 : tie.Need-wide-16-requires-2
 wide-16-requires-2 c κs = search needs
 
--- src/lib.rt:43:29
 mul-result : tie.Need-mul-result
 mul-result c = search needs
 
--- src/lib.rt:43:5
 add-result : tie.Need-add-result
 add-result c = search needs
 
--- src/lib.rt:39:1
 returns : tie.Need-returns
 returns c = let a = c .before .before .before .before .before .args in cc (num-join 2 2 (now (a .s)) (a .o))
 

@@ -3,40 +3,28 @@ use Rattle.octets.proofs.NumLaws.{num-join}
 use borrow.Author.Needs.{needs}
 use Rattle.octets.proofs.get_64.Statement.{statement}
 use Rattle.octets.proofs.get_64.Tie as tie
-use Rattle.octets.proofs.get_64.Reads as reads
-use Rattle.octets.proofs.get_64.Lts as lts
-use Rattle.octets.proofs.get_32.Reads as get-32-reads
-use Rattle.octets.proofs.wide_32.Reads as wide-32-reads
 
--- src/lib.rt:50:13
 get-32-requires : tie.Need-get-32-requires
 get-32-requires c κs = search needs
 
--- src/lib.rt:50:5
 wide-32-requires : tie.Need-wide-32-requires
 wide-32-requires c κs = search needs
 
--- src/lib.rt:50:60
 add-get-32 : tie.Need-add-get-32
 add-get-32 c = search needs
 
--- src/lib.rt:50:50
 get-32-requires-2 : tie.Need-get-32-requires-2
 get-32-requires-2 c κs = search needs
 
--- src/lib.rt:50:42
 wide-32-requires-2 : tie.Need-wide-32-requires-2
 wide-32-requires-2 c κs = search needs
 
--- src/lib.rt:50:29
 mul-result : tie.Need-mul-result
 mul-result c = search needs
 
--- src/lib.rt:50:5
 add-result : tie.Need-add-result
 add-result c = search needs
 
--- src/lib.rt:46:1
 returns : tie.Need-returns
 returns c = let a = c .before .before .before .before .before .args in cc (num-join 4 4 (now (a .s)) (a .o))
 

@@ -3,14 +3,10 @@ use Rattle.octets.specs.Octets.{numAt}
 use borrow.Author.Needs.{needs}
 use Rattle.octets.proofs.get_8.Statement.{statement}
 use Rattle.octets.proofs.get_8.Tie as tie
-use Rattle.octets.proofs.get_8.Reads as reads
-use Rattle.octets.proofs.get_8.Lts as lts
 
--- src/lib.rt:29:5
 shared-slice-read-result : tie.Need-shared-slice-read-result
 shared-slice-read-result c = search needs
 
--- src/lib.rt:25:1
 returns : tie.Need-returns
 unfolding numAt
 returns c = refl

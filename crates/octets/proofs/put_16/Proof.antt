@@ -5,34 +5,25 @@ use Rattle.octets.specs.Octets.{splice, putNum, toBytes}
 use borrow.Author.Needs.{needs}
 use Rattle.octets.proofs.put_16.Statement.{statement}
 use Rattle.octets.proofs.put_16.Tie as tie
-use Rattle.octets.proofs.put_16.Reads as reads
-use Rattle.octets.proofs.put_16.Lts as lts
 
--- src/lib.rt:64:12
 cast-s : tie.Need-cast-s
 cast-s c = search needs
 
--- src/lib.rt:64:5
 slice-write-s : tie.Need-slice-write-s
 slice-write-s c = search needs
 
--- src/lib.rt:65:16
 cast-s-2 : tie.Need-cast-s-2
 cast-s-2 c = search needs
 
--- src/lib.rt:65:7
 add-s : tie.Need-add-s
 add-s c = search needs
 
--- src/lib.rt:65:5
 slice-write-s-2 : tie.Need-slice-write-s-2
 slice-write-s-2 c = simp length-set (omega arith)
 
--- src/lib.rt:60:1
 same-length : tie.Need-same-length
 same-length c = search needs
 
--- src/lib.rt:60:1
 returns : tie.Need-returns
 unfolding splice putNum toBytes
 returns c = refl

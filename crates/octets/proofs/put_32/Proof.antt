@@ -3,35 +3,25 @@ use Rattle.octets.proofs.NumLaws.{put-join}
 use borrow.Author.Needs.{needs}
 use Rattle.octets.proofs.put_32.Statement.{statement}
 use Rattle.octets.proofs.put_32.Tie as tie
-use Rattle.octets.proofs.put_32.Reads as reads
-use Rattle.octets.proofs.put_32.Lts as lts
-use Rattle.octets.proofs.put_16.Reads as put-16-reads
 
--- src/lib.rt:72:24
 cast-put-16 : tie.Need-cast-put-16
 cast-put-16 c = search needs
 
--- src/lib.rt:72:5
 put-16-requires : tie.Need-put-16-requires
 put-16-requires c κs = search needs
 
--- src/lib.rt:73:21
 add-put-16 : tie.Need-add-put-16
 add-put-16 c = search needs
 
--- src/lib.rt:73:28
 cast-put-16-2 : tie.Need-cast-put-16-2
 cast-put-16-2 c = search needs
 
--- src/lib.rt:73:5
 put-16-requires-2 : tie.Need-put-16-requires-2
 put-16-requires-2 c κs = search needs
 
--- src/lib.rt:68:1
 same-length : tie.Need-same-length
 same-length c = search needs
 
--- src/lib.rt:68:1
 returns : tie.Need-returns
 returns c = let a = c .before .before .before .before .before .before .before .before .before .args in cc (put-join 1 1 (now (a .s)) (a .o) (a .v))
 

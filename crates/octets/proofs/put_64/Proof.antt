@@ -3,35 +3,25 @@ use Rattle.octets.proofs.NumLaws.{put-join}
 use borrow.Author.Needs.{needs}
 use Rattle.octets.proofs.put_64.Statement.{statement}
 use Rattle.octets.proofs.put_64.Tie as tie
-use Rattle.octets.proofs.put_64.Reads as reads
-use Rattle.octets.proofs.put_64.Lts as lts
-use Rattle.octets.proofs.put_32.Reads as put-32-reads
 
--- src/lib.rt:80:24
 cast-put-32 : tie.Need-cast-put-32
 cast-put-32 c = search needs
 
--- src/lib.rt:80:5
 put-32-requires : tie.Need-put-32-requires
 put-32-requires c κs = search needs
 
--- src/lib.rt:81:21
 add-put-32 : tie.Need-add-put-32
 add-put-32 c = search needs
 
--- src/lib.rt:81:28
 cast-put-32-2 : tie.Need-cast-put-32-2
 cast-put-32-2 c = search needs
 
--- src/lib.rt:81:5
 put-32-requires-2 : tie.Need-put-32-requires-2
 put-32-requires-2 c κs = search needs
 
--- src/lib.rt:76:1
 same-length : tie.Need-same-length
 same-length c = search needs
 
--- src/lib.rt:76:1
 returns : tie.Need-returns
 returns c = let a = c .before .before .before .before .before .before .before .before .before .args in cc (put-join 3 3 (now (a .s)) (a .o) (a .v))
 

@@ -8,8 +8,6 @@ use Rattle.octets.specs.Octets.{zeroed}
 use Rattle.octets.proofs.PartLaws.{zeroed-none, zeroed-more}
 use Rattle.octets.proofs.zero_range.Statement.{statement}
 use Rattle.octets.proofs.zero_range.Tie as tie
-use Rattle.octets.proofs.zero_range.Reads as reads
-use Rattle.octets.proofs.zero_range.Lts as lts
 
 abbrev Inv-loop : tie.InvT-loop
 Inv-loop s₀ o k j₀ s j = (j ≤ k) × (length s ≡ length s₀) × (s ≡ zeroed s₀ o j)
@@ -17,35 +15,27 @@ Inv-loop s₀ o k j₀ s j = (j ≤ k) × (length s ≡ length s₀) × (s ≡ z
 abbrev μ-loop : tie.MeasureT-loop
 μ-loop s₀ o k j₀ s j = k - j
 
--- src/lib.rt:88:5
 loop-holds : tie.Need-loop-holds Inv-loop μ-loop
 loop-holds c = (omega arith, refl, zeroed-none _ _)
 
--- src/lib.rt:89:11
 add-s : tie.Need-add-s Inv-loop μ-loop
 add-s c = search needs
 
--- src/lib.rt:89:9
 slice-write-s : tie.Need-slice-write-s Inv-loop μ-loop
 slice-write-s c = search needs
 
--- src/lib.rt:88:9
 add-j : tie.Need-add-j Inv-loop μ-loop
 add-j c = search needs
 
--- src/lib.rt:88:5
 loop-less : tie.Need-loop-less Inv-loop μ-loop
 loop-less c = search needs
 
--- src/lib.rt:88:5
 loop-again : tie.Need-loop-again Inv-loop μ-loop
 loop-again c = let i = c .before .loop in let a = c .before .before .args in (omega arith, rw length-set (i .inv .1), rw (i .inv .2) (zeroed-more (now (a .s)) (a .o) (i .j)))
 
--- src/lib.rt:84:1
 same-length : tie.Need-same-length Inv-loop μ-loop
 same-length c = search needs
 
--- src/lib.rt:84:1
 returns : tie.Need-returns Inv-loop μ-loop
 returns c = let i = c .before .loop in let a = c .before .before .args in let e : i .j ≡ a .k = omega arith in i .inv .2 ∙ ap (zeroed (now (a .s)) (a .o)) e
 

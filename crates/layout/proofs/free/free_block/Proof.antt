@@ -6,20 +6,13 @@ use Rattle.layout.specs.Free.{freeBlock, named}
 use borrow.Author.Needs.{needs}
 use Rattle.layout.proofs.free.free_block.Statement.{statement}
 use Rattle.layout.proofs.free.free_block.Tie as tie
-use Rattle.layout.proofs.free.free_block.Reads as reads
-use Rattle.layout.proofs.free.free_block.Lts as lts
-use Rattle.layout.proofs.free.lowest_unnamed.Reads as lowest-unnamed-reads
-use Rattle.layout.proofs.free.named_blocks.Reads as named-blocks-reads
 
--- src/free.rt:60:15
 named-blocks-requires : tie.Need-named-blocks-requires
 named-blocks-requires c κs = search needs
 
--- src/free.rt:61:5
 lowest-unnamed-requires : tie.Need-lowest-unnamed-requires
 lowest-unnamed-requires c κs = search needs
 
--- src/free.rt:55:1
 returns : tie.Need-returns
 unfolding freeBlock named
 returns c = c .lowest-unnamed .ensures ∙ first-ext _ _ 1 _ (λ j l m. seen-test _ 4097 _ j _ (c .before .before .named-blocks .ensures) (omega arith))

@@ -10,9 +10,6 @@ use Rattle.layout.specs.Free.{freeInode, isFree}
 use borrow.Author.Needs.{needs}
 use Rattle.layout.proofs.free.free_inode.Statement.{statement}
 use Rattle.layout.proofs.free.free_inode.Tie as tie
-use Rattle.layout.proofs.free.free_inode.Reads as reads
-use Rattle.layout.proofs.free.free_inode.Lts as lts
-use Rattle.layout.proofs.inode.kind.Reads as kind-reads
 
 abbrev Inv-loop : tie.InvT-loop
 Inv-loop s n i₀ i-end i = (1 ≤ i) × (i ≤ n + 1) × (freeInode s n ≡ firstFrom (isFree s) i (n + 1 - i))
@@ -20,38 +17,30 @@ Inv-loop s n i₀ i-end i = (1 ≤ i) × (i ≤ n + 1) × (freeInode s n ≡ fir
 abbrev μ-loop : tie.MeasureT-loop
 μ-loop s n i₀ i-end i = n + 1 - i
 
--- src/free.rt:19:17
 add-i-end : tie.Need-add-i-end Inv-loop μ-loop
 add-i-end c = search needs
 
--- src/free.rt:19:5
 loop-holds : tie.Need-loop-holds Inv-loop μ-loop
 unfolding freeInode
 loop-holds c = (omega arith, omega arith, first-of-begin _ 1 _ _ (omega arith))
 
--- src/free.rt:20:12
 kind-requires : tie.Need-kind-requires Inv-loop μ-loop
 kind-requires c κs = search needs
 
--- src/free.rt:21:13
 returns : tie.Need-returns Inv-loop μ-loop
 unfolding isFree
 returns c = let i = c .before .before .before .loop in sym (i .inv .2 ∙ first-found _ (i .i) _ (omega arith) (eq-eqb _ 0 (sym (c .before .kind .ensures) ∙ c .if1 .taken)))
 
--- src/free.rt:19:9
 add-i : tie.Need-add-i Inv-loop μ-loop
 add-i c = search needs
 
--- src/free.rt:19:5
 loop-less : tie.Need-loop-less Inv-loop μ-loop
 loop-less c = search needs
 
--- src/free.rt:19:5
 loop-again : tie.Need-loop-again Inv-loop μ-loop
 unfolding isFree
 loop-again c = let i = c .before .before .before .loop in (omega arith, omega arith, i .inv .2 ∙ first-turn _ (i .i) _ (omega arith) (ne-eqb _ 0 (λ z. c .if1 .left (c .before .kind .ensures ∙ z))))
 
--- src/free.rt:15:1
 returns-2 : tie.Need-returns-2 Inv-loop μ-loop
 returns-2 c = let i = c .before .loop in sym (i .inv .2 ∙ first-end _ (i .i) _ (omega arith))
 

@@ -10,8 +10,6 @@ use Rattle.bounded.proofs.SearchLaws.{first-of-begin, first-turn, first-found, 
 use borrow.Author.Needs.{needs}
 use Rattle.layout.proofs.free.lowest_unnamed.Statement.{statement}
 use Rattle.layout.proofs.free.lowest_unnamed.Tie as tie
-use Rattle.layout.proofs.free.lowest_unnamed.Reads as reads
-use Rattle.layout.proofs.free.lowest_unnamed.Lts as lts
 
 abbrev Inv-loop : tie.InvT-loop
 Inv-loop map count b₀ b-end b = (1 ≤ b) × (b ≤ count + 1) × (firstFrom (λ j. eqb (getD map j 0) 0) 1 count ≡ firstFrom (λ j. eqb (getD map j 0) 0) b (count + 1 - b))
@@ -19,35 +17,27 @@ Inv-loop map count b₀ b-end b = (1 ≤ b) × (b ≤ count + 1) × (firstFrom (
 abbrev μ-loop : tie.MeasureT-loop
 μ-loop map count b₀ b-end b = count + 1 - b
 
--- src/free.rt:46:17
 add-b-end : tie.Need-add-b-end Inv-loop μ-loop
 add-b-end c = search needs
 
--- src/free.rt:46:5
 loop-holds : tie.Need-loop-holds Inv-loop μ-loop
 loop-holds c = (omega arith, omega arith, first-of-begin _ 1 _ _ (omega arith))
 
--- src/free.rt:47:12
 element-copy-out-if1 : tie.Need-element-copy-out-if1 Inv-loop μ-loop
 element-copy-out-if1 c = omega arith
 
--- src/free.rt:48:13
 returns : tie.Need-returns Inv-loop μ-loop
 returns c = let i = c .before .before .before .loop in sym (i .inv .2 ∙ first-found _ (i .b) _ (omega arith) (eq-eqb _ 0 (c .if1 .taken)))
 
--- src/free.rt:46:9
 add-b : tie.Need-add-b Inv-loop μ-loop
 add-b c = search needs
 
--- src/free.rt:46:5
 loop-less : tie.Need-loop-less Inv-loop μ-loop
 loop-less c = search needs
 
--- src/free.rt:46:5
 loop-again : tie.Need-loop-again Inv-loop μ-loop
 loop-again c = let i = c .before .before .before .loop in (omega arith, omega arith, i .inv .2 ∙ first-turn _ (i .b) _ (omega arith) (ne-eqb _ 0 (c .if1 .left)))
 
--- src/free.rt:42:1
 returns-2 : tie.Need-returns-2 Inv-loop μ-loop
 returns-2 c = let i = c .before .loop in sym (i .inv .2 ∙ first-end _ (i .b) _ (omega arith))
 

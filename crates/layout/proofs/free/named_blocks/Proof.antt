@@ -8,9 +8,6 @@ use Rattle.layout.specs.Inode.{addressOf}
 use borrow.Author.Needs.{needs}
 use Rattle.layout.proofs.free.named_blocks.Statement.{statement}
 use Rattle.layout.proofs.free.named_blocks.Tie as tie
-use Rattle.layout.proofs.free.named_blocks.Reads as reads
-use Rattle.layout.proofs.free.named_blocks.Lts as lts
-use Rattle.layout.proofs.inode.address.Reads as address-reads
 
 abbrev Inv-loop : tie.InvT-loop
 Inv-loop s n map₀ x₀ x-end map x = (x ≤ 12 * n) × Seen (addressOf s n) 4097 x map
@@ -18,39 +15,30 @@ Inv-loop s n map₀ x₀ x-end map x = (x ≤ 12 * n) × Seen (addressOf s n) 40
 abbrev μ-loop : tie.MeasureT-loop
 μ-loop s n map₀ x₀ x-end map x = 12 * n - x
 
--- src/free.rt:34:17
 mul-x-end : tie.Need-mul-x-end Inv-loop μ-loop
 mul-x-end c = search needs
 
--- src/free.rt:34:5
 loop-holds : tie.Need-loop-holds Inv-loop μ-loop
 loop-holds c = (omega arith, seen-start _ 4097)
 
--- src/free.rt:35:17
 address-requires : tie.Need-address-requires Inv-loop μ-loop
 address-requires c κs = search needs
 
--- src/free.rt:35:17
 cast-b : tie.Need-cast-b Inv-loop μ-loop
 cast-b c = search needs
 
--- src/free.rt:36:9
 array-write-map : tie.Need-array-write-map Inv-loop μ-loop
 array-write-map c = omega (arith, c .address .ensures, c .before .before .before .before .pre .1 (c .before .before .loop .x) (omega arith))
 
--- src/free.rt:34:9
 add-x : tie.Need-add-x Inv-loop μ-loop
 add-x c = search needs
 
--- src/free.rt:34:5
 loop-less : tie.Need-loop-less Inv-loop μ-loop
 loop-less c = search needs
 
--- src/free.rt:34:5
 loop-again : tie.Need-loop-again Inv-loop μ-loop
 loop-again c = let i = c .before .before .loop in let b = c .before .before .before .before .pre .1 (i .x) (omega arith) in (omega arith, seen-more _ 4097 (i .x) _ _ (c .address .ensures) (omega (arith, c .address .ensures, b)) (i .inv .1))
 
--- src/free.rt:28:1
 returns : tie.Need-returns Inv-loop μ-loop
 returns c = let e : c .before .loop .x ≡ 12 * c .before .before .before .args .n = omega arith in rw e at (c .before .loop .inv .1)
 

@@ -2,23 +2,16 @@ use Rattle.layout.specs.Header.{putFree}
 use borrow.Author.Needs.{needs}
 use Rattle.layout.proofs.header.put_free.Statement.{statement}
 use Rattle.layout.proofs.header.put_free.Tie as tie
-use Rattle.layout.proofs.header.put_free.Reads as reads
-use Rattle.layout.proofs.header.put_free.Lts as lts
-use Rattle.octets.proofs.put_16.Reads as put-16-reads
 
--- src/header.rt:48:5
 put-16-requires : tie.Need-put-16-requires
 put-16-requires c κs = search needs
 
--- src/header.rt:49:5
 put-16-requires-2 : tie.Need-put-16-requires-2
 put-16-requires-2 c κs = search needs
 
--- src/header.rt:44:1
 same-length : tie.Need-same-length
 same-length c = search needs
 
--- src/header.rt:44:1
 returns : tie.Need-returns
 unfolding putFree
 returns c = cc

@@ -7,25 +7,17 @@ use Rattle.layout.specs.Header.{reservedZero}
 use borrow.Author.Needs.{needs}
 use Rattle.layout.proofs.header.reserved_zero.Statement.{statement}
 use Rattle.layout.proofs.header.reserved_zero.Tie as tie
-use Rattle.layout.proofs.header.reserved_zero.Reads as reads
-use Rattle.layout.proofs.header.reserved_zero.Lts as lts
-use Rattle.octets.proofs.get_32.Reads as get-32-reads
-use Rattle.octets.proofs.get_8.Reads as get-8-reads
 
--- src/header.rt:64:8
 get-8-requires : tie.Need-get-8-requires
 get-8-requires c κs = search needs
 
--- src/header.rt:65:9
 returns : tie.Need-returns
 unfolding reservedZero
 returns c = sym (and-false-l _ _ (ne-eqb _ 0 (λ z. c .if1 .taken (c .before .get-8 .ensures ∙ z))))
 
--- src/header.rt:67:5
 get-32-requires : tie.Need-get-32-requires
 get-32-requires c κs = search needs
 
--- src/header.rt:60:1
 returns-2 : tie.Need-returns-2
 unfolding reservedZero
 returns-2 c = chain-end _ _ _ (eq-eqb _ 0 (sym (c .before .before .get-8 .ensures) ∙ c .before .if1 .left)) (ap (λ (x : ℕ). eqb x 0) (c .get-32 .ensures))

@@ -8,9 +8,6 @@ use Rattle.layout.specs.Inode.{addressOf, place, addressesOf}
 use borrow.Author.Needs.{needs}
 use Rattle.layout.proofs.inode.addresses.Statement.{statement}
 use Rattle.layout.proofs.inode.addresses.Tie as tie
-use Rattle.layout.proofs.inode.addresses.Reads as reads
-use Rattle.layout.proofs.inode.addresses.Lts as lts
-use Rattle.layout.proofs.inode.address.Reads as address-reads
 
 abbrev Inv-loop : tie.InvT-loop
 Inv-loop s n i x a₀ k₀ a k = (k ≤ 12) × Filled (λ j. addressOf s n (place i j)) 12 k a
@@ -18,47 +15,36 @@ Inv-loop s n i x a₀ k₀ a k = (k ≤ 12) × Filled (λ j. addressOf s n (plac
 abbrev μ-loop : tie.MeasureT-loop
 μ-loop s n i x a₀ k₀ a k = 12 - k
 
--- src/inode.rt:97:30
 sub-x : tie.Need-sub-x Inv-loop μ-loop
 sub-x c = search needs
 
--- src/inode.rt:97:13
 mul-x : tie.Need-mul-x Inv-loop μ-loop
 mul-x c = search needs
 
--- src/inode.rt:99:5
 loop-holds : tie.Need-loop-holds Inv-loop μ-loop
 loop-holds c = (omega arith, filled-none _ 12 _ (search needs))
 
--- src/inode.rt:100:30
 add-address : tie.Need-add-address Inv-loop μ-loop
 add-address c = search needs
 
--- src/inode.rt:100:16
 address-requires : tie.Need-address-requires Inv-loop μ-loop
 address-requires c κs = search needs
 
--- src/inode.rt:100:9
 mul-a : tie.Need-mul-a Inv-loop μ-loop
 mul-a c = search needs
 
--- src/inode.rt:100:9
 array-write-a : tie.Need-array-write-a Inv-loop μ-loop
 array-write-a c = search needs
 
--- src/inode.rt:99:9
 add-k : tie.Need-add-k Inv-loop μ-loop
 add-k c = search needs
 
--- src/inode.rt:99:5
 loop-less : tie.Need-loop-less Inv-loop μ-loop
 loop-less c = search needs
 
--- src/inode.rt:99:5
 loop-again : tie.Need-loop-again Inv-loop μ-loop
 loop-again c = let i = c .before .before .loop in (omega arith, filled-more _ 12 (i .k) _ _ (omega arith) (c .address .ensures) (i .inv .1))
 
--- src/inode.rt:93:1
 returns : tie.Need-returns Inv-loop μ-loop
 unfolding addressesOf
 returns c = filled-all _ 12 (c .before .loop .k) _ (omega arith) (c .before .loop .inv .1)

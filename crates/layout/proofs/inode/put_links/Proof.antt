@@ -2,28 +2,19 @@ use Rattle.layout.specs.Inode.{putLinks}
 use borrow.Author.Needs.{needs}
 use Rattle.layout.proofs.inode.put_links.Statement.{statement}
 use Rattle.layout.proofs.inode.put_links.Tie as tie
-use Rattle.layout.proofs.inode.put_links.Reads as reads
-use Rattle.layout.proofs.inode.put_links.Lts as lts
-use Rattle.layout.proofs.inode.attributes_at.Reads as attributes-at-reads
-use Rattle.octets.proofs.put_16.Reads as put-16-reads
 
--- src/inode.rt:75:29
 attributes-at-requires : tie.Need-attributes-at-requires
 attributes-at-requires c κs = search needs
 
--- src/inode.rt:75:29
 add-put-16 : tie.Need-add-put-16
 add-put-16 c = search needs
 
--- src/inode.rt:75:5
 put-16-requires : tie.Need-put-16-requires
 put-16-requires c κs = search needs
 
--- src/inode.rt:71:1
 same-length : tie.Need-same-length
 same-length c = search needs
 
--- src/inode.rt:71:1
 returns : tie.Need-returns
 unfolding putLinks
 returns c = cc

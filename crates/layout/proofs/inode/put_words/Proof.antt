@@ -9,9 +9,6 @@ use Rattle.octets.proofs.WordLaws.{words-more}
 use borrow.Author.Needs.{needs}
 use Rattle.layout.proofs.inode.put_words.Statement.{statement}
 use Rattle.layout.proofs.inode.put_words.Tie as tie
-use Rattle.layout.proofs.inode.put_words.Reads as reads
-use Rattle.layout.proofs.inode.put_words.Lts as lts
-use Rattle.octets.proofs.put_16.Reads as put-16-reads
 
 abbrev Inv-loop : tie.InvT-loop
 Inv-loop s₀ o a k₀ s k = (k ≤ 12) × (length a ≡ 12) × (s ≡ splice s₀ o (wordBytes (take k a))) × (length s ≡ length s₀)
@@ -19,48 +16,37 @@ Inv-loop s₀ o a k₀ s k = (k ≤ 12) × (length a ≡ 12) × (s ≡ splice s�
 abbrev μ-loop : tie.MeasureT-loop
 μ-loop s₀ o a k₀ s k = 12 - k
 
--- src/inode.rt:110:5
 loop-holds : tie.Need-loop-holds Inv-loop μ-loop
 unfolding splice wordBytes
 loop-holds c = (omega arith, search needs, refl, refl)
 
--- src/inode.rt:111:37
 mul-put-16 : tie.Need-mul-put-16 Inv-loop μ-loop
 mul-put-16 c = search needs
 
--- src/inode.rt:111:33
 add-put-16 : tie.Need-add-put-16 Inv-loop μ-loop
 add-put-16 c = search needs
 
--- src/inode.rt:111:44
 mul-put-16-2 : tie.Need-mul-put-16-2 Inv-loop μ-loop
 mul-put-16-2 c = search needs
 
--- src/inode.rt:111:44
 array-read-put-16 : tie.Need-array-read-put-16 Inv-loop μ-loop
 array-read-put-16 c = search needs
 
--- src/inode.rt:111:9
 put-16-requires : tie.Need-put-16-requires Inv-loop μ-loop
 put-16-requires c κs = search needs
 
--- src/inode.rt:110:9
 add-k : tie.Need-add-k Inv-loop μ-loop
 add-k c = search needs
 
--- src/inode.rt:110:5
 loop-less : tie.Need-loop-less Inv-loop μ-loop
 loop-less c = search needs
 
--- src/inode.rt:110:5
 loop-again : tie.Need-loop-again Inv-loop μ-loop
 loop-again c = let i = c .before .before .before .before .before .loop in let a = c .before .before .before .before .before .before .before .args in (omega arith, i .inv .1, cc (words-more (now (a .s)) (a .o) (a .t3) (i .k) (omega arith)), omega arith)
 
--- src/inode.rt:106:1
 same-length : tie.Need-same-length Inv-loop μ-loop
 same-length c = search needs
 
--- src/inode.rt:106:1
 returns : tie.Need-returns Inv-loop μ-loop
 returns c = let i = c .before .loop in let k : i .k ≡ 12 = omega arith in let a = c .before .before .before .args in i .inv .2 ∙ rw (k, take-all 12 (a .t3) (omega arith)) refl
 

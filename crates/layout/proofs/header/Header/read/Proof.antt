@@ -2,36 +2,25 @@ use Rattle.layout.specs.Header.{headerOf}
 use borrow.Author.Needs.{needs}
 use Rattle.layout.proofs.header.Header.read.Statement.{statement}
 use Rattle.layout.proofs.header.Header.read.Tie as tie
-use Rattle.layout.proofs.header.Header.read.Reads as reads
-use Rattle.layout.proofs.header.Header.read.Lts as lts
-use Rattle.octets.proofs.get_16.Reads as get-16-reads
-use Rattle.octets.proofs.get_8.Reads as get-8-reads
 
--- src/header.rt:23:21
 get-16-requires : tie.Need-get-16-requires
 get-16-requires c κs = search needs
 
--- src/header.rt:24:21
 get-16-requires-2 : tie.Need-get-16-requires-2
 get-16-requires-2 c κs = search needs
 
--- src/header.rt:25:26
 get-16-requires-3 : tie.Need-get-16-requires-3
 get-16-requires-3 c κs = search needs
 
--- src/header.rt:26:26
 get-16-requires-4 : tie.Need-get-16-requires-4
 get-16-requires-4 c κs = search needs
 
--- src/header.rt:27:23
 get-8-requires : tie.Need-get-8-requires
 get-8-requires c κs = search needs
 
--- src/header.rt:28:19
 get-16-requires-5 : tie.Need-get-16-requires-5
 get-16-requires-5 c κs = search needs
 
--- src/header.rt:18:5
 returns : tie.Need-returns
 unfolding headerOf
 returns c = cc

@@ -1,0 +1,61 @@
+-- "Laying out, which is not itself a file call, zeroes the buffer, then writes a true header and an empty root, or a desk's N."
+use Prim.Native.Nat.{ℕ, _-_}
+use mathlib.Core.Bool.{Bool, _&&_}
+use mathlib.Core.List.{List}
+use lib.Dec.{eqb, leb}
+use lib.ListN.{length, replicate}
+use Rattle.bounded.specs.Search.{pick}
+use Rattle.layout.specs.Sizes.{mostInodes, mostStoreBlocks, addressCount}
+use Rattle.layout.specs.Header.{putHeader}
+use Rattle.layout.specs.Inode.{putInode, directoryKind}
+use Rattle.layout.specs.Block.{storeLength}
+use Rattle.layout.specs.declared.header.Header.{Header}
+use Rattle.layout.specs.declared.inode.Inode.{Inode}
+use Rattle.desk.specs.Sizes.{deskLength, idle}
+use Rattle.desk.specs.Desk.{putDesk}
+use Rattle.desk.specs.declared.Desk.{Desk}
+use Rattle.refusals.specs.declared.Refusal.the-variants.{BadBuffer}
+use Rattle.format.specs.declared.Laid.{Laid}
+use Rattle.format.specs.declared.Laid.the-variants.{Done, Refused}
+
+-- what a layout call leaves: its answer, and the buffer's content
+pub record Outcome : Type 0 where
+  pub answer : Laid
+  pub buffer : List ℕ
+
+abbrev pub left : Laid → List ℕ → Outcome
+left r s = record { answer = r; buffer = s }
+
+-- the root's number: "10-11 root, always 1"
+abbrev pub root : ℕ
+root = 1
+
+-- ---- A store
+-- refusal 1: "inode count N (1 to 256)", "block count B (store 1 to 1,024)", "Length is 16 + 32 × N + 64 × B exactly"
+unfoldable pub storeAllowed : ℕ → ℕ → ℕ → Bool
+storeAllowed n b k = leb 1 n && (leb n mostInodes && (leb 1 b && (leb b mostStoreBlocks && eqb k (storeLength n b))))
+
+-- a true header: all inodes but the root are free, and all blocks
+unfoldable pub freshHeader : ℕ → ℕ → Header
+freshHeader n b = record { inodes = n; blocks = b; «free_inodes» = n - 1; «free_blocks» = b; complete = 1; root = root }
+
+-- an empty directory that no entry names
+unfoldable pub emptyRoot : Inode
+emptyRoot = record { kind = directoryKind; links = 0; size = 0; parent = 0; addresses = replicate addressCount 0 }
+
+unfoldable pub freshStore : ℕ → ℕ → List ℕ
+freshStore n b = putInode (putHeader (replicate (storeLength n b) 0) (freshHeader n b)) n root emptyRoot
+
+unfoldable pub layOutStore : List ℕ → ℕ → ℕ → Outcome
+layOutStore s n b = pick (storeAllowed n b (length s)) (left Done (freshStore n b)) (left (Refused BadBuffer) s)
+
+-- ---- A desk
+unfoldable pub deskAllowed : ℕ → ℕ → Bool
+deskAllowed n k = leb 1 n && (leb n mostInodes && eqb k (deskLength n))
+
+-- its N, and nothing else
+unfoldable pub freshDesk : ℕ → List ℕ
+freshDesk n = putDesk (replicate (deskLength n) 0) (record { inodes = n; blocks = 0; state = idle; locked = 0; copied = 0; steps = 0 })
+
+unfoldable pub layOutDesk : List ℕ → ℕ → Outcome
+layOutDesk d n = pick (deskAllowed n (length d)) (left Done (freshDesk n)) (left (Refused BadBuffer) d)

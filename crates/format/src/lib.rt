@@ -1,0 +1,115 @@
+// The two layout calls: a store with an empty root, and a desk that is idle.
+ghost use mathlib.Core.Path.{_≡_};
+ghost use Prim.Native.Nat.{ℕ, _≤_};
+ghost use lib.ListN.{length};
+ghost use Rattle.layout.specs.Sizes.{mostInodes, mostStoreBlocks};
+ghost use Rattle.format.specs.Format.{left, storeAllowed, deskAllowed, freshHeader, emptyRoot, layOutStore, layOutDesk};
+use desk::DESK_HEADER_BYTES;
+use desk::DESK_INODE_BYTES;
+use desk::Desk;
+use desk::IDLE;
+use layout::block::store_length;
+use layout::header::Header;
+use layout::inode::Inode;
+use layout::sizes::DIRECTORY;
+use layout::sizes::MOST_INODES;
+use layout::sizes::MOST_STORE_BLOCKS;
+use refusals::Refusal;
+
+pub enum Laid {
+    Done,
+    Refused(Refusal),
+}
+
+const ROOT: u16 = 1;
+
+// A store of n inodes and b blocks may be k bytes long.
+fn store_allowed(n: usize, b: usize, k: usize) -> bool
+    ensures { λ r. ⌜ r ≡ storeAllowed n b k ⌝ }
+{
+    if n < 1 {
+        return false;
+    }
+    if MOST_INODES < n {
+        return false;
+    }
+    if b < 1 {
+        return false;
+    }
+    if MOST_STORE_BLOCKS < b {
+        return false;
+    }
+    k == store_length(n, b)
+}
+
+fn fresh_header(n: usize, b: usize) -> Header
+    requires { ⌜ (1 ≤ n) × (n ≤ mostInodes) × (b ≤ mostStoreBlocks) ⌝ }
+    ensures { λ r. ⌜ r ≡ freshHeader n b ⌝ }
+{
+    Header {
+        inodes: n as u16,
+        blocks: b as u16,
+        free_inodes: (n - 1) as u16,
+        free_blocks: b as u16,
+        complete: 1,
+        root: ROOT,
+    }
+}
+
+fn empty_root() -> Inode
+    ensures { λ r. ⌜ r ≡ emptyRoot ⌝ }
+{
+    Inode {
+        kind: DIRECTORY,
+        links: 0,
+        size: 0,
+        parent: 0,
+        addresses: [0u16; 12],
+    }
+}
+
+pub fn lay_out_store(buffer: &mut [u8], inodes: usize, blocks: usize) -> Laid
+    ensures { λ r. ⌜ left r (now (buffer .exit)) ≡ layOutStore (now (buffer .entry)) inodes blocks ⌝ }
+{
+    let length = buffer.len();
+    if !store_allowed(inodes, blocks, length) {
+        return Laid::Refused(Refusal::BadBuffer);
+    }
+    octets::zero_range(&mut *buffer, 0, length);
+    fresh_header(inodes, blocks).write(&mut *buffer);
+    empty_root().write(&mut *buffer, inodes, ROOT as usize);
+    Laid::Done
+}
+
+// A desk for n inodes may be k bytes long.
+fn desk_allowed(n: usize, k: usize) -> bool
+    ensures { λ r. ⌜ r ≡ deskAllowed n k ⌝ }
+{
+    if n < 1 {
+        return false;
+    }
+    if MOST_INODES < n {
+        return false;
+    }
+    k == DESK_HEADER_BYTES + DESK_INODE_BYTES * n
+}
+
+pub fn lay_out_desk(buffer: &mut [u8], inodes: usize) -> Laid
+    ensures { λ r. ⌜ left r (now (buffer .exit)) ≡ layOutDesk (now (buffer .entry)) inodes ⌝ }
+{
+    let length = buffer.len();
+    if !desk_allowed(inodes, length) {
+        return Laid::Refused(Refusal::BadBuffer);
+    }
+    octets::zero_range(&mut *buffer, 0, length);
+    let fresh = Desk {
+        inodes: inodes as u16,
+        blocks: 0,
+        state: IDLE,
+        locked: 0,
+        copied: 0,
+        steps: 0,
+    };
+    fresh.write(&mut *buffer);
+    Laid::Done
+}
