@@ -18,8 +18,8 @@ use Rattle.layout.specs.declared.inode.Inode.{Inode}
 use Rattle.desk.specs.Sizes.{deskLength, idle}
 use Rattle.desk.specs.Desk.{putDesk}
 use Rattle.desk.specs.declared.Desk.{Desk}
-use Rattle.refusals.specs.declared.Refusal.the-variants.{BadBuffer}
-use Rattle.format.specs.declared.Laid.the-variants.{Done, Refused}
+use Rattle.answers.specs.declared.Refusal.the-variants.{BadBuffer}
+use Rattle.answers.specs.declared.Answer.the-variants.{Done, Refused}
 use Rattle.format.specs.Format.{left, storeAllowed, deskAllowed, freshHeader, emptyRoot, freshStore, freshDesk, layOutStore, layOutDesk, root}
 
 pub store-allowed : (n b k : ℕ) → Reflects (storeAllowed n b k) ((1 ≤ n) × ((n ≤ mostInodes) × ((1 ≤ b) × ((b ≤ mostStoreBlocks) × (k ≡ storeLength n b)))))
@@ -37,7 +37,7 @@ unfolding layOutStore
 store-refused s n b e = rw e
 
 pub store-done : (s : List ℕ) (n b : ℕ) → storeAllowed n b (length s) ≡ true →
-    left Done (putInode (putHeader (zeroed s 0 (length s)) (freshHeader n b)) n root emptyRoot) ≡ layOutStore s n b
+    left (Done 0) (putInode (putHeader (zeroed s 0 (length s)) (freshHeader n b)) n root emptyRoot) ≡ layOutStore s n b
 unfolding layOutStore freshStore
 store-done s n b e =
     let r = store-allowed n b (length s) .to e in
@@ -50,7 +50,7 @@ unfolding layOutDesk
 desk-refused d n e = rw e
 
 pub desk-done : (d : List ℕ) (n : ℕ) → deskAllowed n (length d) ≡ true →
-    left Done (putDesk (zeroed d 0 (length d)) (record { inodes = n; blocks = 0; state = idle; locked = 0; copied = 0; steps = 0 })) ≡ layOutDesk d n
+    left (Done 0) (putDesk (zeroed d 0 (length d)) (record { inodes = n; blocks = 0; state = idle; locked = 0; copied = 0; steps = 0 })) ≡ layOutDesk d n
 unfolding layOutDesk freshDesk
 desk-done d n e =
     let r = desk-allowed n (length d) .to e in

@@ -14,16 +14,16 @@ use Rattle.layout.specs.declared.inode.Inode.{Inode}
 use Rattle.desk.specs.Sizes.{deskLength, idle}
 use Rattle.desk.specs.Desk.{putDesk}
 use Rattle.desk.specs.declared.Desk.{Desk}
-use Rattle.refusals.specs.declared.Refusal.the-variants.{BadBuffer}
-use Rattle.format.specs.declared.Laid.{Laid}
-use Rattle.format.specs.declared.Laid.the-variants.{Done, Refused}
+use Rattle.answers.specs.declared.Refusal.the-variants.{BadBuffer}
+use Rattle.answers.specs.declared.Answer.{Answer}
+use Rattle.answers.specs.declared.Answer.the-variants.{Done, Refused}
 
 -- what a layout call leaves: its answer, and the buffer's content
 pub record Outcome : Type 0 where
-  pub answer : Laid
+  pub answer : Answer
   pub buffer : List ℕ
 
-abbrev pub left : Laid → List ℕ → Outcome
+abbrev pub left : Answer → List ℕ → Outcome
 left r s = record { answer = r; buffer = s }
 
 -- the root's number: "10-11 root, always 1"
@@ -47,7 +47,7 @@ unfoldable pub freshStore : ℕ → ℕ → List ℕ
 freshStore n b = putInode (putHeader (replicate (storeLength n b) 0) (freshHeader n b)) n root emptyRoot
 
 unfoldable pub layOutStore : List ℕ → ℕ → ℕ → Outcome
-layOutStore s n b = pick (storeAllowed n b (length s)) (left Done (freshStore n b)) (left (Refused BadBuffer) s)
+layOutStore s n b = pick (storeAllowed n b (length s)) (left (Done 0) (freshStore n b)) (left (Refused BadBuffer) s)
 
 -- ---- A desk
 unfoldable pub deskAllowed : ℕ → ℕ → Bool
@@ -58,4 +58,4 @@ unfoldable pub freshDesk : ℕ → List ℕ
 freshDesk n = putDesk (replicate (deskLength n) 0) (record { inodes = n; blocks = 0; state = idle; locked = 0; copied = 0; steps = 0 })
 
 unfoldable pub layOutDesk : List ℕ → ℕ → Outcome
-layOutDesk d n = pick (deskAllowed n (length d)) (left Done (freshDesk n)) (left (Refused BadBuffer) d)
+layOutDesk d n = pick (deskAllowed n (length d)) (left (Done 0) (freshDesk n)) (left (Refused BadBuffer) d)

@@ -14,12 +14,7 @@ use layout::inode::Inode;
 use layout::sizes::DIRECTORY;
 use layout::sizes::MOST_INODES;
 use layout::sizes::MOST_STORE_BLOCKS;
-use refusals::Refusal;
-
-pub enum Laid {
-    Done,
-    Refused(Refusal),
-}
+use answers::{Answer, Refusal};
 
 const ROOT: u16 = 1;
 
@@ -68,17 +63,17 @@ fn empty_root() -> Inode
     }
 }
 
-pub fn lay_out_store(buffer: &mut [u8], inodes: usize, blocks: usize) -> Laid
+pub fn lay_out_store(buffer: &mut [u8], inodes: usize, blocks: usize) -> Answer
     ensures { λ r. ⌜ left r (now (buffer .exit)) ≡ layOutStore (now (buffer .entry)) inodes blocks ⌝ }
 {
     let length = buffer.len();
     if !store_allowed(inodes, blocks, length) {
-        return Laid::Refused(Refusal::BadBuffer);
+        return Answer::Refused(Refusal::BadBuffer);
     }
     octets::zero_range(&mut *buffer, 0, length);
     fresh_header(inodes, blocks).write(&mut *buffer);
     empty_root().write(&mut *buffer, inodes, ROOT as usize);
-    Laid::Done
+    Answer::Done(0)
 }
 
 // A desk for n inodes may be k bytes long.
@@ -94,12 +89,12 @@ fn desk_allowed(n: usize, k: usize) -> bool
     k == DESK_HEADER_BYTES + DESK_INODE_BYTES * n
 }
 
-pub fn lay_out_desk(buffer: &mut [u8], inodes: usize) -> Laid
+pub fn lay_out_desk(buffer: &mut [u8], inodes: usize) -> Answer
     ensures { λ r. ⌜ left r (now (buffer .exit)) ≡ layOutDesk (now (buffer .entry)) inodes ⌝ }
 {
     let length = buffer.len();
     if !desk_allowed(inodes, length) {
-        return Laid::Refused(Refusal::BadBuffer);
+        return Answer::Refused(Refusal::BadBuffer);
     }
     octets::zero_range(&mut *buffer, 0, length);
     let fresh = Desk {
@@ -111,5 +106,5 @@ pub fn lay_out_desk(buffer: &mut [u8], inodes: usize) -> Laid
         steps: 0,
     };
     fresh.write(&mut *buffer);
-    Laid::Done
+    Answer::Done(0)
 }

@@ -6,7 +6,7 @@ use Prim.Native.Nat.{ℕ}
 use Rattle.desk.specs.Sizes.{idle}
 use Rattle.desk.specs.Desk.{putDesk}
 use Rattle.format.specs.Format.{deskAllowed, left}
-use Rattle.format.specs.declared.Laid.the-variants.{Done}
+use Rattle.answers.specs.declared.Answer.the-variants.{Done}
 use mathlib.Core.Path.{sym, refl, _∙_}
 use borrow.Author.Tests.{not-true, not-false}
 use native.Mathlib.Omega.{arith}
@@ -40,7 +40,7 @@ same-length c = search needs
 
 returns-2 : tie.Need-returns-2
 returns-2 c = let a = c .before .before .before .before .before .before .before .before .before .before .before .args in
-    ap (left Done)
+    ap (left (Done 0))
     (c .before .before .write .ensures ∙ ap (λ (t : List ℕ). putDesk t (record { inodes = a .inodes; blocks = 0; state = idle; locked = 0; copied = 0; steps = 0 })) (c .before .before .before .before .before .before .zero-range .ensures))
     ∙ desk-done (now (a .buffer)) (a .inodes) (allowed (c .before .before .before .before .before .before .before .before))
 

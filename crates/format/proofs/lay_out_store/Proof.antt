@@ -7,7 +7,7 @@ use Rattle.layout.specs.declared.inode.Inode.{Inode}
 use Rattle.layout.specs.Header.{putHeader}
 use Rattle.layout.specs.Inode.{putInode}
 use Rattle.format.specs.Format.{storeAllowed, left}
-use Rattle.format.specs.declared.Laid.the-variants.{Done}
+use Rattle.answers.specs.declared.Answer.the-variants.{Done}
 use Prim.Native.Nat.{ℕ}
 use mathlib.Core.Path.{sym, refl, _∙_}
 use borrow.Author.Tests.{not-true, not-false}
@@ -51,7 +51,7 @@ same-length c = search needs
 
 returns-2 : tie.Need-returns-2
 returns-2 c = let a = c .before .before .before .before .before .before .before .before .before .before .before .before .before .before .before .before .before .args in
-    ap (left Done)
+    ap (left (Done 0))
     (c .before .before .write2 .ensures
     ∙ ap₂ (λ (t : List ℕ) (v : Inode). putInode t (a .inodes) 1 v) (c .before .before .before .before .before .before .before .write .ensures ∙ ap₂ putHeader (c .before .before .before .before .before .before .before .before .before .before .before .before .zero-range .ensures) (c .before .before .before .before .before .before .before .before .before .fresh-header .ensures)) (c .before .before .before .before .empty-root .ensures))
     ∙ store-done (now (a .buffer)) (a .inodes) (a .blocks) (allowed (c .before .before .before .before .before .before .before .before .before .before .before .before .before .before))

@@ -17,3 +17,9 @@ pub enum Refusal {
     WrongState,
     ImageFull,
 }
+
+// What a call answers: the number that document 01 names for it, 0 where it names none, or a refusal.
+pub enum Answer {
+    Done(usize),
+    Refused(Refusal),
+}
