@@ -1,3 +1,4 @@
+
 use borrow.Author.Needs.{needs}
 use Rattle.directory.proofs.slot_count.Statement.{statement}
 use Rattle.directory.proofs.slot_count.Tie as tie
@@ -5,27 +6,21 @@ use Rattle.directory.proofs.slot_count.Reads as reads
 use Rattle.directory.proofs.slot_count.Lts as lts
 use Rattle.layout.proofs.block.blocks_used.Reads as blocks-used-reads
 use Rattle.layout.proofs.inode.size.Reads as size-reads
-
 -- src/lib.rt:23:49
 size-requires : tie.Need-size-requires
 size-requires c κs = search needs
-
 -- src/lib.rt:23:49
 cast-blocks-used : tie.Need-cast-blocks-used
 cast-blocks-used c = search needs
-
 -- src/lib.rt:23:22
 blocks-used-requires : tie.Need-blocks-used-requires
 blocks-used-requires c κs = search needs
-
 -- src/lib.rt:23:5
 mul-result : tie.Need-mul-result
 mul-result c = ?
-
 -- src/lib.rt:19:1
 returns : tie.Need-returns
 returns c = ?
-
 pub slot-count-spec : {M : Type 1} → statement M
 slot-count-spec =
     tie.close (tie.spec size-requires cast-blocks-used blocks-used-requires mul-result returns)
