@@ -5,13 +5,13 @@ use mathlib.Core.Logic.{_≢_}
 use mathlib.Core.Bool.{Bool, true, false}
 use mathlib.Core.List.{List}
 use native.Mathlib.Omega.{arith}
-use lib.ListN.{length, replicate, length-replicate}
+use lib.ListN.{length, take, drop, replicate, length-replicate}
 use Rattle.bounded.specs.Search.{first, firstFrom, onFound}
 use Rattle.bounded.specs.declared.Found.{Found}
 use Rattle.bounded.specs.declared.Found.the-variants.{At, Absent}
-use Rattle.bounded.proofs.SearchLaws.{Lowest, found-lowest, none-below, first-ext, first-skip, first-hit, first-shift}
+use Rattle.bounded.proofs.SearchLaws.{Lowest, found-lowest, none-below, first-begin, first-end, first-ext, first-skip, first-hit, first-shift}
 use Rattle.octets.specs.Octets.{Octets, part, splice, Apart}
-use Rattle.octets.proofs.PartLaws.{length-splice, part-part, part-apart, part-same}
+use Rattle.octets.proofs.PartLaws.{length-splice, cut, part-part, part-apart, part-same}
 use Rattle.layout.specs.Inode.{InodeFits, sizeOf, place}
 use Rattle.layout.specs.Block.{blockAt, blocksUsed, kthBlock, putInBlock}
 use Rattle.layout.proofs.View.{viewOf, overlay, withContent}
@@ -32,6 +32,9 @@ module _ (s : List ℕ) (n d : ℕ) (f : DirFits s n d) where
   pub few-slots : slots s d ≤ 48
   unfolding slots
   few-slots = let b = f .few in omega arith
+
+  pub few-blocks : (k : ℕ) → 4 * k < slots s d → k < 12
+  few-blocks k l = let b = few-slots in omega arith
 
   pub block-fits : (k : ℕ) → 4 * k < slots s d → BlockFits s n (kthBlock s n d k)
   unfolding slots
@@ -86,67 +89,77 @@ module _ (s : List ℕ) (n d : ℕ) where
   unfolding emptySlot first
   empty-absent e t l = none-below (slotEmpty s n d) 0 (slots s d) e t (omega arith) (omega arith)
 
--- a slot's test p, block by block: what is left to search from block k on, of e slots
-unfoldable pub inBlock : (List ℕ → Bool) → List ℕ → Found
-inBlock p block = first (λ j. p (part block (16 * j) 16)) 4
+-- ---- searches block by block, of a test p on entries
+-- what is left to search from block k on
+unfoldable pub fromBlock : (List ℕ → Bool) → List ℕ → ℕ → ℕ → ℕ → Found
+fromBlock p s n d k = firstFrom (λ t. p (entryOf s n d t)) (4 * k) (slots s d - 4 * k)
 
-unfoldable pub fromBlock : (List ℕ → Bool) → List ℕ → ℕ → ℕ → ℕ → ℕ → Found
-fromBlock p s n d e k = firstFrom (λ t. p (entryOf s n d t)) (4 * k) (e - 4 * k)
-
-pub in-block-below : (f : ℕ → Bool) (j : ℕ) → first f 4 ≡ At j → j < 4
-unfolding first
-in-block-below f j e = let l = found-lowest f 0 4 j e in omega arith
+-- r is what the test says of entry j of a block, as the code cuts it out
+pub cut-test : (p : List ℕ → Bool) (block : List ℕ) (j : ℕ) {r b : Bool} → r ≡ p (take (16 * j + 16 - 16 * j) (drop (16 * j) block)) → r ≡ b → p (part block (16 * j) 16) ≡ b
+cut-test p block j e h = ap p (sym (cut block (16 * j) 16)) ∙ sym e ∙ h
 
 module _ (p : List ℕ → Bool) (s : List ℕ) (n d : ℕ) where
-  abbrev block : ℕ → List ℕ
-  block k = part s (blockAt n (kthBlock s n d k)) 64
+  pub blocks-begin : first (λ t. p (entryOf s n d t)) (slots s d) ≡ fromBlock p s n d 0
+  unfolding fromBlock
+  blocks-begin = first-begin (λ t. p (entryOf s n d t)) (slots s d)
 
-  entry-in-block : (k j : ℕ) → j < 4 → part (block k) (16 * j) 16 ≡ entryOf s n d (4 * k + j)
-  unfolding entryOf slotAt
-  entry-in-block k j l =
-      let a : (4 * k + j) / 4 ≡ k = omega arith in
-      let b : (4 * k + j) % 4 ≡ j = omega arith in
-      rw (a, b) (part-part s (blockAt n (kthBlock s n d k)) 64 (16 * j) 16 (omega arith))
+  pub blocks-end : (k : ℕ) → slots s d / 4 ≤ k → fromBlock p s n d k ≡ Absent
+  unfolding fromBlock slots
+  blocks-end k l = first-end (λ t. p (entryOf s n d t)) (4 * k) (slots s d) (omega arith)
 
-  four : (k : ℕ) → onFound (inBlock p (block k)) (λ j. At (4 * k + j)) Absent ≡ firstFrom (λ t. p (entryOf s n d t)) (4 * k) 4
-  unfolding inBlock first
-  four k =
-      let z : 4 * k + 0 ≡ 4 * k = omega arith in
-      ap (λ (r : Found). onFound r (λ j. At (4 * k + j)) Absent)
-      (first-ext (λ j. p (part (block k) (16 * j) 16)) (λ j. p (entryOf s n d (4 * k + j))) 0 4 (λ j a b. ap p (entry-in-block k j (omega arith))))
-      ∙ first-shift (λ t. p (entryOf s n d t)) (4 * k) 0 4
-      ∙ ap (λ (i : ℕ). firstFrom (λ t. p (entryOf s n d t)) i 4) z
+  -- r is what the search of the four entries of block k says, which starts at o
+  module _ (k o : ℕ) (r : Found) (l : k < slots s d / 4) (h : o ≡ blockAt n (kthBlock s n d k)) (g : r ≡ first (λ j. p (part (take (o + 64 - o) (drop o s)) (16 * j) 16)) 4) where
+    entry-in-block : (j : ℕ) → j < 4 → part (take (o + 64 - o) (drop o s)) (16 * j) 16 ≡ entryOf s n d (4 * k + j)
+    unfolding entryOf slotAt
+    entry-in-block j m =
+        let a : (4 * k + j) / 4 ≡ k = omega arith in
+        let b : (4 * k + j) % 4 ≡ j = omega arith in
+        rw (a, b, cut, ← h) (part-part s o 64 (16 * j) 16 (omega arith))
 
-  pub blocks-begin : (e : ℕ) → first (λ t. p (entryOf s n d t)) e ≡ fromBlock p s n d e 0
-  unfolding fromBlock first
-  blocks-begin e = let z : e ≡ e - 4 * 0 = omega arith in ap (firstFrom (λ t. p (entryOf s n d t)) 0) z
+    four : onFound r (λ j. At (4 * k + j)) Absent ≡ firstFrom (λ t. p (entryOf s n d t)) (4 * k) 4
+    unfolding first
+    four =
+        let z : 4 * k + 0 ≡ 4 * k = omega arith in
+        ap (λ (x : Found). onFound x (λ j. At (4 * k + j)) Absent)
+        (g ∙ first-ext (λ j. p (part (take (o + 64 - o) (drop o s)) (16 * j) 16)) (λ j. p (entryOf s n d (4 * k + j))) 0 4 (λ j a b. ap p (entry-in-block j (omega arith))))
+        ∙ first-shift (λ t. p (entryOf s n d t)) (4 * k) 0 4
+        ∙ ap (λ (i : ℕ). firstFrom (λ t. p (entryOf s n d t)) i 4) z
 
-  pub blocks-end : (e k : ℕ) → e ≤ 4 * k → fromBlock p s n d e k ≡ Absent
-  unfolding fromBlock firstFrom
-  blocks-end e k l = let z : e - 4 * k ≡ 0 = omega arith in rw z
+    pub found-below : (j : ℕ) → r ≡ At j → j < 4
+    unfolding first
+    found-below j e = let b = found-lowest (λ i. p (part (take (o + 64 - o) (drop o s)) (16 * i) 16)) 0 4 j (sym g ∙ e) in omega arith
 
-  module _ (e k : ℕ) (l : 4 * k + 4 ≤ e) where
-    pub blocks-hit : (j : ℕ) → inBlock p (block k) ≡ At j → fromBlock p s n d e k ≡ At (4 * k + j)
+    pub blocks-hit : (j : ℕ) → r ≡ At j → fromBlock p s n d k ≡ At (4 * k + j)
     unfolding fromBlock
-    blocks-hit j h =
-        first-hit (λ t. p (entryOf s n d t)) (4 * k) 4 (e - 4 * k) (4 * k + j) (omega arith) (sym (four k) ∙ rw h)
+    blocks-hit j e =
+        first-hit (λ t. p (entryOf s n d t)) (4 * k) 4 (slots s d - 4 * k) (4 * k + j) (omega arith) (sym four ∙ rw e)
 
-    pub blocks-skip : inBlock p (block k) ≡ Absent → fromBlock p s n d e k ≡ fromBlock p s n d e (k + 1)
+    pub blocks-skip : r ≡ Absent → fromBlock p s n d k ≡ fromBlock p s n d (k + 1)
     unfolding fromBlock
-    blocks-skip h =
+    blocks-skip e =
         let a : 4 * k + 4 ≡ 4 * (k + 1) = omega arith in
-        let b : e - 4 * k - 4 ≡ e - 4 * (k + 1) = omega arith in
-        first-skip (λ t. p (entryOf s n d t)) (4 * k) 4 (e - 4 * k) (omega arith) (sym (four k) ∙ rw h) ∙ rw (a, b)
+        let b : slots s d - 4 * k - 4 ≡ slots s d - 4 * (k + 1) = omega arith in
+        first-skip (λ t. p (entryOf s n d t)) (4 * k) 4 (slots s d - 4 * k) (omega arith) (sym four ∙ rw e) ∙ rw (a, b)
 
--- names are compared as words
+-- the two searches: names are compared as words
 abbrev pub wordsTest : Name → List ℕ → Bool
 wordsTest w e = sameWords (wordsAt e 2) w
 
-pub find-words : (s : List ℕ) (n d : ℕ) (name : List ℕ) → Octets s → Octets name → findSlot s n d name ≡ first (λ t. wordsTest (wordsAt name 0) (entryOf s n d t)) (slots s d)
+find-words : (s : List ℕ) (n d : ℕ) (name : List ℕ) → Octets s → Octets name → findSlot s n d name ≡ first (λ t. wordsTest (wordsAt name 0) (entryOf s n d t)) (slots s d)
 unfolding findSlot first slotNamed entryOf
 find-words s n d name hs hn =
     first-ext (slotNamed s n d name) (λ t. wordsTest (wordsAt name 0) (entryOf s n d t)) 0 (slots s d)
     (λ t a b. sym (same-words (entryOf s n d t) name (octets-part s (slotAt s n d t) 16 hs) hn))
+
+pub find-blocks : (s : List ℕ) (n d : ℕ) (name : List ℕ) (w : Name) → Octets s → Octets name → w ≡ wordsAt name 0 → findSlot s n d name ≡ fromBlock (wordsTest w) s n d 0
+find-blocks s n d name w hs hn e =
+    find-words s n d name hs hn
+    ∙ blocks-begin (wordsTest (wordsAt name 0)) s n d
+    ∙ ap (λ (v : Name). fromBlock (wordsTest v) s n d 0) (sym e)
+
+pub empty-blocks : (s : List ℕ) (n d : ℕ) → emptySlot s n d ≡ fromBlock isEmpty s n d 0
+unfolding emptySlot slotEmpty
+empty-blocks s n d = blocks-begin isEmpty s n d
 
 -- ---- a write past the inodes
 module _ (s : List ℕ) (n p : ℕ) (xs : List ℕ) (h : 16 + 32 * n ≤ p) where
@@ -189,11 +202,12 @@ module _ (s : List ℕ) (n p : ℕ) (xs : List ℕ) (h : 16 + 32 * n ≤ p) wher
 -- ---- a write of 16 bytes to slot t of d
 module _ (s : List ℕ) (n d t : ℕ) (xs : List ℕ) (z : length xs ≡ 16) where
   view-slot : slotAt s n d t + 16 ≤ length s → viewOf n (splice s (slotAt s n d t) xs) ≡ withContent (viewOf n s) (overlay (viewOf n s .content) (slotAt s n d t - (16 + 32 * n)) xs)
-  unfolding slotAt
+  unfolding slotAt putInBlock
   view-slot f =
       let b = kthBlock s n d (t / 4) in
       let o : 64 * (b - 1) + 16 * (t % 4) ≡ blockAt n b + 16 * (t % 4) - (16 + 32 * n) = omega arith in
-      (unfold putInBlock in view-in-block n s b (16 * (t % 4)) xs (omega arith))
+      let v : viewOf n (putInBlock s n b (16 * (t % 4)) xs) ≡ withContent (viewOf n s) (overlay (viewOf n s .content) (64 * (b - 1) + 16 * (t % 4)) xs) = view-in-block n s b (16 * (t % 4)) xs (omega arith) in
+      v
       ∙ ap (λ (q : ℕ). withContent (viewOf n s) (overlay (viewOf n s .content) q xs)) o
 
   entry-same : 1 ≤ d → d ≤ n → t < 48 → slotAt s n d t + 16 ≤ length s → entryOf (splice s (slotAt s n d t) xs) n d t ≡ xs
@@ -254,12 +268,12 @@ module _ (s : List ℕ) (n d t : ℕ) where
 
   pub view-clear : slotAt s n d t + 16 ≤ length s → viewOf n (clearEntry s n d t) ≡ withContent (viewOf n s) (overlay (viewOf n s .content) (slotAt s n d t - (16 + 32 * n)) (replicate 16 0))
   unfolding clearEntry
-  view-clear = view-slot s n d t (replicate 16 0) (length-replicate 16 0)
+  view-clear = view-slot s n d t (replicate 16 0) (length-replicate {A = ℕ} 16 0)
 
   pub entry-clear : 1 ≤ d → d ≤ n → t < 48 → slotAt s n d t + 16 ≤ length s → entryOf (clearEntry s n d t) n d t ≡ replicate 16 0
   unfolding clearEntry
-  entry-clear = entry-same s n d t (replicate 16 0) (length-replicate 16 0)
+  entry-clear = entry-same s n d t (replicate 16 0) (length-replicate {A = ℕ} 16 0)
 
   pub entry-clear-other : (e u : ℕ) → 1 ≤ e → e ≤ n → u < 48 → Apart (slotAt s n e u) 16 (slotAt s n d t) 16 → entryOf (clearEntry s n d t) n e u ≡ entryOf s n e u
   unfolding clearEntry
-  entry-clear-other = entry-other s n d t (replicate 16 0) (length-replicate 16 0)
+  entry-clear-other = entry-other s n d t (replicate 16 0) (length-replicate {A = ℕ} 16 0)

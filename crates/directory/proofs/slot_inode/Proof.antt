@@ -1,4 +1,7 @@
+use denote.Ref.{now}
 use borrow.Author.Needs.{needs}
+use Rattle.octets.proofs.PartLaws.{cut}
+use Rattle.directory.specs.Slot.{entryOf}
 use Rattle.directory.proofs.slot_inode.Statement.{statement}
 use Rattle.directory.proofs.slot_inode.Tie as tie
 use Rattle.directory.proofs.slot_inode.Reads as reads
@@ -32,7 +35,8 @@ entry-inode-requires c κs = search needs
 
 -- src/lib.rt:105:1
 returns : tie.Need-returns
-returns c = ?
+unfolding entryOf
+returns c = let a = c .before .before .before .before .args in cc (cut (now (a .s)) (c .before .before .slot-at .result) 16, c .before .before .slot-at .ensures .0)
 
 pub slot-inode-spec : {M : Type 1} → statement M
 slot-inode-spec =
