@@ -98,6 +98,10 @@ fromBlock p s n d k = firstFrom (λ t. p (entryOf s n d t)) (4 * k) (slots s d -
 pub cut-test : (p : List ℕ → Bool) (block : List ℕ) (j : ℕ) {r b : Bool} → r ≡ p (take (16 * j + 16 - 16 * j) (drop (16 * j) block)) → r ≡ b → p (part block (16 * j) 16) ≡ b
 cut-test p block j e h = ap p (sym (cut block (16 * j) 16)) ∙ sym e ∙ h
 
+pub found-below : (f : ℕ → Bool) {r : Found} {j : ℕ} → r ≡ first f 4 → r ≡ At j → j < 4
+unfolding first
+found-below f {r} {j} g e = let b = found-lowest f 0 4 j (sym g ∙ e) in omega arith
+
 module _ (p : List ℕ → Bool) (s : List ℕ) (n d : ℕ) where
   pub blocks-begin : first (λ t. p (entryOf s n d t)) (slots s d) ≡ fromBlock p s n d 0
   unfolding fromBlock
@@ -107,8 +111,8 @@ module _ (p : List ℕ → Bool) (s : List ℕ) (n d : ℕ) where
   unfolding fromBlock slots
   blocks-end k l = first-end (λ t. p (entryOf s n d t)) (4 * k) (slots s d) (omega arith)
 
-  -- r is what the search of the four entries of block k says, which starts at o
-  module _ (k o : ℕ) (r : Found) (l : k < slots s d / 4) (h : o ≡ blockAt n (kthBlock s n d k)) (g : r ≡ first (λ j. p (part (take (o + 64 - o) (drop o s)) (16 * j) 16)) 4) where
+  -- block k starts at o, and r is what the search of its four entries says
+  module _ (k : ℕ) {o : ℕ} {r : Found} (h : o ≡ blockAt n (kthBlock s n d k)) (g : r ≡ first (λ j. p (part (take (o + 64 - o) (drop o s)) (16 * j) 16)) 4) where
     entry-in-block : (j : ℕ) → j < 4 → part (take (o + 64 - o) (drop o s)) (16 * j) 16 ≡ entryOf s n d (4 * k + j)
     unfolding entryOf slotAt
     entry-in-block j m =
@@ -125,18 +129,14 @@ module _ (p : List ℕ → Bool) (s : List ℕ) (n d : ℕ) where
         ∙ first-shift (λ t. p (entryOf s n d t)) (4 * k) 0 4
         ∙ ap (λ (i : ℕ). firstFrom (λ t. p (entryOf s n d t)) i 4) z
 
-    pub found-below : (j : ℕ) → r ≡ At j → j < 4
-    unfolding first
-    found-below j e = let b = found-lowest (λ i. p (part (take (o + 64 - o) (drop o s)) (16 * i) 16)) 0 4 j (sym g ∙ e) in omega arith
-
-    pub blocks-hit : (j : ℕ) → r ≡ At j → fromBlock p s n d k ≡ At (4 * k + j)
+    pub block-hit : k < slots s d / 4 → {j : ℕ} → r ≡ At j → fromBlock p s n d k ≡ At (4 * k + j)
     unfolding fromBlock
-    blocks-hit j e =
+    block-hit l {j} e =
         first-hit (λ t. p (entryOf s n d t)) (4 * k) 4 (slots s d - 4 * k) (4 * k + j) (omega arith) (sym four ∙ rw e)
 
-    pub blocks-skip : r ≡ Absent → fromBlock p s n d k ≡ fromBlock p s n d (k + 1)
+    pub block-skip : k < slots s d / 4 → r ≡ Absent → fromBlock p s n d k ≡ fromBlock p s n d (k + 1)
     unfolding fromBlock
-    blocks-skip e =
+    block-skip l e =
         let a : 4 * k + 4 ≡ 4 * (k + 1) = omega arith in
         let b : slots s d - 4 * k - 4 ≡ slots s d - 4 * (k + 1) = omega arith in
         first-skip (λ t. p (entryOf s n d t)) (4 * k) 4 (slots s d - 4 * k) (omega arith) (sym four ∙ rw e) ∙ rw (a, b)
@@ -194,9 +194,9 @@ module _ (s : List ℕ) (n p : ℕ) (xs : List ℕ) (h : 16 + 32 * n ≤ p) wher
         inode = inode-fits s (splice s p xs) n e w (f .inode);
         few = rw z g;
         blocks = λ k b.
-          let b′ : k < blocksUsed (sizeOf s e) = rw z at b in
-          let r = f .blocks k b′ in
-          rw (block-past e l m k (omega arith)) (record { low = r .low; inside = omega arith });
+            let b′ : k < blocksUsed (sizeOf s e) = rw z at b in
+            let r = f .blocks k b′ in
+            rw (block-past e l m k (omega arith)) (record { low = r .low; inside = omega arith });
       }
 
 -- ---- a write of 16 bytes to slot t of d

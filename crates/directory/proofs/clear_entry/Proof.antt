@@ -4,24 +4,16 @@ use Rattle.octets.specs.Octets.{zeroed}
 use Rattle.directory.specs.Slot.{clearEntry}
 use Rattle.directory.proofs.clear_entry.Statement.{statement}
 use Rattle.directory.proofs.clear_entry.Tie as tie
-use Rattle.directory.proofs.clear_entry.Reads as reads
-use Rattle.directory.proofs.clear_entry.Lts as lts
-use Rattle.directory.proofs.slot_at.Reads as slot-at-reads
-use Rattle.octets.proofs.zero_range.Reads as zero-range-reads
 
--- src/lib.rt:125:9
 slot-at-requires : tie.Need-slot-at-requires
 slot-at-requires c κs = search needs
 
--- src/lib.rt:126:5
 zero-range-requires : tie.Need-zero-range-requires
 zero-range-requires c κs = search needs
 
--- src/lib.rt:121:1
 same-length : tie.Need-same-length
 same-length c = search needs
 
--- src/lib.rt:121:1
 returns : tie.Need-returns
 unfolding clearEntry zeroed
 returns c = c .before .before .zero-range .ensures ∙ rw (c .before .before .before .before .slot-at .ensures .0)

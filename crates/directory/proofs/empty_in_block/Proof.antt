@@ -10,9 +10,6 @@ use Rattle.names.specs.Entry.{isEmpty}
 use Rattle.directory.proofs.SlotLaws.{cut-test}
 use Rattle.directory.proofs.empty_in_block.Statement.{statement}
 use Rattle.directory.proofs.empty_in_block.Tie as tie
-use Rattle.directory.proofs.empty_in_block.Reads as reads
-use Rattle.directory.proofs.empty_in_block.Lts as lts
-use Rattle.names.proofs.is_empty.Reads as is-empty-reads
 
 abbrev Inv-loop : tie.InvT-loop
 Inv-loop block j₀ j = first (λ i. isEmpty (part block (16 * i) 16)) 4 ≡ firstFrom (λ i. isEmpty (part block (16 * i) 16)) j (4 - j)
@@ -20,51 +17,43 @@ Inv-loop block j₀ j = first (λ i. isEmpty (part block (16 * i) 16)) 4 ≡ fir
 abbrev μ-loop : tie.MeasureT-loop
 μ-loop block j₀ j = 4 - j
 
--- src/lib.rt:62:5
 loop-holds : tie.Need-loop-holds Inv-loop μ-loop
 loop-holds c = first-begin _ 4
 
--- src/lib.rt:63:17
 mul-o : tie.Need-mul-o Inv-loop μ-loop
 mul-o c = omega arith
 
--- src/lib.rt:64:38
 add-is-empty : tie.Need-add-is-empty Inv-loop μ-loop
 add-is-empty c = omega arith
 
--- src/lib.rt:64:28
 sub-is-empty : tie.Need-sub-is-empty Inv-loop μ-loop
 sub-is-empty c = omega arith
 
--- src/lib.rt:64:28
 part-is-empty-start : tie.Need-part-is-empty-start Inv-loop μ-loop
 part-is-empty-start c = omega arith
 
--- src/lib.rt:64:28
 part-is-empty-end : tie.Need-part-is-empty-end Inv-loop μ-loop
 part-is-empty-end c = omega arith
 
--- src/lib.rt:64:12
 is-empty-requires : tie.Need-is-empty-requires Inv-loop μ-loop
 is-empty-requires c κs = search needs
 
--- src/lib.rt:65:13
 returns : tie.Need-returns Inv-loop μ-loop
-returns c = let i = c .before .before .before .before .loop in let a = c .before .before .before .before .before .before .args in sym (i .inv ∙ first-found _ (i .j) 4 (omega arith) (cut-test isEmpty (now (a .block)) (i .j) (c .before .is-empty .ensures) (c .if1 .taken)))
+returns c =
+    let i = c .before .before .before .before .loop in
+    let a = c .before .before .before .before .before .before .args in sym (i .inv ∙ first-found _ (i .j) 4 (omega arith) (cut-test isEmpty (now (a .block)) (i .j) (c .before .is-empty .ensures) (c .if1 .taken)))
 
--- src/lib.rt:62:9
 add-j : tie.Need-add-j Inv-loop μ-loop
 add-j c = omega arith
 
--- src/lib.rt:62:5
 loop-less : tie.Need-loop-less Inv-loop μ-loop
 loop-less c = omega arith
 
--- src/lib.rt:62:5
 loop-again : tie.Need-loop-again Inv-loop μ-loop
-loop-again c = let i = c .before .before .before .before .loop in let a = c .before .before .before .before .before .before .args in i .inv ∙ first-turn _ (i .j) 4 (omega arith) (cut-test isEmpty (now (a .block)) (i .j) (c .before .is-empty .ensures) (c .if1 .left))
+loop-again c =
+    let i = c .before .before .before .before .loop in
+    let a = c .before .before .before .before .before .before .args in i .inv ∙ first-turn _ (i .j) 4 (omega arith) (cut-test isEmpty (now (a .block)) (i .j) (c .before .is-empty .ensures) (c .if1 .left))
 
--- src/lib.rt:58:1
 returns-2 : tie.Need-returns-2 Inv-loop μ-loop
 returns-2 c = let i = c .before .loop in sym (i .inv ∙ first-end _ (i .j) 4 (omega arith))
 

@@ -1,4 +1,4 @@
-use Prim.Native.Nat.{_*_, _+_, _-_, _/_, _<_}
+use Prim.Native.Nat.{_-_, _/_}
 use mathlib.Core.Path.{_≡_, sym, _∙_}
 use native.Mathlib.Omega.{arith}
 use denote.Ref.{now}
@@ -6,14 +6,9 @@ use borrow.Author.Needs.{needs}
 use Rattle.octets.proofs.PartLaws.{length-cut}
 use Rattle.names.specs.Entry.{isEmpty}
 use Rattle.directory.specs.Slot.{emptySlot}
-use Rattle.directory.proofs.SlotLaws.{fromBlock, found-below, blocks-hit, blocks-skip, blocks-end, empty-blocks}
+use Rattle.directory.proofs.SlotLaws.{fromBlock, found-below, block-hit, block-skip, blocks-end, empty-blocks}
 use Rattle.directory.proofs.empty_slot.Statement.{statement}
 use Rattle.directory.proofs.empty_slot.Tie as tie
-use Rattle.directory.proofs.empty_slot.Reads as reads
-use Rattle.directory.proofs.empty_slot.Lts as lts
-use Rattle.directory.proofs.block_start.Reads as block-start-reads
-use Rattle.directory.proofs.empty_in_block.Reads as empty-in-block-reads
-use Rattle.directory.proofs.slot_count.Reads as slot-count-reads
 
 abbrev Inv-loop : tie.InvT-loop
 Inv-loop s n d count k₀ k-end k = emptySlot s n d ≡ fromBlock isEmpty s n d k
@@ -21,72 +16,65 @@ Inv-loop s n d count k₀ k-end k = emptySlot s n d ≡ fromBlock isEmpty s n d 
 abbrev μ-loop : tie.MeasureT-loop
 μ-loop s n d count k₀ k-end k = count / 4 - k
 
--- src/lib.rt:93:9
 slot-count-requires : tie.Need-slot-count-requires Inv-loop μ-loop
 slot-count-requires c κs = search needs
 
--- src/lib.rt:94:5
 loop-holds : tie.Need-loop-holds Inv-loop μ-loop
 loop-holds c = let a = c .before .before .args in empty-blocks (now (a .s)) (a .n) (a .d)
 
--- src/lib.rt:95:13
 block-start-requires : tie.Need-block-start-requires Inv-loop μ-loop
 block-start-requires c κs = (c .before .before .before .before .pre, omega arith)
 
--- src/lib.rt:96:42
 add-empty-in-block : tie.Need-add-empty-in-block Inv-loop μ-loop
 add-empty-in-block c = omega arith
 
--- src/lib.rt:96:36
 sub-empty-in-block : tie.Need-sub-empty-in-block Inv-loop μ-loop
 sub-empty-in-block c = omega arith
 
--- src/lib.rt:96:36
 part-empty-in-block-start : tie.Need-part-empty-in-block-start Inv-loop μ-loop
 part-empty-in-block-start c = omega arith
 
--- src/lib.rt:96:36
 part-empty-in-block-end : tie.Need-part-empty-in-block-end Inv-loop μ-loop
 part-empty-in-block-end c = omega arith
 
--- src/lib.rt:96:13
 empty-in-block-requires : tie.Need-empty-in-block-requires Inv-loop μ-loop
 empty-in-block-requires c κs = length-cut (now (c .before .before .before .before .before .before .args .s)) (c .before .block-start .result) 64 (c .before .block-start .ensures .1)
 
--- src/lib.rt:97:26
 enum-known-found : tie.Need-enum-known-found Inv-loop μ-loop
 enum-known-found c = search needs
 
--- src/lib.rt:98:30
 mul-t16 : tie.Need-mul-t16 Inv-loop μ-loop
 mul-t16 c = omega arith
 
--- src/lib.rt:98:30
 add-t17 : tie.Need-add-t17 Inv-loop μ-loop
-add-t17 c = let x = c .before .before .before .before .before .before .before .before .before .before in let a = x .args in let i = c .before .before .before .before .before .before .before .loop in let o = c .before .before .before .before .before .block-start in let r = c .before .before .before .empty-in-block in let j = found-below isEmpty (now (a .s)) (a .n) (a .d) (i .k) (o .result) (r .result) (omega (arith, o .ensures .0)) (o .ensures .0) (r .ensures) (c .before .found .given .0 .0) (c .before .found .given .1) in omega arith
+add-t17 c = omega (arith, found-below _ (c .before .before .before .empty-in-block .ensures) (c .before .found .given .1))
 
--- src/lib.rt:98:13
 returns : tie.Need-returns Inv-loop μ-loop
-returns c = let x = c .before .before .before .before .before .before .before .before .before .before in let a = x .args in let i = c .before .before .before .before .before .before .before .loop in let o = c .before .before .before .before .before .block-start in let r = c .before .before .before .empty-in-block in sym (i .inv ∙ blocks-hit isEmpty (now (a .s)) (a .n) (a .d) (i .k) (o .result) (r .result) (omega (arith, o .ensures .0)) (o .ensures .0) (r .ensures) (c .before .found .given .0 .0) (c .before .found .given .1))
+returns c =
+    let a = c .before .before .before .before .before .before .before .before .before .before .args in
+    let i = c .before .before .before .before .before .before .before .loop in
+    sym (i .inv ∙ block-hit isEmpty (now (a .s)) (a .n) (a .d) (i .k) (c .before .before .before .before .before .block-start .ensures .0) (c .before .before .before .empty-in-block .ensures) (omega arith) (c .before .found .given .1))
 
 enum-told : tie.Need-enum-told Inv-loop μ-loop
 enum-told c = search needs
 
--- src/lib.rt:94:9
 add-k : tie.Need-add-k Inv-loop μ-loop
 add-k c = omega arith
 
--- src/lib.rt:94:5
 loop-less : tie.Need-loop-less Inv-loop μ-loop
 loop-less c = omega arith
 
--- src/lib.rt:94:5
 loop-again : tie.Need-loop-again Inv-loop μ-loop
-loop-again c = let x = c .before .before .before .before .before .before .before .before .before in let a = x .args in let i = c .before .before .before .before .before .before .loop in let o = c .before .before .before .before .block-start in let r = c .before .before .empty-in-block in i .inv ∙ blocks-skip isEmpty (now (a .s)) (a .n) (a .d) (i .k) (o .result) (r .result) (omega (arith, o .ensures .0)) (o .ensures .0) (r .ensures) (c .enum-told .given .1)
+loop-again c =
+    let a = c .before .before .before .before .before .before .before .before .before .args in
+    let i = c .before .before .before .before .before .before .loop in
+    i .inv ∙ block-skip isEmpty (now (a .s)) (a .n) (a .d) (i .k) (c .before .before .before .before .block-start .ensures .0) (c .before .before .empty-in-block .ensures) (omega arith) (c .enum-told .given .1)
 
--- src/lib.rt:89:1
 returns-2 : tie.Need-returns-2 Inv-loop μ-loop
-returns-2 c = let a = c .before .before .before .before .args in let i = c .before .loop in sym (i .inv ∙ blocks-end isEmpty (now (a .s)) (a .n) (a .d) (i .k) (omega (arith, c .before .before .slot-count .ensures .0)))
+returns-2 c =
+    let a = c .before .before .before .before .args in
+    let i = c .before .loop in
+    sym (i .inv ∙ blocks-end isEmpty (now (a .s)) (a .n) (a .d) (i .k) (omega (arith, c .before .before .slot-count .ensures .0)))
 
 pub empty-slot-spec : {M : Type 1} → statement M
 empty-slot-spec =

@@ -10,9 +10,6 @@ use Rattle.names.specs.Entry.{wordsAt, sameWords}
 use Rattle.directory.proofs.SlotLaws.{cut-test, wordsTest}
 use Rattle.directory.proofs.named_in_block.Statement.{statement}
 use Rattle.directory.proofs.named_in_block.Tie as tie
-use Rattle.directory.proofs.named_in_block.Reads as reads
-use Rattle.directory.proofs.named_in_block.Lts as lts
-use Rattle.names.proofs.same_name.Reads as same-name-reads
 
 abbrev Inv-loop : tie.InvT-loop
 Inv-loop block name j₀ j = first (λ i. sameWords (wordsAt (part block (16 * i) 16) 2) name) 4 ≡ firstFrom (λ i. sameWords (wordsAt (part block (16 * i) 16) 2) name) j (4 - j)
@@ -20,51 +17,43 @@ Inv-loop block name j₀ j = first (λ i. sameWords (wordsAt (part block (16 * i
 abbrev μ-loop : tie.MeasureT-loop
 μ-loop block name j₀ j = 4 - j
 
--- src/lib.rt:48:5
 loop-holds : tie.Need-loop-holds Inv-loop μ-loop
 loop-holds c = first-begin _ 4
 
--- src/lib.rt:49:17
 mul-o : tie.Need-mul-o Inv-loop μ-loop
 mul-o c = omega arith
 
--- src/lib.rt:50:39
 add-same-name : tie.Need-add-same-name Inv-loop μ-loop
 add-same-name c = omega arith
 
--- src/lib.rt:50:29
 sub-same-name : tie.Need-sub-same-name Inv-loop μ-loop
 sub-same-name c = omega arith
 
--- src/lib.rt:50:29
 part-same-name-start : tie.Need-part-same-name-start Inv-loop μ-loop
 part-same-name-start c = omega arith
 
--- src/lib.rt:50:29
 part-same-name-end : tie.Need-part-same-name-end Inv-loop μ-loop
 part-same-name-end c = omega arith
 
--- src/lib.rt:50:12
 same-name-requires : tie.Need-same-name-requires Inv-loop μ-loop
 same-name-requires c κs = search needs
 
--- src/lib.rt:51:13
 returns : tie.Need-returns Inv-loop μ-loop
-returns c = let i = c .before .before .before .before .loop in let a = c .before .before .before .before .before .before .args in sym (i .inv ∙ first-found _ (i .j) 4 (omega arith) (cut-test (wordsTest (a .name)) (now (a .block)) (i .j) (c .before .same-name .ensures) (c .if1 .taken)))
+returns c =
+    let i = c .before .before .before .before .loop in
+    let a = c .before .before .before .before .before .before .args in sym (i .inv ∙ first-found _ (i .j) 4 (omega arith) (cut-test (wordsTest (a .name)) (now (a .block)) (i .j) (c .before .same-name .ensures) (c .if1 .taken)))
 
--- src/lib.rt:48:9
 add-j : tie.Need-add-j Inv-loop μ-loop
 add-j c = omega arith
 
--- src/lib.rt:48:5
 loop-less : tie.Need-loop-less Inv-loop μ-loop
 loop-less c = omega arith
 
--- src/lib.rt:48:5
 loop-again : tie.Need-loop-again Inv-loop μ-loop
-loop-again c = let i = c .before .before .before .before .loop in let a = c .before .before .before .before .before .before .args in i .inv ∙ first-turn _ (i .j) 4 (omega arith) (cut-test (wordsTest (a .name)) (now (a .block)) (i .j) (c .before .same-name .ensures) (c .if1 .left))
+loop-again c =
+    let i = c .before .before .before .before .loop in
+    let a = c .before .before .before .before .before .before .args in i .inv ∙ first-turn _ (i .j) 4 (omega arith) (cut-test (wordsTest (a .name)) (now (a .block)) (i .j) (c .before .same-name .ensures) (c .if1 .left))
 
--- src/lib.rt:44:1
 returns-2 : tie.Need-returns-2 Inv-loop μ-loop
 returns-2 c = let i = c .before .loop in sym (i .inv ∙ first-end _ (i .j) 4 (omega arith))
 

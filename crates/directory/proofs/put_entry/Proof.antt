@@ -7,43 +7,32 @@ use Rattle.names.proofs.EntryLaws.{length-entry}
 use Rattle.directory.specs.Slot.{putEntry}
 use Rattle.directory.proofs.put_entry.Statement.{statement}
 use Rattle.directory.proofs.put_entry.Tie as tie
-use Rattle.directory.proofs.put_entry.Reads as reads
-use Rattle.directory.proofs.put_entry.Lts as lts
-use Rattle.directory.proofs.slot_at.Reads as slot-at-reads
-use Rattle.names.proofs.put_entry.Reads as put-entry-reads
 
--- src/lib.rt:117:9
 slot-at-requires : tie.Need-slot-at-requires
 slot-at-requires c κs = search needs
 
--- src/lib.rt:118:32
 add-put-entry : tie.Need-add-put-entry
 add-put-entry c = search needs
 
--- src/lib.rt:118:22
 sub-put-entry : tie.Need-sub-put-entry
 sub-put-entry c = search needs
 
--- src/lib.rt:118:22
 part-put-entry-start : tie.Need-part-put-entry-start
 part-put-entry-start c = search needs
 
--- src/lib.rt:118:22
 part-put-entry-end : tie.Need-part-put-entry-end
 part-put-entry-end c = search needs
 
--- src/lib.rt:118:5
 put-entry-requires : tie.Need-put-entry-requires
 put-entry-requires c κs = search needs
 
--- src/lib.rt:113:1
 same-length : tie.Need-same-length
 same-length c = search needs
 
--- src/lib.rt:113:1
 returns : tie.Need-returns
 unfolding putEntry
-returns c = let a = c .before .before .before .before .before .before .before .before .args in
+returns c =
+    let a = c .before .before .before .before .before .before .before .before .args in
     let o = c .before .before .before .before .slot-at in
     let y = c .before .before .put-entry in
     let e = y .ensures in

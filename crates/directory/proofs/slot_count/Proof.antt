@@ -7,31 +7,22 @@ use Rattle.layout.specs.Block.{blocksUsed}
 use Rattle.directory.specs.Slot.{slots}
 use Rattle.directory.proofs.slot_count.Statement.{statement}
 use Rattle.directory.proofs.slot_count.Tie as tie
-use Rattle.directory.proofs.slot_count.Reads as reads
-use Rattle.directory.proofs.slot_count.Lts as lts
-use Rattle.layout.proofs.block.blocks_used.Reads as blocks-used-reads
-use Rattle.layout.proofs.inode.size.Reads as size-reads
 
--- src/lib.rt:23:49
 size-requires : tie.Need-size-requires
 size-requires c κs = search needs
 
--- src/lib.rt:23:49
 cast-blocks-used : tie.Need-cast-blocks-used
 cast-blocks-used c = search needs
 
--- src/lib.rt:23:22
 blocks-used-requires : tie.Need-blocks-used-requires
 blocks-used-requires c κs = search needs
 
 used : (c : tie.After-blocks-used) → c .blocks-used .result ≡ blocksUsed (sizeOf (now (c .before .before .before .args .s)) (c .before .before .before .args .d))
 used c = c .blocks-used .ensures ∙ ap blocksUsed (c .before .size .ensures)
 
--- src/lib.rt:23:5
 mul-result : tie.Need-mul-result
 mul-result c = let e = used c in omega (arith, c .before .before .before .pre .few)
 
--- src/lib.rt:19:1
 returns : tie.Need-returns
 unfolding slots
 returns c = let e = used c in omega (arith, c .before .before .before .pre .few)

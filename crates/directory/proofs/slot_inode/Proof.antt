@@ -4,36 +4,25 @@ use Rattle.octets.proofs.PartLaws.{cut}
 use Rattle.directory.specs.Slot.{entryOf}
 use Rattle.directory.proofs.slot_inode.Statement.{statement}
 use Rattle.directory.proofs.slot_inode.Tie as tie
-use Rattle.directory.proofs.slot_inode.Reads as reads
-use Rattle.directory.proofs.slot_inode.Lts as lts
-use Rattle.directory.proofs.slot_at.Reads as slot-at-reads
-use Rattle.names.proofs.entry_inode.Reads as entry-inode-reads
 
--- src/lib.rt:109:9
 slot-at-requires : tie.Need-slot-at-requires
 slot-at-requires c κs = search needs
 
--- src/lib.rt:110:30
 add-entry-inode : tie.Need-add-entry-inode
 add-entry-inode c = search needs
 
--- src/lib.rt:110:24
 sub-entry-inode : tie.Need-sub-entry-inode
 sub-entry-inode c = search needs
 
--- src/lib.rt:110:24
 part-entry-inode-start : tie.Need-part-entry-inode-start
 part-entry-inode-start c = search needs
 
--- src/lib.rt:110:24
 part-entry-inode-end : tie.Need-part-entry-inode-end
 part-entry-inode-end c = search needs
 
--- src/lib.rt:110:5
 entry-inode-requires : tie.Need-entry-inode-requires
 entry-inode-requires c κs = search needs
 
--- src/lib.rt:105:1
 returns : tie.Need-returns
 unfolding entryOf
 returns c = let a = c .before .before .before .before .args in cc (cut (now (a .s)) (c .before .before .slot-at .result) 16, c .before .before .slot-at .ensures .0)
