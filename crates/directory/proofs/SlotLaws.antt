@@ -1,6 +1,6 @@
 -- Laws of a directory's slots: where they lie, how they are searched block by block, and what a write leaves. n is the inode count.
-use Prim.Native.Nat.{ℕ, _+_, _*_, _-_, _/_, _%_, _≤_, _<_, min, max}
-use mathlib.Core.Path.{_≡_, refl, sym, ap, _∙_}
+use Prim.Native.Nat.{ℕ, _+_, _*_, _-_, _/_, _%_, _≤_, _<_}
+use mathlib.Core.Path.{_≡_, sym, ap, _∙_}
 use mathlib.Core.Logic.{_≢_}
 use mathlib.Core.Bool.{Bool, true, false}
 use mathlib.Core.List.{List}
@@ -12,7 +12,7 @@ use Rattle.bounded.specs.declared.Found.the-variants.{At, Absent}
 use Rattle.bounded.proofs.SearchLaws.{Lowest, found-lowest, none-below, first-begin, first-end, first-ext, first-skip, first-hit, first-shift}
 use Rattle.octets.specs.Octets.{Octets, part, splice, Apart}
 use Rattle.octets.proofs.PartLaws.{length-splice, cut, part-part, part-apart, part-same}
-use Rattle.layout.specs.Inode.{InodeFits, sizeOf, place}
+use Rattle.layout.specs.Inode.{sizeOf, place}
 use Rattle.layout.specs.Block.{blockAt, blocksUsed, kthBlock, putInBlock}
 use Rattle.layout.proofs.View.{viewOf, overlay, withContent}
 use Rattle.layout.proofs.FrameLaws.{size-apart, address-apart}
@@ -58,7 +58,7 @@ pub apart-slots : (s : List ℕ) (n d t e u : ℕ) → d ≡ e → t / 4 ≡ u /
 apart-slots s n d t e u p q r = apart-in-block s n d t e u (cc) (λ m. r (omega arith))
 
 -- ---- searches
--- what was found
+-- what a search that ended says
 module _ (s : List ℕ) (n d : ℕ) (name : List ℕ) where
   pub find-lowest : (t : ℕ) → findSlot s n d name ≡ At t → Lowest (slotNamed s n d name) 0 (slots s d) t
   unfolding findSlot first
@@ -98,6 +98,7 @@ fromBlock p s n d k = firstFrom (λ t. p (entryOf s n d t)) (4 * k) (slots s d -
 pub cut-test : (p : List ℕ → Bool) (block : List ℕ) (j : ℕ) {r b : Bool} → r ≡ p (take (16 * j + 16 - 16 * j) (drop (16 * j) block)) → r ≡ b → p (part block (16 * j) 16) ≡ b
 cut-test p block j e h = ap p (sym (cut block (16 * j) 16)) ∙ sym e ∙ h
 
+-- a slot found in a block is one of its four
 pub found-below : (f : ℕ → Bool) {r : Found} {j : ℕ} → r ≡ first f 4 → r ≡ At j → j < 4
 unfolding first
 found-below f {r} {j} g e = let b = found-lowest f 0 4 j (sym g ∙ e) in omega arith
@@ -141,7 +142,7 @@ module _ (p : List ℕ → Bool) (s : List ℕ) (n d : ℕ) where
         let b : slots s d - 4 * k - 4 ≡ slots s d - 4 * (k + 1) = omega arith in
         first-skip (λ t. p (entryOf s n d t)) (4 * k) 4 (slots s d - 4 * k) (omega arith) (sym four ∙ rw e) ∙ rw (a, b)
 
--- the two searches: names are compared as words
+-- the two searches where they begin; names are compared as words
 abbrev pub wordsTest : Name → List ℕ → Bool
 wordsTest w e = sameWords (wordsAt e 2) w
 
@@ -207,8 +208,7 @@ module _ (s : List ℕ) (n d t : ℕ) (xs : List ℕ) (z : length xs ≡ 16) whe
       let b = kthBlock s n d (t / 4) in
       let o : 64 * (b - 1) + 16 * (t % 4) ≡ blockAt n b + 16 * (t % 4) - (16 + 32 * n) = omega arith in
       let v : viewOf n (putInBlock s n b (16 * (t % 4)) xs) ≡ withContent (viewOf n s) (overlay (viewOf n s .content) (64 * (b - 1) + 16 * (t % 4)) xs) = view-in-block n s b (16 * (t % 4)) xs (omega arith) in
-      v
-      ∙ ap (λ (q : ℕ). withContent (viewOf n s) (overlay (viewOf n s .content) q xs)) o
+      v ∙ ap (λ (q : ℕ). withContent (viewOf n s) (overlay (viewOf n s .content) q xs)) o
 
   entry-same : 1 ≤ d → d ≤ n → t < 48 → slotAt s n d t + 16 ≤ length s → entryOf (splice s (slotAt s n d t) xs) n d t ≡ xs
   unfolding entryOf

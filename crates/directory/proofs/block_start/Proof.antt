@@ -1,5 +1,5 @@
 use native.Mathlib.Omega.{arith}
-use mathlib.Core.Path.{_≡_, sym, ap, _∙_}
+use mathlib.Core.Path.{ap, _∙_}
 use denote.Ref.{now}
 use borrow.Author.Needs.{needs}
 use Rattle.layout.specs.Block.{blockAt}
@@ -10,7 +10,8 @@ use Rattle.directory.proofs.block_start.Tie as tie
 kth-block-requires : tie.Need-kth-block-requires
 kth-block-requires c κs =
     let x = c .before in
-    let a = x .args in (x .pre .0 .inode, few-blocks (now (a .s)) (a .n) (a .d) (x .pre .0) (a .k) (x .pre .1))
+    let a = x .args in
+    (x .pre .0 .inode, few-blocks (now (a .s)) (a .n) (a .d) (x .pre .0) (a .k) (x .pre .1))
 
 cast-b : tie.Need-cast-b
 cast-b c = search needs
@@ -19,14 +20,16 @@ block-at-requires : tie.Need-block-at-requires
 block-at-requires c κs =
     let x = c .before .before in
     let a = x .args in
-    let f = block-fits (now (a .s)) (a .n) (a .d) (x .pre .0) (a .k) (x .pre .1) in omega (arith, x .pre .0 .inode .few, c .kth-block .ensures)
+    let f = block-fits (now (a .s)) (a .n) (a .d) (x .pre .0) (a .k) (x .pre .1) in
+    omega (arith, x .pre .0 .inode .few, c .kth-block .ensures)
 
 returns : tie.Need-returns
 returns c =
     let x = c .before .before .before in
     let a = x .args in
     let f = block-fits (now (a .s)) (a .n) (a .d) (x .pre .0) (a .k) (x .pre .1) in
-    let e = c .before .kth-block .ensures in (c .block-at .ensures ∙ ap (blockAt (a .n)) e, omega (arith, c .block-at .ensures))
+    let e = c .before .kth-block .ensures in
+    (c .block-at .ensures ∙ ap (blockAt (a .n)) e, omega (arith, c .block-at .ensures))
 
 pub block-start-spec : {M : Type 1} → statement M
 block-start-spec = tie.close (tie.spec kth-block-requires cast-b block-at-requires returns)

@@ -1,4 +1,4 @@
-use mathlib.Core.Path.{_≡_, _∙_}
+use mathlib.Core.Path.{_∙_}
 use borrow.Author.Needs.{needs}
 use Rattle.octets.specs.Octets.{zeroed}
 use Rattle.directory.specs.Slot.{clearEntry}

@@ -10,6 +10,7 @@ use Rattle.directory.proofs.SlotLaws.{fromBlock, found-below, block-hit
 use Rattle.directory.proofs.empty_slot.Statement.{statement}
 use Rattle.directory.proofs.empty_slot.Tie as tie
 
+-- the slots before block k do not pass the test
 abbrev Inv-loop : tie.InvT-loop
 Inv-loop s n d count k₀ k-end k = emptySlot s n d ≡ fromBlock isEmpty s n d k
 
@@ -38,7 +39,8 @@ part-empty-in-block-end : tie.Need-part-empty-in-block-end Inv-loop μ-loop
 part-empty-in-block-end c = omega arith
 
 empty-in-block-requires : tie.Need-empty-in-block-requires Inv-loop μ-loop
-empty-in-block-requires c κs = length-cut (now (c .before .before .before .before .before .before .args .s)) (c .before .block-start .result) 64 (c .before .block-start .ensures .1)
+empty-in-block-requires c κs =
+    length-cut (now (c .before .before .before .before .before .before .args .s)) (c .before .block-start .result) 64 (c .before .block-start .ensures .1)
 
 enum-known-found : tie.Need-enum-known-found Inv-loop μ-loop
 enum-known-found c = search needs
@@ -53,7 +55,8 @@ returns : tie.Need-returns Inv-loop μ-loop
 returns c =
     let a = c .before .before .before .before .before .before .before .before .before .before .args in
     let i = c .before .before .before .before .before .before .before .loop in
-    sym (i .inv ∙ block-hit isEmpty (now (a .s)) (a .n) (a .d) (i .k) (c .before .before .before .before .before .block-start .ensures .0) (c .before .before .before .empty-in-block .ensures) (omega arith) (c .before .found .given .1))
+    sym (i .inv ∙ block-hit isEmpty (now (a .s)) (a .n) (a .d) (i .k) (c .before .before .before .before .before .block-start .ensures .0)
+    (c .before .before .before .empty-in-block .ensures) (omega arith) (c .before .found .given .1))
 
 enum-told : tie.Need-enum-told Inv-loop μ-loop
 enum-told c = search needs
@@ -68,7 +71,8 @@ loop-again : tie.Need-loop-again Inv-loop μ-loop
 loop-again c =
     let a = c .before .before .before .before .before .before .before .before .before .args in
     let i = c .before .before .before .before .before .before .loop in
-    i .inv ∙ block-skip isEmpty (now (a .s)) (a .n) (a .d) (i .k) (c .before .before .before .before .block-start .ensures .0) (c .before .before .empty-in-block .ensures) (omega arith) (c .enum-told .given .1)
+    i .inv ∙ block-skip isEmpty (now (a .s)) (a .n) (a .d) (i .k) (c .before .before .before .before .block-start .ensures .0)
+    (c .before .before .empty-in-block .ensures) (omega arith) (c .enum-told .given .1)
 
 returns-2 : tie.Need-returns-2 Inv-loop μ-loop
 returns-2 c =

@@ -9,6 +9,7 @@ use Rattle.directory.proofs.SlotLaws.{fromBlock, wordsTest, found-below
 use Rattle.directory.proofs.find_slot.Statement.{statement}
 use Rattle.directory.proofs.find_slot.Tie as tie
 
+-- the slots before block k do not pass the test
 abbrev Inv-loop : tie.InvT-loop
 Inv-loop s n d name words count k₀ k-end k = findSlot s n d name ≡ fromBlock (wordsTest words) s n d k
 
@@ -22,7 +23,10 @@ slot-count-requires : tie.Need-slot-count-requires Inv-loop μ-loop
 slot-count-requires c κs = search needs
 
 loop-holds : tie.Need-loop-holds Inv-loop μ-loop
-loop-holds c = let a = c .before .before .before .before .args in find-blocks (now (a .s)) (a .n) (a .d) (now (a .name)) (c .before .of .result) (λ i. c .before .before .before .shared-slice-known .given i .fits) (λ i. c .before .before .shared-slice-known2 .given i .fits) (c .before .of .ensures)
+loop-holds c =
+    let a = c .before .before .before .before .args in
+    find-blocks (now (a .s)) (a .n) (a .d) (now (a .name)) (c .before .of .result)
+    (λ i. c .before .before .before .shared-slice-known .given i .fits) (λ i. c .before .before .shared-slice-known2 .given i .fits) (c .before .of .ensures)
 
 block-start-requires : tie.Need-block-start-requires Inv-loop μ-loop
 block-start-requires c κs = (c .before .before .before .before .before .before .pre .0, omega arith)
@@ -40,7 +44,8 @@ part-named-in-block-end : tie.Need-part-named-in-block-end Inv-loop μ-loop
 part-named-in-block-end c = omega arith
 
 named-in-block-requires : tie.Need-named-in-block-requires Inv-loop μ-loop
-named-in-block-requires c κs = length-cut (now (c .before .before .before .before .before .before .before .before .args .s)) (c .before .block-start .result) 64 (c .before .block-start .ensures .1)
+named-in-block-requires c κs =
+    length-cut (now (c .before .before .before .before .before .before .before .before .args .s)) (c .before .block-start .result) 64 (c .before .block-start .ensures .1)
 
 enum-known-found : tie.Need-enum-known-found Inv-loop μ-loop
 enum-known-found c = search needs
@@ -55,7 +60,8 @@ returns : tie.Need-returns Inv-loop μ-loop
 returns c =
     let a = c .before .before .before .before .before .before .before .before .before .before .before .before .args in
     let i = c .before .before .before .before .before .before .before .loop in
-    sym (i .inv ∙ block-hit (wordsTest (c .before .before .before .before .before .before .before .before .before .of .result)) (now (a .s)) (a .n) (a .d) (i .k) (c .before .before .before .before .before .block-start .ensures .0) (c .before .before .before .named-in-block .ensures) (omega arith) (c .before .found .given .1))
+    sym (i .inv ∙ block-hit (wordsTest (c .before .before .before .before .before .before .before .before .before .of .result)) (now (a .s)) (a .n) (a .d) (i .k) (c .before .before .before .before .before .block-start .ensures .0)
+    (c .before .before .before .named-in-block .ensures) (omega arith) (c .before .found .given .1))
 
 enum-told : tie.Need-enum-told Inv-loop μ-loop
 enum-told c = search needs
@@ -70,7 +76,8 @@ loop-again : tie.Need-loop-again Inv-loop μ-loop
 loop-again c =
     let a = c .before .before .before .before .before .before .before .before .before .before .before .args in
     let i = c .before .before .before .before .before .before .loop in
-    i .inv ∙ block-skip (wordsTest (c .before .before .before .before .before .before .before .before .of .result)) (now (a .s)) (a .n) (a .d) (i .k) (c .before .before .before .before .block-start .ensures .0) (c .before .before .named-in-block .ensures) (omega arith) (c .enum-told .given .1)
+    i .inv ∙ block-skip (wordsTest (c .before .before .before .before .before .before .before .before .of .result)) (now (a .s)) (a .n) (a .d) (i .k) (c .before .before .before .before .block-start .ensures .0)
+    (c .before .before .named-in-block .ensures) (omega arith) (c .enum-told .given .1)
 
 returns-2 : tie.Need-returns-2 Inv-loop μ-loop
 returns-2 c =

@@ -11,8 +11,11 @@ use Rattle.directory.proofs.SlotLaws.{cut-test, wordsTest}
 use Rattle.directory.proofs.named_in_block.Statement.{statement}
 use Rattle.directory.proofs.named_in_block.Tie as tie
 
+-- the slots before j do not pass the test
 abbrev Inv-loop : tie.InvT-loop
-Inv-loop block name j₀ j = first (λ i. sameWords (wordsAt (part block (16 * i) 16) 2) name) 4 ≡ firstFrom (λ i. sameWords (wordsAt (part block (16 * i) 16) 2) name) j (4 - j)
+Inv-loop block name j₀ j =
+    first (λ i. sameWords (wordsAt (part block (16 * i) 16) 2) name) 4
+    ≡ firstFrom (λ i. sameWords (wordsAt (part block (16 * i) 16) 2) name) j (4 - j)
 
 abbrev μ-loop : tie.MeasureT-loop
 μ-loop block name j₀ j = 4 - j
@@ -41,7 +44,8 @@ same-name-requires c κs = search needs
 returns : tie.Need-returns Inv-loop μ-loop
 returns c =
     let i = c .before .before .before .before .loop in
-    let a = c .before .before .before .before .before .before .args in sym (i .inv ∙ first-found _ (i .j) 4 (omega arith) (cut-test (wordsTest (a .name)) (now (a .block)) (i .j) (c .before .same-name .ensures) (c .if1 .taken)))
+    let a = c .before .before .before .before .before .before .args in
+    sym (i .inv ∙ first-found _ (i .j) 4 (omega arith) (cut-test (wordsTest (a .name)) (now (a .block)) (i .j) (c .before .same-name .ensures) (c .if1 .taken)))
 
 add-j : tie.Need-add-j Inv-loop μ-loop
 add-j c = omega arith
@@ -52,7 +56,8 @@ loop-less c = omega arith
 loop-again : tie.Need-loop-again Inv-loop μ-loop
 loop-again c =
     let i = c .before .before .before .before .loop in
-    let a = c .before .before .before .before .before .before .args in i .inv ∙ first-turn _ (i .j) 4 (omega arith) (cut-test (wordsTest (a .name)) (now (a .block)) (i .j) (c .before .same-name .ensures) (c .if1 .left))
+    let a = c .before .before .before .before .before .before .args in
+    i .inv ∙ first-turn _ (i .j) 4 (omega arith) (cut-test (wordsTest (a .name)) (now (a .block)) (i .j) (c .before .same-name .ensures) (c .if1 .left))
 
 returns-2 : tie.Need-returns-2 Inv-loop μ-loop
 returns-2 c = let i = c .before .loop in sym (i .inv ∙ first-end _ (i .j) 4 (omega arith))

@@ -1,4 +1,4 @@
-use mathlib.Core.Path.{_≡_, sym, ap, _∙_}
+use mathlib.Core.Path.{ap, _∙_}
 use denote.Ref.{now}
 use borrow.Author.Needs.{needs}
 use lib.ListN.{length}
@@ -36,7 +36,8 @@ returns c =
     let o = c .before .before .before .before .slot-at in
     let y = c .before .before .put-entry in
     let e = y .ensures in
-    lent (now (a .s)) (o .result) 16 (y .last .0) (ap length e ∙ length-entry (a .inode) (now (a .name))) (o .ensures .1) ∙ rw (e, o .ensures .0)
+    lent (now (a .s)) (o .result) 16 (y .last .0) (ap length e ∙ length-entry (a .inode) (now (a .name))) (o .ensures .1)
+    ∙ rw (e, o .ensures .0)
 
 pub put-entry-spec : {M : Type 1} → statement M
 put-entry-spec =

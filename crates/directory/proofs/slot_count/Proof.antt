@@ -1,5 +1,5 @@
 use native.Mathlib.Omega.{arith}
-use mathlib.Core.Path.{_≡_, sym, ap, _∙_}
+use mathlib.Core.Path.{_≡_, ap, _∙_}
 use denote.Ref.{now}
 use borrow.Author.Needs.{needs}
 use Rattle.layout.specs.Inode.{sizeOf}
@@ -17,6 +17,7 @@ cast-blocks-used c = search needs
 blocks-used-requires : tie.Need-blocks-used-requires
 blocks-used-requires c κs = search needs
 
+-- the blocks that the directory's size uses
 used : (c : tie.After-blocks-used) → c .blocks-used .result ≡ blocksUsed (sizeOf (now (c .before .before .before .args .s)) (c .before .before .before .args .d))
 used c = c .blocks-used .ensures ∙ ap blocksUsed (c .before .size .ensures)
 

@@ -25,7 +25,10 @@ entry-inode-requires c κs = search needs
 
 returns : tie.Need-returns
 unfolding entryOf
-returns c = let a = c .before .before .before .before .args in cc (cut (now (a .s)) (c .before .before .slot-at .result) 16, c .before .before .slot-at .ensures .0)
+returns c =
+    let a = c .before .before .before .before .args in
+    let o = c .before .before .slot-at in
+    cc (cut (now (a .s)) (o .result) 16, o .ensures .0)
 
 pub slot-inode-spec : {M : Type 1} → statement M
 slot-inode-spec =
