@@ -9,7 +9,7 @@ use Rattle.bounded.specs.Reflect.{Reflects}
 use Rattle.bounded.proofs.ReflectLaws.{r-and, r-le, r-eq}
 use Rattle.octets.specs.Octets.{zeroed}
 use Rattle.octets.proofs.PartLaws.{zeroed-all}
-use Rattle.layout.specs.Sizes.{mostInodes, mostStoreBlocks}
+use Rattle.layout.specs.Sizes.{mostInodes, mostStoreBlocks, rootInode}
 use Rattle.layout.specs.Header.{putHeader}
 use Rattle.layout.specs.Inode.{putInode}
 use Rattle.layout.specs.Block.{storeLength}
@@ -20,7 +20,7 @@ use Rattle.desk.specs.Desk.{putDesk}
 use Rattle.desk.specs.declared.Desk.{Desk}
 use Rattle.answers.specs.declared.Refusal.the-variants.{BadBuffer}
 use Rattle.answers.specs.declared.Answer.the-variants.{Done, Refused}
-use Rattle.format.specs.Format.{left, storeAllowed, deskAllowed, freshHeader, emptyRoot, freshStore, freshDesk, layOutStore, layOutDesk, root}
+use Rattle.format.specs.Format.{left, storeAllowed, deskAllowed, freshHeader, emptyRoot, freshStore, freshDesk, layOutStore, layOutDesk}
 
 pub store-allowed : (n b k : ℕ) → Reflects (storeAllowed n b k) ((1 ≤ n) × ((n ≤ mostInodes) × ((1 ≤ b) × ((b ≤ mostStoreBlocks) × (k ≡ storeLength n b)))))
 unfolding storeAllowed
@@ -37,7 +37,7 @@ unfolding layOutStore
 store-refused s n b e = rw e
 
 pub store-done : (s : List ℕ) (n b : ℕ) → storeAllowed n b (length s) ≡ true →
-    left (Done 0) (putInode (putHeader (zeroed s 0 (length s)) (freshHeader n b)) n root emptyRoot) ≡ layOutStore s n b
+    left (Done 0) (putInode (putHeader (zeroed s 0 (length s)) (freshHeader n b)) n rootInode emptyRoot) ≡ layOutStore s n b
 unfolding layOutStore freshStore
 store-done s n b e =
     let r = store-allowed n b (length s) .to e in

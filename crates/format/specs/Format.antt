@@ -5,7 +5,7 @@ use mathlib.Core.List.{List}
 use lib.Dec.{eqb, leb}
 use lib.ListN.{length, replicate}
 use Rattle.bounded.specs.Search.{pick}
-use Rattle.layout.specs.Sizes.{mostInodes, mostStoreBlocks, addressCount}
+use Rattle.layout.specs.Sizes.{mostInodes, mostStoreBlocks, addressCount, rootInode}
 use Rattle.layout.specs.Header.{putHeader}
 use Rattle.layout.specs.Inode.{putInode, directoryKind}
 use Rattle.layout.specs.Block.{storeLength}
@@ -26,10 +26,6 @@ pub record Outcome : Type 0 where
 abbrev pub left : Answer → List ℕ → Outcome
 left r s = record { answer = r; buffer = s }
 
--- the root's number: "10-11 root, always 1"
-abbrev pub root : ℕ
-root = 1
-
 -- ---- A store
 -- refusal 1: "inode count N (1 to 256)", "block count B (store 1 to 1,024)", "Length is 16 + 32 × N + 64 × B exactly"
 unfoldable pub storeAllowed : ℕ → ℕ → ℕ → Bool
@@ -37,14 +33,14 @@ storeAllowed n b k = leb 1 n && (leb n mostInodes && (leb 1 b && (leb b mostStor
 
 -- a true header: all inodes but the root are free, and all blocks
 unfoldable pub freshHeader : ℕ → ℕ → Header
-freshHeader n b = record { inodes = n; blocks = b; «free_inodes» = n - 1; «free_blocks» = b; complete = 1; root = root }
+freshHeader n b = record { inodes = n; blocks = b; «free_inodes» = n - 1; «free_blocks» = b; complete = 1; root = rootInode }
 
 -- an empty directory that no entry names
 unfoldable pub emptyRoot : Inode
 emptyRoot = record { kind = directoryKind; links = 0; size = 0; parent = 0; addresses = replicate addressCount 0 }
 
 unfoldable pub freshStore : ℕ → ℕ → List ℕ
-freshStore n b = putInode (putHeader (replicate (storeLength n b) 0) (freshHeader n b)) n root emptyRoot
+freshStore n b = putInode (putHeader (replicate (storeLength n b) 0) (freshHeader n b)) n rootInode emptyRoot
 
 unfoldable pub layOutStore : List ℕ → ℕ → ℕ → Outcome
 layOutStore s n b = pick (storeAllowed n b (length s)) (left (Done 0) (freshStore n b)) (left (Refused BadBuffer) s)

@@ -4,6 +4,8 @@ ghost use Prim.Native.Nat.{ℕ, _≤_};
 ghost use lib.ListN.{length};
 ghost use Rattle.layout.specs.Sizes.{mostInodes, mostStoreBlocks};
 ghost use Rattle.format.specs.Format.{left, storeAllowed, deskAllowed, freshHeader, emptyRoot, layOutStore, layOutDesk};
+use answers::Answer;
+use answers::Refusal;
 use desk::DESK_HEADER_BYTES;
 use desk::DESK_INODE_BYTES;
 use desk::Desk;
@@ -14,9 +16,6 @@ use layout::inode::Inode;
 use layout::sizes::DIRECTORY;
 use layout::sizes::MOST_INODES;
 use layout::sizes::MOST_STORE_BLOCKS;
-use answers::{Answer, Refusal};
-
-const ROOT: u16 = 1;
 
 // A store of n inodes and b blocks may be k bytes long.
 fn store_allowed(n: usize, b: usize, k: usize) -> bool
@@ -47,7 +46,7 @@ fn fresh_header(n: usize, b: usize) -> Header
         free_inodes: (n - 1) as u16,
         free_blocks: b as u16,
         complete: 1,
-        root: ROOT,
+        root: ROOT as u16,
     }
 }
 
@@ -72,7 +71,7 @@ pub fn lay_out_store(buffer: &mut [u8], inodes: usize, blocks: usize) -> Answer
     }
     octets::zero_range(&mut *buffer, 0, length);
     fresh_header(inodes, blocks).write(&mut *buffer);
-    empty_root().write(&mut *buffer, inodes, ROOT as usize);
+    empty_root().write(&mut *buffer, inodes, ROOT);
     Answer::Done(0)
 }
 

@@ -38,3 +38,7 @@ blockBytes = 64
 -- "at most 768 bytes"
 abbrev pub mostFileBytes : ℕ
 mostFileBytes = 768
+
+-- "10-11 root, always 1"
+abbrev pub rootInode : ℕ
+rootInode = 1

@@ -22,3 +22,5 @@ pub const FREE: u8 = 0;
 pub const FILE: u8 = 1;
 
 pub const DIRECTORY: u8 = 2;
+
+pub const ROOT: usize = 1;

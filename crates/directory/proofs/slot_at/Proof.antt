@@ -1,4 +1,6 @@
+use native.Mathlib.Omega.{arith}
 use borrow.Author.Needs.{needs}
+use Rattle.directory.specs.Slot.{slotAt}
 use Rattle.directory.proofs.slot_at.Statement.{statement}
 use Rattle.directory.proofs.slot_at.Tie as tie
 
@@ -12,7 +14,8 @@ add-result : tie.Need-add-result
 add-result c = search needs
 
 returns : tie.Need-returns
-returns c = ?
+unfolding slotAt
+returns c = omega arith
 
 pub slot-at-spec : {M : Type 1} → statement M
 slot-at-spec = tie.close (tie.spec block-start-requires mul-result add-result returns)

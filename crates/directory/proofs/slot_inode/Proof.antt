@@ -1,4 +1,7 @@
+use denote.Ref.{now}
 use borrow.Author.Needs.{needs}
+use Rattle.octets.proofs.PartLaws.{cut}
+use Rattle.directory.specs.Slot.{entryOf}
 use Rattle.directory.proofs.slot_inode.Statement.{statement}
 use Rattle.directory.proofs.slot_inode.Tie as tie
 
@@ -21,7 +24,11 @@ entry-inode-requires : tie.Need-entry-inode-requires
 entry-inode-requires c κs = search needs
 
 returns : tie.Need-returns
-returns c = ?
+unfolding entryOf
+returns c =
+    let a = c .before .before .before .before .args in
+    let o = c .before .before .slot-at in
+    cc (cut (now (a .s)) (o .result) 16, o .ensures .0)
 
 pub slot-inode-spec : {M : Type 1} → statement M
 slot-inode-spec =
