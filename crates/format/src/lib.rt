@@ -16,6 +16,7 @@ use layout::inode::Inode;
 use layout::sizes::DIRECTORY;
 use layout::sizes::MOST_INODES;
 use layout::sizes::MOST_STORE_BLOCKS;
+use layout::sizes::ROOT;
 
 // A store of n inodes and b blocks may be k bytes long.
 fn store_allowed(n: usize, b: usize, k: usize) -> bool
