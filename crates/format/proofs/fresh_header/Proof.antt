@@ -19,9 +19,12 @@ cast-t6 c = search needs
 cast-t7 : tie.Need-cast-t7
 cast-t7 c = search needs
 
+cast-t8 : tie.Need-cast-t8
+cast-t8 c = search needs
+
 returns : tie.Need-returns
 unfolding freshHeader
 returns c = refl
 
 pub fresh-header-spec : {M : Type 1} → statement M
-fresh-header-spec = tie.close (tie.spec cast-t3 cast-t4 sub-t5 cast-t6 cast-t7 returns)
+fresh-header-spec = tie.close (tie.spec cast-t3 cast-t4 sub-t5 cast-t6 cast-t7 cast-t8 returns)

@@ -40,9 +40,6 @@ write-requires c κs = let r = store-allowed _ _ _ .to (allowed (c .before .befo
 empty-root-requires : tie.Need-empty-root-requires
 empty-root-requires c κs = search needs
 
-cast-write : tie.Need-cast-write
-cast-write c = search needs
-
 write-requires-2 : tie.Need-write-requires-2
 write-requires-2 c κs = let r = store-allowed _ _ _ .to (allowed (c .before .before .before .before .before .before .before .before .before .before .before)) in let l = r .1 .1 .1 .1 in record { low = omega arith; high = r .0; few = r .1 .0; area = omega arith }
 
@@ -66,7 +63,6 @@ lay-out-store-spec =
     fresh-header-requires
     write-requires
     empty-root-requires
-    cast-write
     write-requires-2
     same-length
     returns-2)
