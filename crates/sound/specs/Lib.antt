@@ -1,0 +1,5 @@
+pub mod Place
+pub mod Inode
+pub mod Entry
+pub mod Link
+pub mod Sound
