@@ -1,0 +1,108 @@
+-- "The copier": start, and the five things that a step does. s is the store, m the image, d the desk, n the inode count.
+use Prim.Native.Nat.{ℕ, zero, suc, _+_, _*_, _/_, _%_}
+use mathlib.Core.Bool.{Bool, not, _&&_}
+use mathlib.Core.List.{List}
+use lib.Dec.{eqb, leb, ltb}
+use lib.ListN.{length, replicate}
+use Rattle.bounded.specs.Search.{pick, firstFrom, onFound}
+use Rattle.bounded.specs.Count.{count, tally}
+use Rattle.bounded.specs.declared.Found.{Found}
+use Rattle.bounded.specs.declared.Found.the-variants.{At, Absent}
+use Rattle.octets.specs.Octets.{part, splice}
+use Rattle.layout.specs.Sizes.{rootInode}
+use Rattle.layout.specs.Header.{headerOf, putHeader, putFree, putComplete}
+use Rattle.layout.specs.Inode.{kindOf, sizeOf, inodeOf, putAttributes, putLinks, putAddress, place, directoryKind}
+use Rattle.layout.specs.Block.{blockOf, putInBlock, blocksUsed, kthBlock}
+use Rattle.layout.specs.Free.{named, freeBlock}
+use Rattle.layout.specs.declared.inode.Inode.{Inode}
+use Rattle.names.specs.Entry.{entryBytes, entryInode}
+use Rattle.directory.specs.Slot.{mostSlots, slotsInBlock}
+use Rattle.desk.specs.Desk.{deskOf, putDesk, copiedOf, putCopied, markOf, clearNotes}
+use Rattle.desk.specs.Next.{starting, locking, copyingOne, unlocking, finishing, stopping}
+use Rattle.sound.specs.Sound.{freeB, unnamedB}
+use Rattle.checkpoint.specs.Fit.{imageBlocks}
+use Rattle.checkpoint.specs.Image.{imageNaming, isNamed}
+use Rattle.checkpoint.specs.Notes.{isCopied}
+
+-- ---- Start
+-- "the image's header (the store's N, block count from the image's length, root 1, the rest 0)", and all zero after it
+unfoldable pub startImage : ℕ → ℕ → List ℕ
+startImage n k = putHeader (replicate k 0) (record { inodes = n; blocks = imageBlocks n k; «free_inodes» = 0; «free_blocks» = 0; complete = 0; root = rootInode })
+
+-- "zeroes marks, copied bytes and steps, and sets the desk's block count and running"
+unfoldable pub startDesk : List ℕ → ℕ → ℕ → List ℕ
+startDesk d n b = putDesk (clearNotes d n) (starting (deskOf d) b)
+
+-- ---- What a step does
+pub data Step : Type 0 where
+  lock : (i : ℕ) → Step
+  copy : (i k c : ℕ) → Step
+  close : (i : ℕ) → Step
+  finish : Step
+  full : Step
+
+-- 2: "some uncopied inode is named by an image directory of kind 2: lock the lowest such"
+unfoldable pub nextInode : List ℕ → List ℕ → ℕ → Found
+nextInode m d n = firstFrom (λ i. not (isCopied d n i) && isNamed m n i) 1 n
+
+-- 3: "It goes to the image block of its own number if that exists and no image address names it, else to the lowest block unnamed"
+unfoldable pub targetBlock : List ℕ → ℕ → ℕ → ℕ → Found
+targetBlock m n b c = pick (leb 1 c && (leb c b && not (named m n c))) (At c) (freeBlock m n b)
+
+-- 3 and 4: inode i is locked, k of its blocks are copied; 16 where every image block is named
+unfoldable pub lockedStep : List ℕ → List ℕ → ℕ → ℕ → ℕ → ℕ → Step
+lockedStep s m n b i k =
+    pick (ltb k (blocksUsed (sizeOf s i)))
+    (onFound (targetBlock m n b (kthBlock s n i k)) (λ c. copy i k c) full)
+    (close i)
+
+-- 1, 2 and 5: nothing is locked
+unfoldable pub freeStep : List ℕ → List ℕ → ℕ → Step
+freeStep m d n = pick (isCopied d n rootInode) (onFound (nextInode m d n) lock finish) (lock rootInode)
+
+unfoldable pub stepOf : List ℕ → List ℕ → List ℕ → ℕ → Step
+stepOf s m d n =
+    pick (eqb (deskOf d .locked) 0) (freeStep m d n) (lockedStep s m n (deskOf d .blocks) (deskOf d .locked) (deskOf d .copied))
+
+-- ---- The image and the desk after it
+-- "In a directory block, a marked entry that names a copied inode is zeroed": the bytes x of entry j of the k-th block of directory i
+unfoldable pub copiedEntry : List ℕ → ℕ → ℕ → ℕ → List ℕ → ℕ → List ℕ
+copiedEntry d n i k x j =
+    let e = part x (entryBytes * j) entryBytes in
+    pick (markOf d n i (slotsInBlock * k + j) && isCopied d n (entryInode e)) (splice x (entryBytes * j) (replicate entryBytes 0)) x
+
+unfoldable pub copiedEntries : List ℕ → ℕ → ℕ → ℕ → List ℕ → ℕ → List ℕ
+copiedEntries d n i k x zero = x
+copiedEntries d n i k x (suc j) = copiedEntry d n i k (copiedEntries d n i k x j) j
+
+-- the block as it is copied
+unfoldable pub copiedBlock : List ℕ → List ℕ → ℕ → ℕ → ℕ → List ℕ
+copiedBlock s d n i k =
+    let x = blockOf s n (kthBlock s n i k) in
+    pick (eqb (kindOf s i) directoryKind) (copiedEntries d n i k x slotsInBlock) x
+
+-- 4: "the image attributes, which are the store's with link count 0"
+abbrev pub unlinkedInode : Inode → Inode
+unlinkedInode v = record { kind = v .kind; links = 0; size = v .size; parent = v .parent; addresses = v .addresses }
+
+-- 5: "write link counts and free counts": those of the first k inodes
+unfoldable pub putCounts : List ℕ → List ℕ → ℕ → ℕ → List ℕ
+putCounts m t n zero = t
+putCounts m t n (suc k) = putLinks (putCounts m t n k) (k + 1) (tally (imageNaming m n) (mostSlots * n) (k + 1))
+
+unfoldable pub finishImage : List ℕ → ℕ → ℕ → List ℕ
+finishImage m n b = putComplete (putFree (putCounts m m n n) (count (freeB m) n) (count (unnamedB m n) b)) 1
+
+abbrev pub stepImage : List ℕ → List ℕ → List ℕ → ℕ → Step → List ℕ
+stepImage s m d n (lock i) = m
+stepImage s m d n (copy i k c) = putAddress (putInBlock m n c 0 (copiedBlock s d n i k)) n (place i k) c
+stepImage s m d n (close i) = putAttributes m i (unlinkedInode (inodeOf s n i))
+stepImage s m d n finish = finishImage m n (deskOf d .blocks)
+stepImage s m d n full = m
+
+abbrev pub stepDesk : List ℕ → Step → List ℕ
+stepDesk d (lock i) = putDesk d (locking (deskOf d) i)
+stepDesk d (copy i k c) = putDesk d (copyingOne (deskOf d))
+stepDesk d (close i) = putDesk (putCopied d i 1) (unlocking (deskOf d))
+stepDesk d finish = putDesk d (finishing (deskOf d))
+stepDesk d full = putDesk d (stopping (deskOf d))

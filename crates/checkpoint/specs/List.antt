@@ -1,0 +1,183 @@
+-- "The list in demand 3": events, what each does and answers, the run of a list, and what stood untouched, from calls and stores alone.
+use Prim.Native.Nat.{ℕ, suc, _+_, _*_}
+use mathlib.Core.Path.{_≡_}
+use mathlib.Core.Bool.{Bool, true, false, not, _&&_}
+use mathlib.Core.List.{List, [], _∷_}
+use lib.Dec.{eqb}
+use Rattle.bounded.specs.Search.{pick}
+use Rattle.bounded.specs.declared.Found.the-variants.{At}
+use Rattle.layout.specs.Sizes.{rootInode}
+use Rattle.layout.specs.Header.{headerOf}
+use Rattle.directory.specs.Slot.{mostSlots, findSlot}
+use Rattle.answers.specs.declared.Refusal.{Refusal}
+use Rattle.answers.specs.declared.Answer.{Answer}
+use Rattle.answers.specs.declared.Answer.the-variants.{Done, Refused}
+use Rattle.answers.specs.Refusal.{refusalNumber}
+use Rattle.sound.specs.Sound.{inodesIn}
+use Rattle.sound.specs.Place.{dirOf, filled, naming}
+use Rattle.files.specs.Plain.{Call, lookUp, read, create, write, shorten, link, unlink, rename, plainLookUp, plainRead, plain}
+use Rattle.files.specs.Plain as files
+use Rattle.checkpoint.specs.declared.Status.{Status}
+use Rattle.checkpoint.specs.Live.{Outcome, left, liveCreate, liveWrite, liveShorten, liveLink, liveUnlink, liveRename, start, step, status}
+
+-- the three buffers
+pub record World : Type 0 where
+  pub store : List ℕ
+  pub image : List ℕ
+  pub desk : List ℕ
+
+-- "file calls, steps, state questions and starts follow, each with names, numbers, bytes and out-buffer of its own"
+pub data Event : Type 0 where
+  call : Call → Event
+  steps : Event
+  asks : Event
+  starts : Event
+
+-- ---- what the library does to one file call
+-- "Look up and read take the store alone"
+abbrev pub fromStore : files.Outcome → World → Outcome
+fromStore o w = left (o .answer) (o .store) (w .image) (w .desk)
+
+abbrev pub liveCall : Call → World → Outcome
+liveCall (lookUp d name) w = fromStore (plainLookUp (w .store) d name) w
+liveCall (read i o out) w = fromStore (plainRead (w .store) i o out) w
+liveCall (create d name k) w = liveCreate (w .store) (w .image) (w .desk) d name k
+liveCall (write i o xs) w = liveWrite (w .store) (w .image) (w .desk) i o xs
+liveCall (shorten i z) w = liveShorten (w .store) (w .image) (w .desk) i z
+liveCall (link d name i) w = liveLink (w .store) (w .image) (w .desk) d name i
+liveCall (unlink d name) w = liveUnlink (w .store) (w .image) (w .desk) d name
+liveCall (rename d name e other) w = liveRename (w .store) (w .image) (w .desk) d name e other
+
+-- a read's out-buffer after the call
+abbrev pub outOf : Call → World → List ℕ
+outOf (lookUp d name) w = []
+outOf (read i o out) w = plainRead (w .store) i o out .out
+outOf (create d name k) w = []
+outOf (write i o xs) w = []
+outOf (shorten i z) w = []
+outOf (link d name i) w = []
+outOf (unlink d name) w = []
+outOf (rename d name e other) w = []
+
+-- ---- one event
+unfoldable pub outcome : Event → World → Outcome
+outcome (call c) w = liveCall c w
+outcome steps w = step (w .store) (w .image) (w .desk)
+outcome asks w = left (Done 0) (w .store) (w .image) (w .desk)
+outcome starts w = start (w .store) (w .image) (w .desk)
+
+unfoldable pub next : Event → World → World
+next e w = record { store = outcome e w .store; image = outcome e w .image; desk = outcome e w .desk }
+
+-- the number of a refusal, 0 for none
+abbrev pub refusalOf : Answer → ℕ
+refusalOf (Done x) = 0
+refusalOf (Refused e) = refusalNumber e
+
+abbrev pub accepted : Event → World → Bool
+accepted e w = eqb (refusalOf (outcome e w .answer)) 0
+
+-- ---- a list of events
+unfoldable pub run : List Event → World → World
+run [] w = w
+run (e ∷ es) w = run es (next e w)
+
+-- "A moment is just after the opening start or a later call": v is one of them, where w is the world just after the opening start
+pub data Moment : List Event → World → World → Type 0 where
+  here : {es : List Event} {w : World} → Moment es w w
+  after : {e : Event} {es : List Event} {w v : World} → Moment es (next e w) v → Moment (e ∷ es) w v
+
+-- a start is accepted at e
+abbrev pub restarts : Event → World → Bool
+restarts starts w = accepted starts w
+restarts (call c) w = false
+restarts steps w = false
+restarts asks w = false
+
+-- the step "sets image byte 8"
+abbrev pub completes : Event → World → Bool
+completes steps w = accepted steps w && eqb (headerOf (next steps w .image) .complete) 1
+completes (call c) w = false
+completes asks w = false
+completes starts w = false
+
+-- the events up to the finish: "The step that sets image byte 8, with no start accepted since the opening one, finishes the opening start's copy"
+pub data Finish : List Event → World → Type 0 where
+  last : {w : World} → completes steps w ≡ true → Finish (steps ∷ []) w
+  more : {e : Event} {es : List Event} {w : World} → restarts e w ≡ false → completes e w ≡ false → Finish es (next e w) → Finish (e ∷ es) w
+
+-- ---- entries: "a directory's slot, filled at the start; it is unlinked or moved when an accepted unlink or move empties it"
+-- an accepted unlink or move takes the entry of the name from slot t of directory d: that of place p
+pub record TakesAt (s : List ℕ) (d : ℕ) (name : List ℕ) (p : ℕ) : Type 0 where
+  pub slot : ℕ
+  pub found : findSlot s (inodesIn s) d name ≡ At slot
+  pub at : p + mostSlots ≡ mostSlots * d + slot
+
+abbrev pub TakenBy : Call → World → ℕ → Type 0
+TakenBy (unlink d name) w p = TakesAt (w .store) d name p
+TakenBy (rename d name e other) w p = (d ≡ e → ⊥) × TakesAt (w .store) d name p
+TakenBy (lookUp d name) w p = ⊥
+TakenBy (read i o out) w p = ⊥
+TakenBy (create d name k) w p = ⊥
+TakenBy (write i o xs) w p = ⊥
+TakenBy (shorten i z) w p = ⊥
+TakenBy (link d name i) w p = ⊥
+
+abbrev pub Takes : Event → World → ℕ → Type 0
+Takes (call c) w p = (accepted (call c) w ≡ true) × TakenBy c w p
+Takes steps w p = ⊥
+Takes asks w p = ⊥
+Takes starts w p = ⊥
+
+unfoldable pub Untouched : List Event → World → ℕ → Type 0
+Untouched [] w p = Unit {0}
+Untouched (e ∷ es) w p = (Takes e w p → ⊥) × Untouched es (next e w) p
+
+-- the entry at p stood at the start, and neither it nor any above it was taken: "Above it is the entry that names its directory, and so on up to root."
+pub data Kept (es : List Event) (w : World) : ℕ → Type 0 where
+  top : {p : ℕ} → filled (w .store) (inodesIn (w .store)) p ≡ true → Untouched es w p → dirOf p ≡ rootInode → Kept es w p
+  below : {p q : ℕ} → filled (w .store) (inodesIn (w .store)) p ≡ true → Untouched es w p → naming (w .store) (inodesIn (w .store)) q ≡ dirOf p → Kept es w q → Kept es w p
+
+-- ---- "the copy's accepted steps", counted from the latest start
+unfoldable pub acceptedSteps : List Event → World → ℕ → ℕ
+acceptedSteps [] w c = c
+acceptedSteps (starts ∷ es) w c = acceptedSteps es (next starts w) (pick (accepted starts w) 0 c)
+acceptedSteps (steps ∷ es) w c = acceptedSteps es (next steps w) (pick (accepted steps w) (suc c) c)
+acceptedSteps (call x ∷ es) w c = acceptedSteps es (next (call x) w) c
+acceptedSteps (asks ∷ es) w c = acceptedSteps es (next asks w) c
+
+-- ---- the plain store: "fed the list's file calls and their arguments in order, less those answered 14"
+abbrev pub isBusy : Call → World → Bool
+isBusy c w = eqb (refusalOf (liveCall c w .answer)) 14
+
+-- what a file call answers: its answer, and a read's out-buffer
+pub record Reply : Type 0 where
+  pub answer : Answer
+  pub out : List ℕ
+
+-- the library's replies to the calls that it did not answer 14
+unfoldable pub replies : List Event → World → List Reply
+replies [] w = []
+replies (call c ∷ es) w =
+    pick (isBusy c w) (replies es (next (call c) w))
+    (record { answer = liveCall c w .answer; out = outOf c w } ∷ replies es (next (call c) w))
+replies (steps ∷ es) w = replies es (next steps w)
+replies (asks ∷ es) w = replies es (next asks w)
+replies (starts ∷ es) w = replies es (next starts w)
+
+-- those calls
+unfoldable pub heard : List Event → World → List Call
+heard [] w = []
+heard (call c ∷ es) w = pick (isBusy c w) (heard es (next (call c) w)) (c ∷ heard es (next (call c) w))
+heard (steps ∷ es) w = heard es (next steps w)
+heard (asks ∷ es) w = heard es (next asks w)
+heard (starts ∷ es) w = heard es (next starts w)
+
+-- the plain store's bytes and replies
+unfoldable pub plainRun : List Call → List ℕ → List ℕ
+plainRun [] s = s
+plainRun (c ∷ cs) s = plainRun cs (plain c s .store)
+
+unfoldable pub plainReplies : List Call → List ℕ → List Reply
+plainReplies [] s = []
+plainReplies (c ∷ cs) s = record { answer = plain c s .answer; out = plain c s .out } ∷ plainReplies cs (plain c s .store)

@@ -1,0 +1,29 @@
+-- "While the copy runs, create, link and move set the new entry's mark, and unlink and move clear the old one". m is the image, d the desk, n the inode count, e a directory.
+use Prim.Native.Nat.{ℕ}
+use mathlib.Core.Bool.{Bool, not, _&&_}
+use mathlib.Core.List.{List}
+use lib.Dec.{eqb, leb}
+use Rattle.bounded.specs.Search.{pick}
+use Rattle.desk.specs.Desk.{copiedOf, setMark, clearMark}
+use Rattle.directory.specs.Slot.{clearEntry}
+use Rattle.checkpoint.specs.Fit.{isRunning}
+use Rattle.checkpoint.specs.Image.{slotNames}
+
+-- inode i, from 1 to n, is copied
+unfoldable pub isCopied : List ℕ → ℕ → ℕ → Bool
+isCopied d n i = leb 1 i && (leb i n && eqb (copiedOf d i) 1)
+
+-- an entry was made in slot t of e
+unfoldable pub noteMade : List ℕ → ℕ → ℕ → ℕ → List ℕ
+noteMade d n e t = pick (isRunning d) (setMark d n e t) d
+
+-- an entry was taken from slot t of e
+unfoldable pub noteTaken : List ℕ → ℕ → ℕ → ℕ → List ℕ
+noteTaken d n e t = pick (isRunning d) (clearMark d n e t) d
+
+-- "If unlink or move takes inode i from slot s of directory d, d is copied, i is not, d is of kind 2 in the image, and image slot s of d names i, those 16 image bytes become zero"
+unfoldable pub cutsImage : List ℕ → List ℕ → ℕ → ℕ → ℕ → ℕ → Bool
+cutsImage m d n e t i = isRunning d && (isCopied d n e && (not (isCopied d n i) && eqb (slotNames m n e t) i))
+
+unfoldable pub cutImage : List ℕ → List ℕ → ℕ → ℕ → ℕ → ℕ → List ℕ
+cutImage m d n e t i = pick (cutsImage m d n e t i) (clearEntry m n e t) m

@@ -1,0 +1,52 @@
+-- The store's bytes after an accepted file call. n and b are the counts of inodes and blocks.
+use Prim.Native.Nat.{ℕ, _+_, _-_}
+use mathlib.Core.Bool.{Bool}
+use mathlib.Core.List.{List}
+use lib.Dec.{eqb, leb}
+use Rattle.bounded.specs.Search.{pick}
+use Rattle.layout.specs.Inode.{kindOf, linksOf, sizeOf, inodeOf, putInode, putAttributes, putLinks, directoryKind}
+use Rattle.layout.specs.Block.{blocksUsed}
+use Rattle.directory.specs.Slot.{putEntry, clearEntry}
+use Rattle.files.specs.declared.Room.{Room}
+use Rattle.files.specs.declared.Kind.{Kind}
+use Rattle.files.specs.Inode.{zeroInode, newInode, withParent, lessFree, moreFree}
+use Rattle.files.specs.Content.{putFile, addBlocks, putSize, cutTo}
+use Rattle.files.specs.Room.{makeRoom}
+
+-- an entry in the room: the directory takes its block first
+unfoldable pub enter : List ℕ → ℕ → ℕ → Room → ℕ → List ℕ → List ℕ
+enter s n d r i name = putEntry (makeRoom s n d r) n d (r .slot) i name
+
+unfoldable pub created : List ℕ → ℕ → ℕ → List ℕ → Kind → ℕ → Room → List ℕ
+created s n d name k i r = lessFree (putInode (enter s n d r i name) n i (newInode k d)) 1 0
+
+unfoldable pub written : List ℕ → ℕ → ℕ → ℕ → ℕ → List ℕ → ℕ → List ℕ
+written s n b i o xs z = putFile (putSize (addBlocks s n b i (blocksUsed z - blocksUsed (sizeOf s i))) n i z) n i o xs
+
+abbrev pub shortened : List ℕ → ℕ → ℕ → ℕ → List ℕ
+shortened s n i z = cutTo s n i z
+
+unfoldable pub linked : List ℕ → ℕ → ℕ → List ℕ → ℕ → Room → List ℕ
+linked s n d name i r = let t = enter s n d r i name in putLinks t i (linksOf t i + 1)
+
+-- one link of i less; "Unlinking the last link frees the inode and its blocks."
+unfoldable pub dropLink : List ℕ → ℕ → ℕ → List ℕ
+dropLink s n i =
+    pick (leb (linksOf s i) 1)
+    (moreFree (putInode s n i zeroInode) 1 (blocksUsed (sizeOf s i)))
+    (putLinks s i (linksOf s i - 1))
+
+unfoldable pub unlinked : List ℕ → ℕ → ℕ → ℕ → ℕ → List ℕ
+unlinked s n d t i = dropLink (clearEntry s n d t) n i
+
+-- within a directory
+abbrev pub renamed : List ℕ → ℕ → ℕ → List ℕ → ℕ → ℕ → List ℕ
+renamed s n d other t i = putEntry s n d t i other
+
+-- "writes a directory's new parent"
+unfoldable pub setParent : List ℕ → ℕ → ℕ → ℕ → List ℕ
+setParent s n i e = pick (eqb (kindOf s i) directoryKind) (putAttributes s i (withParent (inodeOf s n i) e)) s
+
+-- to another directory
+unfoldable pub moved : List ℕ → ℕ → ℕ → ℕ → List ℕ → ℕ → ℕ → Room → List ℕ
+moved s n d e other t i r = setParent (enter (clearEntry s n d t) n e r i other) n i e

@@ -1,0 +1,6 @@
+pub mod Inode
+pub mod Content
+pub mod Room
+pub mod Plan
+pub mod Apply
+pub mod Plain

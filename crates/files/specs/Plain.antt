@@ -1,0 +1,126 @@
+-- The plain store of demand 3: bytes alone, "with no copy running and no desk to look at; a refused call changes nothing".
+use Prim.Native.Nat.{ℕ}
+use mathlib.Core.Bool.{Bool, not}
+use mathlib.Core.List.{List, []}
+use lib.ListN.{length}
+use Rattle.bounded.specs.Search.{pick}
+use Rattle.octets.specs.Octets.{splice}
+use Rattle.layout.specs.Sizes.{mostStoreBlocks}
+use Rattle.sound.specs.Sound.{framedB, isSound, inodesIn, blocksIn}
+use Rattle.sound.specs.declared.Form.the-variants.{Store}
+use Rattle.answers.specs.declared.Refusal.{Refusal}
+use Rattle.answers.specs.declared.Refusal.the-variants.{BadBuffer, UnsoundStore}
+use Rattle.answers.specs.declared.Answer.{Answer}
+use Rattle.answers.specs.declared.Answer.the-variants.{Done, Refused}
+use Rattle.files.specs.declared.Kind.{Kind}
+use Rattle.files.specs.declared.CreatePlan.{CreatePlan}
+use Rattle.files.specs.declared.LinkPlan.{LinkPlan}
+use Rattle.files.specs.declared.UnlinkPlan.{UnlinkPlan}
+use Rattle.files.specs.declared.RenamePlan.{RenamePlan}
+use Rattle.files.specs.declared.SizePlan.{SizePlan}
+use Rattle.files.specs.declared.CreatePlan.the-variants.{Make, NoCreate}
+use Rattle.files.specs.declared.LinkPlan.the-variants.{Add, NoLink}
+use Rattle.files.specs.declared.UnlinkPlan.the-variants.{Take, NoUnlink}
+use Rattle.files.specs.declared.RenamePlan.the-variants.{Same, Rename, Move, NoRename}
+use Rattle.files.specs.declared.SizePlan.the-variants.{To, NoSize}
+use Rattle.files.specs.Content.{fileBytes}
+use Rattle.files.specs.Plan.{lookUpPlan, readPlan, createPlan, writePlan, shortenPlan, linkPlan, unlinkPlan, renamePlan}
+use Rattle.files.specs.Apply.{created, written, shortened, linked, unlinked, renamed, moved}
+
+-- what a call leaves: its answer, the store, and a read's out-buffer ([] for the other calls)
+pub record Outcome : Type 0 where
+  pub answer : Answer
+  pub store : List ℕ
+  pub out : List ℕ
+
+abbrev pub left : Answer → List ℕ → List ℕ → Outcome
+left a s o = record { answer = a; store = s; out = o }
+
+-- refusals 1 and 2 come before all others
+unfoldable pub guarded : List ℕ → List ℕ → Outcome → Outcome
+guarded s out o =
+    pick (not (framedB mostStoreBlocks s)) (left (Refused BadBuffer) s out)
+    (pick (not (isSound Store s)) (left (Refused UnsoundStore) s out)
+    o)
+
+-- ---- what a plan does: to the store s, with the out-buffer out
+abbrev pub doLookUp : List ℕ → List ℕ → SizePlan → Outcome
+doLookUp s out (To i) = left (Done i) s out
+doLookUp s out (NoSize e) = left (Refused e) s out
+
+-- "other out-bytes stay"
+abbrev pub doRead : List ℕ → ℕ → ℕ → ℕ → List ℕ → SizePlan → Outcome
+doRead s n i o out (To k) = left (Done k) s (splice out 0 (fileBytes s n i o k))
+doRead s n i o out (NoSize e) = left (Refused e) s out
+
+abbrev pub doCreate : List ℕ → ℕ → ℕ → List ℕ → Kind → CreatePlan → Outcome
+doCreate s n d name k (Make i r) = left (Done i) (created s n d name k i r) []
+doCreate s n d name k (NoCreate e) = left (Refused e) s []
+
+abbrev pub doWrite : List ℕ → ℕ → ℕ → ℕ → ℕ → List ℕ → SizePlan → Outcome
+doWrite s n b i o xs (To z) = left (Done z) (written s n b i o xs z) []
+doWrite s n b i o xs (NoSize e) = left (Refused e) s []
+
+abbrev pub doShorten : List ℕ → ℕ → ℕ → SizePlan → Outcome
+doShorten s n i (To z) = left (Done z) (shortened s n i z) []
+doShorten s n i (NoSize e) = left (Refused e) s []
+
+abbrev pub doLink : List ℕ → ℕ → ℕ → List ℕ → ℕ → LinkPlan → Outcome
+doLink s n d name i (Add r) = left (Done 0) (linked s n d name i r) []
+doLink s n d name i (NoLink e) = left (Refused e) s []
+
+abbrev pub doUnlink : List ℕ → ℕ → ℕ → UnlinkPlan → Outcome
+doUnlink s n d (Take t i) = left (Done 0) (unlinked s n d t i) []
+doUnlink s n d (NoUnlink e) = left (Refused e) s []
+
+abbrev pub doRename : List ℕ → ℕ → ℕ → ℕ → List ℕ → RenamePlan → Outcome
+doRename s n d e other Same = left (Done 0) s []
+doRename s n d e other (Rename t i) = left (Done 0) (renamed s n d other t i) []
+doRename s n d e other (Move t i r) = left (Done 0) (moved s n d e other t i r) []
+doRename s n d e other (NoRename f) = left (Refused f) s []
+
+-- ---- the calls, on a store s: n and b are the counts that its header tells
+unfoldable pub plainLookUp : List ℕ → ℕ → List ℕ → Outcome
+plainLookUp s d name = guarded s [] (doLookUp s [] (lookUpPlan s (inodesIn s) d name))
+
+unfoldable pub plainRead : List ℕ → ℕ → ℕ → List ℕ → Outcome
+plainRead s i o out = guarded s out (doRead s (inodesIn s) i o out (readPlan s (inodesIn s) i o (length out)))
+
+unfoldable pub plainCreate : List ℕ → ℕ → List ℕ → Kind → Outcome
+plainCreate s d name k = guarded s [] (doCreate s (inodesIn s) d name k (createPlan s (inodesIn s) (blocksIn s) d name))
+
+unfoldable pub plainWrite : List ℕ → ℕ → ℕ → List ℕ → Outcome
+plainWrite s i o xs = guarded s [] (doWrite s (inodesIn s) (blocksIn s) i o xs (writePlan s (inodesIn s) i o (length xs)))
+
+unfoldable pub plainShorten : List ℕ → ℕ → ℕ → Outcome
+plainShorten s i z = guarded s [] (doShorten s (inodesIn s) i (shortenPlan s (inodesIn s) i z))
+
+unfoldable pub plainLink : List ℕ → ℕ → List ℕ → ℕ → Outcome
+plainLink s d name i = guarded s [] (doLink s (inodesIn s) d name i (linkPlan s (inodesIn s) (blocksIn s) d name i))
+
+unfoldable pub plainUnlink : List ℕ → ℕ → List ℕ → Outcome
+plainUnlink s d name = guarded s [] (doUnlink s (inodesIn s) d (unlinkPlan s (inodesIn s) d name))
+
+unfoldable pub plainRename : List ℕ → ℕ → List ℕ → ℕ → List ℕ → Outcome
+plainRename s d name e other = guarded s [] (doRename s (inodesIn s) d e other (renamePlan s (inodesIn s) (blocksIn s) d name e other))
+
+-- a file call with its arguments; a read has its out-buffer as it comes in
+pub data Call : Type 0 where
+  lookUp : (d : ℕ) (name : List ℕ) → Call
+  read : (i o : ℕ) (out : List ℕ) → Call
+  create : (d : ℕ) (name : List ℕ) (k : Kind) → Call
+  write : (i o : ℕ) (xs : List ℕ) → Call
+  shorten : (i z : ℕ) → Call
+  link : (d : ℕ) (name : List ℕ) (i : ℕ) → Call
+  unlink : (d : ℕ) (name : List ℕ) → Call
+  rename : (d : ℕ) (name : List ℕ) (e : ℕ) (other : List ℕ) → Call
+
+abbrev pub plain : Call → List ℕ → Outcome
+plain (lookUp d name) s = plainLookUp s d name
+plain (read i o out) s = plainRead s i o out
+plain (create d name k) s = plainCreate s d name k
+plain (write i o xs) s = plainWrite s i o xs
+plain (shorten i z) s = plainShorten s i z
+plain (link d name i) s = plainLink s d name i
+plain (unlink d name) s = plainUnlink s d name
+plain (rename d name e other) s = plainRename s d name e other

@@ -1,0 +1,117 @@
+-- What each file call is to do on a sound store, or refusals 4 to 13 in order: by the first condition that holds. n and b are the counts of inodes and blocks.
+use Prim.Native.Nat.{ℕ, _+_, _-_, _*_, min, max}
+use mathlib.Core.Bool.{Bool, true, false, not, _&&_, _||_}
+use mathlib.Core.List.{List}
+use lib.Dec.{eqb, leb, ltb}
+use lib.ListN.{length}
+use Rattle.bounded.specs.Below.{allBelow}
+use Rattle.bounded.specs.Search.{pick, onFound}
+use Rattle.bounded.specs.Climb.{leadsB}
+use Rattle.layout.specs.Sizes.{mostFileBytes}
+use Rattle.layout.specs.Header.{headerOf}
+use Rattle.layout.specs.Inode.{kindOf, sizeOf, parentOf, directoryKind}
+use Rattle.layout.specs.Block.{blocksUsed}
+use Rattle.layout.specs.Free.{freeInode}
+use Rattle.names.specs.Name.{legalName}
+use Rattle.names.specs.Entry.{entryInode, sameName}
+use Rattle.directory.specs.Slot.{slots, entryOf, findSlot, slotEmpty}
+use Rattle.answers.specs.declared.Refusal.the-variants.{IllegalName, WrongInode, NameAbsent, NameTaken, NotEmpty, PastEnd, IntoItself, NoInode, NoBlocks}
+use Rattle.files.specs.declared.CreatePlan.{CreatePlan}
+use Rattle.files.specs.declared.LinkPlan.{LinkPlan}
+use Rattle.files.specs.declared.UnlinkPlan.{UnlinkPlan}
+use Rattle.files.specs.declared.RenamePlan.{RenamePlan}
+use Rattle.files.specs.declared.SizePlan.{SizePlan}
+use Rattle.files.specs.declared.CreatePlan.the-variants.{Make, NoCreate}
+use Rattle.files.specs.declared.LinkPlan.the-variants.{Add, NoLink}
+use Rattle.files.specs.declared.UnlinkPlan.the-variants.{Take, NoUnlink}
+use Rattle.files.specs.declared.RenamePlan.the-variants.{Same, Rename, Move, NoRename}
+use Rattle.files.specs.declared.SizePlan.the-variants.{To, NoSize}
+use Rattle.files.specs.Inode.{isFile, isDirectory}
+use Rattle.files.specs.Room.{roomIn, onRoom}
+
+-- the inode that slot t of d names
+abbrev pub inodeAt : List ℕ → ℕ → ℕ → ℕ → ℕ
+inodeAt s n d t = entryInode (entryOf s n d t)
+
+-- look up: 4, 5, 6
+unfoldable pub lookUpPlan : List ℕ → ℕ → ℕ → List ℕ → SizePlan
+lookUpPlan s n d name =
+    pick (not (legalName name)) (NoSize IllegalName)
+    (pick (not (isDirectory s n d)) (NoSize WrongInode)
+    (onFound (findSlot s n d name) (λ t. To (inodeAt s n d t)) (NoSize NameAbsent)))
+
+-- read: 5, 9; "the smaller of the out-buffer's length and the bytes left"
+unfoldable pub readPlan : List ℕ → ℕ → ℕ → ℕ → ℕ → SizePlan
+readPlan s n i o k =
+    pick (not (isFile s n i)) (NoSize WrongInode)
+    (pick (ltb (sizeOf s i) o) (NoSize PastEnd)
+    (To (min k (sizeOf s i - o))))
+
+-- create: 4, 5, 7, 11, 12, 13
+unfoldable pub createPlan : List ℕ → ℕ → ℕ → ℕ → List ℕ → CreatePlan
+createPlan s n b d name =
+    pick (not (legalName name)) (NoCreate IllegalName)
+    (pick (not (isDirectory s n d)) (NoCreate WrongInode)
+    (onFound (findSlot s n d name) (λ t. NoCreate NameTaken)
+    (onFound (freeInode s n) (λ i. onRoom (roomIn s n b d) (λ r. Make i r) NoCreate)
+    (NoCreate NoInode))))
+
+-- write of k bytes at o: 5, 9, 12; the new size
+unfoldable pub writePlan : List ℕ → ℕ → ℕ → ℕ → ℕ → SizePlan
+writePlan s n i o k =
+    let z = max (sizeOf s i) (o + k) in
+    pick (not (isFile s n i)) (NoSize WrongInode)
+    (pick (ltb (sizeOf s i) o || ltb mostFileBytes (o + k)) (NoSize PastEnd)
+    (pick (ltb (headerOf s .«free_blocks») (blocksUsed z - blocksUsed (sizeOf s i))) (NoSize NoBlocks)
+    (To z)))
+
+-- shorten to z: 5, 9
+unfoldable pub shortenPlan : List ℕ → ℕ → ℕ → ℕ → SizePlan
+shortenPlan s n i z =
+    pick (not (isFile s n i)) (NoSize WrongInode)
+    (pick (ltb (sizeOf s i) z) (NoSize PastEnd)
+    (To z))
+
+-- link: 4, 5, 7, 12, 13
+unfoldable pub linkPlan : List ℕ → ℕ → ℕ → ℕ → List ℕ → ℕ → LinkPlan
+linkPlan s n b d name i =
+    pick (not (legalName name)) (NoLink IllegalName)
+    (pick (not (isDirectory s n d && isFile s n i)) (NoLink WrongInode)
+    (onFound (findSlot s n d name) (λ t. NoLink NameTaken)
+    (onRoom (roomIn s n b d) Add NoLink)))
+
+-- no entry stands in d
+unfoldable pub holdsNone : List ℕ → ℕ → ℕ → Bool
+holdsNone s n d = allBelow (slotEmpty s n d) (slots s d)
+
+-- unlink: 4, 5, 6, 8; "Directories unlink only when empty"
+unfoldable pub unlinkPlan : List ℕ → ℕ → ℕ → List ℕ → UnlinkPlan
+unlinkPlan s n d name =
+    pick (not (legalName name)) (NoUnlink IllegalName)
+    (pick (not (isDirectory s n d)) (NoUnlink WrongInode)
+    (onFound (findSlot s n d name)
+    (λ t. pick (eqb (kindOf s (inodeAt s n d t)) directoryKind && not (holdsNone s n (inodeAt s n d t))) (NoUnlink NotEmpty) (Take t (inodeAt s n d t)))
+    (NoUnlink NameAbsent)))
+
+-- refusal 10: i is a directory, and e is it or below it
+unfoldable pub isBelow : List ℕ → ℕ → ℕ → ℕ → Bool
+isBelow s n i e = eqb (kindOf s i) directoryKind && leadsB (parentOf s) i n e
+
+-- rename of the entry in slot t of d, which names i, to another in e: 7, 10, 12, 13.
+-- "A rename within a directory keeps its slot and its mark; to the same name it changes nothing." "A new name that is taken refuses."
+unfoldable pub renameTo : List ℕ → ℕ → ℕ → ℕ → ℕ → ℕ → ℕ → List ℕ → RenamePlan
+renameTo s n b d t i e other =
+    pick (eqb d e)
+    (onFound (findSlot s n e other) (λ u. pick (eqb u t) Same (NoRename NameTaken)) (Rename t i))
+    (onFound (findSlot s n e other) (λ u. NoRename NameTaken)
+    (pick (isBelow s n i e) (NoRename IntoItself)
+    (onRoom (roomIn s n b e) (λ r. Move t i r) NoRename)))
+
+-- rename: 4, 5, 6, 7, 10, 12, 13
+unfoldable pub renamePlan : List ℕ → ℕ → ℕ → ℕ → List ℕ → ℕ → List ℕ → RenamePlan
+renamePlan s n b d name e other =
+    pick (not (legalName name && legalName other)) (NoRename IllegalName)
+    (pick (not (isDirectory s n d && isDirectory s n e)) (NoRename WrongInode)
+    (onFound (findSlot s n d name)
+    (λ t. renameTo s n b d t (inodeAt s n d t) e other)
+    (NoRename NameAbsent)))
