@@ -4,5 +4,6 @@ pub mod Busy
 pub mod Notes
 pub mod Copier
 pub mod Live
+pub mod Table
 pub mod List
 pub mod Demand

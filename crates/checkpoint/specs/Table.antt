@@ -1,0 +1,180 @@
+-- "Given by number, looked at lowest first, when and only when the condition holds for that call": each call's conditions in a table. s is the store, m the image, d the desk.
+use Prim.Native.Nat.{ℕ, _+_, _-_, max}
+use mathlib.Core.Bool.{Bool, true, false, not, _&&_, _||_}
+use mathlib.Core.List.{List, [], _∷_}
+use lib.Dec.{eqb, ltb}
+use lib.ListN.{length}
+use Rattle.bounded.specs.Search.{pick, onFound}
+use Rattle.bounded.specs.declared.Found.{Found}
+use Rattle.bounded.specs.declared.Found.the-variants.{At, Absent}
+use Rattle.layout.specs.Sizes.{mostStoreBlocks, mostFileBytes, addressCount}
+use Rattle.layout.specs.Header.{headerOf}
+use Rattle.layout.specs.Inode.{kindOf, sizeOf, directoryKind}
+use Rattle.layout.specs.Block.{blocksUsed, kthBlock}
+use Rattle.layout.specs.Free.{freeInode, freeBlock}
+use Rattle.names.specs.Name.{legalName}
+use Rattle.directory.specs.Slot.{findSlot, emptySlot}
+use Rattle.desk.specs.Desk.{deskOf}
+use Rattle.sound.specs.Sound.{framedB, isSound, inodesIn, blocksIn}
+use Rattle.sound.specs.declared.Form.the-variants.{Store}
+use Rattle.answers.specs.declared.Refusal.{Refusal}
+use Rattle.answers.specs.declared.Refusal.the-variants.{BadBuffer, UnsoundStore, BadDesk, IllegalName, WrongInode, NameAbsent, NameTaken, NotEmpty, PastEnd, IntoItself, NoInode, NoBlocks, NoSlot, Busy, WrongState, ImageFull}
+use Rattle.answers.specs.declared.Answer.{Answer}
+use Rattle.answers.specs.declared.Answer.the-variants.{Done, Refused}
+use Rattle.answers.specs.Refusal.{refusalNumber}
+use Rattle.files.specs.Inode.{isFile, isDirectory}
+use Rattle.files.specs.Plan.{inodeAt, holdsNone, isBelow}
+use Rattle.checkpoint.specs.Fit.{deskFramed, imageAllowed, isRunning, notesFit}
+use Rattle.checkpoint.specs.Busy.{busyOne, busyTwo, busyMove}
+use Rattle.checkpoint.specs.Copier.{targetBlock}
+
+pub record Row : Type 0 where
+  pub holds : Bool
+  pub refusal : Refusal
+
+abbrev pub row : Bool → Refusal → Row
+row b e = record { holds = b; refusal = e }
+
+-- the refusal of the first condition that holds, else a
+abbrev pub firstOf : List Row → Answer → Answer
+firstOf [] a = a
+firstOf (r ∷ rs) a = pick (r .holds) (Refused (r .refusal)) (firstOf rs a)
+
+-- the numbers go up
+abbrev pub ascendsFrom : ℕ → List Row → Bool
+ascendsFrom k [] = true
+ascendsFrom k (r ∷ rs) = ltb k (refusalNumber (r .refusal)) && ascendsFrom (refusalNumber (r .refusal)) rs
+
+-- ---- conditions
+abbrev pub found : Found → Bool
+found (At t) = true
+found Absent = false
+
+abbrev pub orZero : Found → ℕ
+orZero (At t) = t
+orZero Absent = 0
+
+-- 1 and 2 of a call on the store alone
+abbrev pub storeRows : List ℕ → List Row → List Row
+storeRows s rs = row (not (framedB mostStoreBlocks s)) BadBuffer ∷ row (not (isSound Store s)) UnsoundStore ∷ rs
+
+-- 1, 2 and 3 of a call on all three buffers
+abbrev pub liveRows : List ℕ → List ℕ → List ℕ → List Row → List Row
+liveRows s m d rs =
+  row (not (framedB mostStoreBlocks s && deskFramed d)) BadBuffer ∷ row (not (isSound Store s)) UnsoundStore ∷ row (not (notesFit s m d)) BadDesk ∷ rs
+
+-- 12: "too few free blocks" for an entry more in e; 13: "all 48 slots used"
+abbrev pub noBlock : List ℕ → ℕ → Bool
+noBlock s e =
+  not (found (emptySlot s (inodesIn s) e)) && (ltb (blocksUsed (sizeOf s e)) addressCount && not (found (freeBlock s (inodesIn s) (blocksIn s))))
+
+abbrev pub noSlot : List ℕ → ℕ → Bool
+noSlot s e = not (found (emptySlot s (inodesIn s) e)) && not (ltb (blocksUsed (sizeOf s e)) addressCount)
+
+-- the slot of the name in e, and its inode
+abbrev pub slotFor : List ℕ → ℕ → List ℕ → ℕ
+slotFor s e name = orZero (findSlot s (inodesIn s) e name)
+
+abbrev pub inodeFor : List ℕ → ℕ → List ℕ → ℕ
+inodeFor s e name = inodeAt s (inodesIn s) e (slotFor s e name)
+
+-- ---- the tables
+unfoldable pub lookUpTable : List ℕ → ℕ → List ℕ → List Row
+lookUpTable s e name =
+  storeRows s
+  (row (not (legalName name)) IllegalName
+  ∷ row (not (isDirectory s (inodesIn s) e)) WrongInode
+  ∷ row (not (found (findSlot s (inodesIn s) e name))) NameAbsent
+  ∷ [])
+
+unfoldable pub readTable : List ℕ → ℕ → ℕ → List Row
+readTable s i o =
+  storeRows s
+  (row (not (isFile s (inodesIn s) i)) WrongInode
+  ∷ row (ltb (sizeOf s i) o) PastEnd
+  ∷ [])
+
+unfoldable pub createTable : List ℕ → List ℕ → List ℕ → ℕ → List ℕ → List Row
+createTable s m d e name =
+  liveRows s m d
+  (row (not (legalName name)) IllegalName
+  ∷ row (not (isDirectory s (inodesIn s) e)) WrongInode
+  ∷ row (found (findSlot s (inodesIn s) e name)) NameTaken
+  ∷ row (not (found (freeInode s (inodesIn s)))) NoInode
+  ∷ row (noBlock s e) NoBlocks
+  ∷ row (noSlot s e) NoSlot
+  ∷ row (busyOne d e) Busy
+  ∷ [])
+
+unfoldable pub writeTable : List ℕ → List ℕ → List ℕ → ℕ → ℕ → List ℕ → List Row
+writeTable s m d i o xs =
+  liveRows s m d
+  (row (not (isFile s (inodesIn s) i)) WrongInode
+  ∷ row (ltb (sizeOf s i) o || ltb mostFileBytes (o + length xs)) PastEnd
+  ∷ row (ltb (headerOf s .«free_blocks») (blocksUsed (max (sizeOf s i) (o + length xs)) - blocksUsed (sizeOf s i))) NoBlocks
+  ∷ row (busyOne d i) Busy
+  ∷ [])
+
+unfoldable pub shortenTable : List ℕ → List ℕ → List ℕ → ℕ → ℕ → List Row
+shortenTable s m d i z =
+  liveRows s m d
+  (row (not (isFile s (inodesIn s) i)) WrongInode
+  ∷ row (ltb (sizeOf s i) z) PastEnd
+  ∷ row (busyOne d i) Busy
+  ∷ [])
+
+unfoldable pub linkTable : List ℕ → List ℕ → List ℕ → ℕ → List ℕ → ℕ → List Row
+linkTable s m d e name i =
+  liveRows s m d
+  (row (not (legalName name)) IllegalName
+  ∷ row (not (isDirectory s (inodesIn s) e && isFile s (inodesIn s) i)) WrongInode
+  ∷ row (found (findSlot s (inodesIn s) e name)) NameTaken
+  ∷ row (noBlock s e) NoBlocks
+  ∷ row (noSlot s e) NoSlot
+  ∷ row (busyTwo d e i) Busy
+  ∷ [])
+
+unfoldable pub unlinkTable : List ℕ → List ℕ → List ℕ → ℕ → List ℕ → List Row
+unlinkTable s m d e name =
+  let i = inodeFor s e name in
+  liveRows s m d
+  (row (not (legalName name)) IllegalName
+  ∷ row (not (isDirectory s (inodesIn s) e)) WrongInode
+  ∷ row (not (found (findSlot s (inodesIn s) e name))) NameAbsent
+  ∷ row (eqb (kindOf s i) directoryKind && not (holdsNone s (inodesIn s) i)) NotEmpty
+  ∷ row (busyTwo d e i) Busy
+  ∷ [])
+
+-- "7 new name taken by another entry": 10, 12 and 13 are for a move alone
+unfoldable pub renameTable : List ℕ → List ℕ → List ℕ → ℕ → List ℕ → ℕ → List ℕ → List Row
+renameTable s m d e name f other =
+  let i = inodeFor s e name in
+  let moves = not (eqb e f) in
+  liveRows s m d
+  (row (not (legalName name && legalName other)) IllegalName
+  ∷ row (not (isDirectory s (inodesIn s) e && isDirectory s (inodesIn s) f)) WrongInode
+  ∷ row (not (found (findSlot s (inodesIn s) e name))) NameAbsent
+  ∷ row (found (findSlot s (inodesIn s) f other) && (moves || not (eqb (slotFor s f other) (slotFor s e name)))) NameTaken
+  ∷ row (moves && isBelow s (inodesIn s) i f) IntoItself
+  ∷ row (moves && noBlock s f) NoBlocks
+  ∷ row (moves && noSlot s f) NoSlot
+  ∷ row (pick moves (busyMove d e f i) (busyOne d e)) Busy
+  ∷ [])
+
+unfoldable pub startTable : List ℕ → List ℕ → List ℕ → List Row
+startTable s m d =
+  row (not (framedB mostStoreBlocks s && (deskFramed d && imageAllowed (inodesIn s) (length m)))) BadBuffer
+  ∷ row (not (isSound Store s)) UnsoundStore
+  ∷ row (not (notesFit s m d)) BadDesk
+  ∷ row (isRunning d) WrongState
+  ∷ []
+
+-- 16: "a block step with every image block named"
+unfoldable pub stepTable : List ℕ → List ℕ → List ℕ → List Row
+stepTable s m d =
+  let i = deskOf d .locked in
+  let k = deskOf d .copied in
+  liveRows s m d
+  (row (not (isRunning d)) WrongState
+  ∷ row (not (eqb i 0) && (ltb k (blocksUsed (sizeOf s i)) && not (found (targetBlock m (inodesIn s) (deskOf d .blocks) (kthBlock s (inodesIn s) i k))))) ImageFull
+  ∷ [])
