@@ -1,7 +1,7 @@
 -- What a sound store gives, and which blocks are named. n and b are the counts of inodes and blocks.
-use Prim.Native.Nat.{ℕ, _+_, _*_, _-_, _/_, _%_, _≤_, _<_}
+use Prim.Native.Nat.{ℕ, _+_, _*_, _/_, _%_, _≤_, _<_}
 use mathlib.Core.Path.{_≡_, sym, ap, _∙_, subst}
-use mathlib.Core.Bool.{Bool, true, false}
+use mathlib.Core.Bool.{Bool, false}
 use mathlib.Core.List.{List}
 use native.Mathlib.Decide.{decLt}
 use native.Mathlib.Omega.{arith}
@@ -16,7 +16,7 @@ use Rattle.directory.specs.Slot.{mostSlots, DirFits}
 use Rattle.sound.specs.Place.{naming}
 use Rattle.sound.specs.Sound.{inodesIn, blocksIn, Sound}
 use Rattle.sound.proofs.PlaceLaws.{naming-filled}
-use Rattle.sound.proofs.SoundLaws.{IsDir, InParent, in-parent, counted-of}
+use Rattle.sound.proofs.SoundLaws.{IsDir, InParent, in-parent, all-counted}
 
 -- ---- the blocks that some address names
 module _ (s : List ℕ) (n c : ℕ) where
@@ -89,7 +89,7 @@ module _ {limit : ℕ} {blank : Bool} {s : List ℕ} (h : Sound limit blank s) w
   -- ---- directories and their entries
   -- but the root, each has an entry, in its parent
   pub naming-dir : (i : ℕ) → IsDir s (inodesIn s) i → (i ≡ rootInode → ⊥) → (p : ℕ) × InParent s (inodesIn s) i p
-  naming-dir = in-parent s (inodesIn s) (h .entries) (λ i l m. counted-of s (inodesIn s) i (h .links i l m))
+  naming-dir = in-parent s (inodesIn s) (h .entries) (all-counted h)
 
   -- and no other
   pub named-once : (i p q : ℕ) → 1 ≤ i → kindOf s i ≡ directoryKind → p < mostSlots * inodesIn s → q < mostSlots * inodesIn s → naming s (inodesIn s) p ≡ i → naming s (inodesIn s) q ≡ i → p ≡ q

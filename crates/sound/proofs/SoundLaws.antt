@@ -1,14 +1,12 @@
 -- The tests decide the records of conditions, on any bytes. n and b are the counts of inodes and blocks.
-use Prim.Native.Nat.{ℕ, _+_, _*_, _-_, _/_, _%_, _≤_, _<_}
-use mathlib.Core.Path.{_≡_, refl, sym, ap, _∙_, subst}
-use mathlib.Core.Bool.{Bool, true, false, not, _&&_, _||_}
+use Prim.Native.Nat.{ℕ, _+_, _*_, _%_, _≤_, _<_}
+use mathlib.Core.Path.{_≡_, sym, ap, _∙_, subst}
+use mathlib.Core.Bool.{Bool, true, false, _&&_}
 use mathlib.Core.List.{List}
 use native.Mathlib.Omega.{arith}
-use lib.Dec.{eqb, leb, ltb}
 use lib.ListN.{length, getD}
-use Rattle.bounded.specs.Below.{allBelow}
-use Rattle.bounded.specs.Count.{count, tally, Differ}
-use Rattle.bounded.specs.Climb.{Leads, leadsB, Closed}
+use Rattle.bounded.specs.Count.{count, tally}
+use Rattle.bounded.specs.Climb.{Leads, Closed}
 use Rattle.bounded.specs.Reflect.{Reflects}
 use Rattle.bounded.proofs.CountLaws.{met-at}
 use Rattle.bounded.proofs.ReflectLaws.{r-eq, r-le, r-lt, r-true, r-false, r-and, r-then, r-not, r-where, r-imp, r-else, r-all, r-to, r-differ, r-leads, r-says}
@@ -208,7 +206,7 @@ module _ (s : List ℕ) (n : ℕ) where
   links-of : (i : ℕ) → Counted i → (kindOf s i ≡ directoryKind → Leads (parentOf s) rootInode i) → LinkSound s n i
   links-of i c l = record { counted = c .counted; named = c .named; one = c .one; leads = l }
 
-  pub counted-of : (i : ℕ) → LinkSound s n i → Counted i
+  counted-of : (i : ℕ) → LinkSound s n i → Counted i
   counted-of i r = record { counted = r .counted; named = r .named; one = r .one }
 
   pub link-sound : Entries → AllCounted → (i : ℕ) → 1 ≤ i → i ≤ n → Reflects (countedB s n i && leadB s n i) (LinkSound s n i)
@@ -239,6 +237,9 @@ module _ (s : List ℕ) where
   blanks-is blank =
       r-imp (r-true blank) (r-all (blocksIn s) (λ k. r-imp (r-true (unnamedB s (inodesIn s) k)) (zero-block-is k)))
 
+pub all-counted : {limit : ℕ} {blank : Bool} {s : List ℕ} → Sound limit blank s → AllCounted s (inodesIn s)
+all-counted {s = s} h i l m = counted-of s (inodesIn s) i (h .links i l m)
+
 -- of a store whose length is right
 pub body : (limit : ℕ) (blank : Bool) (s : List ℕ) → Framed limit s → Reflects (bodyB blank s) (Sound limit blank s)
 unfolding bodyB
@@ -259,15 +260,7 @@ body limit blank s f =
       free-blocks = p .1 .1 .1 .1 .1 .1 .0 .1;
       blanks = p .1 .1 .1 .1 .1 .1 .1;
     })
-    (λ r. (
-    (r .complete, (r .root-number, (r .reserved, (r .root, r .root-parent)))),
-    (r .inodes,
-    (r .once,
-    (r .entries,
-    ((λ i l m. counted-of s (inodesIn s) i (r .links i l m)),
-    ((λ i l m. r .links i l m .leads),
-    ((r .free-inodes, r .free-blocks),
-    r .blanks))))))))
+    (λ r. ((r .complete, (r .root-number, (r .reserved, (r .root, r .root-parent)))), (r .inodes, (r .once, (r .entries, (all-counted r, ((λ i l m. r .links i l m .leads), ((r .free-inodes, r .free-blocks), r .blanks))))))))
     (r-and (header-is s)
     (r-and (r-to (inodesIn s) (λ i l m. inode-sound s (inodesIn s) (blocksIn s) i))
     (r-and (r-differ (addressOf s (inodesIn s)) (addressCount * inodesIn s))
