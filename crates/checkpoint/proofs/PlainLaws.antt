@@ -1,0 +1,254 @@
+-- A live file call is the plain store's call between its guards, and so a list's file calls are the plain store's.
+use Prim.Native.Nat.{ℕ, _+_, _-_, _≤_, max}
+use mathlib.Core.Path.{_≡_, refl, sym, ap, _∙_}
+use mathlib.Core.Bool.{Bool, true, false, not, _&&_, _||_}
+use mathlib.Core.Logic.{_⊎_, inl, inr, ⊎-elim}
+use mathlib.Core.List.{List, [], _∷_}
+use native.Mathlib.Omega.{arith}
+use borrow.Author.Tests.{eqb-true, eq-eqb}
+use lib.Dec.{eqb, leb, ltb}
+use lib.ListN.{length}
+use Rattle.bounded.specs.Search.{pick, onFound}
+use Rattle.bounded.specs.declared.Found.{Found}
+use Rattle.bounded.specs.declared.Found.the-variants.{At, Absent}
+use Rattle.bounded.proofs.BoolLaws.{clash, and-left, and-true, or-cases}
+use Rattle.layout.specs.Sizes.{mostStoreBlocks, mostFileBytes, addressCount}
+use Rattle.layout.specs.Header.{headerOf}
+use Rattle.layout.specs.Inode.{kindOf, sizeOf, directoryKind}
+use Rattle.layout.specs.Block.{blocksUsed}
+use Rattle.layout.specs.Free.{freeInode, freeBlock}
+use Rattle.names.specs.Name.{legalName}
+use Rattle.directory.specs.Slot.{findSlot, emptySlot}
+use Rattle.desk.specs.Desk.{deskOf}
+use Rattle.sound.specs.Sound.{framedB, isSound, inodesIn, blocksIn}
+use Rattle.sound.specs.declared.Form.the-variants.{Store}
+use Rattle.answers.specs.declared.Refusal.{Refusal}
+use Rattle.answers.specs.declared.Refusal.the-variants.{BadBuffer, UnsoundStore, BadDesk, NoBlocks, NoSlot, Busy}
+use Rattle.answers.specs.declared.Answer.{Answer}
+use Rattle.answers.specs.declared.Answer.the-variants.{Done, Refused}
+use Rattle.files.specs.declared.Kind.{Kind}
+use Rattle.files.specs.declared.Room.{Room}
+use Rattle.files.specs.declared.RoomPlan.{RoomPlan}
+use Rattle.files.specs.declared.RoomPlan.the-variants.{Has, NoRoom}
+use Rattle.files.specs.declared.CreatePlan.{CreatePlan}
+use Rattle.files.specs.declared.LinkPlan.{LinkPlan}
+use Rattle.files.specs.declared.UnlinkPlan.{UnlinkPlan}
+use Rattle.files.specs.declared.RenamePlan.{RenamePlan}
+use Rattle.files.specs.declared.SizePlan.{SizePlan}
+use Rattle.files.specs.declared.CreatePlan.the-variants.{Make, NoCreate}
+use Rattle.files.specs.declared.LinkPlan.the-variants.{Add, NoLink}
+use Rattle.files.specs.declared.UnlinkPlan.the-variants.{Take, NoUnlink}
+use Rattle.files.specs.declared.RenamePlan.the-variants.{Same, Rename, Move, NoRename}
+use Rattle.files.specs.declared.SizePlan.the-variants.{To, NoSize}
+use Rattle.files.specs.Room.{roomIn, onRoom}
+use Rattle.files.specs.Inode.{isFile, isDirectory}
+use Rattle.files.specs.Plan.{inodeAt, holdsNone, isBelow, lookUpPlan, readPlan, createPlan, writePlan, shortenPlan, linkPlan, unlinkPlan, renameTo, renamePlan}
+use Rattle.files.specs.Plain.{Call, lookUp, read, create, write, shorten, link, unlink, rename, plainLookUp, plainRead, plainCreate, plainWrite, plainShorten, plainLink, plainUnlink, plainRename, plain}
+use Rattle.files.specs.Plain as files
+use Rattle.checkpoint.specs.Fit.{deskFramed, isRunning, notesFit}
+use Rattle.checkpoint.specs.Busy.{isLocked, busyOne, busyTwo, busyMove}
+use Rattle.checkpoint.specs.Copier.{Step, lock, copy, close, finish, full, stepOf}
+use Rattle.checkpoint.specs.Live.{Outcome, left, refuse, guarded, unless, doCreate, doWrite, doShorten, doLink, doUnlink, doRename, doStep, liveCreate, liveWrite, liveShorten, liveLink, liveUnlink, liveRename, started, start, step}
+use Rattle.checkpoint.specs.List.{World, Event, call, steps, asks, starts, liveCall, outOf, outcome, next, refusalOf, run, Moment, here, after, isBusy, Reply, replies, heard, plainRun, plainReplies}
+use Rattle.checkpoint.specs.Demand.{AsPlain}
+
+-- ---- by cases
+by-pick : {A : Type 0} (P : A → Type 0) (b : Bool) {x y : A} → P x → P y → P (pick b x y)
+by-pick P true p q = p
+by-pick P false p q = q
+
+by-found : {A : Type 0} (P : A → Type 0) (r : Found) {g : ℕ → A} {y : A} → ((t : ℕ) → P (g t)) → P y → P (onFound r g y)
+by-found P (At t) p q = p t
+by-found P Absent p q = q
+
+by-room : (P : RoomPlan → Type 0) (s : List ℕ) (n b d : ℕ) → ((r : Room) → P (Has r)) → P (NoRoom NoBlocks) → P (NoRoom NoSlot) → P (roomIn s n b d)
+unfolding roomIn
+by-room P s n b d h p q =
+    by-found P (emptySlot s n d) (λ t. h _)
+    (by-pick P (ltb (blocksUsed (sizeOf s d)) addressCount) (by-found P (freeBlock s n b) (λ c. h _) p) q)
+
+-- ---- the answers of plans: 0 for a plan that is done, or 4 to 13
+abbrev ordinary : ℕ → Bool
+ordinary k = eqb k 0 || (leb 4 k && leb k 13)
+
+-- one of those numbers is not j, which is none
+apart : (k j : ℕ) → ordinary k ≡ true → ordinary j ≡ false → k ≡ j → ⊥
+apart k j p q e = clash (ordinary k) p (ap ordinary e ∙ q)
+
+abbrev Ordinary : files.Outcome → Type 0
+Ordinary o = ordinary (refusalOf (o .answer)) ≡ true
+
+look-up-ordinary : (s out : List ℕ) (n d : ℕ) (name : List ℕ) → Ordinary (files.doLookUp s out (lookUpPlan s n d name))
+unfolding lookUpPlan
+look-up-ordinary s out n d name =
+    let P : SizePlan → Type 0 = λ x. Ordinary (files.doLookUp s out x) in
+    by-pick P (not (legalName name)) refl
+    (by-pick P (not (isDirectory s n d)) refl
+    (by-found P (findSlot s n d name) (λ t. refl) refl))
+
+read-ordinary : (s : List ℕ) (n i o : ℕ) (out : List ℕ) (k : ℕ) → Ordinary (files.doRead s n i o out (readPlan s n i o k))
+unfolding readPlan
+read-ordinary s n i o out k =
+    let P : SizePlan → Type 0 = λ x. Ordinary (files.doRead s n i o out x) in
+    by-pick P (not (isFile s n i)) refl (by-pick P (ltb (sizeOf s i) o) refl refl)
+
+create-ordinary : (s : List ℕ) (n b d : ℕ) (name : List ℕ) (k : Kind) → Ordinary (files.doCreate s n d name k (createPlan s n b d name))
+unfolding createPlan
+create-ordinary s n b d name k =
+    let P : CreatePlan → Type 0 = λ x. Ordinary (files.doCreate s n d name k x) in
+    by-pick P (not (legalName name)) refl
+    (by-pick P (not (isDirectory s n d)) refl
+    (by-found P (findSlot s n d name) (λ t. refl)
+    (by-found P (freeInode s n) (λ i. by-room (λ x. P (onRoom x (λ r. Make i r) NoCreate)) s n b d (λ r. refl) refl refl)
+    refl)))
+
+write-ordinary : (s : List ℕ) (n b i o : ℕ) (xs : List ℕ) (k : ℕ) → Ordinary (files.doWrite s n b i o xs (writePlan s n i o k))
+unfolding writePlan
+write-ordinary s n b i o xs k =
+    let P : SizePlan → Type 0 = λ x. Ordinary (files.doWrite s n b i o xs x) in
+    by-pick P (not (isFile s n i)) refl
+    (by-pick P (ltb (sizeOf s i) o || ltb mostFileBytes (o + k)) refl
+    (by-pick P (ltb (headerOf s .«free_blocks») (blocksUsed (max (sizeOf s i) (o + k)) - blocksUsed (sizeOf s i))) refl
+    refl))
+
+shorten-ordinary : (s : List ℕ) (n i z : ℕ) → Ordinary (files.doShorten s n i (shortenPlan s n i z))
+unfolding shortenPlan
+shorten-ordinary s n i z =
+    let P : SizePlan → Type 0 = λ x. Ordinary (files.doShorten s n i x) in
+    by-pick P (not (isFile s n i)) refl (by-pick P (ltb (sizeOf s i) z) refl refl)
+
+link-ordinary : (s : List ℕ) (n b d : ℕ) (name : List ℕ) (i : ℕ) → Ordinary (files.doLink s n d name i (linkPlan s n b d name i))
+unfolding linkPlan
+link-ordinary s n b d name i =
+    let P : LinkPlan → Type 0 = λ x. Ordinary (files.doLink s n d name i x) in
+    by-pick P (not (legalName name)) refl
+    (by-pick P (not (isDirectory s n d && isFile s n i)) refl
+    (by-found P (findSlot s n d name) (λ t. refl)
+    (by-room (λ x. P (onRoom x Add NoLink)) s n b d (λ r. refl) refl refl)))
+
+unlink-ordinary : (s : List ℕ) (n d : ℕ) (name : List ℕ) → Ordinary (files.doUnlink s n d (unlinkPlan s n d name))
+unfolding unlinkPlan
+unlink-ordinary s n d name =
+    let P : UnlinkPlan → Type 0 = λ x. Ordinary (files.doUnlink s n d x) in
+    by-pick P (not (legalName name)) refl
+    (by-pick P (not (isDirectory s n d)) refl
+    (by-found P (findSlot s n d name)
+    (λ t. by-pick P (eqb (kindOf s (inodeAt s n d t)) directoryKind && not (holdsNone s n (inodeAt s n d t))) refl refl)
+    refl))
+
+rename-ordinary : (s : List ℕ) (n b d : ℕ) (name : List ℕ) (e : ℕ) (other : List ℕ) → Ordinary (files.doRename s n d e other (renamePlan s n b d name e other))
+unfolding renamePlan renameTo
+rename-ordinary s n b d name e other =
+    let P : RenamePlan → Type 0 = λ x. Ordinary (files.doRename s n d e other x) in
+    by-pick P (not (legalName name && legalName other)) refl
+    (by-pick P (not (isDirectory s n d && isDirectory s n e)) refl
+    (by-found P (findSlot s n d name)
+    (λ t. by-pick P (eqb d e)
+    (by-found P (findSlot s n e other) (λ u. by-pick P (eqb u t) refl refl) refl)
+    (by-found P (findSlot s n e other) (λ u. refl)
+    (by-pick P (isBelow s n (inodeAt s n d t) e) refl
+    (by-room (λ x. P (onRoom x (λ r. Move t (inodeAt s n d t) r) NoRename)) s n b e (λ r. refl) refl refl))))
+    refl))
+
+-- ---- the plain store's answers
+-- no answer of a desk or a copy
+pub record Deskless (a : Answer) : Type 0 where
+  pub third : refusalOf a ≡ 3 → ⊥
+  pub fourteenth : refusalOf a ≡ 14 → ⊥
+  pub fifteenth : refusalOf a ≡ 15 → ⊥
+  pub sixteenth : refusalOf a ≡ 16 → ⊥
+
+-- the plain store is framed and sound
+pub record StoreFits (s : List ℕ) : Type 0 where
+  pub framed : framedB mostStoreBlocks s ≡ true
+  pub sound : isSound Store s ≡ true
+
+-- what a plain call answers
+record Plainly (s : List ℕ) (o : files.Outcome) : Type 0 where
+  never : Deskless (o .answer)
+  first : StoreFits s → refusalOf (o .answer) ≡ 1 → ⊥
+  second : StoreFits s → refusalOf (o .answer) ≡ 2 → ⊥
+
+plain-guarded : (s out : List ℕ) (o : files.Outcome) → Ordinary o → Plainly s (files.guarded s out o)
+unfolding files.guarded
+plain-guarded s out o h = go (framedB mostStoreBlocks s) (isSound Store s) refl refl
+  where
+    go : (a b : Bool) → framedB mostStoreBlocks s ≡ a → isSound Store s ≡ b
+        → Plainly s (pick (not a) (files.left (Refused BadBuffer) s out) (pick (not b) (files.left (Refused UnsoundStore) s out) o))
+    go false b p q = record {
+      never = record { third = λ e. omega arith; fourteenth = λ e. omega arith; fifteenth = λ e. omega arith; sixteenth = λ e. omega arith };
+      first = λ f e. clash false (sym p ∙ f .framed) refl;
+      second = λ f e. omega arith;
+    }
+    go true false p q = record {
+      never = record { third = λ e. omega arith; fourteenth = λ e. omega arith; fifteenth = λ e. omega arith; sixteenth = λ e. omega arith };
+      first = λ f e. omega arith;
+      second = λ f e. clash false (sym q ∙ f .sound) refl;
+    }
+    go true true p q =
+      let k = refusalOf (o .answer) in
+      record {
+        never = record { third = apart k 3 h refl; fourteenth = apart k 14 h refl; fifteenth = apart k 15 h refl; sixteenth = apart k 16 h refl };
+        first = λ f. apart k 1 h refl;
+        second = λ f. apart k 2 h refl;
+      }
+
+plainly : (c : Call) (s : List ℕ) → Plainly s (plain c s)
+unfolding plainLookUp plainRead plainCreate plainWrite plainShorten plainLink plainUnlink plainRename
+plainly (lookUp d name) s = plain-guarded s [] (files.doLookUp s [] (lookUpPlan s (inodesIn s) d name)) (look-up-ordinary s [] (inodesIn s) d name)
+plainly (read i o out) s = plain-guarded s out (files.doRead s (inodesIn s) i o out (readPlan s (inodesIn s) i o (length out))) (read-ordinary s (inodesIn s) i o out (length out))
+plainly (create d name k) s = plain-guarded s [] (files.doCreate s (inodesIn s) d name k (createPlan s (inodesIn s) (blocksIn s) d name)) (create-ordinary s (inodesIn s) (blocksIn s) d name k)
+plainly (write i o xs) s = plain-guarded s [] (files.doWrite s (inodesIn s) (blocksIn s) i o xs (writePlan s (inodesIn s) i o (length xs))) (write-ordinary s (inodesIn s) (blocksIn s) i o xs (length xs))
+plainly (shorten i z) s = plain-guarded s [] (files.doShorten s (inodesIn s) i (shortenPlan s (inodesIn s) i z)) (shorten-ordinary s (inodesIn s) i z)
+plainly (link d name i) s = plain-guarded s [] (files.doLink s (inodesIn s) d name i (linkPlan s (inodesIn s) (blocksIn s) d name i)) (link-ordinary s (inodesIn s) (blocksIn s) d name i)
+plainly (unlink d name) s = plain-guarded s [] (files.doUnlink s (inodesIn s) d (unlinkPlan s (inodesIn s) d name)) (unlink-ordinary s (inodesIn s) d name)
+plainly (rename d name e other) s = plain-guarded s [] (files.doRename s (inodesIn s) d e other (renamePlan s (inodesIn s) (blocksIn s) d name e other)) (rename-ordinary s (inodesIn s) (blocksIn s) d name e other)
+
+-- the plain store answers neither 3 nor 14 to 16
+pub plain-never : (c : Call) (s : List ℕ) → Deskless (plain c s .answer)
+plain-never c s = plainly c s .never
+
+-- ---- one live call beside the plain one
+-- the guards of all three buffers pass
+pub record Fits (w : World) : Type 0 where
+  pub framed : framedB mostStoreBlocks (w .store) ≡ true
+  pub sound : isSound Store (w .store) ≡ true
+  pub desk : deskFramed (w .desk) ≡ true
+  pub notes : notesFit (w .store) (w .image) (w .desk) ≡ true
+
+-- a live outcome o and a plain one p: they agree, or o is busy, or a guard refused
+data Between (w : World) (o : Outcome) (p : files.Outcome) : Type 0 where
+  same : o .answer ≡ p .answer → o .store ≡ p .store → Between w o p
+  busy : isRunning (w .desk) ≡ true → o ≡ refuse Busy (w .store) (w .image) (w .desk) → Between w o p
+  unfit : 1 ≤ refusalOf (o .answer) → refusalOf (o .answer) ≤ 3 → (Fits w → ⊥) → Between w o p
+
+between-unless : (w : World) (b : Bool) (o : Outcome) (p : files.Outcome) → (b ≡ true → isRunning (w .desk) ≡ true) → o .answer ≡ p .answer → o .store ≡ p .store
+    → Between w (unless b (w .store) (w .image) (w .desk) o) p
+between-unless w true o p r x y = busy (r refl) refl
+between-unless w false o p r x y = same x y
+
+between-guarded : (w : World) (out : List ℕ) (o : Outcome) (p : files.Outcome) → Between w o p
+    → Between w (guarded (w .store) (w .image) (w .desk) o) (files.guarded (w .store) out p)
+unfolding guarded files.guarded
+between-guarded w out o p h = go (framedB mostStoreBlocks (w .store)) (deskFramed (w .desk)) (isSound Store (w .store)) (notesFit (w .store) (w .image) (w .desk)) refl refl refl refl
+  where
+    go : (a b c d : Bool) → framedB mostStoreBlocks (w .store) ≡ a → deskFramed (w .desk) ≡ b → isSound Store (w .store) ≡ c → notesFit (w .store) (w .image) (w .desk) ≡ d
+        → Between w
+            (pick (not (a && b)) (refuse BadBuffer (w .store) (w .image) (w .desk)) (pick (not c) (refuse UnsoundStore (w .store) (w .image) (w .desk)) (pick (not d) (refuse BadDesk (w .store) (w .image) (w .desk)) o)))
+            (pick (not a) (files.left (Refused BadBuffer) (w .store) out) (pick (not c) (files.left (Refused UnsoundStore) (w .store) out) p))
+    go false b c d x y z t = unfit (omega arith) (omega arith) (λ f. clash false (sym x ∙ f .framed) refl)
+    go true false c d x y z t = unfit (omega arith) (omega arith) (λ f. clash false (sym y ∙ f .desk) refl)
+    go true true false d x y z t = unfit (omega arith) (omega arith) (λ f. clash false (sym z ∙ f .sound) refl)
+    go true true true false x y z t = unfit (omega arith) (omega arith) (λ f. clash false (sym t ∙ f .notes) refl)
+    go true true true true x y z t = h
+
+-- a busy call is one of a running copy
+busy-one : (d : List ℕ) (i : ℕ) → busyOne d i ≡ true → isRunning d ≡ true
+unfolding isLocked
+busy-one d i h = and-left (isRunning d) (eqb (deskOf d .locked) i) h
+
+busy-two : (d : List ℕ) (e i : ℕ) → busyTwo d e i ≡ true → isRunning d ≡ true
+busy-two d e i h = ⊎-elim (busy-one d e) (busy-one d i) (or-cases (isLocked d e) (isLocked d i) h)
+
+busy-move : (d : List ℕ) (e f i : ℕ) → busyMove d e f i ≡ true → isRunning d ≡ true
+busy-move d e f i h = ⊎-elim (busy-one d e) (busy-two d f i) (or-cases (isLocked d e) (isLocked d f || isLocked d i) h)
