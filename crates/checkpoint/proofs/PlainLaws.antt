@@ -45,7 +45,7 @@ use Rattle.files.specs.Inode.{isFile, isDirectory}
 use Rattle.files.specs.Plan.{inodeAt, holdsNone, isBelow, lookUpPlan, readPlan, createPlan, writePlan, shortenPlan, linkPlan, unlinkPlan, renameTo, renamePlan}
 use Rattle.files.specs.Plain.{Call, lookUp, read, create, write, shorten, link, unlink, rename, plainLookUp, plainRead, plainCreate, plainWrite, plainShorten, plainLink, plainUnlink, plainRename, plain}
 use Rattle.files.specs.Plain as files
-use Rattle.checkpoint.specs.Fit.{deskFramed, isRunning, notesFit}
+use Rattle.checkpoint.specs.Fit.{deskFramed, imageAllowed, isRunning, notesFit}
 use Rattle.checkpoint.specs.Busy.{isLocked, busyOne, busyTwo, busyMove}
 use Rattle.checkpoint.specs.Copier.{Step, lock, copy, close, finish, full, stepOf}
 use Rattle.checkpoint.specs.Live.{Outcome, left, refuse, guarded, unless, doCreate, doWrite, doShorten, doLink, doUnlink, doRename, doStep, liveCreate, liveWrite, liveShorten, liveLink, liveUnlink, liveRename, started, start, step}
@@ -169,6 +169,9 @@ record Plainly (s : List ℕ) (o : files.Outcome) : Type 0 where
   first : StoreFits s → refusalOf (o .answer) ≡ 1 → ⊥
   second : StoreFits s → refusalOf (o .answer) ≡ 2 → ⊥
 
+low : (a : Answer) → refusalOf a ≤ 2 → Deskless a
+low a h = record { third = λ e. omega arith; fourteenth = λ e. omega arith; fifteenth = λ e. omega arith; sixteenth = λ e. omega arith }
+
 plain-guarded : (s out : List ℕ) (o : files.Outcome) → Ordinary o → Plainly s (files.guarded s out o)
 unfolding files.guarded
 plain-guarded s out o h = go (framedB mostStoreBlocks s) (isSound Store s) refl refl
@@ -176,12 +179,12 @@ plain-guarded s out o h = go (framedB mostStoreBlocks s) (isSound Store s) refl 
     go : (a b : Bool) → framedB mostStoreBlocks s ≡ a → isSound Store s ≡ b
         → Plainly s (pick (not a) (files.left (Refused BadBuffer) s out) (pick (not b) (files.left (Refused UnsoundStore) s out) o))
     go false b p q = record {
-      never = record { third = λ e. omega arith; fourteenth = λ e. omega arith; fifteenth = λ e. omega arith; sixteenth = λ e. omega arith };
+      never = low _ (omega arith);
       first = λ f e. clash false (sym p ∙ f .framed) refl;
       second = λ f e. omega arith;
     }
     go true false p q = record {
-      never = record { third = λ e. omega arith; fourteenth = λ e. omega arith; fifteenth = λ e. omega arith; sixteenth = λ e. omega arith };
+      never = low _ (omega arith);
       first = λ f e. omega arith;
       second = λ f e. clash false (sym q ∙ f .sound) refl;
     }
@@ -252,3 +255,222 @@ busy-two d e i h = ⊎-elim (busy-one d e) (busy-one d i) (or-cases (isLocked d 
 
 busy-move : (d : List ℕ) (e f i : ℕ) → busyMove d e f i ≡ true → isRunning d ≡ true
 busy-move d e f i h = ⊎-elim (busy-one d e) (busy-two d f i) (or-cases (isLocked d e) (isLocked d f || isLocked d i) h)
+
+-- each call, by its plan
+between-create : (w : World) (e : ℕ) (name : List ℕ) (k : Kind) → Between w (liveCreate (w .store) (w .image) (w .desk) e name k) (plainCreate (w .store) e name k)
+unfolding liveCreate plainCreate
+between-create w e name k = between-guarded w [] _ _ (go (createPlan (w .store) (inodesIn (w .store)) (blocksIn (w .store)) e name))
+  where
+    go : (x : CreatePlan) → Between w (doCreate (w .store) (w .image) (w .desk) (inodesIn (w .store)) e name k x) (files.doCreate (w .store) (inodesIn (w .store)) e name k x)
+    go (Make i r) = between-unless w (busyOne (w .desk) e) _ _ (busy-one (w .desk) e) refl refl
+    go (NoCreate f) = same refl refl
+
+between-write : (w : World) (i o : ℕ) (xs : List ℕ) → Between w (liveWrite (w .store) (w .image) (w .desk) i o xs) (plainWrite (w .store) i o xs)
+unfolding liveWrite plainWrite
+between-write w i o xs = between-guarded w [] _ _ (go (writePlan (w .store) (inodesIn (w .store)) i o (length xs)))
+  where
+    go : (x : SizePlan) → Between w (doWrite (w .store) (w .image) (w .desk) (inodesIn (w .store)) (blocksIn (w .store)) i o xs x) (files.doWrite (w .store) (inodesIn (w .store)) (blocksIn (w .store)) i o xs x)
+    go (To z) = between-unless w (busyOne (w .desk) i) _ _ (busy-one (w .desk) i) refl refl
+    go (NoSize f) = same refl refl
+
+between-shorten : (w : World) (i z : ℕ) → Between w (liveShorten (w .store) (w .image) (w .desk) i z) (plainShorten (w .store) i z)
+unfolding liveShorten plainShorten
+between-shorten w i z = between-guarded w [] _ _ (go (shortenPlan (w .store) (inodesIn (w .store)) i z))
+  where
+    go : (x : SizePlan) → Between w (doShorten (w .store) (w .image) (w .desk) (inodesIn (w .store)) i x) (files.doShorten (w .store) (inodesIn (w .store)) i x)
+    go (To y) = between-unless w (busyOne (w .desk) i) _ _ (busy-one (w .desk) i) refl refl
+    go (NoSize f) = same refl refl
+
+between-link : (w : World) (e : ℕ) (name : List ℕ) (i : ℕ) → Between w (liveLink (w .store) (w .image) (w .desk) e name i) (plainLink (w .store) e name i)
+unfolding liveLink plainLink
+between-link w e name i = between-guarded w [] _ _ (go (linkPlan (w .store) (inodesIn (w .store)) (blocksIn (w .store)) e name i))
+  where
+    go : (x : LinkPlan) → Between w (doLink (w .store) (w .image) (w .desk) (inodesIn (w .store)) e name i x) (files.doLink (w .store) (inodesIn (w .store)) e name i x)
+    go (Add r) = between-unless w (busyTwo (w .desk) e i) _ _ (busy-two (w .desk) e i) refl refl
+    go (NoLink f) = same refl refl
+
+between-unlink : (w : World) (e : ℕ) (name : List ℕ) → Between w (liveUnlink (w .store) (w .image) (w .desk) e name) (plainUnlink (w .store) e name)
+unfolding liveUnlink plainUnlink
+between-unlink w e name = between-guarded w [] _ _ (go (unlinkPlan (w .store) (inodesIn (w .store)) e name))
+  where
+    go : (x : UnlinkPlan) → Between w (doUnlink (w .store) (w .image) (w .desk) (inodesIn (w .store)) e x) (files.doUnlink (w .store) (inodesIn (w .store)) e x)
+    go (Take t i) = between-unless w (busyTwo (w .desk) e i) _ _ (busy-two (w .desk) e i) refl refl
+    go (NoUnlink f) = same refl refl
+
+between-rename : (w : World) (e : ℕ) (name : List ℕ) (f : ℕ) (other : List ℕ) → Between w (liveRename (w .store) (w .image) (w .desk) e name f other) (plainRename (w .store) e name f other)
+unfolding liveRename plainRename
+between-rename w e name f other = between-guarded w [] _ _ (go (renamePlan (w .store) (inodesIn (w .store)) (blocksIn (w .store)) e name f other))
+  where
+    go : (x : RenamePlan) → Between w (doRename (w .store) (w .image) (w .desk) (inodesIn (w .store)) e f other x) (files.doRename (w .store) (inodesIn (w .store)) e f other x)
+    go Same = between-unless w (busyOne (w .desk) e) _ _ (busy-one (w .desk) e) refl refl
+    go (Rename t i) = between-unless w (busyOne (w .desk) e) _ _ (busy-one (w .desk) e) refl refl
+    go (Move t i r) = between-unless w (busyMove (w .desk) e f i) _ _ (busy-move (w .desk) e f i) refl refl
+    go (NoRename g) = same refl refl
+
+-- look up and read take the store alone
+between : (c : Call) (w : World) → Between w (liveCall c w) (plain c (w .store))
+between (lookUp d name) w = same refl refl
+between (read i o out) w = same refl refl
+between (create d name k) w = between-create w d name k
+between (write i o xs) w = between-write w i o xs
+between (shorten i z) w = between-shorten w i z
+between (link d name i) w = between-link w d name i
+between (unlink d name) w = between-unlink w d name
+between (rename d name e other) w = between-rename w d name e other
+
+-- ---- the laws of one call
+-- no guard of the buffers refused, and the copy was not in the way
+pub record Passed (a : Answer) : Type 0 where
+  pub first : refusalOf a ≡ 1 → ⊥
+  pub second : refusalOf a ≡ 2 → ⊥
+  pub third : refusalOf a ≡ 3 → ⊥
+  pub fourteenth : refusalOf a ≡ 14 → ⊥
+
+busy-number : (w : World) (o : Outcome) → o ≡ refuse Busy (w .store) (w .image) (w .desk) → refusalOf (o .answer) ≡ 14
+busy-number w o e = ap (λ (x : Outcome). refusalOf (x .answer)) e
+
+-- a live call that passed is the plain store's
+pub as-plain : (c : Call) (w : World) → Passed (liveCall c w .answer) → (liveCall c w .answer ≡ plain c (w .store) .answer) × (liveCall c w .store ≡ plain c (w .store) .store)
+as-plain c w h = elim (between c w) [
+  | same x y ↦ (x, y)
+  | busy r e ↦ absurd (h .fourteenth (busy-number w (liveCall c w) e))
+  | unfit l m f ↦ absurd (omega arith)
+]
+
+-- a plain call that is no read has no out-buffer
+none-guarded : (s : List ℕ) (o : files.Outcome) → o .out ≡ [] → files.guarded s [] o .out ≡ []
+unfolding files.guarded
+none-guarded s o h = by-pick P (not (framedB mostStoreBlocks s)) refl (by-pick P (not (isSound Store s)) refl h)
+  where
+    P : files.Outcome → Type 0
+    P x = x .out ≡ []
+
+none-look-up : (s : List ℕ) (x : SizePlan) → files.doLookUp s [] x .out ≡ []
+none-look-up s (To i) = refl
+none-look-up s (NoSize e) = refl
+
+none-create : (s : List ℕ) (n d : ℕ) (name : List ℕ) (k : Kind) (x : CreatePlan) → files.doCreate s n d name k x .out ≡ []
+none-create s n d name k (Make i r) = refl
+none-create s n d name k (NoCreate e) = refl
+
+none-write : (s : List ℕ) (n b i o : ℕ) (xs : List ℕ) (x : SizePlan) → files.doWrite s n b i o xs x .out ≡ []
+none-write s n b i o xs (To z) = refl
+none-write s n b i o xs (NoSize e) = refl
+
+none-shorten : (s : List ℕ) (n i : ℕ) (x : SizePlan) → files.doShorten s n i x .out ≡ []
+none-shorten s n i (To z) = refl
+none-shorten s n i (NoSize e) = refl
+
+none-link : (s : List ℕ) (n d : ℕ) (name : List ℕ) (i : ℕ) (x : LinkPlan) → files.doLink s n d name i x .out ≡ []
+none-link s n d name i (Add r) = refl
+none-link s n d name i (NoLink e) = refl
+
+none-unlink : (s : List ℕ) (n d : ℕ) (x : UnlinkPlan) → files.doUnlink s n d x .out ≡ []
+none-unlink s n d (Take t i) = refl
+none-unlink s n d (NoUnlink e) = refl
+
+none-rename : (s : List ℕ) (n d e : ℕ) (other : List ℕ) (x : RenamePlan) → files.doRename s n d e other x .out ≡ []
+none-rename s n d e other Same = refl
+none-rename s n d e other (Rename t i) = refl
+none-rename s n d e other (Move t i r) = refl
+none-rename s n d e other (NoRename f) = refl
+
+-- a read's out-buffer is the plain store's; the other calls have none
+pub out-plain : (c : Call) (w : World) → outOf c w ≡ plain c (w .store) .out
+unfolding plainLookUp plainCreate plainWrite plainShorten plainLink plainUnlink plainRename
+out-plain (lookUp d name) w = sym (none-guarded (w .store) _ (none-look-up (w .store) (lookUpPlan (w .store) (inodesIn (w .store)) d name)))
+out-plain (read i o out) w = refl
+out-plain (create d name k) w =
+    sym (none-guarded (w .store) _ (none-create (w .store) (inodesIn (w .store)) d name k (createPlan (w .store) (inodesIn (w .store)) (blocksIn (w .store)) d name)))
+out-plain (write i o xs) w =
+    sym (none-guarded (w .store) _ (none-write (w .store) (inodesIn (w .store)) (blocksIn (w .store)) i o xs (writePlan (w .store) (inodesIn (w .store)) i o (length xs))))
+out-plain (shorten i z) w = sym (none-guarded (w .store) _ (none-shorten (w .store) (inodesIn (w .store)) i (shortenPlan (w .store) (inodesIn (w .store)) i z)))
+out-plain (link d name i) w =
+    sym (none-guarded (w .store) _ (none-link (w .store) (inodesIn (w .store)) d name i (linkPlan (w .store) (inodesIn (w .store)) (blocksIn (w .store)) d name i)))
+out-plain (unlink d name) w = sym (none-guarded (w .store) _ (none-unlink (w .store) (inodesIn (w .store)) d (unlinkPlan (w .store) (inodesIn (w .store)) d name)))
+out-plain (rename d name e other) w =
+    sym (none-guarded (w .store) _ (none-rename (w .store) (inodesIn (w .store)) d e other (renamePlan (w .store) (inodesIn (w .store)) (blocksIn (w .store)) d name e other)))
+
+-- where the buffers fit, a live call that is not busy is the plain store's, and 1 to 3 do not come
+pub record Agrees (c : Call) (w : World) : Type 0 where
+  pub answer : liveCall c w .answer ≡ plain c (w .store) .answer
+  pub store : liveCall c w .store ≡ plain c (w .store) .store
+  pub first : refusalOf (liveCall c w .answer) ≡ 1 → ⊥
+  pub second : refusalOf (liveCall c w .answer) ≡ 2 → ⊥
+  pub third : refusalOf (liveCall c w .answer) ≡ 3 → ⊥
+
+pub guards-pass : (c : Call) (w : World) → Fits w → (refusalOf (liveCall c w .answer) ≡ 14 → ⊥) → Agrees c w
+guards-pass c w f h =
+    let g : StoreFits (w .store) = record { framed = f .framed; sound = f .sound } in
+    let q = plainly c (w .store) in
+    elim (between c w) [
+      | same x y ↦ record {
+        answer = x;
+        store = y;
+        first = λ e. q .first g (ap refusalOf (sym x) ∙ e);
+        second = λ e. q .second g (ap refusalOf (sym x) ∙ e);
+        third = λ e. q .never .third (ap refusalOf (sym x) ∙ e);
+      }
+      | busy r e ↦ absurd (h (busy-number w (liveCall c w) e))
+      | unfit l m n ↦ absurd (n f)
+    ]
+
+-- a busy call changes no buffer
+pub record Keeps (c : Call) (w : World) : Type 0 where
+  pub store : liveCall c w .store ≡ w .store
+  pub image : liveCall c w .image ≡ w .image
+  pub desk : liveCall c w .desk ≡ w .desk
+
+pub busy-keeps : (c : Call) (w : World) → refusalOf (liveCall c w .answer) ≡ 14 → Keeps c w
+busy-keeps c w h = elim (between c w) [
+  | same x y ↦ absurd (plain-never c (w .store) .fourteenth (ap refusalOf (sym x) ∙ h))
+  | busy r e ↦ record { store = ap (λ (o : Outcome). o .store) e; image = ap (λ (o : Outcome). o .image) e; desk = ap (λ (o : Outcome). o .desk) e }
+  | unfit l m n ↦ absurd (omega arith)
+]
+
+-- a call is busy only while a copy runs
+pub busy-running : (c : Call) (w : World) → isRunning (w .desk) ≡ false → refusalOf (liveCall c w .answer) ≡ 14 → ⊥
+busy-running c w r h = elim (between c w) [
+  | same x y ↦ plain-never c (w .store) .fourteenth (ap refusalOf (sym x) ∙ h)
+  | busy t e ↦ clash (isRunning (w .desk)) t r
+  | unfit l m n ↦ omega arith
+]
+
+-- ---- the other events leave the store
+guarded-store : (s m d : List ℕ) (o : Outcome) → o .store ≡ s → guarded s m d o .store ≡ s
+unfolding guarded
+guarded-store s m d o h =
+    by-pick P (not (framedB mostStoreBlocks s && deskFramed d)) refl
+    (by-pick P (not (isSound Store s)) refl
+    (by-pick P (not (notesFit s m d)) refl h))
+  where
+    P : Outcome → Type 0
+    P x = x .store ≡ s
+
+step-store : (s m d : List ℕ) (n : ℕ) (x : Step) → doStep s m d n x .store ≡ s
+step-store s m d n (lock i) = refl
+step-store s m d n (copy i k c) = refl
+step-store s m d n (close i) = refl
+step-store s m d n finish = refl
+step-store s m d n full = refl
+
+pub steps-keep : (w : World) → outcome steps w .store ≡ w .store
+unfolding outcome step
+steps-keep w = guarded-store (w .store) (w .image) (w .desk) _
+    (by-pick P (isRunning (w .desk)) (step-store (w .store) (w .image) (w .desk) (inodesIn (w .store)) (stepOf (w .store) (w .image) (w .desk) (inodesIn (w .store)))) refl)
+  where
+    P : Outcome → Type 0
+    P x = x .store ≡ w .store
+
+pub asks-keep : (w : World) → outcome asks w .store ≡ w .store
+unfolding outcome
+asks-keep w = refl
+
+pub starts-keep : (w : World) → outcome starts w .store ≡ w .store
+unfolding outcome start started
+starts-keep w =
+    by-pick P (framedB mostStoreBlocks (w .store) && (deskFramed (w .desk) && not (imageAllowed (inodesIn (w .store)) (length (w .image))))) refl
+    (guarded-store (w .store) (w .image) (w .desk) _ (by-pick P (isRunning (w .desk)) refl refl))
+  where
+    P : Outcome → Type 0
+    P x = x .store ≡ w .store
