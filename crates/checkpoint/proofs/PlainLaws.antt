@@ -2,7 +2,7 @@
 use Prim.Native.Nat.{ℕ, _+_, _-_, _≤_, max}
 use mathlib.Core.Path.{_≡_, refl, sym, ap, _∙_}
 use mathlib.Core.Bool.{Bool, true, false, not, _&&_, _||_}
-use mathlib.Core.Logic.{_⊎_, inl, inr, ⊎-elim}
+use mathlib.Core.Logic.{⊎-elim}
 use mathlib.Core.List.{List, [], _∷_}
 use native.Mathlib.Omega.{arith}
 use borrow.Author.Tests.{eqb-true, eq-eqb}
@@ -11,7 +11,7 @@ use lib.ListN.{length}
 use Rattle.bounded.specs.Search.{pick, onFound}
 use Rattle.bounded.specs.declared.Found.{Found}
 use Rattle.bounded.specs.declared.Found.the-variants.{At, Absent}
-use Rattle.bounded.proofs.BoolLaws.{clash, and-left, and-true, or-cases}
+use Rattle.bounded.proofs.BoolLaws.{clash, and-left, or-cases}
 use Rattle.layout.specs.Sizes.{mostStoreBlocks, mostFileBytes, addressCount}
 use Rattle.layout.specs.Header.{headerOf}
 use Rattle.layout.specs.Inode.{kindOf, sizeOf, directoryKind}
@@ -22,10 +22,9 @@ use Rattle.directory.specs.Slot.{findSlot, emptySlot}
 use Rattle.desk.specs.Desk.{deskOf}
 use Rattle.sound.specs.Sound.{framedB, isSound, inodesIn, blocksIn}
 use Rattle.sound.specs.declared.Form.the-variants.{Store}
-use Rattle.answers.specs.declared.Refusal.{Refusal}
 use Rattle.answers.specs.declared.Refusal.the-variants.{BadBuffer, UnsoundStore, BadDesk, NoBlocks, NoSlot, Busy}
 use Rattle.answers.specs.declared.Answer.{Answer}
-use Rattle.answers.specs.declared.Answer.the-variants.{Done, Refused}
+use Rattle.answers.specs.declared.Answer.the-variants.{Refused}
 use Rattle.files.specs.declared.Kind.{Kind}
 use Rattle.files.specs.declared.Room.{Room}
 use Rattle.files.specs.declared.RoomPlan.{RoomPlan}
@@ -48,8 +47,8 @@ use Rattle.files.specs.Plain as files
 use Rattle.checkpoint.specs.Fit.{deskFramed, imageAllowed, isRunning, notesFit}
 use Rattle.checkpoint.specs.Busy.{isLocked, busyOne, busyTwo, busyMove}
 use Rattle.checkpoint.specs.Copier.{Step, lock, copy, close, finish, full, stepOf}
-use Rattle.checkpoint.specs.Live.{Outcome, left, refuse, guarded, unless, doCreate, doWrite, doShorten, doLink, doUnlink, doRename, doStep, liveCreate, liveWrite, liveShorten, liveLink, liveUnlink, liveRename, started, start, step}
-use Rattle.checkpoint.specs.List.{World, Event, call, steps, asks, starts, liveCall, outOf, outcome, next, refusalOf, run, Moment, here, after, isBusy, Reply, replies, heard, plainRun, plainReplies}
+use Rattle.checkpoint.specs.Live.{Outcome, refuse, guarded, unless, doCreate, doWrite, doShorten, doLink, doUnlink, doRename, doStep, liveCreate, liveWrite, liveShorten, liveLink, liveUnlink, liveRename, started, start, step}
+use Rattle.checkpoint.specs.List.{World, Event, call, steps, asks, starts, liveCall, outOf, outcome, next, refusalOf, run, Moment, here, after, isBusy, replies, heard, plainRun, plainReplies}
 use Rattle.checkpoint.specs.Demand.{AsPlain}
 
 -- ---- by cases
@@ -189,12 +188,12 @@ plain-guarded s out o h = go (framedB mostStoreBlocks s) (isSound Store s) refl 
       second = λ f e. clash false (sym q ∙ f .sound) refl;
     }
     go true true p q =
-      let k = refusalOf (o .answer) in
-      record {
-        never = record { third = apart k 3 h refl; fourteenth = apart k 14 h refl; fifteenth = apart k 15 h refl; sixteenth = apart k 16 h refl };
-        first = λ f. apart k 1 h refl;
-        second = λ f. apart k 2 h refl;
-      }
+        let k = refusalOf (o .answer) in
+        record {
+          never = record { third = apart k 3 h refl; fourteenth = apart k 14 h refl; fifteenth = apart k 15 h refl; sixteenth = apart k 16 h refl };
+          first = λ f. apart k 1 h refl;
+          second = λ f. apart k 2 h refl;
+        }
 
 plainly : (c : Call) (s : List ℕ) → Plainly s (plain c s)
 unfolding plainLookUp plainRead plainCreate plainWrite plainShorten plainLink plainUnlink plainRename
@@ -237,8 +236,8 @@ between-guarded w out o p h = go (framedB mostStoreBlocks (w .store)) (deskFrame
   where
     go : (a b c d : Bool) → framedB mostStoreBlocks (w .store) ≡ a → deskFramed (w .desk) ≡ b → isSound Store (w .store) ≡ c → notesFit (w .store) (w .image) (w .desk) ≡ d
         → Between w
-            (pick (not (a && b)) (refuse BadBuffer (w .store) (w .image) (w .desk)) (pick (not c) (refuse UnsoundStore (w .store) (w .image) (w .desk)) (pick (not d) (refuse BadDesk (w .store) (w .image) (w .desk)) o)))
-            (pick (not a) (files.left (Refused BadBuffer) (w .store) out) (pick (not c) (files.left (Refused UnsoundStore) (w .store) out) p))
+        (pick (not (a && b)) (refuse BadBuffer (w .store) (w .image) (w .desk)) (pick (not c) (refuse UnsoundStore (w .store) (w .image) (w .desk)) (pick (not d) (refuse BadDesk (w .store) (w .image) (w .desk)) o)))
+        (pick (not a) (files.left (Refused BadBuffer) (w .store) out) (pick (not c) (files.left (Refused UnsoundStore) (w .store) out) p))
     go false b c d x y z t = unfit (omega arith) (omega arith) (λ f. clash false (sym x ∙ f .framed) refl)
     go true false c d x y z t = unfit (omega arith) (omega arith) (λ f. clash false (sym y ∙ f .desk) refl)
     go true true false d x y z t = unfit (omega arith) (omega arith) (λ f. clash false (sym z ∙ f .sound) refl)
@@ -474,3 +473,49 @@ starts-keep w =
   where
     P : Outcome → Type 0
     P x = x .store ≡ w .store
+
+-- ---- the list
+-- the buffers fit at every moment
+abbrev pub FitsThroughout : List Event → World → Type 0
+FitsThroughout es w = (v : World) → Moment es w v → Fits v
+
+-- a plain store that goes on from the same bytes
+from-same : (es : List Event) (w : World) (s : List ℕ) → AsPlain es w → w .store ≡ s → (run es w .store ≡ plainRun (heard es w) s) × (replies es w ≡ plainReplies (heard es w) s)
+from-same es w s h e = (h .store ∙ ap (plainRun (heard es w)) e, h .answers ∙ ap (plainReplies (heard es w)) e)
+
+-- the first event is none that the plain store hears
+busy-first : (c : Call) (es : List Event) (w : World) → isBusy c w ≡ true → AsPlain es (next (call c) w) → AsPlain (call c ∷ es) w
+unfolding run heard replies next outcome
+busy-first c es w b h =
+    let k : next (call c) w .store ≡ w .store = busy-keeps c w (eqb-true (refusalOf (liveCall c w .answer)) 14 b) .store in
+    let r = from-same es (next (call c) w) (w .store) h k in
+    record { store = rw b (r .0); answers = rw b (r .1) }
+
+heard-first : (c : Call) (es : List Event) (w : World) → isBusy c w ≡ false → Fits w → AsPlain es (next (call c) w) → AsPlain (call c ∷ es) w
+unfolding run heard replies next outcome plainRun plainReplies
+heard-first c es w b f h =
+    let g = guards-pass c w f (λ e. clash (isBusy c w) (eq-eqb (refusalOf (liveCall c w .answer)) 14 e) b) in
+    let r = from-same es (next (call c) w) (plain c (w .store) .store) h (g .store) in
+    record {
+      store = rw b (r .0);
+      answers = rw b (rw (g .answer, out-plain c w, r .1) refl);
+    }
+
+-- the store's bytes and the answers are the plain store's
+pub run-plain : (es : List Event) (w : World) → FitsThroughout es w → AsPlain es w
+unfolding run heard replies plainRun plainReplies next
+run-plain [] w h = record { store = refl; answers = refl }
+run-plain (call c ∷ es) w h = go (isBusy c w) refl (run-plain es (next (call c) w) (λ v m. h v (after m)))
+  where
+    go : (b : Bool) → isBusy c w ≡ b → AsPlain es (next (call c) w) → AsPlain (call c ∷ es) w
+    go true e r = busy-first c es w e r
+    go false e r = heard-first c es w e (h w here) r
+run-plain (steps ∷ es) w h =
+    let r = from-same es (next steps w) (w .store) (run-plain es (next steps w) (λ v m. h v (after m))) (steps-keep w) in
+    record { store = r .0; answers = r .1 }
+run-plain (asks ∷ es) w h =
+    let r = from-same es (next asks w) (w .store) (run-plain es (next asks w) (λ v m. h v (after m))) (asks-keep w) in
+    record { store = r .0; answers = r .1 }
+run-plain (starts ∷ es) w h =
+    let r = from-same es (next starts w) (w .store) (run-plain es (next starts w) (λ v m. h v (after m))) (starts-keep w) in
+    record { store = r .0; answers = r .1 }
