@@ -2,7 +2,7 @@
 use mathlib.Core.Path.{_≡_, refl, sym, ap, _∙_, subst}
 use mathlib.Core.Bool.{Bool, true, _||_}
 use mathlib.Core.Logic.{_⊎_, inl, inr}
-use Prim.Native.Nat.{ℕ, zero, suc, _+_, _-_, _≤_, _<_}
+use Prim.Native.Nat.{ℕ, zero, suc, _+_, _-_, _≤_}
 use native.Mathlib.Nat.{not-suc-le-zero, zero-add, suc-add}
 use native.Mathlib.Numerals.{add-one}
 use native.Mathlib.Omega.{arith}
@@ -73,35 +73,34 @@ module _ (up : ℕ → ℕ) (a : ℕ) where
   abbrev arrives : ℕ → ℕ → Bool
   arrives d i = eqb (climb up i d) a
 
-  -- up to the fewest steps t that do, the climb stays among the numbers 1 to n
-  stays : (n d k t : ℕ) → Closed up a n → 0 < d → d ≤ n → Lowest (arrives d) 0 k t → (i : ℕ) → i ≤ t → (0 < climb up i d) × (climb up i d ≤ n)
+  -- up to the fewest steps t that do, the climb stays where D holds
+  stays : (D : ℕ → Type 0) (n d k t : ℕ) → Closed D up a n → D d → Lowest (arrives d) 0 k t → (i : ℕ) → i ≤ t → D (climb up i d)
   unfolding climb
-  stays n d k t closed p q r zero h = (p, q)
-  stays n d k t closed p q r (suc i) h =
-      let b = stays n d k t closed p q r i (omega arith) in
+  stays D n d k t closed p r zero h = p
+  stays D n d k t closed p r (suc i) h =
       let e : climb up (suc i) d ≡ up (climb up i d) = ap (λ (m : ℕ). climb up m d) (sym (add-one i)) ∙ climb-last up i d in
-      let c = closed (climb up i d) (b .0) (b .1) (eqb-false (climb up i d) a (r .before i (omega arith) (omega arith))) in
-      (omega arith, omega arith)
+      subst D (sym e)
+      (closed .parent (climb up i d) (stays D n d k t closed p r i (omega arith)) (eqb-false (climb up i d) a (r .before i (omega arith) (omega arith))))
 
   -- and comes to no number twice
-  short : (n d k t : ℕ) → Closed up a n → 0 < d → d ≤ n → Lowest (arrives d) 0 k t → t ≤ n
-  short n d k t closed p q r =
+  short : (D : ℕ → Type 0) (n d k t : ℕ) → Closed D up a n → D d → Lowest (arrives d) 0 k t → t ≤ n
+  short D n d k t closed p r =
       pigeons n t (λ i. climb up i d - 1)
-      (λ i l. let b = stays n d k t closed p q r i (omega arith) in omega arith)
+      (λ i l. let b = closed .within (climb up i d) (stays D n d k t closed p r i (omega arith)) in omega arith)
       (λ i j l m e.
-      let x = stays n d k t closed p q r i (omega arith) in
-      let y = stays n d k t closed p q r j (omega arith) in
+      let x = closed .within (climb up i d) (stays D n d k t closed p r i (omega arith)) in
+      let y = closed .within (climb up j d) (stays D n d k t closed p r j (omega arith)) in
       let same : climb up i d ≡ climb up j d = omega arith in
       let u : j + (t - j) ≡ t = omega arith in
       eqb-false (climb up (i + (t - j)) d) a (r .before (i + (t - j)) (omega arith) (omega arith))
       (climb-add up i (t - j) d ∙ ap (climb up (t - j)) same ∙ sym (climb-add up j (t - j) d) ∙ ap (λ (m : ℕ). climb up m d) u
       ∙ eqb-true (climb up t d) a (r .holds)))
 
-  -- n steps are enough where the numbers 1 to n are closed under the step
-  pub leads-bool : (n d : ℕ) → Closed up a n → 0 < d → d ≤ n → Leads up a d → leadsB up a n d ≡ true
-  leads-bool n d closed p q l =
+  -- n steps are enough where the climb stays among the numbers 1 to n
+  pub leads-bool : (D : ℕ → Type 0) (n d : ℕ) → Closed D up a n → D d → Leads up a d → leadsB up a n d ≡ true
+  leads-bool D n d closed p l =
       let r = lowest-of (arrives d) 0 (l .0 + 1) (l .0) (omega arith) (omega arith) (eq-eqb (climb up (l .0) d) a (l .1)) in
-      leads-of (r .0) d (eqb-true (climb up (r .0) d) a (r .1 .holds)) n (short n d (l .0 + 1) (r .0) closed p q (r .1))
+      leads-of (r .0) d (eqb-true (climb up (r .0) d) a (r .1 .holds)) n (short D n d (l .0 + 1) (r .0) closed p (r .1))
 
 -- the parent of i becomes e, which does not lead to i: what leads to a, as e does, still leads to a
 module _ (par par′ : ℕ → ℕ) (i e : ℕ) (h : (x : ℕ) → Changed par i e x (par′ x)) where

@@ -5,7 +5,7 @@ use mathlib.Core.Logic.{_⊎_, inl, inr}
 use mathlib.Core.List.{List}
 use Prim.Native.Nat.{ℕ, zero, suc, _+_, _≤_, _<_, zero-le}
 use native.Mathlib.Nat.{add-zero, add-suc, add-assoc}
-use native.Mathlib.Decide.{ℕ-discrete}
+use native.Mathlib.Decide.{ℕ-discrete, decLt}
 use native.Mathlib.Numerals.{add-one}
 use native.Mathlib.Omega.{arith}
 use borrow.Author.Tests.{eq-eqb, ne-eqb, eqb-true, not-true}
@@ -54,6 +54,16 @@ module _ (p : ℕ → Bool) where
     where
       go : Dec (k ≡ n) → (k < n → 0 < count p n) → 0 < count p n + one (p n)
       go (yes g) h = omega (arith, ap one (ap p (sym g) ∙ e))
+      go (no g) h = omega (arith, h (omega arith))
+
+  -- two of them
+  pub count-two : (n i j : ℕ) → i < j → j < n → p i ≡ true → p j ≡ true → 2 ≤ count p n
+  unfolding count
+  count-two zero i j l m d e = absurd (omega arith)
+  count-two (suc n) i j l m d e = go (ℕ-discrete j n) (λ b. count-two n i j l b d e)
+    where
+      go : Dec (j ≡ n) → (j < n → 2 ≤ count p n) → 2 ≤ count p n + one (p n)
+      go (yes g) h = omega (arith, ap one (ap p (sym g) ∙ e), count-pos n i (omega arith) d)
       go (no g) h = omega (arith, h (omega arith))
 
   pub count-some : (n : ℕ) → 0 < count p n → (k : ℕ) × (k < n) × (p k ≡ true)
@@ -168,6 +178,21 @@ module _ (f : ℕ → ℕ) where
 
   pub unmet : (m v : ℕ) → ((i : ℕ) → i < m → f i ≡ v → ⊥) → tally f m v ≡ 0
   unmet m v h = count-none (λ k. eqb (f k) v) m (λ i l. ne-eqb (f i) v (h i l))
+
+  pub met-at : (m v : ℕ) → 0 < tally f m v → (i : ℕ) × (i < m) × (f i ≡ v)
+  met-at m v l = let r = count-some (λ k. eqb (f k) v) m l in (r .0, r .1, eqb-true (f (r .0)) v (r .2))
+
+  -- a value that was met once was met at one number
+  pub met-once : (m i j v : ℕ) → tally f m v ≡ 1 → i < m → j < m → f i ≡ v → f j ≡ v → i ≡ j
+  met-once m i j v o l k d e =
+      let a : i < j → ⊥ = λ b. omega (arith, count-two (λ k. eqb (f k) v) m i j b k (eq-eqb (f i) v d) (eq-eqb (f j) v e)) in
+      let c : j < i → ⊥ = λ b. omega (arith, count-two (λ k. eqb (f k) v) m j i b l (eq-eqb (f j) v e) (eq-eqb (f i) v d)) in
+      go (decLt i j) (decLt j i) a c
+    where
+      go : Dec (i < j) → Dec (j < i) → (i < j → ⊥) → (j < i → ⊥) → i ≡ j
+      go (yes b) y a c = absurd (a b)
+      go (no b) (yes y) a c = absurd (c y)
+      go (no b) (no y) a c = omega arith
 
   -- a loop that counts in a list: before it
   pub tally-start : (lo n : ℕ) → Tallied f lo n 0 (replicate n 0)

@@ -9,7 +9,7 @@ use Rattle.bounded.specs.Below.{allBelow, someBelow}
 use Rattle.bounded.specs.Count.{differB, Differ}
 use Rattle.bounded.specs.Climb.{Leads, leadsB, Closed}
 use Rattle.bounded.specs.Reflect.{Reflects}
-use Rattle.bounded.proofs.BoolLaws.{and-true, and-left, and-right, or-l, or-r, or-cases, clash, fails, same-test}
+use Rattle.bounded.proofs.BoolLaws.{and-true, and-left, and-right, or-l, or-r, or-right, or-cases, clash, fails, holds-or-fails, same-test}
 use Rattle.bounded.proofs.BelowLaws.{all-at, all-of, allTo, to-at, to-of, some-at, some-of}
 use Rattle.bounded.proofs.CountLaws.{differ-prop, differ-bool}
 use Rattle.bounded.proofs.ClimbLaws.{leads-prop, leads-bool}
@@ -26,6 +26,9 @@ r-lt a b = record { to = ltb-true a b; from = lt-ltb a b }
 pub r-true : (b : Bool) → Reflects b (b ≡ true)
 r-true b = record { to = λ e. e; from = λ e. e }
 
+pub r-false : (b : Bool) → Reflects (not b) (b ≡ false)
+r-false b = record { to = not-true b; from = λ e. ap not e }
+
 pub r-and : {a b : Bool} {P Q : Type 0} → Reflects a P → Reflects b Q → Reflects (a && b) (P × Q)
 r-and {a} {b} r s =
     record { to = λ e. (r .to (and-left a b e), s .to (and-right a b e)); from = λ p. and-true a b (r .from (p .0)) (s .from (p .1)) }
@@ -40,9 +43,9 @@ r-or {a} {b} r s =
 pub r-not : {a : Bool} {P : Type 0} → Reflects a P → Reflects (not a) (P → ⊥)
 r-not {a} r = record { to = λ e p. clash a (r .from p) (not-true a e); from = λ h. ap not (fails a (λ e. h (r .to e))) }
 
--- where a holds, b holds
-pub r-imp : {a b : Bool} {P Q : Type 0} → Reflects a P → Reflects b Q → Reflects (not a || b) (P → Q)
-r-imp {a} {b} r s = record { to = λ e p. s .to (imp-to a b e (r .from p)); from = λ f. imp-from a b (λ e. s .from (f (r .to e))) }
+-- where a holds, b holds; the test b may need what a says
+pub r-where : {a b : Bool} {P Q : Type 0} → Reflects a P → (P → Reflects b Q) → Reflects (not a || b) (P → Q)
+r-where {a} {b} r s = record { to = λ e p. s p .to (imp-to a b e (r .from p)); from = λ f. imp-from a b (λ e. let p = r .to e in s p .from (f p)) }
   where
     imp-to : (a b : Bool) → not a || b ≡ true → a ≡ true → b ≡ true
     imp-to true b e h = e
@@ -51,6 +54,25 @@ r-imp {a} {b} r s = record { to = λ e p. s .to (imp-to a b e (r .from p)); from
     imp-from : (a b : Bool) → (a ≡ true → b ≡ true) → not a || b ≡ true
     imp-from true b h = h refl
     imp-from false b h = refl
+
+pub r-imp : {a b : Bool} {P Q : Type 0} → Reflects a P → Reflects b Q → Reflects (not a || b) (P → Q)
+r-imp r s = r-where r (λ p. s)
+
+-- where a fails, b holds
+pub r-else : {a b : Bool} {P Q : Type 0} → Reflects a P → Reflects b Q → Reflects (a || b) ((P → ⊥) → Q)
+r-else {a} {b} {P} {Q} r s = record { to = λ e h. s .to (or-right a b (fails a (λ t. h (r .to t))) e); from = λ f. go (holds-or-fails a) f }
+  where
+    go : (a ≡ true) ⊎ (a ≡ false) → ((P → ⊥) → Q) → a || b ≡ true
+    go (inl e) f = or-l a b e
+    go (inr e) f = or-r a b (s .from (f (λ p. clash a (r .from p) e)))
+
+-- both, where the test b may need what a says
+pub r-then : {a b : Bool} {P Q : Type 0} → Reflects a P → (P → Reflects b Q) → Reflects (a && b) (P × Q)
+r-then {a} {b} r s =
+    record {
+      to = λ e. let p = r .to (and-left a b e) in (p, s p .to (and-right a b e));
+      from = λ h. and-true a b (r .from (h .0)) (s (h .0) .from (h .1));
+    }
 
 -- at each number below n: the test for k may need k < n
 pub r-below : {p : ℕ → Bool} {P : ℕ → Type 0} (n : ℕ) → ((k : ℕ) → k < n → Reflects (p k) (P k)) → Reflects (allBelow p n) ((k : ℕ) → k < n → P k)
@@ -71,8 +93,8 @@ r-some {p} n r =
 pub r-differ : (f : ℕ → ℕ) (m : ℕ) → Reflects (differB f m) (Differ f m)
 r-differ f m = record { to = differ-prop f m; from = differ-bool f m }
 
-pub r-leads : (up : ℕ → ℕ) (a n d : ℕ) → Closed up a n → 0 < d → d ≤ n → Reflects (leadsB up a n d) (Leads up a d)
-r-leads up a n d c p q = record { to = leads-prop up a n d; from = leads-bool up a n d c p q }
+pub r-leads : (D : ℕ → Type 0) (up : ℕ → ℕ) (a n d : ℕ) → Closed D up a n → D d → Reflects (leadsB up a n d) (Leads up a d)
+r-leads D up a n d c p = record { to = leads-prop up a n d; from = leads-bool up a D n d c p }
 
 -- the proposition in other words
 pub r-says : {b : Bool} {P Q : Type 0} → (P → Q) → (Q → P) → Reflects b P → Reflects b Q

@@ -18,6 +18,7 @@ unfoldable pub leadsB : (ℕ → ℕ) → ℕ → ℕ → ℕ → Bool
 leadsB up a zero d = eqb d a
 leadsB up a (suc k) d = eqb d a || leadsB up a k (up d)
 
--- each of the numbers 1 to n but a has its parent among them
-abbrev pub Closed : (ℕ → ℕ) → ℕ → ℕ → Type 0
-Closed up a n = (x : ℕ) → 0 < x → x ≤ n → (x ≡ a → ⊥) → (0 < up x) × (up x ≤ n)
+-- D holds only of numbers from 1 to n, and but for a of the parent of each number it holds of
+pub record Closed (D : ℕ → Type 0) (up : ℕ → ℕ) (a n : ℕ) : Type 0 where
+  pub within : (x : ℕ) → D x → (0 < x) × (x ≤ n)
+  pub parent : (x : ℕ) → D x → (x ≡ a → ⊥) → D (up x)

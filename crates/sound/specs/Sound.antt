@@ -35,7 +35,7 @@ pub record Framed (limit : ℕ) (s : List ℕ) : Type 0 where
   pub most-blocks : blocksIn s ≤ limit
   pub long : length s ≡ storeLength (inodesIn s) (blocksIn s)
 
--- inode i is free, for the i-th of the inodes counted from 0
+-- the k-th inode, counted from 0, is free
 abbrev pub freeB : List ℕ → ℕ → Bool
 freeB s k = eqb (kindOf s (k + 1)) freeKind
 

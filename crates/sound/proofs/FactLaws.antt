@@ -1,0 +1,100 @@
+-- What a sound store gives, and which blocks are named. n and b are the counts of inodes and blocks.
+use Prim.Native.Nat.{ℕ, _+_, _*_, _/_, _%_, _≤_, _<_}
+use mathlib.Core.Path.{_≡_, sym, ap, _∙_, subst}
+use mathlib.Core.Bool.{Bool, false}
+use mathlib.Core.List.{List}
+use native.Mathlib.Decide.{decLt}
+use native.Mathlib.Omega.{arith}
+use Rattle.bounded.specs.Reflect.{Reflects}
+use Rattle.bounded.proofs.CountLaws.{met-once}
+use Rattle.bounded.proofs.ReflectLaws.{r-eq, r-some, r-no}
+use Rattle.layout.specs.Sizes.{addressCount, mostImageBlocks, rootInode}
+use Rattle.layout.specs.Inode.{InodeFits, kindOf, sizeOf, addressOf, place, directoryKind}
+use Rattle.layout.specs.Block.{Sized, blocksUsed, kthBlock}
+use Rattle.layout.specs.Free.{named}
+use Rattle.directory.specs.Slot.{mostSlots, DirFits}
+use Rattle.sound.specs.Place.{naming}
+use Rattle.sound.specs.Sound.{inodesIn, blocksIn, Sound}
+use Rattle.sound.proofs.PlaceLaws.{naming-filled}
+use Rattle.sound.proofs.SoundLaws.{IsDir, InParent, in-parent, all-counted}
+
+-- ---- the blocks that some address names
+module _ (s : List ℕ) (n c : ℕ) where
+  pub named-is : Reflects (named s n c) ((x : ℕ) × (x < addressCount * n) × (addressOf s n x ≡ c))
+  unfolding named
+  named-is = r-some (addressCount * n) (λ x. r-eq (addressOf s n x) c)
+
+  pub unnamed : named s n c ≡ false → (x : ℕ) → x < addressCount * n → addressOf s n x ≡ c → ⊥
+  unnamed e x l q = r-no named-is e (x, l, q)
+
+module _ {limit : ℕ} {blank : Bool} {s : List ℕ} (h : Sound limit blank s) where
+  -- ---- lengths and sizes
+  pub sized : limit ≤ mostImageBlocks → Sized s (inodesIn s) (blocksIn s)
+  sized l = let f = h .framed in record { inodes = f .most-inodes; blocks = omega arith; long = f .long }
+
+  module _ (i : ℕ) (l : 1 ≤ i) (m : i ≤ inodesIn s) where
+    pub inode-fits : InodeFits s (inodesIn s) i
+    inode-fits = let f = h .framed in record { low = l; high = m; few = f .most-inodes; area = omega arith }
+
+    pub used-few : blocksUsed (sizeOf s i) ≤ addressCount
+    unfolding blocksUsed
+    used-few = let z = h .inodes i l m .size in omega arith
+
+    pub used-block : (k : ℕ) → k < blocksUsed (sizeOf s i) → (1 ≤ kthBlock s (inodesIn s) i k) × (kthBlock s (inodesIn s) i k ≤ blocksIn s)
+    used-block k u = let w = used-few in h .inodes i l m .used k (omega arith) u
+
+    pub dir-fits : DirFits s (inodesIn s) i
+    dir-fits =
+        record {
+          inode = inode-fits;
+          few = used-few;
+          blocks = λ k u. let f = h .framed in let r = used-block k u in record { low = r .0; inside = omega arith };
+        }
+
+  -- ---- addresses
+  pub address-bound : (x : ℕ) → x < addressCount * inodesIn s → addressOf s (inodesIn s) x ≤ blocksIn s
+  unfolding kthBlock
+  address-bound x l = go (decLt (x % 12) (blocksUsed (sizeOf s i)))
+    where
+      i : ℕ
+      i = x / 12 + 1
+
+      e : place i (x % 12) ≡ x
+      e = omega arith
+
+      go : Dec (x % 12 < blocksUsed (sizeOf s i)) → addressOf s (inodesIn s) x ≤ blocksIn s
+      go (yes u) = subst (λ (y : ℕ). addressOf s (inodesIn s) y ≤ blocksIn s) e (used-block i (omega arith) (omega arith) (x % 12) u .1)
+      go (no u) = let z = ap (addressOf s (inodesIn s)) (sym e) ∙ h .inodes i (omega arith) (omega arith) .rest (x % 12) (omega arith) (omega arith) in omega arith
+
+  -- a block that two used addresses name is one address
+  pub one-block : (i k j l : ℕ) → 1 ≤ i → i ≤ inodesIn s → 1 ≤ j → j ≤ inodesIn s
+      → k < blocksUsed (sizeOf s i) → l < blocksUsed (sizeOf s j)
+      → kthBlock s (inodesIn s) i k ≡ kthBlock s (inodesIn s) j l → (i ≡ j) × (k ≡ l)
+  unfolding kthBlock
+  one-block i k j l a b c d u v e =
+      let p = used-few i a b in
+      let q = used-few j c d in
+      let x = used-block i a b k u .0 in
+      let y = used-block j c d l v .0 in
+      both (decLt (place i k) (place j l)) (decLt (place j l) (place i k))
+      (λ z. h .once (place i k) (place j l) z (omega arith) y e)
+      (λ z. h .once (place j l) (place i k) z (omega arith) x (sym e))
+      (omega arith) (omega arith)
+    where
+      both : Dec (place i k < place j l) → Dec (place j l < place i k) → (place i k < place j l → ⊥) → (place j l < place i k → ⊥) → k < 12 → l < 12 → (i ≡ j) × (k ≡ l)
+      both (yes z) w f g m n = absurd (f z)
+      both (no z) (yes w) f g m n = absurd (g w)
+      both (no z) (no w) f g m n = (omega arith, omega arith)
+
+  -- ---- directories and their entries
+  -- but the root, each has an entry, in its parent
+  pub naming-dir : (i : ℕ) → IsDir s (inodesIn s) i → (i ≡ rootInode → ⊥) → (p : ℕ) × InParent s (inodesIn s) i p
+  naming-dir = in-parent s (inodesIn s) (h .entries) (all-counted h)
+
+  -- and no other
+  pub named-once : (i p q : ℕ) → 1 ≤ i → kindOf s i ≡ directoryKind → p < mostSlots * inodesIn s → q < mostSlots * inodesIn s → naming s (inodesIn s) p ≡ i → naming s (inodesIn s) q ≡ i → p ≡ q
+  named-once i p q a k l m d e =
+      let r = h .entries p l (naming-filled s (inodesIn s) p (omega arith)) in
+      let b = r .high in
+      let c = h .links i a (omega arith) in
+      met-once (naming s (inodesIn s)) (mostSlots * inodesIn s) p q i (sym (c .counted) ∙ c .one k (λ z. r .not-root (d ∙ z))) l m d e

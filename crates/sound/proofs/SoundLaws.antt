@@ -1,0 +1,277 @@
+-- The tests decide the records of conditions, on any bytes. n and b are the counts of inodes and blocks.
+use Prim.Native.Nat.{ℕ, _+_, _*_, _%_, _≤_, _<_}
+use mathlib.Core.Path.{_≡_, sym, ap, _∙_, subst}
+use mathlib.Core.Bool.{Bool, true, false, _&&_}
+use mathlib.Core.List.{List}
+use native.Mathlib.Omega.{arith}
+use lib.ListN.{length, getD}
+use Rattle.bounded.specs.Count.{count, tally}
+use Rattle.bounded.specs.Climb.{Leads, Closed}
+use Rattle.bounded.specs.Reflect.{Reflects}
+use Rattle.bounded.proofs.CountLaws.{met-at}
+use Rattle.bounded.proofs.ReflectLaws.{r-eq, r-le, r-lt, r-true, r-false, r-and, r-then, r-not, r-where, r-imp, r-else, r-all, r-to, r-differ, r-leads, r-says}
+use Rattle.layout.specs.Sizes.{mostInodes, mostFileBytes, addressCount, blockBytes, rootInode}
+use Rattle.layout.specs.Header.{headerOf, reservedZero}
+use Rattle.layout.specs.Inode.{kindOf, spareOf, linksOf, sizeOf, parentOf, addressOf, place, freeKind, fileKind, directoryKind}
+use Rattle.layout.specs.Block.{storeLength, blockOf, blocksUsed, kthBlock}
+use Rattle.names.specs.Entry.{legalEntry}
+use Rattle.directory.specs.Slot.{mostSlots}
+use Rattle.sound.specs.Place.{dirOf, slotOf, isSlot, entryAt, filled, naming}
+use Rattle.sound.specs.Inode.{InodeSound, tailByte, attributesB, addressesB, zeroTailB, inodeB}
+use Rattle.sound.specs.Entry.{EntrySound, sameNames, sibling, namedB, newNameB, entryB}
+use Rattle.sound.specs.Link.{LinkSound, countedB, leadB}
+use Rattle.sound.specs.Sound.{inodesIn, blocksIn, Framed, Sound, freeB, unnamedB, framedB, headerB, freeCountsB, zeroBlockB, blanksB, bodyB, soundB, limitOf, blankOf, isSound}
+use Rattle.sound.specs.declared.Form.{Form}
+use Rattle.sound.proofs.PlaceLaws.{slot-is, naming-slot, naming-filled}
+
+pub framed : (limit : ℕ) (s : List ℕ) → Reflects (framedB limit s) (Framed limit s)
+unfolding framedB
+framed limit s =
+    r-says (λ p. record { some-inodes = p .0; most-inodes = p .1 .0; some-blocks = p .1 .1 .0; most-blocks = p .1 .1 .1 .0; long = p .1 .1 .1 .1 })
+    (λ r. (r .some-inodes, (r .most-inodes, (r .some-blocks, (r .most-blocks, r .long)))))
+    (r-and (r-le 1 (inodesIn s))
+    (r-and (r-le (inodesIn s) mostInodes)
+    (r-and (r-le 1 (blocksIn s))
+    (r-and (r-le (blocksIn s) limit) (r-eq (length s) (storeLength (inodesIn s) (blocksIn s)))))))
+
+-- ---- an inode by itself
+module _ (s : List ℕ) (n b i : ℕ) where
+  abbrev Free : Type 0
+  Free = kindOf s i ≡ freeKind → (linksOf s i ≡ 0) × ((sizeOf s i ≡ 0) × (parentOf s i ≡ 0))
+
+  abbrev Attributes : Type 0
+  Attributes =
+      (kindOf s i ≤ directoryKind)
+      × ((spareOf s i ≡ 0)
+      × (Free
+      × ((sizeOf s i ≤ mostFileBytes)
+      × ((kindOf s i ≡ directoryKind → sizeOf s i % blockBytes ≡ 0)
+      × (kindOf s i ≡ fileKind → parentOf s i ≡ 0)))))
+
+  attributes : Reflects (attributesB s i) Attributes
+  unfolding attributesB
+  attributes =
+      r-and (r-le (kindOf s i) directoryKind)
+      (r-and (r-eq (spareOf s i) 0)
+      (r-and (r-imp (r-eq (kindOf s i) freeKind) (r-and (r-eq (linksOf s i) 0) (r-and (r-eq (sizeOf s i) 0) (r-eq (parentOf s i) 0))))
+      (r-and (r-le (sizeOf s i) mostFileBytes)
+      (r-and (r-imp (r-eq (kindOf s i) directoryKind) (r-eq (sizeOf s i % blockBytes) 0))
+      (r-imp (r-eq (kindOf s i) fileKind) (r-eq (parentOf s i) 0))))))
+
+  abbrev Address : ℕ → Type 0
+  Address k =
+      (k < blocksUsed (sizeOf s i) → (1 ≤ kthBlock s n i k) × (kthBlock s n i k ≤ b))
+      × (blocksUsed (sizeOf s i) ≤ k → addressOf s n (place i k) ≡ 0)
+
+  addresses : Reflects (addressesB s n b i) ((k : ℕ) → k < addressCount → Address k)
+  unfolding addressesB
+  addresses =
+      r-all addressCount
+      (λ k.
+      r-and (r-imp (r-lt k (blocksUsed (sizeOf s i))) (r-and (r-le 1 (kthBlock s n i k)) (r-le (kthBlock s n i k) b)))
+      (r-imp (r-le (blocksUsed (sizeOf s i)) k) (r-eq (addressOf s n (place i k)) 0)))
+
+  abbrev ZeroTail : Type 0
+  ZeroTail = kindOf s i ≡ fileKind → (sizeOf s i % blockBytes ≡ 0 → ⊥) → (o : ℕ) → o < blockBytes → sizeOf s i % blockBytes ≤ o → tailByte s n i o ≡ 0
+
+  zero-tail : Reflects (zeroTailB s n i) ZeroTail
+  unfolding zeroTailB
+  zero-tail =
+      r-imp (r-eq (kindOf s i) fileKind)
+      (r-else (r-eq (sizeOf s i % blockBytes) 0)
+      (r-all blockBytes (λ o. r-imp (r-le (sizeOf s i % blockBytes) o) (r-eq (tailByte s n i o) 0))))
+
+  pub inode-sound : Reflects (inodeB s n b i) (InodeSound s n b i)
+  unfolding inodeB
+  inode-sound =
+      r-says
+      (λ p. record {
+        kind = p .0 .0;
+        spare = p .0 .1 .0;
+        free = p .0 .1 .1 .0;
+        size = p .0 .1 .1 .1 .0;
+        used = λ k l. p .1 .0 k l .0;
+        rest = λ k l. p .1 .0 k l .1;
+        directory = p .0 .1 .1 .1 .1 .0;
+        tail = p .1 .1;
+        parent = p .0 .1 .1 .1 .1 .1;
+      })
+      (λ r. ((r .kind, (r .spare, (r .free, (r .size, (r .directory, r .parent))))), ((λ k l. (r .used k l, r .rest k l)), r .tail)))
+      (r-and attributes (r-and addresses zero-tail))
+
+-- ---- an entry
+module _ (s : List ℕ) (n p : ℕ) where
+  abbrev Names : Type 0
+  Names =
+      (legalEntry (entryAt s n p) ≡ true)
+      × ((1 ≤ naming s n p)
+      × ((naming s n p ≤ n)
+      × ((kindOf s (naming s n p) ≡ freeKind → ⊥)
+      × ((naming s n p ≡ rootInode → ⊥)
+      × (kindOf s (naming s n p) ≡ directoryKind → parentOf s (naming s n p) ≡ dirOf p)))))
+
+  names : Reflects (namedB s n p) Names
+  unfolding namedB
+  names =
+      r-and (r-true (legalEntry (entryAt s n p)))
+      (r-and (r-le 1 (naming s n p))
+      (r-and (r-le (naming s n p) n)
+      (r-and (r-not (r-eq (kindOf s (naming s n p)) freeKind))
+      (r-and (r-not (r-eq (naming s n p) rootInode))
+      (r-imp (r-eq (kindOf s (naming s n p)) directoryKind) (r-eq (parentOf s (naming s n p)) (dirOf p)))))))
+
+  new-name : Reflects (newNameB s n p) ((t : ℕ) → t < slotOf p → filled s n (sibling p t) ≡ true → sameNames s n (sibling p t) p ≡ false)
+  unfolding newNameB
+  new-name = r-all (slotOf p) (λ t. r-imp (r-true (filled s n (sibling p t))) (r-false (sameNames s n (sibling p t) p)))
+
+  pub entry-sound : Reflects (entryB s n p) (filled s n p ≡ true → EntrySound s n p)
+  unfolding entryB
+  entry-sound =
+      r-imp (r-true (filled s n p))
+      (r-says
+      (λ q. record {
+        legal = q .0 .0;
+        differ = q .1;
+        low = q .0 .1 .0;
+        high = q .0 .1 .1 .0;
+        used = q .0 .1 .1 .1 .0;
+        not-root = q .0 .1 .1 .1 .1 .0;
+        parent = q .0 .1 .1 .1 .1 .1;
+      })
+      (λ r. ((r .legal, (r .low, (r .high, (r .used, (r .not-root, r .parent))))), r .differ))
+      (r-and names new-name))
+
+-- ---- what the entries say of each inode
+module _ (s : List ℕ) (n : ℕ) where
+  -- every entry is sound
+  abbrev pub Entries : Type 0
+  Entries = (p : ℕ) → p < mostSlots * n → filled s n p ≡ true → EntrySound s n p
+
+  -- the conditions on the link count of inode i
+  pub record Counted (i : ℕ) : Type 0 where
+    pub counted : linksOf s i ≡ tally (naming s n) (mostSlots * n) i
+    pub named : (kindOf s i ≡ freeKind → ⊥) → (i ≡ rootInode → ⊥) → 1 ≤ linksOf s i
+    pub one : kindOf s i ≡ directoryKind → (i ≡ rootInode → ⊥) → linksOf s i ≡ 1
+
+  abbrev pub AllCounted : Type 0
+  AllCounted = (i : ℕ) → 1 ≤ i → i ≤ n → Counted i
+
+  pub counted-is : (i : ℕ) → Reflects (countedB s n i) (Counted i)
+  unfolding countedB
+  counted-is i =
+      r-says (λ p. record { counted = p .0; named = p .1 .0; one = p .1 .1 }) (λ r. (r .counted, (r .named, r .one)))
+      (r-and (r-eq (linksOf s i) (tally (naming s n) (mostSlots * n) i))
+      (r-and (r-else (r-eq (kindOf s i) freeKind) (r-else (r-eq i rootInode) (r-le 1 (linksOf s i))))
+      (r-imp (r-eq (kindOf s i) directoryKind) (r-else (r-eq i rootInode) (r-eq (linksOf s i) 1)))))
+
+  -- d is a directory among the n inodes
+  pub record IsDir (d : ℕ) : Type 0 where
+    pub low : 1 ≤ d
+    pub high : d ≤ n
+    pub kind : kindOf s d ≡ directoryKind
+
+  pub slot-dir : (p : ℕ) → p < mostSlots * n → isSlot s p ≡ true → IsDir (dirOf p)
+  slot-dir p l e = record { low = omega arith; high = omega arith; kind = slot-is s p .to e .0 }
+
+  -- the entry of the directory i stands at p, in its parent
+  pub record InParent (i p : ℕ) : Type 0 where
+    pub below : p < mostSlots * n
+    pub names : naming s n p ≡ i
+    pub parent : dirOf p ≡ parentOf s i
+    pub above : IsDir (parentOf s i)
+
+  pub in-parent : Entries → AllCounted → (i : ℕ) → IsDir i → (i ≡ rootInode → ⊥) → (p : ℕ) × InParent i p
+  in-parent entries counts i d h =
+      let c = counts i (d .low) (d .high) in
+      let o = c .one (d .kind) h in
+      let r = met-at (naming s n) (mostSlots * n) i (omega (arith, c .counted)) in
+      let p = r .0 in
+      let l : p < mostSlots * n = r .1 in
+      let e : naming s n p ≡ i = r .2 in
+      let g : 1 ≤ naming s n p = omega (arith, d .low) in
+      let k : kindOf s (naming s n p) ≡ directoryKind = ap (kindOf s) e ∙ d .kind in
+      let u : dirOf p ≡ parentOf s i = sym (entries p l (naming-filled s n p g) .parent k) ∙ ap (parentOf s) e in
+      (p, record { below = l; names = e; parent = u; above = subst IsDir u (slot-dir p l (naming-slot s n p g)) })
+
+  -- so from directory to parent the climb stays among the inodes
+  climbs : Entries → AllCounted → Closed IsDir (parentOf s) rootInode n
+  climbs entries counts = record { within = λ x d. (d .low, d .high); parent = λ x d h. in-parent entries counts x d h .1 .above }
+
+  pub leads-is : Entries → AllCounted → (i : ℕ) → 1 ≤ i → i ≤ n → Reflects (leadB s n i) (kindOf s i ≡ directoryKind → Leads (parentOf s) rootInode i)
+  unfolding leadB
+  leads-is entries counts i l m =
+      r-where (r-eq (kindOf s i) directoryKind)
+      (λ k. r-leads IsDir (parentOf s) rootInode n i (climbs entries counts) (record { low = l; high = m; kind = k }))
+
+  links-of : (i : ℕ) → Counted i → (kindOf s i ≡ directoryKind → Leads (parentOf s) rootInode i) → LinkSound s n i
+  links-of i c l = record { counted = c .counted; named = c .named; one = c .one; leads = l }
+
+  counted-of : (i : ℕ) → LinkSound s n i → Counted i
+  counted-of i r = record { counted = r .counted; named = r .named; one = r .one }
+
+  pub link-sound : Entries → AllCounted → (i : ℕ) → 1 ≤ i → i ≤ n → Reflects (countedB s n i && leadB s n i) (LinkSound s n i)
+  link-sound entries counts i l m =
+      r-says (λ p. links-of i (p .0) (p .1)) (λ r. (counted-of i r, r .leads)) (r-and (counted-is i) (leads-is entries counts i l m))
+
+-- ---- the whole
+module _ (s : List ℕ) where
+  header-is : Reflects (headerB s) ((headerOf s .complete ≡ 1) × ((headerOf s .root ≡ rootInode) × ((reservedZero s ≡ true) × ((kindOf s rootInode ≡ directoryKind) × (parentOf s rootInode ≡ 0)))))
+  unfolding headerB
+  header-is =
+      r-and (r-eq (headerOf s .complete) 1)
+      (r-and (r-eq (headerOf s .root) rootInode)
+      (r-and (r-true (reservedZero s)) (r-and (r-eq (kindOf s rootInode) directoryKind) (r-eq (parentOf s rootInode) 0))))
+
+  free-counts-is : Reflects (freeCountsB s) ((headerOf s .«free_inodes» ≡ count (freeB s) (inodesIn s)) × (headerOf s .«free_blocks» ≡ count (unnamedB s (inodesIn s)) (blocksIn s)))
+  unfolding freeCountsB
+  free-counts-is =
+      r-and (r-eq (headerOf s .«free_inodes») (count (freeB s) (inodesIn s)))
+      (r-eq (headerOf s .«free_blocks») (count (unnamedB s (inodesIn s)) (blocksIn s)))
+
+  zero-block-is : (k : ℕ) → Reflects (zeroBlockB s (inodesIn s) k) ((o : ℕ) → o < blockBytes → getD (blockOf s (inodesIn s) (k + 1)) o 0 ≡ 0)
+  unfolding zeroBlockB
+  zero-block-is k = r-all blockBytes (λ o. r-eq (getD (blockOf s (inodesIn s) (k + 1)) o 0) 0)
+
+  blanks-is : (blank : Bool) → Reflects (blanksB blank s) (blank ≡ true → (k : ℕ) → k < blocksIn s → unnamedB s (inodesIn s) k ≡ true → (o : ℕ) → o < blockBytes → getD (blockOf s (inodesIn s) (k + 1)) o 0 ≡ 0)
+  unfolding blanksB
+  blanks-is blank =
+      r-imp (r-true blank) (r-all (blocksIn s) (λ k. r-imp (r-true (unnamedB s (inodesIn s) k)) (zero-block-is k)))
+
+pub all-counted : {limit : ℕ} {blank : Bool} {s : List ℕ} → Sound limit blank s → AllCounted s (inodesIn s)
+all-counted {s = s} h i l m = counted-of s (inodesIn s) i (h .links i l m)
+
+-- of a store whose length is right
+pub body : (limit : ℕ) (blank : Bool) (s : List ℕ) → Framed limit s → Reflects (bodyB blank s) (Sound limit blank s)
+unfolding bodyB
+body limit blank s f =
+    r-says
+    (λ p. record {
+      framed = f;
+      complete = p .0 .0;
+      root-number = p .0 .1 .0;
+      reserved = p .0 .1 .1 .0;
+      inodes = p .1 .0;
+      once = p .1 .1 .0;
+      root = p .0 .1 .1 .1 .0;
+      root-parent = p .0 .1 .1 .1 .1;
+      entries = p .1 .1 .1 .0;
+      links = λ i l m. links-of s (inodesIn s) i (p .1 .1 .1 .1 .0 i l m) (p .1 .1 .1 .1 .1 .0 i l m);
+      free-inodes = p .1 .1 .1 .1 .1 .1 .0 .0;
+      free-blocks = p .1 .1 .1 .1 .1 .1 .0 .1;
+      blanks = p .1 .1 .1 .1 .1 .1 .1;
+    })
+    (λ r. ((r .complete, (r .root-number, (r .reserved, (r .root, r .root-parent)))), (r .inodes, (r .once, (r .entries, (all-counted r, ((λ i l m. r .links i l m .leads), ((r .free-inodes, r .free-blocks), r .blanks))))))))
+    (r-and (header-is s)
+    (r-and (r-to (inodesIn s) (λ i l m. inode-sound s (inodesIn s) (blocksIn s) i))
+    (r-and (r-differ (addressOf s (inodesIn s)) (addressCount * inodesIn s))
+    (r-then (r-all (mostSlots * inodesIn s) (entry-sound s (inodesIn s)))
+    (λ e. r-then (r-to (inodesIn s) (λ i l m. counted-is s (inodesIn s) i))
+    (λ c. r-and (r-to (inodesIn s) (leads-is s (inodesIn s) e c))
+    (r-and (free-counts-is s) (blanks-is s blank))))))))
+
+pub sound : (limit : ℕ) (blank : Bool) (s : List ℕ) → Reflects (soundB limit blank s) (Sound limit blank s)
+unfolding soundB
+sound limit blank s = r-says (λ p. p .1) (λ r. (r .framed, r)) (r-then (framed limit s) (body limit blank s))
+
+pub is-sound : (f : Form) (s : List ℕ) → Reflects (isSound f s) (Sound (limitOf f) (blankOf f) s)
+is-sound f s = sound (limitOf f) (blankOf f) s
