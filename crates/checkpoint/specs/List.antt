@@ -13,7 +13,10 @@ use Rattle.answers.specs.declared.Refusal.{Refusal}
 use Rattle.answers.specs.declared.Answer.{Answer}
 use Rattle.answers.specs.declared.Answer.the-variants.{Done, Refused}
 use Rattle.answers.specs.Refusal.{refusalNumber}
-use Rattle.sound.specs.Sound.{inodesIn}
+use Rattle.layout.specs.Sizes.{mostStoreBlocks}
+use Rattle.sound.specs.Sound.{inodesIn, framedB, isSound}
+use Rattle.sound.specs.declared.Form.the-variants.{Store}
+use Rattle.checkpoint.specs.Fit.{deskFramed, notesFit}
 use Rattle.sound.specs.Place.{dirOf, filled, naming}
 use Rattle.files.specs.Plain.{Call, lookUp, read, create, write, shorten, link, unlink, rename, plainLookUp, plainRead, plain}
 use Rattle.files.specs.Plain as files
@@ -25,6 +28,13 @@ pub record World : Type 0 where
   pub store : List ℕ
   pub image : List ℕ
   pub desk : List ℕ
+
+-- refusals 1, 2 and 3 do not come
+pub record Ready (w : World) : Type 0 where
+  pub framed : framedB mostStoreBlocks (w .store) ≡ true
+  pub sound : isSound Store (w .store) ≡ true
+  pub desk : deskFramed (w .desk) ≡ true
+  pub notes : notesFit (w .store) (w .image) (w .desk) ≡ true
 
 -- "file calls, steps, state questions and starts follow, each with names, numbers, bytes and out-buffer of its own"
 pub data Event : Type 0 where

@@ -1,0 +1,79 @@
+-- The track cases that run a list on a concrete store: antt computes them.
+use Rattle.bounded.specs.Below.{allBelow, someBelow}
+use Rattle.bounded.specs.Climb.{leadsB}
+use Rattle.bounded.specs.Count.{count}
+use Rattle.bounded.specs.Search.{firstFrom, first}
+use Rattle.bounded.specs.Table.{table}
+use Rattle.octets.specs.Octets.{zeroed, part, splice, numAt, toBytes, putNum, wordBytes}
+use Rattle.marks.specs.Mark.{digit, marked, withMark, withoutMark}
+use Rattle.names.specs.Entry.{entryInode, isEmpty, sameByte, sameName, nameLength, entryName, legalEntry, entryFor}
+use Rattle.names.specs.Name.{plainByte, isDots, legalName}
+use Rattle.layout.specs.Block.{blockOf, putInBlock, zeroBlock, blocksUsed, kthBlock}
+use Rattle.layout.specs.Free.{isFree, freeInode, named, freeBlock}
+use Rattle.layout.specs.Header.{headerOf, putFree, putComplete, putHeader, reservedZero}
+use Rattle.layout.specs.Inode.{kindOf, spareOf, linksOf, sizeOf, parentOf, putLinks, attributeEntry, putAttributes, addressOf, putAddress, addressesOf, putAddresses, inodeOf, putInode}
+use Rattle.directory.specs.Slot.{slots, slotAt, entryOf, slotNamed, findSlot, slotEmpty, emptySlot, putEntry, clearEntry}
+use Rattle.desk.specs.Desk.{deskOf, putDesk, copiedOf, putCopied, marksOf, putMarks, markOf, setMark, clearMark, clearNotes}
+use Rattle.sound.specs.Entry.{sameNames, namedB, newNameB, entryB}
+use Rattle.sound.specs.Inode.{attributesB, addressesB, zeroTailB, inodeB}
+use Rattle.sound.specs.Link.{countedB, leadB}
+use Rattle.sound.specs.Place.{isSlot, entryAt, filled, naming}
+use Rattle.sound.specs.Sound.{framedB, headerB, freeCountsB, zeroBlockB, blanksB, bodyB, soundB}
+use Rattle.files.specs.Apply.{enter, created, written, dropLink, unlinked, setParent, moved}
+use Rattle.files.specs.Content.{putFile, addBlock, addBlocks, putSize, zeroRest, keepFirst, cutTo}
+use Rattle.files.specs.Inode.{isKind, zeroInode, lessFree, moreFree}
+use Rattle.files.specs.Plain.{guarded}
+use Rattle.files.specs.Plan.{createPlan, writePlan, shortenPlan, holdsNone, unlinkPlan, isBelow, renameTo, renamePlan}
+use Rattle.files.specs.Room.{roomIn, makeRoom}
+use Rattle.format.specs.Format.{freshHeader, emptyRoot, freshStore, freshDesk}
+use Rattle.checkpoint.specs.Busy.{isLocked}
+use Rattle.checkpoint.specs.Copier.{startImage, startDesk, nextInode, targetBlock, lockedStep, freeStep, stepOf, copiedEntry, copiedEntries, copiedBlock, putCounts, finishImage}
+use Rattle.checkpoint.specs.Fit.{deskFramed, imageBlocks, imageAllowed, isRunning, blocksFit, deskFits, imageFits, notesFit}
+use Rattle.checkpoint.specs.Image.{hasSlot, slotNames, isNamed}
+use Rattle.checkpoint.specs.List.{outcome, next, run}
+use Rattle.checkpoint.specs.Live.{liveCreate, liveWrite, liveShorten, liveUnlink, liveRename, started, start, step}
+use Rattle.checkpoint.specs.Notes.{isCopied, noteMade, noteTaken, cutsImage, cutImage}
+use Rattle.desk.specs.Desk as desk
+use Rattle.checkpoint.specs.Live as live
+use Prim.Native.Nat.{ℕ, _*_}
+use mathlib.Core.Path.{_≡_, refl}
+use mathlib.Core.List.{List, [], _∷_, _++_}
+use lib.ListN.{replicate}
+use Rattle.bounded.specs.Count.{tally}
+use Rattle.directory.specs.Slot.{mostSlots}
+use Rattle.desk.specs.Sizes.{finished}
+use Rattle.answers.specs.declared.Refusal.the-variants.{IntoItself}
+use Rattle.answers.specs.declared.Answer.the-variants.{Done, Refused}
+use Rattle.files.specs.Plain.{rename}
+use Rattle.checkpoint.specs.List.{call, steps, starts}
+use Rattle.cases.specs.Worlds.{fresh, nameA, nameB, reusedBlock, movedDirectory, unlinkedFile, parentAndChild}
+
+pub three-steps : (outcome steps (run (starts ∷ steps ∷ steps ∷ []) (fresh 1 1)) .answer ≡ Done 3)
+    × (deskOf (run (starts ∷ steps ∷ steps ∷ steps ∷ []) (fresh 1 1) .desk) .state ≡ finished)
+unfolding fresh live.guarded desk.reservedZero allBelow someBelow leadsB count firstFrom first table part splice numAt toBytes putNum wordBytes digit marked withMark withoutMark entryInode isEmpty sameByte sameName nameLength entryName legalEntry entryFor plainByte isDots legalName blockOf putInBlock zeroBlock blocksUsed kthBlock isFree freeInode named freeBlock headerOf putFree putComplete putHeader reservedZero kindOf spareOf linksOf sizeOf parentOf putLinks attributeEntry putAttributes addressOf putAddress addressesOf putAddresses inodeOf putInode slots slotAt entryOf slotNamed findSlot slotEmpty emptySlot putEntry clearEntry deskOf putDesk copiedOf putCopied marksOf putMarks markOf setMark clearMark clearNotes sameNames namedB newNameB entryB attributesB addressesB zeroTailB inodeB countedB leadB isSlot entryAt filled naming framedB headerB freeCountsB zeroBlockB blanksB bodyB soundB enter created written dropLink unlinked setParent moved putFile addBlock addBlocks putSize zeroRest keepFirst cutTo isKind zeroInode lessFree moreFree guarded createPlan writePlan shortenPlan holdsNone unlinkPlan isBelow renameTo renamePlan roomIn makeRoom freshHeader emptyRoot freshStore freshDesk isLocked startImage startDesk nextInode targetBlock lockedStep freeStep stepOf copiedEntry copiedEntries copiedBlock putCounts finishImage deskFramed imageBlocks imageAllowed isRunning blocksFit deskFits imageFits notesFit hasSlot slotNames isNamed outcome next run liveCreate liveWrite liveShorten liveUnlink liveRename started start step isCopied noteMade noteTaken cutsImage cutImage zeroed
+three-steps = (refl, refl)
+
+-- the image and the desk when the list has run: what is asked of them is read off
+pub reused-block : (deskOf (run reusedBlock (fresh 3 3) .desk) .state ≡ finished)
+    × ((kthBlock (run reusedBlock (fresh 3 3) .image) 3 2 0 ≡ 2)
+    × ((blockOf (run reusedBlock (fresh 3 3) .image) 3 2 ≡ replicate 64 7)
+    × ((sizeOf (run reusedBlock (fresh 3 3) .image) 2 ≡ 64)
+    × ((kthBlock (run reusedBlock (fresh 3 3) .image) 3 3 0 ≡ 3)
+    × (blockOf (run reusedBlock (fresh 3 3) .image) 3 3 ≡ replicate 10 5 ++ replicate 54 0)))))
+unfolding fresh reusedBlock live.guarded desk.reservedZero allBelow someBelow leadsB count firstFrom first table part splice numAt toBytes putNum wordBytes digit marked withMark withoutMark entryInode isEmpty sameByte sameName nameLength entryName legalEntry entryFor plainByte isDots legalName blockOf putInBlock zeroBlock blocksUsed kthBlock isFree freeInode named freeBlock headerOf putFree putComplete putHeader reservedZero kindOf spareOf linksOf sizeOf parentOf putLinks attributeEntry putAttributes addressOf putAddress addressesOf putAddresses inodeOf putInode slots slotAt entryOf slotNamed findSlot slotEmpty emptySlot putEntry clearEntry deskOf putDesk copiedOf putCopied marksOf putMarks markOf setMark clearMark clearNotes sameNames namedB newNameB entryB attributesB addressesB zeroTailB inodeB countedB leadB isSlot entryAt filled naming framedB headerB freeCountsB zeroBlockB blanksB bodyB soundB enter created written dropLink unlinked setParent moved putFile addBlock addBlocks putSize zeroRest keepFirst cutTo isKind zeroInode lessFree moreFree guarded createPlan writePlan shortenPlan holdsNone unlinkPlan isBelow renameTo renamePlan roomIn makeRoom freshHeader emptyRoot freshStore freshDesk isLocked startImage startDesk nextInode targetBlock lockedStep freeStep stepOf copiedEntry copiedEntries copiedBlock putCounts finishImage deskFramed imageBlocks imageAllowed isRunning blocksFit deskFits imageFits notesFit hasSlot slotNames isNamed outcome next run liveCreate liveWrite liveShorten liveUnlink liveRename started start step isCopied noteMade noteTaken cutsImage cutImage zeroed
+reused-block = (refl, (refl, (refl, (refl, (refl, refl)))))
+
+pub moved-directory : (deskOf (run movedDirectory (fresh 3 3) .desk) .state ≡ finished)
+    × ((tally (naming (run movedDirectory (fresh 3 3) .image) 3) (mostSlots * 3) 2 ≡ 1)
+    × (naming (run movedDirectory (fresh 3 3) .image) 3 0 ≡ 2))
+unfolding fresh movedDirectory live.guarded desk.reservedZero allBelow someBelow leadsB count firstFrom first table part splice numAt toBytes putNum wordBytes digit marked withMark withoutMark entryInode isEmpty sameByte sameName nameLength entryName legalEntry entryFor plainByte isDots legalName blockOf putInBlock zeroBlock blocksUsed kthBlock isFree freeInode named freeBlock headerOf putFree putComplete putHeader reservedZero kindOf spareOf linksOf sizeOf parentOf putLinks attributeEntry putAttributes addressOf putAddress addressesOf putAddresses inodeOf putInode slots slotAt entryOf slotNamed findSlot slotEmpty emptySlot putEntry clearEntry deskOf putDesk copiedOf putCopied marksOf putMarks markOf setMark clearMark clearNotes sameNames namedB newNameB entryB attributesB addressesB zeroTailB inodeB countedB leadB isSlot entryAt filled naming framedB headerB freeCountsB zeroBlockB blanksB bodyB soundB enter created written dropLink unlinked setParent moved putFile addBlock addBlocks putSize zeroRest keepFirst cutTo isKind zeroInode lessFree moreFree guarded createPlan writePlan shortenPlan holdsNone unlinkPlan isBelow renameTo renamePlan roomIn makeRoom freshHeader emptyRoot freshStore freshDesk isLocked startImage startDesk nextInode targetBlock lockedStep freeStep stepOf copiedEntry copiedEntries copiedBlock putCounts finishImage deskFramed imageBlocks imageAllowed isRunning blocksFit deskFits imageFits notesFit hasSlot slotNames isNamed outcome next run liveCreate liveWrite liveShorten liveUnlink liveRename started start step isCopied noteMade noteTaken cutsImage cutImage zeroed
+moved-directory = (refl, (refl, refl))
+
+pub unlinked-file : (deskOf (run unlinkedFile (fresh 2 2) .desk) .state ≡ finished)
+    × (tally (naming (run unlinkedFile (fresh 2 2) .image) 2) (mostSlots * 2) 2 ≡ 0)
+unfolding fresh unlinkedFile live.guarded desk.reservedZero allBelow someBelow leadsB count firstFrom first table part splice numAt toBytes putNum wordBytes digit marked withMark withoutMark entryInode isEmpty sameByte sameName nameLength entryName legalEntry entryFor plainByte isDots legalName blockOf putInBlock zeroBlock blocksUsed kthBlock isFree freeInode named freeBlock headerOf putFree putComplete putHeader reservedZero kindOf spareOf linksOf sizeOf parentOf putLinks attributeEntry putAttributes addressOf putAddress addressesOf putAddresses inodeOf putInode slots slotAt entryOf slotNamed findSlot slotEmpty emptySlot putEntry clearEntry deskOf putDesk copiedOf putCopied marksOf putMarks markOf setMark clearMark clearNotes sameNames namedB newNameB entryB attributesB addressesB zeroTailB inodeB countedB leadB isSlot entryAt filled naming framedB headerB freeCountsB zeroBlockB blanksB bodyB soundB enter created written dropLink unlinked setParent moved putFile addBlock addBlocks putSize zeroRest keepFirst cutTo isKind zeroInode lessFree moreFree guarded createPlan writePlan shortenPlan holdsNone unlinkPlan isBelow renameTo renamePlan roomIn makeRoom freshHeader emptyRoot freshStore freshDesk isLocked startImage startDesk nextInode targetBlock lockedStep freeStep stepOf copiedEntry copiedEntries copiedBlock putCounts finishImage deskFramed imageBlocks imageAllowed isRunning blocksFit deskFits imageFits notesFit hasSlot slotNames isNamed outcome next run liveCreate liveWrite liveShorten liveUnlink liveRename started start step isCopied noteMade noteTaken cutsImage cutImage zeroed
+unlinked-file = (refl, refl)
+
+pub into-child : outcome (call (rename 1 nameA 3 nameA)) (run parentAndChild (fresh 3 3)) .answer ≡ Refused IntoItself
+unfolding fresh parentAndChild live.guarded desk.reservedZero allBelow someBelow leadsB count firstFrom first table part splice numAt toBytes putNum wordBytes digit marked withMark withoutMark entryInode isEmpty sameByte sameName nameLength entryName legalEntry entryFor plainByte isDots legalName blockOf putInBlock zeroBlock blocksUsed kthBlock isFree freeInode named freeBlock headerOf putFree putComplete putHeader reservedZero kindOf spareOf linksOf sizeOf parentOf putLinks attributeEntry putAttributes addressOf putAddress addressesOf putAddresses inodeOf putInode slots slotAt entryOf slotNamed findSlot slotEmpty emptySlot putEntry clearEntry deskOf putDesk copiedOf putCopied marksOf putMarks markOf setMark clearMark clearNotes sameNames namedB newNameB entryB attributesB addressesB zeroTailB inodeB countedB leadB isSlot entryAt filled naming framedB headerB freeCountsB zeroBlockB blanksB bodyB soundB enter created written dropLink unlinked setParent moved putFile addBlock addBlocks putSize zeroRest keepFirst cutTo isKind zeroInode lessFree moreFree guarded createPlan writePlan shortenPlan holdsNone unlinkPlan isBelow renameTo renamePlan roomIn makeRoom freshHeader emptyRoot freshStore freshDesk isLocked startImage startDesk nextInode targetBlock lockedStep freeStep stepOf copiedEntry copiedEntries copiedBlock putCounts finishImage deskFramed imageBlocks imageAllowed isRunning blocksFit deskFits imageFits notesFit hasSlot slotNames isNamed outcome next run liveCreate liveWrite liveShorten liveUnlink liveRename started start step isCopied noteMade noteTaken cutsImage cutImage zeroed
+into-child = refl

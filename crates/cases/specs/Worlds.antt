@@ -1,0 +1,44 @@
+-- The concrete stores and lists of the track cases.
+use Prim.Native.Nat.{ℕ, _+_, _*_}
+use mathlib.Core.List.{List, [], _∷_}
+use lib.ListN.{replicate}
+use Rattle.layout.specs.Block.{storeLength}
+use Rattle.format.specs.Format.{freshStore, freshDesk}
+use Rattle.files.specs.declared.Kind.the-variants.{File, Directory}
+use Rattle.files.specs.Plain.{create, write, shorten, unlink, rename}
+use Rattle.checkpoint.specs.List.{World, Event, call, steps, starts}
+
+-- a fresh store of n inodes and b blocks, an image of as many blocks and a fresh desk
+unfoldable pub fresh : ℕ → ℕ → World
+fresh n b = record { store = freshStore n b; image = replicate (storeLength n b) 0; desk = freshDesk n }
+
+-- the names `a` and `b`
+abbrev pub nameA : List ℕ
+nameA = 97 ∷ []
+
+abbrev pub nameB : List ℕ
+nameB = 98 ∷ []
+
+-- "Files 2 (64 bytes, block 2) and 3 (empty) in root: after 2 is copied, 2 is shortened to 0 and 10 bytes go to 3"
+unfoldable pub reusedBlock : List Event
+reusedBlock =
+    call (create 1 nameA File) ∷ call (create 1 nameB File) ∷ call (write 2 0 (replicate 64 7))
+    ∷ starts ∷ steps ∷ steps ∷ steps ∷ steps ∷ steps ∷ steps
+    ∷ call (shorten 2 0) ∷ call (write 3 0 (replicate 10 5))
+    ∷ steps ∷ steps ∷ steps ∷ steps ∷ []
+
+-- "Copied directory moved to an uncopied one": 2 is copied, 3 is not
+unfoldable pub movedDirectory : List Event
+movedDirectory =
+    call (create 1 nameA Directory) ∷ call (create 1 nameB Directory)
+    ∷ starts ∷ steps ∷ steps ∷ steps ∷ steps ∷ steps
+    ∷ call (rename 1 nameA 3 nameA)
+    ∷ steps ∷ steps ∷ steps ∷ steps ∷ []
+
+-- "Uncopied file unlinked from a copied directory"
+unfoldable pub unlinkedFile : List Event
+unlinkedFile = call (create 1 nameA File) ∷ starts ∷ steps ∷ steps ∷ steps ∷ call (unlink 1 nameA) ∷ steps ∷ []
+
+-- a directory and a child of it
+unfoldable pub parentAndChild : List Event
+parentAndChild = call (create 1 nameA Directory) ∷ call (create 2 nameB Directory) ∷ []
