@@ -47,8 +47,8 @@ use Rattle.files.specs.Plain as files
 use Rattle.checkpoint.specs.Fit.{deskFramed, imageAllowed, isRunning, notesFit}
 use Rattle.checkpoint.specs.Busy.{isLocked, busyOne, busyTwo, busyMove}
 use Rattle.checkpoint.specs.Copier.{Step, lock, copy, close, finish, full, stepOf}
-use Rattle.checkpoint.specs.Live.{Outcome, refuse, guarded, unless, doCreate, doWrite, doShorten, doLink, doUnlink, doRename, doStep, liveCreate, liveWrite, liveShorten, liveLink, liveUnlink, liveRename, started, start, step}
-use Rattle.checkpoint.specs.List.{World, Event, call, steps, asks, starts, liveCall, outOf, outcome, next, refusalOf, run, Moment, here, after, isBusy, replies, heard, plainRun, plainReplies}
+use Rattle.checkpoint.specs.Live.{ask, Outcome, refuse, guarded, unless, doCreate, doWrite, doShorten, doLink, doUnlink, doRename, doStep, liveCreate, liveWrite, liveShorten, liveLink, liveUnlink, liveRename, started, start, step}
+use Rattle.checkpoint.specs.List.{World, Event, Ready, call, steps, asks, starts, liveCall, outOf, outcome, next, refusalOf, run, Moment, here, after, isBusy, replies, heard, plainRun, plainReplies}
 use Rattle.checkpoint.specs.Demand.{AsPlain}
 
 -- ---- by cases
@@ -211,18 +211,11 @@ pub plain-never : (c : Call) (s : List ℕ) → Deskless (plain c s .answer)
 plain-never c s = plainly c s .never
 
 -- ---- one live call beside the plain one
--- the guards of all three buffers pass
-pub record Fits (w : World) : Type 0 where
-  pub framed : framedB mostStoreBlocks (w .store) ≡ true
-  pub sound : isSound Store (w .store) ≡ true
-  pub desk : deskFramed (w .desk) ≡ true
-  pub notes : notesFit (w .store) (w .image) (w .desk) ≡ true
-
 -- a live outcome o and a plain one p: they agree, or o is busy, or a guard refused
 data Between (w : World) (o : Outcome) (p : files.Outcome) : Type 0 where
   same : o .answer ≡ p .answer → o .store ≡ p .store → Between w o p
   busy : isRunning (w .desk) ≡ true → o ≡ refuse Busy (w .store) (w .image) (w .desk) → Between w o p
-  unfit : 1 ≤ refusalOf (o .answer) → refusalOf (o .answer) ≤ 3 → (Fits w → ⊥) → Between w o p
+  unfit : 1 ≤ refusalOf (o .answer) → refusalOf (o .answer) ≤ 3 → (Ready w → ⊥) → Between w o p
 
 between-unless : (w : World) (b : Bool) (o : Outcome) (p : files.Outcome) → (b ≡ true → isRunning (w .desk) ≡ true) → o .answer ≡ p .answer → o .store ≡ p .store
     → Between w (unless b (w .store) (w .image) (w .desk) o) p
@@ -398,7 +391,7 @@ pub record Agrees (c : Call) (w : World) : Type 0 where
   pub second : refusalOf (liveCall c w .answer) ≡ 2 → ⊥
   pub third : refusalOf (liveCall c w .answer) ≡ 3 → ⊥
 
-pub guards-pass : (c : Call) (w : World) → Fits w → (refusalOf (liveCall c w .answer) ≡ 14 → ⊥) → Agrees c w
+pub guards-pass : (c : Call) (w : World) → Ready w → (refusalOf (liveCall c w .answer) ≡ 14 → ⊥) → Agrees c w
 guards-pass c w f h =
     let g : StoreFits (w .store) = record { framed = f .framed; sound = f .sound } in
     let q = plainly c (w .store) in
@@ -462,8 +455,8 @@ steps-keep w = guarded-store (w .store) (w .image) (w .desk) _
     P x = x .store ≡ w .store
 
 pub asks-keep : (w : World) → outcome asks w .store ≡ w .store
-unfolding outcome
-asks-keep w = refl
+unfolding outcome ask
+asks-keep w = guarded-store (w .store) (w .image) (w .desk) _ refl
 
 pub starts-keep : (w : World) → outcome starts w .store ≡ w .store
 unfolding outcome start started
@@ -476,8 +469,8 @@ starts-keep w =
 
 -- ---- the list
 -- the buffers fit at every moment
-abbrev pub FitsThroughout : List Event → World → Type 0
-FitsThroughout es w = (v : World) → Moment es w v → Fits v
+abbrev pub ReadyThroughout : List Event → World → Type 0
+ReadyThroughout es w = (v : World) → Moment es w v → Ready v
 
 -- a plain store that goes on from the same bytes
 from-same : (es : List Event) (w : World) (s : List ℕ) → AsPlain es w → w .store ≡ s → (run es w .store ≡ plainRun (heard es w) s) × (replies es w ≡ plainReplies (heard es w) s)
@@ -491,7 +484,7 @@ busy-first c es w b h =
     let r = from-same es (next (call c) w) (w .store) h k in
     record { store = rw b (r .0); answers = rw b (r .1) }
 
-heard-first : (c : Call) (es : List Event) (w : World) → isBusy c w ≡ false → Fits w → AsPlain es (next (call c) w) → AsPlain (call c ∷ es) w
+heard-first : (c : Call) (es : List Event) (w : World) → isBusy c w ≡ false → Ready w → AsPlain es (next (call c) w) → AsPlain (call c ∷ es) w
 unfolding run heard replies next outcome plainRun plainReplies
 heard-first c es w b f h =
     let g = guards-pass c w f (λ e. clash (isBusy c w) (eq-eqb (refusalOf (liveCall c w .answer)) 14 e) b) in
@@ -502,7 +495,7 @@ heard-first c es w b f h =
     }
 
 -- the store's bytes and the answers are the plain store's
-pub run-plain : (es : List Event) (w : World) → FitsThroughout es w → AsPlain es w
+pub run-plain : (es : List Event) (w : World) → ReadyThroughout es w → AsPlain es w
 unfolding run heard replies plainRun plainReplies next
 run-plain [] w h = record { store = refl; answers = refl }
 run-plain (call c ∷ es) w h = go (isBusy c w) refl (run-plain es (next (call c) w) (λ v m. h v (after m)))

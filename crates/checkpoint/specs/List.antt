@@ -20,8 +20,7 @@ use Rattle.checkpoint.specs.Fit.{deskFramed, notesFit}
 use Rattle.sound.specs.Place.{dirOf, filled, naming}
 use Rattle.files.specs.Plain.{Call, lookUp, read, create, write, shorten, link, unlink, rename, plainLookUp, plainRead, plain}
 use Rattle.files.specs.Plain as files
-use Rattle.checkpoint.specs.declared.Status.{Status}
-use Rattle.checkpoint.specs.Live.{Outcome, left, liveCreate, liveWrite, liveShorten, liveLink, liveUnlink, liveRename, start, step, status}
+use Rattle.checkpoint.specs.Live.{Outcome, left, liveCreate, liveWrite, liveShorten, liveLink, liveUnlink, liveRename, start, step, ask}
 
 -- the three buffers
 pub record World : Type 0 where
@@ -73,7 +72,7 @@ outOf (rename d name e other) w = []
 unfoldable pub outcome : Event → World → Outcome
 outcome (call c) w = liveCall c w
 outcome steps w = step (w .store) (w .image) (w .desk)
-outcome asks w = left (Done 0) (w .store) (w .image) (w .desk)
+outcome asks w = ask (w .store) (w .image) (w .desk)
 outcome starts w = start (w .store) (w .image) (w .desk)
 
 unfoldable pub next : Event → World → World
