@@ -20,7 +20,7 @@ use Rattle.layout.proofs.ViewLaws.{inode-fits, view-in-block}
 use Rattle.names.specs.declared.Name.{Name}
 use Rattle.names.specs.Entry.{isEmpty, sameName, entryFor, wordsAt, sameWords}
 use Rattle.names.proofs.EntryLaws.{same-words, octets-part, length-entry}
-use Rattle.directory.specs.Slot.{slots, slotAt, entryOf, slotNamed, findSlot, slotEmpty, emptySlot, putEntry, clearEntry, BlockFits, DirFits}
+use Rattle.directory.specs.Slot.{mostSlots, slots, slotAt, entryOf, slotNamed, findSlot, slotEmpty, emptySlot, putEntry, clearEntry, BlockFits, DirFits}
 
 -- ---- where slots lie
 pub slot-low : (s : List ℕ) (n d t : ℕ) → 16 + 32 * n ≤ slotAt s n d t
@@ -29,7 +29,8 @@ slot-low s n d t = omega arith
 
 -- the slots of a directory that fits, and its blocks
 module _ (s : List ℕ) (n d : ℕ) (f : DirFits s n d) where
-  pub few-slots : slots s d ≤ 48
+  -- "at most 48"
+  pub few-slots : slots s d ≤ mostSlots
   unfolding slots
   few-slots = let b = f .few in omega arith
 
