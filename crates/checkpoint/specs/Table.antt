@@ -61,12 +61,12 @@ storeRows s rs = row (not (framedB mostStoreBlocks s)) BadBuffer ∷ row (not (i
 -- 1, 2 and 3 of a call on all three buffers
 abbrev pub liveRows : List ℕ → List ℕ → List ℕ → List Row → List Row
 liveRows s m d rs =
-  row (not (framedB mostStoreBlocks s && deskFramed d)) BadBuffer ∷ row (not (isSound Store s)) UnsoundStore ∷ row (not (notesFit s m d)) BadDesk ∷ rs
+    row (not (framedB mostStoreBlocks s && deskFramed d)) BadBuffer ∷ row (not (isSound Store s)) UnsoundStore ∷ row (not (notesFit s m d)) BadDesk ∷ rs
 
 -- 12: "too few free blocks" for an entry more in e; 13: "all 48 slots used"
 abbrev pub noBlock : List ℕ → ℕ → Bool
 noBlock s e =
-  not (found (emptySlot s (inodesIn s) e)) && (ltb (blocksUsed (sizeOf s e)) addressCount && not (found (freeBlock s (inodesIn s) (blocksIn s))))
+    not (found (emptySlot s (inodesIn s) e)) && (ltb (blocksUsed (sizeOf s e)) addressCount && not (found (freeBlock s (inodesIn s) (blocksIn s))))
 
 abbrev pub noSlot : List ℕ → ℕ → Bool
 noSlot s e = not (found (emptySlot s (inodesIn s) e)) && not (ltb (blocksUsed (sizeOf s e)) addressCount)
@@ -81,100 +81,100 @@ inodeFor s e name = inodeAt s (inodesIn s) e (slotFor s e name)
 -- ---- the tables
 unfoldable pub lookUpTable : List ℕ → ℕ → List ℕ → List Row
 lookUpTable s e name =
-  storeRows s
-  (row (not (legalName name)) IllegalName
-  ∷ row (not (isDirectory s (inodesIn s) e)) WrongInode
-  ∷ row (not (found (findSlot s (inodesIn s) e name))) NameAbsent
-  ∷ [])
+    storeRows s
+    (row (not (legalName name)) IllegalName
+    ∷ row (not (isDirectory s (inodesIn s) e)) WrongInode
+    ∷ row (not (found (findSlot s (inodesIn s) e name))) NameAbsent
+    ∷ [])
 
 unfoldable pub readTable : List ℕ → ℕ → ℕ → List Row
 readTable s i o =
-  storeRows s
-  (row (not (isFile s (inodesIn s) i)) WrongInode
-  ∷ row (ltb (sizeOf s i) o) PastEnd
-  ∷ [])
+    storeRows s
+    (row (not (isFile s (inodesIn s) i)) WrongInode
+    ∷ row (ltb (sizeOf s i) o) PastEnd
+    ∷ [])
 
 unfoldable pub createTable : List ℕ → List ℕ → List ℕ → ℕ → List ℕ → List Row
 createTable s m d e name =
-  liveRows s m d
-  (row (not (legalName name)) IllegalName
-  ∷ row (not (isDirectory s (inodesIn s) e)) WrongInode
-  ∷ row (found (findSlot s (inodesIn s) e name)) NameTaken
-  ∷ row (not (found (freeInode s (inodesIn s)))) NoInode
-  ∷ row (noBlock s e) NoBlocks
-  ∷ row (noSlot s e) NoSlot
-  ∷ row (busyOne d e) Busy
-  ∷ [])
+    liveRows s m d
+    (row (not (legalName name)) IllegalName
+    ∷ row (not (isDirectory s (inodesIn s) e)) WrongInode
+    ∷ row (found (findSlot s (inodesIn s) e name)) NameTaken
+    ∷ row (not (found (freeInode s (inodesIn s)))) NoInode
+    ∷ row (noBlock s e) NoBlocks
+    ∷ row (noSlot s e) NoSlot
+    ∷ row (busyOne d e) Busy
+    ∷ [])
 
 unfoldable pub writeTable : List ℕ → List ℕ → List ℕ → ℕ → ℕ → List ℕ → List Row
 writeTable s m d i o xs =
-  liveRows s m d
-  (row (not (isFile s (inodesIn s) i)) WrongInode
-  ∷ row (ltb (sizeOf s i) o || ltb mostFileBytes (o + length xs)) PastEnd
-  ∷ row (ltb (headerOf s .«free_blocks») (blocksUsed (max (sizeOf s i) (o + length xs)) - blocksUsed (sizeOf s i))) NoBlocks
-  ∷ row (busyOne d i) Busy
-  ∷ [])
+    liveRows s m d
+    (row (not (isFile s (inodesIn s) i)) WrongInode
+    ∷ row (ltb (sizeOf s i) o || ltb mostFileBytes (o + length xs)) PastEnd
+    ∷ row (ltb (headerOf s .«free_blocks») (blocksUsed (max (sizeOf s i) (o + length xs)) - blocksUsed (sizeOf s i))) NoBlocks
+    ∷ row (busyOne d i) Busy
+    ∷ [])
 
 unfoldable pub shortenTable : List ℕ → List ℕ → List ℕ → ℕ → ℕ → List Row
 shortenTable s m d i z =
-  liveRows s m d
-  (row (not (isFile s (inodesIn s) i)) WrongInode
-  ∷ row (ltb (sizeOf s i) z) PastEnd
-  ∷ row (busyOne d i) Busy
-  ∷ [])
+    liveRows s m d
+    (row (not (isFile s (inodesIn s) i)) WrongInode
+    ∷ row (ltb (sizeOf s i) z) PastEnd
+    ∷ row (busyOne d i) Busy
+    ∷ [])
 
 unfoldable pub linkTable : List ℕ → List ℕ → List ℕ → ℕ → List ℕ → ℕ → List Row
 linkTable s m d e name i =
-  liveRows s m d
-  (row (not (legalName name)) IllegalName
-  ∷ row (not (isDirectory s (inodesIn s) e && isFile s (inodesIn s) i)) WrongInode
-  ∷ row (found (findSlot s (inodesIn s) e name)) NameTaken
-  ∷ row (noBlock s e) NoBlocks
-  ∷ row (noSlot s e) NoSlot
-  ∷ row (busyTwo d e i) Busy
-  ∷ [])
+    liveRows s m d
+    (row (not (legalName name)) IllegalName
+    ∷ row (not (isDirectory s (inodesIn s) e && isFile s (inodesIn s) i)) WrongInode
+    ∷ row (found (findSlot s (inodesIn s) e name)) NameTaken
+    ∷ row (noBlock s e) NoBlocks
+    ∷ row (noSlot s e) NoSlot
+    ∷ row (busyTwo d e i) Busy
+    ∷ [])
 
 unfoldable pub unlinkTable : List ℕ → List ℕ → List ℕ → ℕ → List ℕ → List Row
 unlinkTable s m d e name =
-  let i = inodeFor s e name in
-  liveRows s m d
-  (row (not (legalName name)) IllegalName
-  ∷ row (not (isDirectory s (inodesIn s) e)) WrongInode
-  ∷ row (not (found (findSlot s (inodesIn s) e name))) NameAbsent
-  ∷ row (eqb (kindOf s i) directoryKind && not (holdsNone s (inodesIn s) i)) NotEmpty
-  ∷ row (busyTwo d e i) Busy
-  ∷ [])
+    let i = inodeFor s e name in
+    liveRows s m d
+    (row (not (legalName name)) IllegalName
+    ∷ row (not (isDirectory s (inodesIn s) e)) WrongInode
+    ∷ row (not (found (findSlot s (inodesIn s) e name))) NameAbsent
+    ∷ row (eqb (kindOf s i) directoryKind && not (holdsNone s (inodesIn s) i)) NotEmpty
+    ∷ row (busyTwo d e i) Busy
+    ∷ [])
 
 -- "7 new name taken by another entry": 10, 12 and 13 are for a move alone
 unfoldable pub renameTable : List ℕ → List ℕ → List ℕ → ℕ → List ℕ → ℕ → List ℕ → List Row
 renameTable s m d e name f other =
-  let i = inodeFor s e name in
-  let moves = not (eqb e f) in
-  liveRows s m d
-  (row (not (legalName name && legalName other)) IllegalName
-  ∷ row (not (isDirectory s (inodesIn s) e && isDirectory s (inodesIn s) f)) WrongInode
-  ∷ row (not (found (findSlot s (inodesIn s) e name))) NameAbsent
-  ∷ row (found (findSlot s (inodesIn s) f other) && (moves || not (eqb (slotFor s f other) (slotFor s e name)))) NameTaken
-  ∷ row (moves && isBelow s (inodesIn s) i f) IntoItself
-  ∷ row (moves && noBlock s f) NoBlocks
-  ∷ row (moves && noSlot s f) NoSlot
-  ∷ row (pick moves (busyMove d e f i) (busyOne d e)) Busy
-  ∷ [])
+    let i = inodeFor s e name in
+    let moves = not (eqb e f) in
+    liveRows s m d
+    (row (not (legalName name && legalName other)) IllegalName
+    ∷ row (not (isDirectory s (inodesIn s) e && isDirectory s (inodesIn s) f)) WrongInode
+    ∷ row (not (found (findSlot s (inodesIn s) e name))) NameAbsent
+    ∷ row (found (findSlot s (inodesIn s) f other) && (moves || not (eqb (slotFor s f other) (slotFor s e name)))) NameTaken
+    ∷ row (moves && isBelow s (inodesIn s) i f) IntoItself
+    ∷ row (moves && noBlock s f) NoBlocks
+    ∷ row (moves && noSlot s f) NoSlot
+    ∷ row (pick moves (busyMove d e f i) (busyOne d e)) Busy
+    ∷ [])
 
 unfoldable pub startTable : List ℕ → List ℕ → List ℕ → List Row
 startTable s m d =
-  row (not (framedB mostStoreBlocks s && (deskFramed d && imageAllowed (inodesIn s) (length m)))) BadBuffer
-  ∷ row (not (isSound Store s)) UnsoundStore
-  ∷ row (not (notesFit s m d)) BadDesk
-  ∷ row (isRunning d) WrongState
-  ∷ []
+    row (not (framedB mostStoreBlocks s && (deskFramed d && imageAllowed (inodesIn s) (length m)))) BadBuffer
+    ∷ row (not (isSound Store s)) UnsoundStore
+    ∷ row (not (notesFit s m d)) BadDesk
+    ∷ row (isRunning d) WrongState
+    ∷ []
 
 -- 16: "a block step with every image block named"
 unfoldable pub stepTable : List ℕ → List ℕ → List ℕ → List Row
 stepTable s m d =
-  let i = deskOf d .locked in
-  let k = deskOf d .copied in
-  liveRows s m d
-  (row (not (isRunning d)) WrongState
-  ∷ row (not (eqb i 0) && (ltb k (blocksUsed (sizeOf s i)) && not (found (targetBlock m (inodesIn s) (deskOf d .blocks) (kthBlock s (inodesIn s) i k))))) ImageFull
-  ∷ [])
+    let i = deskOf d .locked in
+    let k = deskOf d .copied in
+    liveRows s m d
+    (row (not (isRunning d)) WrongState
+    ∷ row (not (eqb i 0) && (ltb k (blocksUsed (sizeOf s i)) && not (found (targetBlock m (inodesIn s) (deskOf d .blocks) (kthBlock s (inodesIn s) i k))))) ImageFull
+    ∷ [])
