@@ -4,10 +4,10 @@ use mathlib.Core.Path.{_≡_, refl, sym, ap, _∙_}
 use mathlib.Core.Bool.{Bool, true, false, not, _&&_, _||_}
 use mathlib.Core.List.{List, [], _∷_}
 use native.Mathlib.Omega.{arith}
-use borrow.Author.Tests.{lt-ltb, le-ltb, leb-true, eqb-true}
+use borrow.Author.Tests.{lt-ltb, le-ltb, leb-true, not-true}
 use lib.Dec.{eqb, leb, ltb}
 use lib.ListN.{length, getD}
-use Rattle.bounded.specs.Search.{first}
+use Rattle.bounded.specs.Search.{pick, first}
 use Rattle.bounded.specs.declared.Found.the-variants.{At, Absent}
 use Rattle.bounded.proofs.BoolLaws.{fails, clash, and-left, and-right, or-l, or-r}
 use Rattle.bounded.proofs.SearchLaws.{Lowest, lowest-of, lowest-found, absent-of}
@@ -42,11 +42,26 @@ Clear e (r ∷ rs) = (r .holds ≡ true → r .refusal ≡ e → ⊥) × Clear e
 
 never : (e : Refusal) (rs : List Row) (x : ℕ) → Clear e rs → firstOf rs (Done x) ≡ Refused e → ⊥
 never e [] x c q = let z : _≡_ {A = ℕ} 0 1 = cc in omega arith
-never e (r ∷ rs) x c q = ?
+never e (r ∷ rs) x c q = go (r .holds) refl q (never e rs x (c .1))
+  where
+    go : (b : Bool) → r .holds ≡ b → pick b (Refused (r .refusal)) (firstOf rs (Done x)) ≡ Refused e → (firstOf rs (Done x) ≡ Refused e → ⊥) → ⊥
+    go true h p f = c .0 h (cc)
+    go false h p f = f p
+
+-- a row of another refusal
+other : {e : Refusal} (r : Row) → (r .refusal ≡ e → _≡_ {A = ℕ} 0 1) → r .holds ≡ true → r .refusal ≡ e → ⊥
+other r f h q = let z = f q in omega arith
 
 -- ---- names
 fourteen-legal : (name : List ℕ) → length name ≡ 14 → ((j : ℕ) → j < 14 → (getD name j 0 ≡ 0 → ⊥) × (getD name j 0 ≡ slash → ⊥)) → legalName name ≡ true
-fourteen-legal name e h = legal name .from ?
+fourteen-legal name e h =
+    legal name .from record {
+      long = omega arith;
+      short = omega arith;
+      plain = λ j l. h j (omega arith);
+      not-dot = λ q. absurd (omega arith);
+      not-dots = λ q. absurd (omega arith);
+    }
 
 fifteen-illegal : (name : List ℕ) → length name ≡ 15 → legalName name ≡ false
 fifteen-illegal name e = fails (legalName name) (λ t. let b = legal-bounds name t in let c = b .1 in omega arith)
@@ -61,7 +76,10 @@ fourteen : (w : World) (d : ℕ) (name : List ℕ) (k : Kind) → length name �
     → ((j : ℕ) → j < 14 → (getD name j 0 ≡ 0 → ⊥) × (getD name j 0 ≡ slash → ⊥))
     → outcome (call (create d name k)) w .answer ≡ Refused IllegalName → ⊥
 unfolding outcome createTable
-fourteen w d name k e h q = ?
+fourteen w d name k e h q =
+    never IllegalName (createTable (w .store) (w .image) (w .desk) d name) _
+    (other _ (λ z. cc), (other _ (λ z. cc), (other _ (λ z. cc), ((λ z p. clash (legalName name) (fourteen-legal name e h) (not-true (legalName name) z)), (other _ (λ z. cc), (other _ (λ z. cc), (other _ (λ z. cc), (other _ (λ z. cc), (other _ (λ z. cc), (other _ (λ z. cc), tt))))))))))
+    (sym (create-table (w .store) (w .image) (w .desk) d name k) ∙ q)
 
 -- ---- writes
 -- "at most 768 bytes"
