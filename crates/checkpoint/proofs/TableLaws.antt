@@ -1,22 +1,24 @@
 -- "looked at lowest first, when and only when the condition holds for that call": each call's answer is the first condition of its table that holds. s is the store, m the image, d the desk.
-use mathlib.Core.Path.{_≡_, refl, sym, ap, _∙_}
+use mathlib.Core.Path.{_≡_, refl, sym, ap, ap₂, _∙_}
 use mathlib.Core.Bool.{Bool, true, false, not, _&&_, _||_, true≢false}
 use mathlib.Core.List.{List, [], _∷_, List·Memᴰ, List·Memᴰ·head, List·Memᴰ·tail, List·Memᴰ·not-nil, List·Memᴰ·cases-cons}
 use mathlib.Core.Logic.{_⊎_, inl, inr, ⊎-elim}
-use Prim.Native.Nat.{ℕ, _+_, _-_, _<_, min, max}
+use Prim.Native.Nat.{ℕ, _+_, _-_, _<_, _≤_, min, max}
 use native.Mathlib.Omega.{arith}
-use borrow.Author.Tests.{ltb-true}
-use lib.Dec.{eqb, ltb}
+use borrow.Author.Tests.{ltb-true, leb-true, not-true, not-false}
+use lib.Dec.{eqb, leb, ltb}
 use lib.ListN.{length}
-use Rattle.bounded.specs.Search.{pick, onFound}
-use Rattle.bounded.proofs.BoolLaws.{and-left, and-right}
+use Rattle.bounded.specs.Search.{pick, firstFrom, onFound}
+use Rattle.bounded.proofs.BoolLaws.{and-left, and-right, fails, same-test, clash}
+use Rattle.bounded.proofs.BelowLaws.{allTo, to-at, to-of}
+use Rattle.bounded.proofs.SearchLaws.{none-below, absent-of}
 use Rattle.bounded.specs.declared.Found.{Found}
 use Rattle.bounded.specs.declared.Found.the-variants.{At, Absent}
 use Rattle.layout.specs.Sizes.{mostStoreBlocks, mostFileBytes, addressCount, rootInode}
 use Rattle.layout.specs.Header.{headerOf}
 use Rattle.layout.specs.Inode.{kindOf, sizeOf, directoryKind}
 use Rattle.layout.specs.Block.{blocksUsed, kthBlock}
-use Rattle.layout.specs.Free.{freeInode, freeBlock}
+use Rattle.layout.specs.Free.{named, freeInode, freeBlock}
 use Rattle.names.specs.Name.{legalName}
 use Rattle.directory.specs.Slot.{slots, findSlot, emptySlot}
 use Rattle.desk.specs.Desk.{deskOf, putDesk}
@@ -290,6 +292,33 @@ module _ (s m d : List ℕ) where
   pub status-table : status s m d ≡ asStatus (firstOf (liveRows s m d []) (Done 0)) d
   unfolding status ask
   status-table = ap (λ (a : Answer). asStatus a d) (give _ (liveRows s m d []) _ (by-guards s m d (left (Done 0) s m d) by-none))
+
+-- 16: a block finds no place, when and only when "every image block [is] named"
+no-place : (c : ℕ) (t : Bool) (f : Found) → not (found (pick t (At c) f)) ≡ true → f ≡ Absent
+no-place c true f h = absurd (true≢false (sym h))
+no-place c false (At j) h = absurd (true≢false (sym h))
+no-place c false Absent h = refl
+
+pub full-image : (m : List ℕ) (n b c : ℕ) → not (found (targetBlock m n b c)) ≡ allTo (named m n) b
+unfolding targetBlock freeBlock
+full-image m n b c = same-test (not (found (targetBlock m n b c))) (allTo (named m n) b) there back
+  where
+    there : not (found (targetBlock m n b c)) ≡ true → allTo (named m n) b ≡ true
+    there h =
+        let e : firstFrom (λ j. not (named m n j)) 1 b ≡ Absent = no-place c (leb 1 c && (leb c b && not (named m n c))) (freeBlock m n b) h in
+        to-of (named m n) b (λ j l k. not-false (named m n j) (none-below (λ i. not (named m n i)) 1 b e j (omega arith) (omega arith)))
+
+    own : allTo (named m n) b ≡ true → leb 1 c && (leb c b && not (named m n c)) ≡ true → ⊥
+    own h w =
+        let r : leb c b && not (named m n c) ≡ true = and-right (leb 1 c) (leb c b && not (named m n c)) w in
+        let l : 1 ≤ c = leb-true 1 c (and-left (leb 1 c) (leb c b && not (named m n c)) w) in
+        let k : c ≤ b = leb-true c b (and-left (leb c b) (not (named m n c)) r) in
+        clash (named m n c) (to-at (named m n) b h c l k) (not-true (named m n c) (and-right (leb c b) (not (named m n c)) r))
+
+    back : allTo (named m n) b ≡ true → not (found (targetBlock m n b c)) ≡ true
+    back h =
+        let none : freeBlock m n b ≡ Absent = absent-of (λ j. not (named m n j)) 1 b (λ j l k. ap not (to-at (named m n) b h j (omega arith) (omega arith))) in
+        ap₂ (λ (t : Bool) (f : Found). not (found (pick t (At c) f))) (fails (leb 1 c && (leb c b && not (named m n c))) (own h)) none
 
 -- ---- the numbers of each table go up
 module _ (s : List ℕ) where
