@@ -1,20 +1,20 @@
 -- The track cases of any store, by the tables of refusals; and the whole table.
-use Prim.Native.Nat.{ℕ, _+_, _*_, _-_, _≤_, _<_, max}
+use Prim.Native.Nat.{ℕ, _+_, _*_, _-_, _≤_, _<_, _/_, max}
 use mathlib.Core.Path.{_≡_, refl, sym, ap, _∙_}
 use mathlib.Core.Bool.{Bool, true, false, not, _&&_, _||_}
 use mathlib.Core.List.{List, [], _∷_}
 use native.Mathlib.Omega.{arith}
-use borrow.Author.Tests.{lt-ltb, le-ltb, leb-true, not-true}
+use borrow.Author.Tests.{lt-ltb, le-ltb, le-leb, leb-true, eqb-true, eq-eqb, ne-eqb}
 use lib.Dec.{eqb, leb, ltb}
 use lib.ListN.{length, getD}
 use Rattle.bounded.specs.Search.{pick, first}
 use Rattle.bounded.specs.declared.Found.the-variants.{At, Absent}
-use Rattle.bounded.proofs.BoolLaws.{fails, clash, and-left, and-right, or-l, or-r}
+use Rattle.bounded.proofs.BoolLaws.{fails, and-left, and-right, or-l, or-r, or-right}
 use Rattle.bounded.proofs.SearchLaws.{Lowest, lowest-of, lowest-found, absent-of}
 use Rattle.layout.specs.Sizes.{mostStoreBlocks, mostFileBytes}
 use Rattle.layout.specs.Header.{headerOf}
 use Rattle.layout.specs.Inode.{kindOf, sizeOf, fileKind}
-use Rattle.layout.specs.Block.{blocksUsed}
+use Rattle.layout.specs.Block.{storeLength, blocksUsed}
 use Rattle.layout.specs.Free.{freeInode}
 use Rattle.names.specs.Name.{slash, Legal, legalName}
 use Rattle.names.proofs.NameLaws.{legal, legal-bounds}
@@ -22,35 +22,28 @@ use Rattle.directory.specs.Slot.{slots, slotEmpty, emptySlot}
 use Rattle.answers.specs.declared.Refusal.{Refusal}
 use Rattle.answers.specs.declared.Refusal.the-variants.{IllegalName, PastEnd, NoSlot, WrongState}
 use Rattle.answers.specs.declared.Answer.the-variants.{Done, Refused}
-use Rattle.sound.specs.Sound.{Sound, inodesIn}
+use Rattle.desk.specs.Desk.{deskOf}
+use Rattle.sound.specs.Sound.{inodesIn}
 use Rattle.sound.specs.declared.Form.the-variants.{Store}
 use Rattle.sound.proofs.SoundLaws.{is-sound}
 use Rattle.files.specs.declared.Kind.{Kind}
 use Rattle.files.specs.Inode.{isKind, isFile}
 use Rattle.files.specs.Plain.{create, write}
-use Rattle.checkpoint.specs.Fit.{isRunning, imageAllowed}
-use Rattle.checkpoint.specs.Table.{Row, firstOf, createTable, writeTable, startTable, orZero}
+use Rattle.checkpoint.specs.Fit.{isRunning, imageAllowed, imageBlocks, blocksFit, deskFits, imageFits, notesFit}
+use Rattle.checkpoint.specs.Table.{createTable, writeTable, startTable}
 use Rattle.checkpoint.specs.List.{World, Ready, call, starts, outcome}
 use Rattle.checkpoint.proofs.TableLaws.{create-table, write-table, start-table}
 use Rattle.cases.specs.Cases.{TrackCases, Writes, Creates, inodes}
-use Rattle.cases.proofs.Runs.{three-steps, reused-block, moved-directory, unlinked-file, into-child}
+use Rattle.cases.proofs.Runs.{three-steps, finish, reused-block, moved-directory, unlinked-file, into-child}
 
--- a refusal whose conditions do not hold does not come
-abbrev Clear : Refusal → List Row → Type 0
-Clear e [] = Unit {0}
-Clear e (r ∷ rs) = (r .holds ≡ true → r .refusal ≡ e → ⊥) × Clear e rs
-
-never : (e : Refusal) (rs : List Row) (x : ℕ) → Clear e rs → firstOf rs (Done x) ≡ Refused e → ⊥
-never e [] x c q = let z : _≡_ {A = ℕ} 0 1 = cc in omega arith
-never e (r ∷ rs) x c q = go (r .holds) refl q (never e rs x (c .1))
-  where
-    go : (b : Bool) → r .holds ≡ b → pick b (Refused (r .refusal)) (firstOf rs (Done x)) ≡ Refused e → (firstOf rs (Done x) ≡ Refused e → ⊥) → ⊥
-    go true h p f = c .0 h (cc)
-    go false h p f = f p
-
--- a row of another refusal
-other : {e : Refusal} (r : Row) → (r .refusal ≡ e → _≡_ {A = ℕ} 0 1) → r .holds ≡ true → r .refusal ≡ e → ⊥
-other r f h q = let z = f q in omega arith
+-- a create of a legal name in an empty slot
+created : (w : World) (d : ℕ) (name : List ℕ) (k : Kind) (c : Creates w d name) (t : ℕ) → legalName name ≡ true → emptySlot (w .store) (inodes w) d ≡ At t
+    → outcome (call (create d name k)) w .answer ≡ Done (c .inode)
+unfolding outcome createTable
+created w d name k c t l u =
+    let r = c .ready in
+    create-table (w .store) (w .image) (w .desk) d name k
+    ∙ rw (r .framed, r .desk, r .sound, r .notes, l, c .directory, c .new, c .free, u, c .idle)
 
 -- ---- names
 fourteen-legal : (name : List ℕ) → length name ≡ 14 → ((j : ℕ) → j < 14 → (getD name j 0 ≡ 0 → ⊥) × (getD name j 0 ≡ slash → ⊥)) → legalName name ≡ true
@@ -72,14 +65,10 @@ fifteen w d name k r e =
     create-table (w .store) (w .image) (w .desk) d name k
     ∙ rw (r .framed, r .desk, r .sound, r .notes, fifteen-illegal name e)
 
-fourteen : (w : World) (d : ℕ) (name : List ℕ) (k : Kind) → length name ≡ 14
-    → ((j : ℕ) → j < 14 → (getD name j 0 ≡ 0 → ⊥) × (getD name j 0 ≡ slash → ⊥))
-    → outcome (call (create d name k)) w .answer ≡ Refused IllegalName → ⊥
-unfolding outcome createTable
-fourteen w d name k e h q =
-    never IllegalName (createTable (w .store) (w .image) (w .desk) d name) _
-    (other _ (λ z. cc), (other _ (λ z. cc), (other _ (λ z. cc), ((λ z p. clash (legalName name) (fourteen-legal name e h) (not-true (legalName name) z)), (other _ (λ z. cc), (other _ (λ z. cc), (other _ (λ z. cc), (other _ (λ z. cc), (other _ (λ z. cc), (other _ (λ z. cc), tt))))))))))
-    (sym (create-table (w .store) (w .image) (w .desk) d name k) ∙ q)
+fourteen : (w : World) (d t : ℕ) (name : List ℕ) (k : Kind) (c : Creates w d name) → length name ≡ 14
+    → ((j : ℕ) → j < 14 → (getD name j 0 ≡ 0 → ⊥) × (getD name j 0 ≡ slash → ⊥)) → emptySlot (w .store) (inodes w) d ≡ At t
+    → outcome (call (create d name k)) w .answer ≡ Done (c .inode)
+fourteen w d t name k c e h u = created w d name k c t (fourteen-legal name e h) u
 
 -- ---- writes
 -- "at most 768 bytes"
@@ -134,7 +123,7 @@ module _ (w : World) (i o : ℕ) (xs : List ℕ) (h : Writes w i o xs) where
   past-size a = write-refused (or-l (ltb (sizeOf (w .store) i) o) (ltb mostFileBytes (o + length xs)) (lt-ltb (sizeOf (w .store) i) o (omega arith)))
 
 -- ---- slots
-module _ (w : World) (d : ℕ) (name : List ℕ) (k : Kind) (c : Creates w d name) (all : slots (w .store) d ≡ 48) where
+module _ (w : World) (d : ℕ) (name : List ℕ) (k : Kind) (c : Creates w d name) (legal-name : legalName name ≡ true) (all : slots (w .store) d ≡ 48) where
   some-slot : (t : ℕ) → t < 48 → slotEmpty (w .store) (inodes w) d t ≡ true → (u : ℕ) × (emptySlot (w .store) (inodes w) d ≡ At u)
   unfolding emptySlot first
   some-slot t l e =
@@ -146,12 +135,7 @@ module _ (w : World) (d : ℕ) (name : List ℕ) (k : Kind) (c : Creates w d nam
   none h = absent-of (slotEmpty (w .store) (inodes w) d) 0 (slots (w .store) d) (λ j a b. h j (omega arith))
 
   last-slot : (t : ℕ) → t < 48 → slotEmpty (w .store) (inodes w) d t ≡ true → outcome (call (create d name k)) w .answer ≡ Done (c .inode)
-  unfolding outcome createTable
-  last-slot t l e =
-      let r = c .ready in
-      let u = some-slot t l e in
-      create-table (w .store) (w .image) (w .desk) d name k
-      ∙ rw (r .framed, r .desk, r .sound, r .notes, c .legal, c .directory, c .new, c .free, u .1, c .idle)
+  last-slot t l e = let u = some-slot t l e in created w d name k c (u .0) legal-name (u .1)
 
   twelve : blocksUsed (sizeOf (w .store) d) ≡ 12
   unfolding slots
@@ -162,23 +146,53 @@ module _ (w : World) (d : ℕ) (name : List ℕ) (k : Kind) (c : Creates w d nam
   no-slot h =
       let r = c .ready in
       create-table (w .store) (w .image) (w .desk) d name k
-      ∙ rw (r .framed, r .desk, r .sound, r .notes, c .legal, c .directory, c .new, c .free, none h, twelve)
+      ∙ rw (r .framed, r .desk, r .sound, r .notes, legal-name, c .directory, c .new, c .free, none h, twelve)
 
-second-start : (w : World) → Ready w → isRunning (w .desk) ≡ true → imageAllowed (inodes w) (length (w .image)) ≡ true → outcome starts w .answer ≡ Refused WrongState
+-- the image of a running copy has a length that a start allows
+length-allowed : (n b k : ℕ) → 1 ≤ b → b ≤ 4096 → k ≡ storeLength n b → imageAllowed n k ≡ true
+unfolding imageAllowed imageBlocks
+length-allowed n b k l m e =
+    let q : (k - (16 + 32 * n)) / 64 ≡ b = omega arith in
+    rw (q, le-leb 1 b l, le-leb b 4096 m, eq-eqb k (storeLength n b) e)
+
+blocks-allowed : (d : List ℕ) → isRunning d ≡ true → blocksFit d ≡ true → (1 ≤ deskOf d .blocks) × (deskOf d .blocks ≤ 4096)
+unfolding isRunning blocksFit
+blocks-allowed d h f =
+    let q : deskOf d .state ≡ 1 = eqb-true (deskOf d .state) 1 h in
+    let g : leb 1 (deskOf d .blocks) && leb (deskOf d .blocks) 4096 ≡ true = rw (ne-eqb (deskOf d .state) 0 (omega arith)) at f in (
+      leb-true 1 (deskOf d .blocks) (and-left (leb 1 (deskOf d .blocks)) (leb (deskOf d .blocks) 4096) g),
+      leb-true (deskOf d .blocks) 4096 (and-right (leb 1 (deskOf d .blocks)) (leb (deskOf d .blocks) 4096) g),
+    )
+
+allowed : (w : World) → Ready w → isRunning (w .desk) ≡ true → imageAllowed (inodes w) (length (w .image)) ≡ true
+unfolding notesFit deskFits imageFits
+allowed w r h =
+    let d = w .desk in
+    let a : deskFits d ≡ true = and-left _ _ (r .notes) in
+    let b = and-right (deskFits d) _ (r .notes) in
+    let c : deskOf d .inodes ≡ inodes w = eqb-true _ _ (and-left (eqb (deskOf d .inodes) (inodes w)) _ b) in
+    let e : imageFits (w .image) d ≡ true = or-right (not (isRunning d)) (imageFits (w .image) d) (ap not h) (and-right (eqb (deskOf d .inodes) (inodes w)) _ b) in
+    let f : length (w .image) ≡ storeLength (deskOf d .inodes) (deskOf d .blocks) = eqb-true _ _ (and-left (eqb (length (w .image)) (storeLength (deskOf d .inodes) (deskOf d .blocks))) _ e) in
+    let g : blocksFit d ≡ true = and-left (blocksFit d) _ (and-right (leb (deskOf d .state) 3) _ a) in
+    let k = blocks-allowed d h g in
+    length-allowed (inodes w) (deskOf d .blocks) (length (w .image)) (k .0) (k .1) (omega arith)
+
+second-start : (w : World) → Ready w → isRunning (w .desk) ≡ true → outcome starts w .answer ≡ Refused WrongState
 unfolding outcome startTable
-second-start w r h i = start-table (w .store) (w .image) (w .desk) ∙ rw (r .framed, r .desk, i, r .sound, r .notes, h)
+second-start w r h = start-table (w .store) (w .image) (w .desk) ∙ rw (r .framed, r .desk, allowed w r h, r .sound, r .notes, h)
 
 -- ---- the table
 pub track-cases : TrackCases
 track-cases = record {
   three-steps = three-steps;
+  finish = finish;
   fourteen = fourteen;
   fifteen = fifteen;
   to-768 = to-768;
   to-769 = to-769;
   at-size = at-size;
   past-size = past-size;
-  last-slot = λ w d t name k c a. last-slot w d name k c a t;
+  last-slot = λ w d t name k c l a. last-slot w d name k c l a t;
   no-slot = no-slot;
   reused-block = reused-block .1;
   reused-block-done = reused-block .0;

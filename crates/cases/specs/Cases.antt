@@ -11,8 +11,8 @@ use Rattle.layout.specs.Header.{headerOf}
 use Rattle.layout.specs.Inode.{sizeOf}
 use Rattle.layout.specs.Block.{blocksUsed, blockOf, kthBlock}
 use Rattle.layout.specs.Free.{freeInode, freeBlock}
-use Rattle.names.specs.Name.{slash, legalName}
-use Rattle.directory.specs.Slot.{mostSlots, slots, findSlot, slotEmpty}
+use Rattle.names.specs.Name.{nameBytes, slash, legalName}
+use Rattle.directory.specs.Slot.{mostSlots, slots, findSlot, emptySlot, slotEmpty}
 use Rattle.desk.specs.Sizes.{finished}
 use Rattle.desk.specs.Desk.{deskOf}
 use Rattle.answers.specs.declared.Refusal.the-variants.{IllegalName, PastEnd, NoSlot, WrongState, IntoItself}
@@ -23,9 +23,9 @@ use Rattle.files.specs.declared.Kind.{Kind}
 use Rattle.files.specs.Inode.{isFile, isDirectory}
 use Rattle.files.specs.Content.{fileBytes}
 use Rattle.files.specs.Plain.{create, write, rename}
-use Rattle.checkpoint.specs.Fit.{isRunning, imageAllowed}
+use Rattle.checkpoint.specs.Fit.{isRunning}
 use Rattle.checkpoint.specs.Busy.{busyOne}
-use Rattle.checkpoint.specs.List.{World, Event, Ready, call, steps, starts, outcome, run, accepted}
+use Rattle.checkpoint.specs.List.{World, Event, Ready, call, steps, starts, outcome, next, run, Finish}
 use Rattle.cases.specs.Worlds.{fresh, nameA, nameB, reusedBlock, movedDirectory, unlinkedFile, parentAndChild}
 
 -- the counts of the world's store
@@ -42,10 +42,9 @@ pub record Writes (w : World) (i o : ℕ) (xs : List ℕ) : Type 0 where
   pub free : (z : ℕ) → z ≤ mostFileBytes → blocksUsed z - blocksUsed (sizeOf (w .store) i) ≤ headerOf (w .store) .«free_blocks»
   pub idle : busyOne (w .desk) i ≡ false
 
--- a create of a legal new name in the directory d, of no locked inode, with an inode to be had
+-- a create of a new name in the directory d, of no locked inode, with an inode to be had
 pub record Creates (w : World) (d : ℕ) (name : List ℕ) : Type 0 where
   pub ready : Ready w
-  pub legal : legalName name ≡ true
   pub directory : isDirectory (w .store) (inodes w) d ≡ true
   pub new : findSlot (w .store) (inodes w) d name ≡ Absent
   pub inode : ℕ
@@ -56,35 +55,39 @@ pub record TrackCases : Type 0 where
   -- "N 1, empty root: three steps finish."
   pub three-steps : (outcome steps (run (starts ∷ steps ∷ steps ∷ []) (fresh 1 1)) .answer ≡ Done 3)
       × (deskOf (run (starts ∷ steps ∷ steps ∷ steps ∷ []) (fresh 1 1) .desk) .state ≡ finished)
-  -- "Name of 14 bytes passes, 15 gives 4."
-  pub fourteen : (w : World) (d : ℕ) (name : List ℕ) (k : Kind) → length name ≡ 14
-      → ((j : ℕ) → j < 14 → (getD name j 0 ≡ 0 → ⊥) × (getD name j 0 ≡ slash → ⊥))
-      → outcome (call (create d name k)) w .answer ≡ Refused IllegalName → ⊥
-  pub fifteen : (w : World) (d : ℕ) (name : List ℕ) (k : Kind) → Ready w → length name ≡ 15
+  -- so a finish is reached
+  pub finish : Finish (steps ∷ steps ∷ steps ∷ []) (next starts (fresh 1 1))
+  -- "Name of 14 bytes passes, 15 gives 4.": where the directory has an empty slot
+  pub fourteen : (w : World) (d t : ℕ) (name : List ℕ) (k : Kind) (c : Creates w d name) → length name ≡ nameBytes
+      → ((j : ℕ) → j < nameBytes → (getD name j 0 ≡ 0 → ⊥) × (getD name j 0 ≡ slash → ⊥))
+      → emptySlot (w .store) (inodes w) d ≡ At t
+      → outcome (call (create d name k)) w .answer ≡ Done (c .inode)
+  pub fifteen : (w : World) (d : ℕ) (name : List ℕ) (k : Kind) → Ready w → length name ≡ nameBytes + 1
       → outcome (call (create d name k)) w .answer ≡ Refused IllegalName
   -- "Write ending at 768 passes, 769 gives 9."
-  pub to-768 : (w : World) (i o : ℕ) (xs : List ℕ) → Writes w i o xs → o ≤ sizeOf (w .store) i → o + length xs ≡ 768
-      → outcome (call (write i o xs)) w .answer ≡ Done 768
-  pub to-769 : (w : World) (i o : ℕ) (xs : List ℕ) → Writes w i o xs → o + length xs ≡ 769
+  pub to-768 : (w : World) (i o : ℕ) (xs : List ℕ) → Writes w i o xs → o ≤ sizeOf (w .store) i → o + length xs ≡ mostFileBytes
+      → outcome (call (write i o xs)) w .answer ≡ Done mostFileBytes
+  pub to-769 : (w : World) (i o : ℕ) (xs : List ℕ) → Writes w i o xs → o + length xs ≡ mostFileBytes + 1
       → outcome (call (write i o xs)) w .answer ≡ Refused PastEnd
   -- "Write at the size passes, one past gives 9."
-  pub at-size : (w : World) (i o : ℕ) (xs : List ℕ) → Writes w i o xs → o ≡ sizeOf (w .store) i → o + length xs ≤ 768
+  pub at-size : (w : World) (i o : ℕ) (xs : List ℕ) → Writes w i o xs → o ≡ sizeOf (w .store) i → o + length xs ≤ mostFileBytes
       → outcome (call (write i o xs)) w .answer ≡ Done (o + length xs)
   pub past-size : (w : World) (i o : ℕ) (xs : List ℕ) → Writes w i o xs → o ≡ sizeOf (w .store) i + 1
       → outcome (call (write i o xs)) w .answer ≡ Refused PastEnd
   -- "48 entries fit, the next gives 13.": an empty slot of 48 is taken; with none left, 13
-  pub last-slot : (w : World) (d t : ℕ) (name : List ℕ) (k : Kind) (c : Creates w d name) → slots (w .store) d ≡ 48
-      → t < 48 → slotEmpty (w .store) (inodes w) d t ≡ true
+  pub last-slot : (w : World) (d t : ℕ) (name : List ℕ) (k : Kind) (c : Creates w d name) → legalName name ≡ true → slots (w .store) d ≡ mostSlots
+      → t < mostSlots → slotEmpty (w .store) (inodes w) d t ≡ true
       → outcome (call (create d name k)) w .answer ≡ Done (c .inode)
-  pub no-slot : (w : World) (d : ℕ) (name : List ℕ) (k : Kind) → Creates w d name → slots (w .store) d ≡ 48
-      → ((t : ℕ) → t < 48 → slotEmpty (w .store) (inodes w) d t ≡ false)
+  pub no-slot : (w : World) (d : ℕ) (name : List ℕ) (k : Kind) → Creates w d name → legalName name ≡ true → slots (w .store) d ≡ mostSlots
+      → ((t : ℕ) → t < mostSlots → slotEmpty (w .store) (inodes w) d t ≡ false)
       → outcome (call (create d name k)) w .answer ≡ Refused NoSlot
   -- "the image keeps all of 2 in block 2, and 3 in block 3 with 54 zeros."
   pub reused-block : (kthBlock (run reusedBlock (fresh 3 3) .image) 3 2 0 ≡ 2)
       × ((blockOf (run reusedBlock (fresh 3 3) .image) 3 2 ≡ replicate 64 7)
       × ((sizeOf (run reusedBlock (fresh 3 3) .image) 2 ≡ 64)
       × ((kthBlock (run reusedBlock (fresh 3 3) .image) 3 3 0 ≡ 3)
-      × (blockOf (run reusedBlock (fresh 3 3) .image) 3 3 ≡ replicate 10 5 ++ replicate 54 0))))
+      × ((blockOf (run reusedBlock (fresh 3 3) .image) 3 3 ≡ replicate 10 5 ++ replicate 54 0)
+      × (sizeOf (run reusedBlock (fresh 3 3) .image) 3 ≡ 10)))))
   pub reused-block-done : deskOf (run reusedBlock (fresh 3 3) .desk) .state ≡ finished
   -- "Copied directory moved to an uncopied one: one image entry, the old."
   pub moved-directory : (tally (naming (run movedDirectory (fresh 3 3) .image) 3) (mostSlots * 3) 2 ≡ 1)
@@ -94,7 +97,7 @@ pub record TrackCases : Type 0 where
   pub unlinked-file : tally (naming (run unlinkedFile (fresh 2 2) .image) 2) (mostSlots * 2) 2 ≡ 0
   pub unlinked-file-done : deskOf (run unlinkedFile (fresh 2 2) .desk) .state ≡ finished
   -- "Second start while running: 15."
-  pub second-start : (w : World) → Ready w → isRunning (w .desk) ≡ true → imageAllowed (inodes w) (length (w .image)) ≡ true
+  pub second-start : (w : World) → Ready w → isRunning (w .desk) ≡ true
       → outcome starts w .answer ≡ Refused WrongState
   -- "Directory moved into its child: 10."
   pub into-child : outcome (call (rename 1 nameA 3 nameA)) (run parentAndChild (fresh 3 3)) .answer ≡ Refused IntoItself

@@ -9,7 +9,7 @@ use Rattle.bounded.specs.Count.{count, tally}
 use Rattle.bounded.specs.declared.Found.{Found}
 use Rattle.bounded.specs.declared.Found.the-variants.{At, Absent}
 use Rattle.octets.specs.Octets.{part, splice}
-use Rattle.layout.specs.Sizes.{rootInode}
+use Rattle.layout.specs.Sizes.{rootInode, isComplete, notComplete}
 use Rattle.layout.specs.Header.{headerOf, putHeader, putFree, putComplete}
 use Rattle.layout.specs.Inode.{kindOf, sizeOf, inodeOf, putAttributes, putLinks, putAddress, place, directoryKind}
 use Rattle.layout.specs.Block.{blockOf, putInBlock, blocksUsed, kthBlock}
@@ -27,7 +27,7 @@ use Rattle.checkpoint.specs.Notes.{isCopied}
 -- ---- Start
 -- "the image's header (the store's N, block count from the image's length, root 1, the rest 0)", and all zero after it
 unfoldable pub startImage : ℕ → ℕ → List ℕ
-startImage n k = putHeader (replicate k 0) (record { inodes = n; blocks = imageBlocks n k; «free_inodes» = 0; «free_blocks» = 0; complete = 0; root = rootInode })
+startImage n k = putHeader (replicate k 0) (record { inodes = n; blocks = imageBlocks n k; «free_inodes» = 0; «free_blocks» = 0; complete = notComplete; root = rootInode })
 
 -- "zeroes marks, copied bytes and steps, and sets the desk's block count and running"
 unfoldable pub startDesk : List ℕ → ℕ → ℕ → List ℕ
@@ -91,7 +91,7 @@ putCounts m t n zero = t
 putCounts m t n (suc k) = putLinks (putCounts m t n k) (k + 1) (tally (imageNaming m n) (mostSlots * n) (k + 1))
 
 unfoldable pub finishImage : List ℕ → ℕ → ℕ → List ℕ
-finishImage m n b = putComplete (putFree (putCounts m m n n) (count (freeB m) n) (count (unnamedB m n) b)) 1
+finishImage m n b = putComplete (putFree (putCounts m m n n) (count (freeB m) n) (count (unnamedB m n) b)) isComplete
 
 abbrev pub stepImage : List ℕ → List ℕ → List ℕ → ℕ → Step → List ℕ
 stepImage s m d n (lock i) = m

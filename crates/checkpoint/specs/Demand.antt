@@ -1,4 +1,4 @@
--- The demands as one claim about lists: what a theorem is to inhabit.
+-- The demands (their quotes are the customer's) as one claim about lists: what a theorem is to inhabit.
 use Prim.Native.Nat.{ℕ, _+_, _*_, _≤_, _<_}
 use mathlib.Core.Path.{_≡_}
 use mathlib.Core.Bool.{Bool, true, false}
@@ -8,8 +8,10 @@ use Rattle.layout.specs.Sizes.{mostImageBlocks, addressCount}
 use Rattle.layout.specs.Inode.{kindOf, sizeOf, fileKind}
 use Rattle.layout.specs.Block.{storeLength}
 use Rattle.names.specs.Entry.{entryName}
-use Rattle.desk.specs.Desk.{deskOf}
-use Rattle.answers.specs.declared.Refusal.the-variants.{ImageFull}
+use Rattle.desk.specs.Desk.{deskOf, putDesk}
+use Rattle.desk.specs.Next.{stopping}
+use Rattle.answers.specs.declared.Refusal.the-variants.{BadBuffer, UnsoundStore, BadDesk, ImageFull}
+use Rattle.answers.specs.Refusal.{refusalNumber}
 use Rattle.answers.specs.declared.Answer.the-variants.{Done, Refused}
 use Rattle.sound.specs.Sound.{Sound, inodesIn}
 use Rattle.sound.specs.Place.{entryAt, filled, naming}
@@ -49,21 +51,23 @@ pub record Copied (es : List Event) (w : World) (f : List ℕ) (p : ℕ) : Type 
 
 -- ---- demand 2's last sentence and demand 3's first: "If the copy finishes", the copy is sound and every kept entry is in it
 pub record Finished (es : List Event) (w : World) : Type 0 where
+  pub count : inodesIn (run es w .image) ≡ countOf w
   pub sound : Sound mostImageBlocks true (run es w .image)
   pub entries : (p : ℕ) → Kept es w p → Copied es w (run es w .image) p
 
--- ---- the rest holds "Finished or not"
--- 1 to 3 never come
-pub record Unrefused (e : Event) (w : World) : Type 0 where
-  pub first : refusalOf (outcome e w .answer) ≡ 1 → ⊥
-  pub second : refusalOf (outcome e w .answer) ≡ 2 → ⊥
-  pub third : refusalOf (outcome e w .answer) ≡ 3 → ⊥
+-- ---- the rest holds "Finished or not". e is the next event
+-- demand 1: "A refusal changes no lent buffer, save that 16 marks the copy stopped and unlocks what was being copied"; 1 to 3 never come
+pub record Refusals (e : Event) (w : World) : Type 0 where
+  pub buffers : refusalOf (outcome e w .answer) ≡ refusalNumber BadBuffer → ⊥
+  pub store : refusalOf (outcome e w .answer) ≡ refusalNumber UnsoundStore → ⊥
+  pub desk : refusalOf (outcome e w .answer) ≡ refusalNumber BadDesk → ⊥
+  pub keeps : (refusalOf (outcome e w .answer) ≡ 0 → ⊥) → (refusalOf (outcome e w .answer) ≡ refusalNumber ImageFull → ⊥) → next e w ≡ w
+  pub stops : refusalOf (outcome e w .answer) ≡ refusalNumber ImageFull
+      → next e w ≡ record { store = w .store; image = w .image; desk = putDesk (w .desk) (stopping (deskOf (w .desk))) }
 
 -- "the copy's accepted steps are the number that the state question reports, and at most 14 times the inode count, plus 1"
 pub record Reported (es : List Event) (w : World) : Type 0 where
-  pub state : ℕ
-  pub locked : ℕ
-  pub reports : status (run es w .store) (run es w .image) (run es w .desk) ≡ Is state locked (acceptedSteps es w 0)
+  pub reports : status (run es w .store) (run es w .image) (run es w .desk) ≡ Is (deskOf (run es w .desk) .state) (deskOf (run es w .desk) .locked) (acceptedSteps es w 0)
   pub bound : acceptedSteps es w 0 ≤ stepsAnInode * countOf w + 1
 
 -- "The store's bytes and every file call's answer are exactly those of a plain store"
@@ -72,18 +76,21 @@ pub record AsPlain (es : List Event) (w : World) : Type 0 where
   pub answers : replies es w ≡ plainReplies (heard es w) (w .store)
 
 -- "With 12 × N image blocks or more, 16 never comes in a run."
-abbrev pub Roomy : World → Type 0
-Roomy w = storeLength (countOf w) (addressCount * countOf w) ≤ length (w .image)
+abbrev pub blocksAnInode : ℕ
+blocksAnInode = addressCount
 
--- ---- the whole claim, for the world v in which a start is accepted and any list of events after it. A later accepted start is such a v again.
-pub record Demand (v : World) (es : List Event) : Type 0 where
-  pub finished : Finish es (next starts v) → Finished es (next starts v)
-  pub unrefused : (e : Event) → Unrefused e (run es (next starts v))
-  pub reported : Reported es (next starts v)
-  pub as-plain : AsPlain es (next starts v)
-  pub never-full : Roomy v → outcome steps (run es (next starts v)) .answer ≡ Refused ImageFull → ⊥
+abbrev pub Roomy : World → Type 0
+Roomy w = storeLength (countOf w) (blocksAnInode * countOf w) ≤ length (w .image)
+
+-- ---- the whole claim, for any list of events after an accepted start that left w. A later accepted start opens a list of its own.
+pub record Demand (es : List Event) (w : World) : Type 0 where
+  pub finished : Finish es w → Finished es w
+  pub refusals : (e : Event) → Refusals e (run es w)
+  pub reported : Reported es w
+  pub as-plain : AsPlain es w
+  pub never-full : Roomy w → outcome steps (run es w) .answer ≡ Refused ImageFull → ⊥
   -- "step the steps so far"
-  pub step-answer : accepted steps (run es (next starts v)) ≡ true → outcome steps (run es (next starts v)) .answer ≡ Done (acceptedSteps es (next starts v) 0 + 1)
+  pub step-answer : accepted steps (run es w) ≡ true → outcome steps (run es w) .answer ≡ Done (acceptedSteps es w 0 + 1)
 
 abbrev pub Demands : Type 0
-Demands = (v : World) → accepted starts v ≡ true → (es : List Event) → Demand v es
+Demands = (v : World) → accepted starts v ≡ true → (es : List Event) → Demand es (next starts v)

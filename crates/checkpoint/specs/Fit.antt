@@ -6,7 +6,7 @@ use lib.Dec.{eqb, leb}
 use lib.ListN.{length}
 use Rattle.bounded.specs.Below.{allBelow}
 use Rattle.bounded.specs.Search.{pick}
-use Rattle.layout.specs.Sizes.{mostInodes, mostStoreBlocks, mostImageBlocks, addressCount, headerBytes, inodeBytes, blockBytes, rootInode}
+use Rattle.layout.specs.Sizes.{mostInodes, mostStoreBlocks, mostImageBlocks, addressCount, headerBytes, inodeBytes, blockBytes, rootInode, notComplete}
 use Rattle.layout.specs.Header.{headerOf}
 use Rattle.layout.specs.Inode.{addressOf}
 use Rattle.layout.specs.Block.{storeLength}
@@ -14,7 +14,7 @@ use Rattle.desk.specs.Sizes.{deskLength, idle, running, stopped}
 use Rattle.desk.specs.Desk.{deskOf, copiedOf, reservedZero}
 use Rattle.sound.specs.Sound.{inodesIn, framedB}
 
--- refusal 1: "a desk (by its own N) has no length or count allowed above"
+-- the opposite of refusal 1's "a desk (by its own N) .. has no length or count allowed above"
 unfoldable pub deskFramed : List ℕ → Bool
 deskFramed d = leb 1 (deskOf d .inodes) && (leb (deskOf d .inodes) mostInodes && eqb (length d) (deskLength (deskOf d .inodes)))
 
@@ -22,7 +22,7 @@ deskFramed d = leb 1 (deskOf d .inodes) && (leb (deskOf d .inodes) mostInodes &&
 unfoldable pub imageBlocks : ℕ → ℕ → ℕ
 imageBlocks n k = (k - (headerBytes + inodeBytes * n)) / blockBytes
 
--- refusal 1: "at start an image (by the store's N)", of k bytes
+-- the opposite of refusal 1's "at start an image (by the store's N)", of k bytes
 unfoldable pub imageAllowed : ℕ → ℕ → Bool
 imageAllowed n k = leb 1 (imageBlocks n k) && (leb (imageBlocks n k) mostImageBlocks && eqb k (storeLength n (imageBlocks n k)))
 
@@ -41,7 +41,11 @@ mostSteps d = pick (isRunning d) (stepsAnInode * deskOf d .inodes) (stepsAnInode
 unfoldable pub blocksFit : List ℕ → Bool
 blocksFit d = pick (eqb (deskOf d .state) idle) (eqb (deskOf d .blocks) 0) (leb 1 (deskOf d .blocks) && leb (deskOf d .blocks) mostImageBlocks)
 
--- refusal 3: "the desk otherwise breaks its layout"
+-- "more than 12 blocks copied"
+abbrev pub mostCopied : ℕ
+mostCopied = addressCount
+
+-- the opposite of refusal 3's "the desk otherwise breaks its layout"
 unfoldable pub deskFits : List ℕ → Bool
 deskFits d =
     leb (deskOf d .state) stopped
@@ -49,18 +53,18 @@ deskFits d =
     && (reservedZero d
     && (allBelow (λ k. leb (copiedOf d (k + 1)) 1) (deskOf d .inodes)
     && (leb (deskOf d .locked) (deskOf d .inodes)
-    && (leb (deskOf d .copied) addressCount
+    && (leb (deskOf d .copied) mostCopied
     && ((isRunning d || (eqb (deskOf d .locked) 0 && eqb (deskOf d .copied) 0))
     && leb (deskOf d .steps) (mostSteps d)))))))
 
--- refusal 3: "while running, the image's length, N or block count differ from the desk's, its root is not 1, its byte 8 is not 0, or an address exceeds its block count"
+-- the opposite of refusal 3's "while running, the image's length, N or block count differ from the desk's, its root is not 1, its byte 8 is not 0, or an address exceeds its block count"
 unfoldable pub imageFits : List ℕ → List ℕ → Bool
 imageFits m d =
     eqb (length m) (storeLength (deskOf d .inodes) (deskOf d .blocks))
     && (eqb (headerOf m .inodes) (deskOf d .inodes)
     && (eqb (headerOf m .blocks) (deskOf d .blocks)
     && (eqb (headerOf m .root) rootInode
-    && (eqb (headerOf m .complete) 0
+    && (eqb (headerOf m .complete) notComplete
     && allBelow (λ x. leb (addressOf m (deskOf d .inodes) x) (deskOf d .blocks)) (addressCount * deskOf d .inodes)))))
 
 -- no refusal 3; "or is of another N"

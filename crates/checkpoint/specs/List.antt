@@ -6,13 +6,15 @@ use mathlib.Core.List.{List, [], _∷_}
 use lib.Dec.{eqb}
 use Rattle.bounded.specs.Search.{pick}
 use Rattle.bounded.specs.declared.Found.the-variants.{At}
-use Rattle.layout.specs.Sizes.{rootInode}
+use Rattle.layout.specs.Sizes.{rootInode, isComplete}
 use Rattle.layout.specs.Header.{headerOf}
 use Rattle.directory.specs.Slot.{mostSlots, findSlot}
 use Rattle.answers.specs.declared.Refusal.{Refusal}
 use Rattle.answers.specs.declared.Answer.{Answer}
 use Rattle.answers.specs.declared.Answer.the-variants.{Done, Refused}
+use Rattle.answers.specs.declared.Refusal.the-variants.{Busy}
 use Rattle.answers.specs.Refusal.{refusalNumber}
+use Rattle.answers.specs.Told.{told}
 use Rattle.layout.specs.Sizes.{mostStoreBlocks}
 use Rattle.sound.specs.Sound.{inodesIn, framedB, isSound}
 use Rattle.sound.specs.declared.Form.the-variants.{Store}
@@ -80,8 +82,7 @@ next e w = record { store = outcome e w .store; image = outcome e w .image; desk
 
 -- the number of a refusal, 0 for none
 abbrev pub refusalOf : Answer → ℕ
-refusalOf (Done x) = 0
-refusalOf (Refused e) = refusalNumber e
+refusalOf a = told a .number
 
 abbrev pub accepted : Event → World → Bool
 accepted e w = eqb (refusalOf (outcome e w .answer)) 0
@@ -105,7 +106,7 @@ restarts asks w = false
 
 -- the step "sets image byte 8"
 abbrev pub completes : Event → World → Bool
-completes steps w = accepted steps w && eqb (headerOf (next steps w .image) .complete) 1
+completes steps w = accepted steps w && eqb (headerOf (next steps w .image) .complete) isComplete
 completes (call c) w = false
 completes asks w = false
 completes starts w = false
@@ -157,7 +158,7 @@ acceptedSteps (asks ∷ es) w c = acceptedSteps es (next asks w) c
 
 -- ---- the plain store: "fed the list's file calls and their arguments in order, less those answered 14"
 abbrev pub isBusy : Call → World → Bool
-isBusy c w = eqb (refusalOf (liveCall c w .answer)) 14
+isBusy c w = eqb (refusalOf (liveCall c w .answer)) (refusalNumber Busy)
 
 -- what a file call answers: its answer, and a read's out-buffer
 pub record Reply : Type 0 where

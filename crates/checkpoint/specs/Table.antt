@@ -1,4 +1,4 @@
--- "Given by number, looked at lowest first, when and only when the condition holds for that call": each call's conditions in a table. s is the store, m the image, d the desk.
+-- "Given by number, looked at lowest first, when and only when the condition holds for that call": the conditions of each call on a store in a table. s is the store, m the image, d the desk.
 use Prim.Native.Nat.{ℕ, _+_, _-_, max}
 use mathlib.Core.Bool.{Bool, true, false, not, _&&_, _||_}
 use mathlib.Core.List.{List, [], _∷_}
@@ -7,7 +7,7 @@ use lib.ListN.{length}
 use Rattle.bounded.specs.Search.{pick}
 use Rattle.bounded.specs.declared.Found.{Found}
 use Rattle.bounded.specs.declared.Found.the-variants.{At, Absent}
-use Rattle.layout.specs.Sizes.{mostStoreBlocks, mostFileBytes, addressCount}
+use Rattle.layout.specs.Sizes.{mostStoreBlocks, mostFileBytes, mostDirectoryBlocks}
 use Rattle.layout.specs.Header.{headerOf}
 use Rattle.layout.specs.Inode.{kindOf, sizeOf, directoryKind}
 use Rattle.layout.specs.Block.{blocksUsed, kthBlock}
@@ -66,10 +66,10 @@ liveRows s m d rs =
 -- 12: "too few free blocks" for an entry more in e; 13: "all 48 slots used"
 abbrev pub noBlock : List ℕ → ℕ → Bool
 noBlock s e =
-    not (found (emptySlot s (inodesIn s) e)) && (ltb (blocksUsed (sizeOf s e)) addressCount && not (found (freeBlock s (inodesIn s) (blocksIn s))))
+    not (found (emptySlot s (inodesIn s) e)) && (ltb (blocksUsed (sizeOf s e)) mostDirectoryBlocks && not (found (freeBlock s (inodesIn s) (blocksIn s))))
 
 abbrev pub noSlot : List ℕ → ℕ → Bool
-noSlot s e = not (found (emptySlot s (inodesIn s) e)) && not (ltb (blocksUsed (sizeOf s e)) addressCount)
+noSlot s e = not (found (emptySlot s (inodesIn s) e)) && not (ltb (blocksUsed (sizeOf s e)) mostDirectoryBlocks)
 
 -- the slot of the name in e, and its inode
 abbrev pub slotFor : List ℕ → ℕ → List ℕ → ℕ
@@ -168,6 +168,10 @@ startTable s m d =
     ∷ row (not (notesFit s m d)) BadDesk
     ∷ row (isRunning d) WrongState
     ∷ []
+
+-- the state question
+abbrev pub askTable : List ℕ → List ℕ → List ℕ → List Row
+askTable s m d = liveRows s m d []
 
 -- 16: "a block step with every image block named"
 unfoldable pub stepTable : List ℕ → List ℕ → List ℕ → List Row

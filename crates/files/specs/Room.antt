@@ -3,7 +3,7 @@ use Prim.Native.Nat.{ℕ}
 use mathlib.Core.List.{List}
 use lib.Dec.{eqb, ltb}
 use Rattle.bounded.specs.Search.{pick, onFound}
-use Rattle.layout.specs.Sizes.{addressCount}
+use Rattle.layout.specs.Sizes.{mostDirectoryBlocks}
 use Rattle.layout.specs.Inode.{sizeOf}
 use Rattle.layout.specs.Block.{blocksUsed}
 use Rattle.layout.specs.Free.{freeBlock}
@@ -22,7 +22,7 @@ room t c = record { slot = t; block = c }
 unfoldable pub roomIn : List ℕ → ℕ → ℕ → ℕ → RoomPlan
 roomIn s n b d =
     onFound (emptySlot s n d) (λ t. Has (room t 0))
-    (pick (ltb (blocksUsed (sizeOf s d)) addressCount)
+    (pick (ltb (blocksUsed (sizeOf s d)) mostDirectoryBlocks)
     (onFound (freeBlock s n b) (λ c. Has (room (slots s d) c)) (NoRoom NoBlocks))
     (NoRoom NoSlot))
 

@@ -38,7 +38,7 @@ pub enum RenamePlan {
     NoRename(Refusal),
 }
 
-// Write and shorten: the new size. Read: the count.
+// Write and shorten: the new size. Read: the count. Look up: the inode.
 pub enum SizePlan {
     To(usize),
     NoSize(Refusal),

@@ -36,6 +36,7 @@ use Rattle.desk.specs.Desk.{deskOf, copiedOf, marksOf}
 use Rattle.desk.specs.Desk as desk
 use Rattle.desk.proofs.DeskLaws.{length-putDesk, desk-putDesk, reserved-putDesk, copied-putDesk, marks-putDesk}
 use Rattle.answers.specs.declared.Refusal.the-variants.{BadBuffer}
+use Rattle.answers.specs.Told.{Told, told}
 use Rattle.answers.specs.declared.Answer.the-variants.{Done, Refused}
 use Rattle.format.specs.Format.{left, storeAllowed, freshHeader, emptyRoot, freshStore, freshDesk, layOutStore}
 use Rattle.format.proofs.FormatLaws.{store-allowed}
@@ -279,14 +280,14 @@ fresh-sound n b h i k l =
     }
 
 -- a store that the call laid out
-pub laid-out-sound : (s : List ℕ) (n b : ℕ) → (layOutStore s n b) .answer ≡ Done 0 → Sound mostStoreBlocks false ((layOutStore s n b) .buffer)
+pub laid-out-sound : (s : List ℕ) (n b : ℕ) → (layOutStore s n b) .answer ≡ told (Done 0) → Sound mostStoreBlocks false ((layOutStore s n b) .buffer)
 unfolding layOutStore
 laid-out-sound s n b e = go (storeAllowed n b (length s)) refl e
   where
-    go : (t : Bool) → storeAllowed n b (length s) ≡ t → pick t (left (Done 0) (freshStore n b)) (left (Refused BadBuffer) s) .answer ≡ Done 0
+    go : (t : Bool) → storeAllowed n b (length s) ≡ t → pick t (left (Done 0) (freshStore n b)) (left (Refused BadBuffer) s) .answer ≡ told (Done 0)
         → Sound mostStoreBlocks false (pick t (left (Done 0) (freshStore n b)) (left (Refused BadBuffer) s) .buffer)
     go true a r = let q = store-allowed n b (length s) .to a in fresh-sound n b (q .0) (q .1 .0) (q .1 .1 .0) (q .1 .1 .1 .0)
-    go false a r = let z : _≡_ {A = ℕ} 0 1 = cc in absurd (omega arith)
+    go false a r = let z : _≡_ {A = ℕ} 1 0 = ap (λ (x : Told). x .number) r in absurd (omega arith)
 
 -- ---- a fresh desk
 module _ (n : ℕ) where

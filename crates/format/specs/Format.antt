@@ -5,7 +5,7 @@ use mathlib.Core.List.{List}
 use lib.Dec.{eqb, leb}
 use lib.ListN.{length, replicate}
 use Rattle.bounded.specs.Search.{pick}
-use Rattle.layout.specs.Sizes.{mostInodes, mostStoreBlocks, addressCount, rootInode}
+use Rattle.layout.specs.Sizes.{mostInodes, mostStoreBlocks, addressCount, rootInode, isComplete}
 use Rattle.layout.specs.Header.{putHeader}
 use Rattle.layout.specs.Inode.{putInode, directoryKind}
 use Rattle.layout.specs.Block.{storeLength}
@@ -15,16 +15,17 @@ use Rattle.desk.specs.Sizes.{deskLength, idle}
 use Rattle.desk.specs.Desk.{putDesk}
 use Rattle.desk.specs.declared.Desk.{Desk}
 use Rattle.answers.specs.declared.Refusal.the-variants.{BadBuffer}
+use Rattle.answers.specs.Told.{Told, told}
 use Rattle.answers.specs.declared.Answer.{Answer}
 use Rattle.answers.specs.declared.Answer.the-variants.{Done, Refused}
 
--- what a layout call leaves: its answer, and the buffer's content
+-- what a layout call leaves: its answer by the paper's numbers, and the buffer's content
 pub record Outcome : Type 0 where
-  pub answer : Answer
+  pub answer : Told
   pub buffer : List ℕ
 
 abbrev pub left : Answer → List ℕ → Outcome
-left r s = record { answer = r; buffer = s }
+left r s = record { answer = told r; buffer = s }
 
 -- ---- A store
 -- refusal 1: "inode count N (1 to 256)", "block count B (store 1 to 1,024)", "Length is 16 + 32 × N + 64 × B exactly"
@@ -33,7 +34,7 @@ storeAllowed n b k = leb 1 n && (leb n mostInodes && (leb 1 b && (leb b mostStor
 
 -- a true header: all inodes but the root are free, and all blocks
 unfoldable pub freshHeader : ℕ → ℕ → Header
-freshHeader n b = record { inodes = n; blocks = b; «free_inodes» = n - 1; «free_blocks» = b; complete = 1; root = rootInode }
+freshHeader n b = record { inodes = n; blocks = b; «free_inodes» = n - 1; «free_blocks» = b; complete = isComplete; root = rootInode }
 
 -- an empty directory that no entry names
 unfoldable pub emptyRoot : Inode

@@ -7,7 +7,7 @@ use lib.Dec.{eqb, leb}
 use lib.ListN.{length, getD}
 use Rattle.bounded.specs.Below.{allBelow}
 use Rattle.bounded.specs.Count.{count, Differ, differB}
-use Rattle.layout.specs.Sizes.{mostInodes, mostStoreBlocks, mostImageBlocks, addressCount, blockBytes, rootInode}
+use Rattle.layout.specs.Sizes.{mostInodes, mostStoreBlocks, mostImageBlocks, addressCount, blockBytes, rootInode, isComplete}
 use Rattle.layout.specs.Header.{headerOf, reservedZero}
 use Rattle.layout.specs.Inode.{kindOf, parentOf, addressOf, freeKind, directoryKind}
 use Rattle.layout.specs.Block.{storeLength, blockOf}
@@ -46,7 +46,7 @@ unnamedB s n k = not (named s n (k + 1))
 pub record Sound (limit : ℕ) (blank : Bool) (s : List ℕ) : Type 0 where
   -- "Header and length right, byte 8 is 1."
   pub framed : Framed limit s
-  pub complete : headerOf s .complete ≡ 1
+  pub complete : headerOf s .complete ≡ isComplete
   pub root-number : headerOf s .root ≡ rootInode
   pub reserved : reservedZero s ≡ true
   pub inodes : (i : ℕ) → 1 ≤ i → i ≤ inodesIn s → InodeSound s (inodesIn s) (blocksIn s) i
@@ -74,7 +74,7 @@ framedB limit s =
 
 unfoldable pub headerB : List ℕ → Bool
 headerB s =
-    eqb (headerOf s .complete) 1
+    eqb (headerOf s .complete) isComplete
     && (eqb (headerOf s .root) rootInode
     && (reservedZero s
     && (eqb (kindOf s rootInode) directoryKind
