@@ -1,5 +1,5 @@
 -- A test at every number below a bound.
-use mathlib.Core.Bool.{Bool, true, false, not, _&&_}
+use mathlib.Core.Bool.{Bool, true, not, _&&_}
 use Prim.Native.Nat.{ℕ, zero, suc}
 
 -- p holds at every number below n

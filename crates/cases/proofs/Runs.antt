@@ -35,9 +35,9 @@ use Rattle.checkpoint.specs.Live.{liveCreate, liveWrite, liveShorten, liveUnlin
 use Rattle.checkpoint.specs.Notes.{isCopied, noteMade, noteTaken, cutsImage, cutImage}
 use Rattle.desk.specs.Desk as desk
 use Rattle.checkpoint.specs.Live as live
-use Prim.Native.Nat.{ℕ, _*_}
+use Prim.Native.Nat.{_*_}
 use mathlib.Core.Path.{_≡_, refl}
-use mathlib.Core.List.{List, [], _∷_, _++_}
+use mathlib.Core.List.{[], _∷_, _++_}
 use lib.ListN.{replicate}
 use Rattle.bounded.specs.Count.{tally}
 use Rattle.directory.specs.Slot.{mostSlots}
@@ -46,7 +46,7 @@ use Rattle.answers.specs.declared.Refusal.the-variants.{IntoItself}
 use Rattle.answers.specs.declared.Answer.the-variants.{Done, Refused}
 use Rattle.files.specs.Plain.{rename}
 use Rattle.checkpoint.specs.List.{call, steps, starts, Finish, last, more}
-use Rattle.cases.specs.Worlds.{fresh, nameA, nameB, reusedBlock, movedDirectory, unlinkedFile, parentAndChild}
+use Rattle.cases.specs.Worlds.{fresh, nameA, reusedBlock, movedDirectory, unlinkedFile, parentAndChild}
 
 pub three-steps : (outcome steps (run (starts ∷ steps ∷ steps ∷ []) (fresh 1 1)) .answer ≡ Done 3)
     × (deskOf (run (starts ∷ steps ∷ steps ∷ steps ∷ []) (fresh 1 1) .desk) .state ≡ finished)

@@ -1,29 +1,26 @@
 -- The track cases of any store, by the tables of refusals; and the whole table.
 use Prim.Native.Nat.{ℕ, _+_, _*_, _-_, _≤_, _<_, _/_, max}
-use mathlib.Core.Path.{_≡_, refl, sym, ap, _∙_}
-use mathlib.Core.Bool.{Bool, true, false, not, _&&_, _||_}
-use mathlib.Core.List.{List, [], _∷_}
+use mathlib.Core.Path.{_≡_, ap, _∙_}
+use mathlib.Core.Bool.{true, false, not, _&&_, _||_}
+use mathlib.Core.List.{List}
 use native.Mathlib.Omega.{arith}
 use borrow.Author.Tests.{lt-ltb, le-ltb, le-leb, leb-true, eqb-true, eq-eqb, ne-eqb}
 use lib.Dec.{eqb, leb, ltb}
 use lib.ListN.{length, getD}
-use Rattle.bounded.specs.Search.{pick, first}
+use Rattle.bounded.specs.Search.{first}
 use Rattle.bounded.specs.declared.Found.the-variants.{At, Absent}
 use Rattle.bounded.proofs.BoolLaws.{fails, and-left, and-right, or-l, or-r, or-right}
-use Rattle.bounded.proofs.SearchLaws.{Lowest, lowest-of, lowest-found, absent-of}
-use Rattle.layout.specs.Sizes.{mostStoreBlocks, mostFileBytes}
+use Rattle.bounded.proofs.SearchLaws.{lowest-of, lowest-found, absent-of}
+use Rattle.layout.specs.Sizes.{mostFileBytes}
 use Rattle.layout.specs.Header.{headerOf}
 use Rattle.layout.specs.Inode.{kindOf, sizeOf, fileKind}
 use Rattle.layout.specs.Block.{storeLength, blocksUsed}
-use Rattle.layout.specs.Free.{freeInode}
-use Rattle.names.specs.Name.{slash, Legal, legalName}
+use Rattle.names.specs.Name.{slash, legalName}
 use Rattle.names.proofs.NameLaws.{legal, legal-bounds}
 use Rattle.directory.specs.Slot.{slots, slotEmpty, emptySlot}
-use Rattle.answers.specs.declared.Refusal.{Refusal}
 use Rattle.answers.specs.declared.Refusal.the-variants.{IllegalName, PastEnd, NoSlot, WrongState}
 use Rattle.answers.specs.declared.Answer.the-variants.{Done, Refused}
 use Rattle.desk.specs.Desk.{deskOf}
-use Rattle.sound.specs.Sound.{inodesIn}
 use Rattle.sound.specs.declared.Form.the-variants.{Store}
 use Rattle.sound.proofs.SoundLaws.{is-sound}
 use Rattle.files.specs.declared.Kind.{Kind}

@@ -1,16 +1,16 @@
 -- "Track cases (★ proved)": one table.
-use Prim.Native.Nat.{ℕ, suc, _+_, _*_, _-_, _≤_, _<_}
+use Prim.Native.Nat.{ℕ, _+_, _*_, _-_, _≤_, _<_}
 use mathlib.Core.Path.{_≡_}
-use mathlib.Core.Bool.{Bool, true, false}
+use mathlib.Core.Bool.{true, false}
 use mathlib.Core.List.{List, [], _∷_, _++_}
 use lib.ListN.{length, getD, replicate}
 use Rattle.bounded.specs.Count.{tally}
 use Rattle.bounded.specs.declared.Found.the-variants.{At, Absent}
-use Rattle.layout.specs.Sizes.{mostFileBytes, rootInode}
+use Rattle.layout.specs.Sizes.{mostFileBytes}
 use Rattle.layout.specs.Header.{headerOf}
 use Rattle.layout.specs.Inode.{sizeOf}
 use Rattle.layout.specs.Block.{blocksUsed, blockOf, kthBlock}
-use Rattle.layout.specs.Free.{freeInode, freeBlock}
+use Rattle.layout.specs.Free.{freeInode}
 use Rattle.names.specs.Name.{nameBytes, slash, legalName}
 use Rattle.directory.specs.Slot.{mostSlots, slots, findSlot, emptySlot, slotEmpty}
 use Rattle.desk.specs.Sizes.{finished}
@@ -21,12 +21,11 @@ use Rattle.sound.specs.Sound.{inodesIn, blocksIn}
 use Rattle.sound.specs.Place.{naming}
 use Rattle.files.specs.declared.Kind.{Kind}
 use Rattle.files.specs.Inode.{isFile, isDirectory}
-use Rattle.files.specs.Content.{fileBytes}
 use Rattle.files.specs.Plain.{create, write, rename}
 use Rattle.checkpoint.specs.Fit.{isRunning}
 use Rattle.checkpoint.specs.Busy.{busyOne}
-use Rattle.checkpoint.specs.List.{World, Event, Ready, call, steps, starts, outcome, next, run, Finish}
-use Rattle.cases.specs.Worlds.{fresh, nameA, nameB, reusedBlock, movedDirectory, unlinkedFile, parentAndChild}
+use Rattle.checkpoint.specs.List.{World, Ready, call, steps, starts, outcome, next, run, Finish}
+use Rattle.cases.specs.Worlds.{fresh, nameA, reusedBlock, movedDirectory, unlinkedFile, parentAndChild}
 
 -- the counts of the world's store
 abbrev pub inodes : World → ℕ

@@ -1,5 +1,5 @@
 -- The concrete stores and lists of the track cases.
-use Prim.Native.Nat.{ℕ, _+_, _*_}
+use Prim.Native.Nat.{ℕ}
 use mathlib.Core.List.{List, [], _∷_}
 use lib.ListN.{replicate}
 use Rattle.layout.specs.Block.{storeLength}

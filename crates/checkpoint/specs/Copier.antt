@@ -1,23 +1,23 @@
 -- "The copier": start, and the five things that a step does. s is the store, m the image, d the desk, n the inode count.
-use Prim.Native.Nat.{ℕ, zero, suc, _+_, _*_, _/_, _%_}
-use mathlib.Core.Bool.{Bool, not, _&&_}
+use Prim.Native.Nat.{ℕ, zero, suc, _+_, _*_}
+use mathlib.Core.Bool.{not, _&&_}
 use mathlib.Core.List.{List}
 use lib.Dec.{eqb, leb, ltb}
-use lib.ListN.{length, replicate}
+use lib.ListN.{replicate}
 use Rattle.bounded.specs.Search.{pick, firstFrom, onFound}
 use Rattle.bounded.specs.Count.{count, tally}
 use Rattle.bounded.specs.declared.Found.{Found}
-use Rattle.bounded.specs.declared.Found.the-variants.{At, Absent}
+use Rattle.bounded.specs.declared.Found.the-variants.{At}
 use Rattle.octets.specs.Octets.{part, splice}
 use Rattle.layout.specs.Sizes.{rootInode, isComplete, notComplete}
-use Rattle.layout.specs.Header.{headerOf, putHeader, putFree, putComplete}
+use Rattle.layout.specs.Header.{putHeader, putFree, putComplete}
 use Rattle.layout.specs.Inode.{kindOf, sizeOf, inodeOf, putAttributes, putLinks, putAddress, place, directoryKind}
 use Rattle.layout.specs.Block.{blockOf, putInBlock, blocksUsed, kthBlock}
 use Rattle.layout.specs.Free.{named, freeBlock}
 use Rattle.layout.specs.declared.inode.Inode.{Inode}
 use Rattle.names.specs.Entry.{entryBytes, entryInode}
 use Rattle.directory.specs.Slot.{mostSlots, slotsInBlock}
-use Rattle.desk.specs.Desk.{deskOf, putDesk, copiedOf, putCopied, markOf, clearNotes}
+use Rattle.desk.specs.Desk.{deskOf, putDesk, putCopied, markOf, clearNotes}
 use Rattle.desk.specs.Next.{starting, locking, copyingOne, unlocking, finishing, stopping}
 use Rattle.sound.specs.Sound.{freeB, unnamedB}
 use Rattle.checkpoint.specs.Fit.{imageBlocks}

@@ -1,8 +1,8 @@
 -- The demands (their quotes are the customer's) as one claim about lists: what a theorem is to inhabit.
-use Prim.Native.Nat.{ℕ, _+_, _*_, _≤_, _<_}
+use Prim.Native.Nat.{ℕ, _+_, _*_, _≤_}
 use mathlib.Core.Path.{_≡_}
-use mathlib.Core.Bool.{Bool, true, false}
-use mathlib.Core.List.{List, [], _∷_}
+use mathlib.Core.Bool.{true}
+use mathlib.Core.List.{List}
 use lib.ListN.{length}
 use Rattle.layout.specs.Sizes.{mostImageBlocks, addressCount}
 use Rattle.layout.specs.Inode.{kindOf, sizeOf, fileKind}

@@ -6,13 +6,13 @@ use lib.Dec.{eqb, leb}
 use lib.ListN.{length}
 use Rattle.bounded.specs.Below.{allBelow}
 use Rattle.bounded.specs.Search.{pick}
-use Rattle.layout.specs.Sizes.{mostInodes, mostStoreBlocks, mostImageBlocks, addressCount, headerBytes, inodeBytes, blockBytes, rootInode, notComplete}
+use Rattle.layout.specs.Sizes.{mostInodes, mostImageBlocks, addressCount, headerBytes, inodeBytes, blockBytes, rootInode, notComplete}
 use Rattle.layout.specs.Header.{headerOf}
 use Rattle.layout.specs.Inode.{addressOf}
 use Rattle.layout.specs.Block.{storeLength}
 use Rattle.desk.specs.Sizes.{deskLength, idle, running, stopped}
 use Rattle.desk.specs.Desk.{deskOf, copiedOf, reservedZero}
-use Rattle.sound.specs.Sound.{inodesIn, framedB}
+use Rattle.sound.specs.Sound.{inodesIn}
 
 -- the opposite of refusal 1's "a desk (by its own N) .. has no length or count allowed above"
 unfoldable pub deskFramed : List ℕ → Bool

@@ -1,5 +1,5 @@
 -- The image while it is being made. "An image directory's slots are those of the blocks its addresses name, whatever its size." n is the inode count.
-use Prim.Native.Nat.{ℕ, _+_, _*_, _/_, _%_}
+use Prim.Native.Nat.{ℕ, _*_, _/_}
 use mathlib.Core.Bool.{Bool, not, _&&_}
 use mathlib.Core.List.{List}
 use lib.Dec.{eqb}

@@ -1,7 +1,7 @@
 -- "The list in demand 3": events, what each does and answers, the run of a list, and what stood untouched, from calls and stores alone.
 use Prim.Native.Nat.{ℕ, suc, _+_, _*_}
 use mathlib.Core.Path.{_≡_}
-use mathlib.Core.Bool.{Bool, true, false, not, _&&_}
+use mathlib.Core.Bool.{Bool, true, false, _&&_}
 use mathlib.Core.List.{List, [], _∷_}
 use lib.Dec.{eqb}
 use Rattle.bounded.specs.Search.{pick}
@@ -9,9 +9,7 @@ use Rattle.bounded.specs.declared.Found.the-variants.{At}
 use Rattle.layout.specs.Sizes.{rootInode, isComplete}
 use Rattle.layout.specs.Header.{headerOf}
 use Rattle.directory.specs.Slot.{mostSlots, findSlot}
-use Rattle.answers.specs.declared.Refusal.{Refusal}
 use Rattle.answers.specs.declared.Answer.{Answer}
-use Rattle.answers.specs.declared.Answer.the-variants.{Done, Refused}
 use Rattle.answers.specs.declared.Refusal.the-variants.{Busy}
 use Rattle.answers.specs.Refusal.{refusalNumber}
 use Rattle.answers.specs.Told.{told}

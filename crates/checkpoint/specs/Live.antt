@@ -1,8 +1,7 @@
 -- The public calls over the three buffers: guards (1, 2, 3), the plain store's plan (4 to 13), busy (14), then the bytes. s is the store, m the image, d the desk.
 use Prim.Native.Nat.{ℕ, _+_}
-use mathlib.Core.Bool.{Bool, not, _&&_, _||_}
-use mathlib.Core.List.{List, []}
-use lib.Dec.{eqb}
+use mathlib.Core.Bool.{Bool, not, _&&_}
+use mathlib.Core.List.{List}
 use lib.ListN.{length}
 use Rattle.bounded.specs.Search.{pick}
 use Rattle.layout.specs.Sizes.{mostStoreBlocks}
@@ -14,7 +13,6 @@ use Rattle.answers.specs.declared.Refusal.the-variants.{BadBuffer, UnsoundStore
 use Rattle.answers.specs.declared.Answer.{Answer}
 use Rattle.answers.specs.declared.Answer.the-variants.{Done, Refused}
 use Rattle.files.specs.declared.Kind.{Kind}
-use Rattle.files.specs.declared.Room.{Room}
 use Rattle.files.specs.declared.CreatePlan.{CreatePlan}
 use Rattle.files.specs.declared.LinkPlan.{LinkPlan}
 use Rattle.files.specs.declared.UnlinkPlan.{UnlinkPlan}

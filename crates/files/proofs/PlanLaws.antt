@@ -1,13 +1,12 @@
 -- Plans at the edges: writes at the size and at the limit, and a rename within a directory.
 use Prim.Native.Nat.{ℕ, _+_, _-_, _≤_, _<_, max}
-use mathlib.Core.Path.{_≡_, refl, sym, ap, _∙_}
-use mathlib.Core.Bool.{Bool, true, false, not, _&&_, _||_}
+use mathlib.Core.Path.{_≡_, refl}
+use mathlib.Core.Bool.{true}
 use mathlib.Core.List.{List}
 use native.Mathlib.Omega.{arith}
 use borrow.Author.Tests.{lt-ltb, le-ltb, eq-eqb}
-use lib.Dec.{eqb, ltb}
-use lib.ListN.{length}
-use Rattle.bounded.proofs.BoolLaws.{and-true, or-l, or-r}
+use lib.Dec.{ltb}
+use Rattle.bounded.proofs.BoolLaws.{or-r}
 use Rattle.bounded.specs.declared.Found.the-variants.{At, Absent}
 use Rattle.layout.specs.Sizes.{mostFileBytes}
 use Rattle.layout.specs.Header.{headerOf}
@@ -15,8 +14,8 @@ use Rattle.layout.specs.Inode.{sizeOf}
 use Rattle.layout.specs.Block.{blocksUsed}
 use Rattle.names.specs.Name.{legalName}
 use Rattle.names.specs.Entry.{entryFor}
-use Rattle.directory.specs.Slot.{DirFits, slots, slotAt, entryOf, findSlot}
-use Rattle.directory.proofs.SlotLaws.{slot-fits, few-slots, find-below, entry-put}
+use Rattle.directory.specs.Slot.{DirFits, slots, entryOf, findSlot}
+use Rattle.directory.proofs.SlotLaws.{slot-fits, few-slots, entry-put}
 use Rattle.answers.specs.declared.Refusal.the-variants.{PastEnd}
 use Rattle.files.specs.declared.SizePlan.the-variants.{To, NoSize}
 use Rattle.files.specs.declared.RenamePlan.the-variants.{Rename}

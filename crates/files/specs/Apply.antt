@@ -1,6 +1,5 @@
 -- The store's bytes after an accepted file call. n and b are the counts of inodes and blocks.
 use Prim.Native.Nat.{ℕ, _+_, _-_}
-use mathlib.Core.Bool.{Bool}
 use mathlib.Core.List.{List}
 use lib.Dec.{eqb, leb}
 use Rattle.bounded.specs.Search.{pick}

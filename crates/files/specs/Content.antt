@@ -1,6 +1,5 @@
 -- The bytes of a file, and how they grow and shrink. n and b are the counts of inodes and blocks, i is a file or, to grow, a directory.
 use Prim.Native.Nat.{ℕ, zero, suc, _+_, _*_, _-_, _/_, _%_}
-use mathlib.Core.Bool.{Bool}
 use mathlib.Core.List.{List, [], _∷_}
 use lib.Dec.{eqb, ltb}
 use lib.ListN.{getD, set, replicate}
@@ -10,7 +9,6 @@ use Rattle.layout.specs.Sizes.{addressCount, blockBytes}
 use Rattle.layout.specs.Inode.{inodeOf, putInode, putAttributes}
 use Rattle.layout.specs.Block.{blockOf, putInBlock, zeroBlock, blocksUsed, kthBlock}
 use Rattle.layout.specs.Free.{freeBlock}
-use Rattle.layout.specs.declared.inode.Inode.{Inode}
 use Rattle.files.specs.Inode.{withSize, withBlocks, lessFree, moreFree}
 
 -- byte x of the file

@@ -1,6 +1,6 @@
 -- The plain store of demand 3: bytes alone, "with no copy running and no desk to look at; a refused call changes nothing".
 use Prim.Native.Nat.{ℕ}
-use mathlib.Core.Bool.{Bool, not}
+use mathlib.Core.Bool.{not}
 use mathlib.Core.List.{List, []}
 use lib.ListN.{length}
 use Rattle.bounded.specs.Search.{pick}
@@ -8,7 +8,6 @@ use Rattle.octets.specs.Octets.{splice}
 use Rattle.layout.specs.Sizes.{mostStoreBlocks}
 use Rattle.sound.specs.Sound.{framedB, isSound, inodesIn, blocksIn}
 use Rattle.sound.specs.declared.Form.the-variants.{Store}
-use Rattle.answers.specs.declared.Refusal.{Refusal}
 use Rattle.answers.specs.declared.Refusal.the-variants.{BadBuffer, UnsoundStore}
 use Rattle.answers.specs.declared.Answer.{Answer}
 use Rattle.answers.specs.declared.Answer.the-variants.{Done, Refused}

@@ -1,9 +1,8 @@
 -- What each file call is to do on a sound store, or refusals 4 to 13 in order: by the first condition that holds. n and b are the counts of inodes and blocks.
-use Prim.Native.Nat.{ℕ, _+_, _-_, _*_, min, max}
-use mathlib.Core.Bool.{Bool, true, false, not, _&&_, _||_}
+use Prim.Native.Nat.{ℕ, _+_, _-_, min, max}
+use mathlib.Core.Bool.{Bool, not, _&&_, _||_}
 use mathlib.Core.List.{List}
-use lib.Dec.{eqb, leb, ltb}
-use lib.ListN.{length}
+use lib.Dec.{eqb, ltb}
 use Rattle.bounded.specs.Below.{allBelow}
 use Rattle.bounded.specs.Search.{pick, onFound}
 use Rattle.bounded.specs.Climb.{leadsB}
@@ -13,7 +12,7 @@ use Rattle.layout.specs.Inode.{kindOf, sizeOf, parentOf, directoryKind}
 use Rattle.layout.specs.Block.{blocksUsed}
 use Rattle.layout.specs.Free.{freeInode}
 use Rattle.names.specs.Name.{legalName}
-use Rattle.names.specs.Entry.{entryInode, sameName}
+use Rattle.names.specs.Entry.{entryInode}
 use Rattle.directory.specs.Slot.{slots, entryOf, findSlot, slotEmpty}
 use Rattle.answers.specs.declared.Refusal.the-variants.{IllegalName, WrongInode, NameAbsent, NameTaken, NotEmpty, PastEnd, IntoItself, NoInode, NoBlocks}
 use Rattle.files.specs.declared.CreatePlan.{CreatePlan}

@@ -1,10 +1,9 @@
 -- What the layout calls' test says, and each way that a call returns.
 use Prim.Native.Nat.{ℕ, _-_, _≤_}
-use mathlib.Core.Path.{_≡_, refl, sym, ap, _∙_}
-use mathlib.Core.Bool.{Bool, true, false}
+use mathlib.Core.Path.{_≡_, refl}
+use mathlib.Core.Bool.{true, false}
 use mathlib.Core.List.{List}
-use lib.ListN.{length, replicate}
-use Rattle.bounded.specs.Search.{pick}
+use lib.ListN.{length}
 use Rattle.bounded.specs.Reflect.{Reflects}
 use Rattle.bounded.proofs.ReflectLaws.{r-and, r-le, r-eq}
 use Rattle.octets.specs.Octets.{zeroed}
@@ -13,11 +12,8 @@ use Rattle.layout.specs.Sizes.{mostInodes, mostStoreBlocks, rootInode}
 use Rattle.layout.specs.Header.{putHeader}
 use Rattle.layout.specs.Inode.{putInode}
 use Rattle.layout.specs.Block.{storeLength}
-use Rattle.layout.specs.declared.header.Header.{Header}
-use Rattle.layout.specs.declared.inode.Inode.{Inode}
 use Rattle.desk.specs.Sizes.{deskLength, idle}
 use Rattle.desk.specs.Desk.{putDesk}
-use Rattle.desk.specs.declared.Desk.{Desk}
 use Rattle.answers.specs.declared.Refusal.the-variants.{BadBuffer}
 use Rattle.answers.specs.declared.Answer.the-variants.{Done, Refused}
 use Rattle.format.specs.Format.{left, storeAllowed, deskAllowed, freshHeader, emptyRoot, freshStore, freshDesk, layOutStore, layOutDesk}

@@ -13,7 +13,6 @@ use Rattle.layout.specs.declared.header.Header.{Header}
 use Rattle.layout.specs.declared.inode.Inode.{Inode}
 use Rattle.desk.specs.Sizes.{deskLength, idle}
 use Rattle.desk.specs.Desk.{putDesk}
-use Rattle.desk.specs.declared.Desk.{Desk}
 use Rattle.answers.specs.declared.Refusal.the-variants.{BadBuffer}
 use Rattle.answers.specs.Told.{Told, told}
 use Rattle.answers.specs.declared.Answer.{Answer}

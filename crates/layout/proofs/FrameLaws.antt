@@ -1,19 +1,17 @@
 -- A splice leaves every field that it does not touch; and what its own field then holds.
-use Prim.Native.Nat.{ℕ, zero, suc, _+_, _*_, _-_, _/_, _%_, _≤_, _<_, min, max}
-use mathlib.Core.Path.{_≡_, refl, sym, ap, _∙_}
-use mathlib.Core.Logic.{_≢_}
-use mathlib.Core.List.{List, _++_}
+use Prim.Native.Nat.{ℕ, _+_, _-_, _≤_}
+use mathlib.Core.Path.{_≡_, refl, ap, _∙_}
+use mathlib.Core.List.{List}
 use native.Mathlib.Omega.{arith}
-use lib.ListN.{length, getD}
-use Rattle.octets.specs.Octets.{splice, Apart, numAt, toBytes, putNum, wordBytes}
+use lib.ListN.{length}
+use Rattle.octets.specs.Octets.{splice, Apart, numAt, toBytes, wordBytes}
 use Rattle.octets.proofs.PartLaws.{length-splice}
-use Rattle.octets.proofs.NumLaws.{num-apart, num-in, num-same, num-other, length-num, length-toBytes}
-use Rattle.octets.proofs.WordLaws.{length-words, word-at}
+use Rattle.octets.proofs.NumLaws.{num-apart, num-in, length-num}
 use Rattle.layout.specs.declared.header.Header.{Header}
 use Rattle.layout.specs.declared.inode.Inode.{Inode}
 use Rattle.layout.specs.Header.{headerOf, putHeader, putFree, putComplete}
 use Rattle.layout.specs.Inode.{attributesAt, addressAt, place, kindOf, spareOf, linksOf, sizeOf, parentOf, addressOf, attributeEntry, putAttributes, putAddresses, putInode, putLinks, putAddress}
-use Rattle.layout.specs.Block.{putInBlock, zeroBlock}
+use Rattle.layout.specs.Block.{putInBlock}
 
 -- ---- lengths
 pub length-free : (s : List ℕ) (i b : ℕ) → length (putFree s i b) ≡ length s

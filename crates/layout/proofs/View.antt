@@ -1,14 +1,14 @@
 -- A store or an image as numbers and total functions, 0 out of range, so that a write changes one of them and leaves the others as they are.
 -- n is the inode count. Inodes go from 1 to n, the addresses of all inodes stand in a row from 0, and so do the bytes of all blocks.
-use mathlib.Core.Bool.{Bool, _&&_}
+use mathlib.Core.Bool.{_&&_}
 use mathlib.Core.List.{List}
-use Prim.Native.Nat.{ℕ, _+_, _*_, _-_, _≤_, _<_}
+use Prim.Native.Nat.{ℕ, _+_, _*_, _-_}
 use lib.Dec.{leb, ltb}
 use lib.ListN.{length, getD}
 use Rattle.bounded.specs.Search.{pick}
 use Rattle.bounded.specs.Update.{upd}
 use Rattle.octets.specs.Octets.{numAt}
-use Rattle.layout.specs.Sizes.{headerBytes, inodeBytes, addressCount, blockBytes}
+use Rattle.layout.specs.Sizes.{headerBytes, inodeBytes, addressCount}
 use Rattle.layout.specs.declared.header.Header.{Header}
 use Rattle.layout.specs.declared.inode.Inode.{Inode}
 use Rattle.layout.specs.Header.{headerOf}

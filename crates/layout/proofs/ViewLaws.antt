@@ -1,7 +1,7 @@
 -- Each writer is one update of the view: a reader of any field, after any writer, reads off the view.
-use Prim.Native.Nat.{ℕ, zero, suc, _+_, _*_, _-_, _/_, _%_, _≤_, _<_, min, max}
-use mathlib.Core.Path.{_≡_, refl, sym, ap, ap₂, _∙_, fun-ext}
-use mathlib.Core.Bool.{Bool, true, false, _&&_}
+use Prim.Native.Nat.{ℕ, _+_, _*_, _-_, _≤_, _<_}
+use mathlib.Core.Path.{_≡_, refl, sym, ap, _∙_, fun-ext}
+use mathlib.Core.Bool.{Bool}
 use mathlib.Core.Logic.{_≢_}
 use mathlib.Core.List.{List}
 use native.Mathlib.Decide.{ℕ-discrete, decLt}
@@ -14,7 +14,7 @@ use Rattle.bounded.specs.Update.{upd, Changed, here, there}
 use Rattle.bounded.proofs.BoolLaws.{and-true, and-false-l, and-false-r}
 use Rattle.bounded.proofs.UpdateLaws.{changed-upd}
 use Rattle.octets.specs.Octets.{splice, Apart, numAt, toBytes, putNum, wordBytes, zeroed}
-use Rattle.octets.proofs.PartLaws.{length-splice, splice-in, splice-out}
+use Rattle.octets.proofs.PartLaws.{splice-in, splice-out}
 use Rattle.octets.proofs.NumLaws.{num-apart, num-in, num-same, num-other, length-num, length-toBytes}
 use Rattle.octets.proofs.WordLaws.{length-words, word-at}
 use Rattle.layout.specs.declared.header.Header.{Header}

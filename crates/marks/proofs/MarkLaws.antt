@@ -1,15 +1,15 @@
 -- Set and cleared, at the same slot and at another: the four laws, once over the slot.
-use mathlib.Core.Path.{_≡_, refl, sym, ap, ap₂, _∙_, subst}
-use mathlib.Core.Bool.{Bool, true, false}
+use mathlib.Core.Path.{_≡_, refl, sym, ap, _∙_}
+use mathlib.Core.Bool.{true, false}
 use mathlib.Core.Logic.{_≢_}
-use Prim.Native.Nat.{ℕ, zero, suc, _+_, _-_, _*_, _/_, _%_, _^_, _≤_, _<_, min, max}
+use Prim.Native.Nat.{ℕ, zero, suc, _+_, _-_, _*_, _/_, _%_, _^_, _<_}
 use native.Mathlib.Nat.{zero-div, div-self, div-eq-of-lt, mod-lt, mod-eq-of-lt, mul-mod-left, mul-div-cancel, one-mul}
 use native.Mathlib.Decide.{decLt}
 use native.Mathlib.Omega.{arith}
 use lib.Dec.{eqb, lit<}
 use lib.Arith.{digits-div}
-use lib.Pow.{shl-exact, pow-pos, pow-lt, pow-add, ones-split, ones-lt, le-ones}
-use lib.Bits.{bitAnd, bitOr, bitXor, and-shr, or-shr, xor-shr, and-mod, or-mod, xor-mod, and-mask, and-comm, or-zero-r, and-zero-r, and-self, xor-add-and}
+use lib.Pow.{shl-exact, pow-pos, pow-lt, pow-add, ones-split, ones-lt}
+use lib.Bits.{bitAnd, bitOr, bitXor, and-shr, or-shr, xor-shr, and-mod, or-mod, xor-mod, and-mask, and-comm, or-zero-r, and-zero-r, xor-add-and}
 use Rattle.marks.specs.Mark.{digit, marked, withMark, withoutMark}
 
 -- ---- the digits of each operation are its digits' operation

@@ -1,11 +1,11 @@
 -- Numbers low byte first, once over the width.
-use Prim.Native.Nat.{ℕ, zero, suc, _+_, _*_, _-_, _/_, _%_, _^_, _≤_, _<_, min, max}
+use Prim.Native.Nat.{ℕ, zero, suc, _+_, _*_, _-_, _/_, _%_, _^_, _≤_, _<_}
 use mathlib.Core.Path.{_≡_, refl, sym, ap, ap₂, _∙_}
-use mathlib.Core.List.{List, [], _∷_, _++_}
+use mathlib.Core.List.{List, _∷_, _++_}
 use native.Mathlib.Omega.{arith}
 use native.Mathlib.Nat.{add-zero, mul-assoc, pow-succ', one-le-pow, div-add-mod, mod-lt, mod-eq-of-lt, mul-add-mod-self-left, div-div-eq-div-mul}
-use lib.ListN.{getD, set, length, replicate, getD-replicate, length-replicate, List·getD-eq-default}
-use Rattle.octets.specs.Octets.{part, splice, Apart, Octets, numAt, toBytes, putNum, zeroed}
+use lib.ListN.{getD, length}
+use Rattle.octets.specs.Octets.{part, splice, Apart, Octets, numAt, toBytes, putNum}
 use Rattle.octets.proofs.PartLaws.{length-splice, getD-part, splice-out, splice-in, splice-twice, splice-comm, splice-append, part-apart}
 
 -- a number of one byte more, whatever the width

@@ -1,13 +1,13 @@
 -- Parts and splices: every frame law of the layout follows from part-apart and part-in.
-use Prim.Native.Nat.{ℕ, zero, suc, _+_, _*_, _-_, _≤_, _<_, min, max}
+use Prim.Native.Nat.{ℕ, zero, suc, _+_, _-_, _≤_, _<_, min}
 use mathlib.Core.Path.{_≡_, refl, sym, ap, _∙_}
 use mathlib.Core.List.{List, [], _∷_, _++_, append-assoc}
 use native.Mathlib.Omega.{arith}
 use native.Mathlib.Nat.{add-zero}
 use native.Mathlib.Decide.{decLt}
 use native.Mathlib.Numerals.{add-one}
-use lib.ListN.{getD, set, take, drop, length, replicate, length-set, length-take, length-drop, length-append, length-replicate, replicate-append-replicate}
-use lib.Seq.{set-comm, set-set, sets, sets-eq, drop-drop, take-take, getD-set-same, getD-set-other, getD-take, getD-drop, ext-getD, take-suc}
+use lib.ListN.{getD, set, take, drop, length, replicate, length-set, length-take, length-drop, length-replicate, replicate-append-replicate}
+use lib.Seq.{set-comm, set-set, sets, sets-eq, drop-drop, getD-set-same, getD-set-other, getD-take, getD-drop, ext-getD, take-suc}
 use borrow.Rule.Slice.PartMut.{putMid}
 use Rattle.octets.specs.Octets.{part, splice, Apart, zeroed, copied}
 

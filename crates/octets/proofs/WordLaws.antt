@@ -1,15 +1,13 @@
 -- Numbers of two bytes each, one after the other.
-use Prim.Native.Nat.{ℕ, zero, suc, _+_, _*_, _≤_, _<_}
+use Prim.Native.Nat.{ℕ, zero, suc, _+_, _*_, _<_}
 use mathlib.Core.Path.{_≡_, refl, sym, ap, _∙_}
-use mathlib.Core.List.{List, [], _∷_, _++_, append-assoc, append-nil}
+use mathlib.Core.List.{List, [], _∷_, _++_}
 use native.Mathlib.Omega.{arith}
-use native.Mathlib.Nat.{add-zero}
 use native.Mathlib.Numerals.{add-one}
-use lib.ListN.{getD, take, length, length-append}
+use lib.ListN.{getD, take, length}
 use lib.Seq.{take-suc, length-take-le}
-use Rattle.octets.specs.Octets.{part, splice, numAt, toBytes, putNum, wordBytes}
+use Rattle.octets.specs.Octets.{splice, numAt, toBytes, putNum, wordBytes}
 use Rattle.octets.proofs.PartLaws.{splice-append}
-use Rattle.octets.proofs.NumLaws.{length-toBytes, num-bytes, num-in, num-ext}
 
 pub length-words : (vs : List ℕ) → length (wordBytes vs) ≡ 2 * length vs
 unfolding wordBytes toBytes

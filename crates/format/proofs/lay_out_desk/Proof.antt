@@ -7,7 +7,7 @@ use Rattle.desk.specs.Sizes.{idle}
 use Rattle.desk.specs.Desk.{putDesk}
 use Rattle.format.specs.Format.{deskAllowed, left}
 use Rattle.answers.specs.declared.Answer.the-variants.{Done}
-use mathlib.Core.Path.{sym, refl, _∙_}
+use mathlib.Core.Path.{sym, _∙_}
 use borrow.Author.Tests.{not-true, not-false}
 use native.Mathlib.Omega.{arith}
 use denote.Ref.{now}

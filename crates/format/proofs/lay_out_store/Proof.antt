@@ -2,14 +2,13 @@ use mathlib.Core.Path.{_≡_, ap, ap₂}
 use mathlib.Core.Bool.{true}
 use mathlib.Core.List.{List}
 use lib.ListN.{length}
-use Rattle.layout.specs.declared.header.Header.{Header}
 use Rattle.layout.specs.declared.inode.Inode.{Inode}
 use Rattle.layout.specs.Header.{putHeader}
 use Rattle.layout.specs.Inode.{putInode}
 use Rattle.format.specs.Format.{storeAllowed, left}
 use Rattle.answers.specs.declared.Answer.the-variants.{Done}
 use Prim.Native.Nat.{ℕ}
-use mathlib.Core.Path.{sym, refl, _∙_}
+use mathlib.Core.Path.{sym, _∙_}
 use borrow.Author.Tests.{not-true, not-false}
 use native.Mathlib.Omega.{arith}
 use denote.Ref.{now}

@@ -1,7 +1,7 @@
 -- `marks::with_mark` meets its contract. Assumes nothing.
 use mathlib.Core.Path.{ap}
-use Prim.Native.Nat.{ℕ, _-_, _^_}
-use lib.Bits.{bitAnd, bitOr}
+use Prim.Native.Nat.{_-_}
+use lib.Bits.{bitOr}
 use borrow.Author.Needs.{needs}
 use Rattle.marks.specs.Mark.{withMark}
 use Rattle.marks.proofs.MarkLaws.{one-shl}

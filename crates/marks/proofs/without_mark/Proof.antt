@@ -1,7 +1,7 @@
 -- `marks::without_mark` meets its contract. Assumes nothing.
 use mathlib.Core.Path.{ap}
 use Prim.Native.Nat.{ℕ, _-_, _^_}
-use lib.Bits.{bitAnd, bitOr}
+use lib.Bits.{bitAnd}
 use borrow.Author.Needs.{needs}
 use Rattle.marks.specs.Mark.{withoutMark}
 use Rattle.marks.proofs.MarkLaws.{one-shl}

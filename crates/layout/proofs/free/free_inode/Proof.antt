@@ -1,9 +1,7 @@
-use Prim.Native.Nat.{ℕ, _≤_, _-_, _+_}
-use mathlib.Core.Path.{_≡_, sym, _∙_, ap}
+use Prim.Native.Nat.{_≤_, _-_, _+_}
+use mathlib.Core.Path.{_≡_, sym, _∙_}
 use native.Mathlib.Omega.{arith}
-use denote.Ref.{now}
 use borrow.Author.Tests.{eq-eqb, ne-eqb}
-use lib.Dec.{eqb}
 use Rattle.bounded.specs.Search.{firstFrom}
 use Rattle.bounded.proofs.SearchLaws.{first-of-begin, first-turn, first-found, first-end}
 use Rattle.layout.specs.Free.{freeInode, isFree}

@@ -1,7 +1,6 @@
-use Prim.Native.Nat.{ℕ, _≤_, _-_, _*_}
+use Prim.Native.Nat.{_≤_, _-_, _*_}
 use mathlib.Core.Path.{_≡_}
 use native.Mathlib.Omega.{arith}
-use denote.Ref.{now}
 use Rattle.bounded.specs.Seen.{Seen}
 use Rattle.bounded.proofs.SeenLaws.{seen-start, seen-more}
 use Rattle.layout.specs.Inode.{addressOf}

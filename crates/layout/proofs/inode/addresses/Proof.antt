@@ -1,7 +1,5 @@
-use Prim.Native.Nat.{ℕ, _≤_, _-_}
-use mathlib.Core.Path.{_≡_}
+use Prim.Native.Nat.{_≤_, _-_}
 use native.Mathlib.Omega.{arith}
-use denote.Ref.{now}
 use Rattle.bounded.specs.Table.{Filled}
 use Rattle.bounded.proofs.TableLaws.{filled-none, filled-more, filled-all}
 use Rattle.layout.specs.Inode.{addressOf, place, addressesOf}
