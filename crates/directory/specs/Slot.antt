@@ -6,7 +6,7 @@ use lib.ListN.{length, replicate}
 use Rattle.bounded.specs.Search.{first}
 use Rattle.bounded.specs.declared.Found.{Found}
 use Rattle.octets.specs.Octets.{part, splice}
-use Rattle.layout.specs.Sizes.{headerBytes, inodeBytes, blockBytes}
+use Rattle.layout.specs.Sizes.{headerBytes, inodeBytes, blockBytes, mostDirectoryBlocks}
 use Rattle.layout.specs.Inode.{InodeFits, sizeOf}
 use Rattle.layout.specs.Block.{blockAt, blocksUsed, kthBlock}
 use Rattle.names.specs.Entry.{entryBytes, isEmpty, sameName, entryFor}
@@ -63,5 +63,5 @@ pub record BlockFits (s : List ℕ) (n b : ℕ) : Type 0 where
 -- d is an inode, and the blocks that its size uses lie inside of s
 pub record DirFits (s : List ℕ) (n d : ℕ) : Type 0 where
   pub inode : InodeFits s n d
-  pub few : blocksUsed (sizeOf s d) ≤ 12
+  pub few : blocksUsed (sizeOf s d) ≤ mostDirectoryBlocks
   pub blocks : (k : ℕ) → k < blocksUsed (sizeOf s d) → BlockFits s n (kthBlock s n d k)

@@ -8,7 +8,7 @@ ghost use Rattle.bounded.specs.Search.{first};
 ghost use Rattle.layout.specs.Block.{blockAt, kthBlock};
 ghost use Rattle.names.specs.Name.{nameBytes};
 ghost use Rattle.names.specs.Entry.{isEmpty, wordsAt, sameWords, entryInode};
-ghost use Rattle.directory.specs.Slot.{slots, slotAt, entryOf, findSlot, emptySlot, putEntry, clearEntry, DirFits};
+ghost use Rattle.directory.specs.Slot.{mostSlots, slots, slotAt, entryOf, findSlot, emptySlot, putEntry, clearEntry, DirFits};
 use bounded::Found;
 use names::ENTRY_BYTES;
 use names::Name;
@@ -18,13 +18,13 @@ pub const SLOTS_IN_BLOCK: usize = 4;
 // How many slots the directory has.
 pub fn slot_count(s: &[u8], n: usize, d: usize) -> usize
     requires { ⌜ DirFits (now s) n d ⌝ }
-    ensures { λ r. ⌜ (r ≡ slots (now (s .entry)) d) × (r ≤ 48) ⌝ }
+    ensures { λ r. ⌜ (r ≡ slots (now (s .entry)) d) × (r ≤ mostSlots) ⌝ }
 {
     SLOTS_IN_BLOCK * layout::block::blocks_used(layout::inode::size(s, n, d) as usize)
 }
 
 // Where the k-th block of the directory starts.
-fn block_start(s: &[u8], n: usize, d: usize, k: usize) -> usize
+pub fn block_start(s: &[u8], n: usize, d: usize, k: usize) -> usize
     requires { ⌜ DirFits (now s) n d × (4 * k < slots (now s) d) ⌝ }
     ensures { λ r. ⌜ (r ≡ blockAt n (kthBlock (now (s .entry)) n d k)) × (r + 64 ≤ length (now (s .entry))) ⌝ }
 {

@@ -1,5 +1,5 @@
 -- The numbers of document 01's "Bytes", each under one name.
-use Prim.Native.Nat.{ℕ}
+use Prim.Native.Nat.{ℕ, _+_}
 
 -- "Header, 16 bytes"
 abbrev pub headerBytes : ℕ
@@ -27,9 +27,13 @@ addressBytes = 24
 abbrev pub addressCount : ℕ
 addressCount = 12
 
+-- "fewer than twelve blocks": the most that a directory takes
+abbrev pub mostDirectoryBlocks : ℕ
+mostDirectoryBlocks = addressCount
+
 -- both entries of an inode: "16 + 32 × N + 64 × B"
 abbrev pub inodeBytes : ℕ
-inodeBytes = 32
+inodeBytes = attributeBytes + addressBytes
 
 -- "B blocks of 64 bytes"
 abbrev pub blockBytes : ℕ
@@ -38,6 +42,13 @@ blockBytes = 64
 -- "at most 768 bytes"
 abbrev pub mostFileBytes : ℕ
 mostFileBytes = 768
+
+-- byte 8: "1 if complete, else 0"
+abbrev pub isComplete : ℕ
+isComplete = 1
+
+abbrev pub notComplete : ℕ
+notComplete = 0
 
 -- "10-11 root, always 1"
 abbrev pub rootInode : ℕ

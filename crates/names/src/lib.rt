@@ -39,6 +39,13 @@ impl Name {
         Name::at(&filled, 0)
     }
 
+    pub fn in_entry(entry: &[u8]) -> Name
+        requires { ⌜ entryBytes ≤ length (now entry) ⌝ }
+        ensures { λ r. ⌜ r ≡ wordsAt (now (entry .entry)) 2 ⌝ }
+    {
+        Name::at(entry, NAME_AT)
+    }
+
     pub fn same(self, other: Name) -> bool
         ensures { λ r. ⌜ r ≡ sameWords self other ⌝ }
     {
@@ -54,7 +61,7 @@ pub fn same_name(entry: &[u8], name: Name) -> bool
     requires { ⌜ entryBytes ≤ length (now entry) ⌝ }
     ensures { λ r. ⌜ r ≡ sameWords (wordsAt (now (entry .entry)) 2) name ⌝ }
 {
-    Name::at(entry, NAME_AT).same(name)
+    Name::in_entry(entry).same(name)
 }
 
 pub fn entry_inode(entry: &[u8]) -> u16

@@ -16,7 +16,8 @@ use Rattle.directory.specs.Slot.{mostSlots, DirFits}
 use Rattle.sound.specs.Place.{naming}
 use Rattle.sound.specs.Sound.{inodesIn, blocksIn, Sound}
 use Rattle.sound.proofs.PlaceLaws.{naming-filled}
-use Rattle.sound.proofs.SoundLaws.{IsDir, InParent, in-parent, all-counted}
+use Rattle.sound.specs.Pass.{IsDir}
+use Rattle.sound.proofs.SoundLaws.{InParent, in-parent, all-counted}
 
 -- ---- the blocks that some address names
 module _ (s : List ℕ) (n c : ℕ) where

@@ -16,6 +16,7 @@ use Rattle.layout.specs.Inode.{kindOf, spareOf, linksOf, sizeOf, parentOf, addr
 use Rattle.layout.specs.Block.{storeLength, blockOf, blocksUsed, kthBlock}
 use Rattle.names.specs.Entry.{legalEntry}
 use Rattle.directory.specs.Slot.{mostSlots}
+use Rattle.sound.specs.Pass.{IsDir}
 use Rattle.sound.specs.Place.{dirOf, slotOf, isSlot, entryAt, filled, naming}
 use Rattle.sound.specs.Inode.{InodeSound, tailByte, attributesB, addressesB, zeroTailB, inodeB}
 use Rattle.sound.specs.Entry.{EntrySound, sameNames, sibling, namedB, newNameB, entryB}
@@ -165,12 +166,7 @@ module _ (s : List ℕ) (n : ℕ) where
       (r-imp (r-eq (kindOf s i) directoryKind) (r-else (r-eq i rootInode) (r-eq (linksOf s i) 1)))))
 
   -- d is a directory among the n inodes
-  pub record IsDir (d : ℕ) : Type 0 where
-    pub low : 1 ≤ d
-    pub high : d ≤ n
-    pub kind : kindOf s d ≡ directoryKind
-
-  pub slot-dir : (p : ℕ) → p < mostSlots * n → isSlot s p ≡ true → IsDir (dirOf p)
+  pub slot-dir : (p : ℕ) → p < mostSlots * n → isSlot s p ≡ true → IsDir s n (dirOf p)
   slot-dir p l e = record { low = omega arith; high = omega arith; kind = slot-is s p .to e .0 }
 
   -- the entry of the directory i stands at p, in its parent
@@ -178,9 +174,9 @@ module _ (s : List ℕ) (n : ℕ) where
     pub below : p < mostSlots * n
     pub names : naming s n p ≡ i
     pub parent : dirOf p ≡ parentOf s i
-    pub above : IsDir (parentOf s i)
+    pub above : IsDir s n (parentOf s i)
 
-  pub in-parent : Entries → AllCounted → (i : ℕ) → IsDir i → (i ≡ rootInode → ⊥) → (p : ℕ) × InParent i p
+  pub in-parent : Entries → AllCounted → (i : ℕ) → IsDir s n i → (i ≡ rootInode → ⊥) → (p : ℕ) × InParent i p
   in-parent entries counts i d h =
       let c = counts i (d .low) (d .high) in
       let o = c .one (d .kind) h in
@@ -191,17 +187,17 @@ module _ (s : List ℕ) (n : ℕ) where
       let g : 1 ≤ naming s n p = omega (arith, d .low) in
       let k : kindOf s (naming s n p) ≡ directoryKind = ap (kindOf s) e ∙ d .kind in
       let u : dirOf p ≡ parentOf s i = sym (entries p l (naming-filled s n p g) .parent k) ∙ ap (parentOf s) e in
-      (p, record { below = l; names = e; parent = u; above = subst IsDir u (slot-dir p l (naming-slot s n p g)) })
+      (p, record { below = l; names = e; parent = u; above = subst (IsDir s n) u (slot-dir p l (naming-slot s n p g)) })
 
   -- so from directory to parent the climb stays among the inodes
-  climbs : Entries → AllCounted → Closed IsDir (parentOf s) rootInode n
+  pub climbs : Entries → AllCounted → Closed (IsDir s n) (parentOf s) rootInode n
   climbs entries counts = record { within = λ x d. (d .low, d .high); parent = λ x d h. in-parent entries counts x d h .1 .above }
 
   pub leads-is : Entries → AllCounted → (i : ℕ) → 1 ≤ i → i ≤ n → Reflects (leadB s n i) (kindOf s i ≡ directoryKind → Leads (parentOf s) rootInode i)
   unfolding leadB
   leads-is entries counts i l m =
       r-where (r-eq (kindOf s i) directoryKind)
-      (λ k. r-leads IsDir (parentOf s) rootInode n i (climbs entries counts) (record { low = l; high = m; kind = k }))
+      (λ k. r-leads (IsDir s n) (parentOf s) rootInode n i (climbs entries counts) (record { low = l; high = m; kind = k }))
 
   links-of : (i : ℕ) → Counted i → (kindOf s i ≡ directoryKind → Leads (parentOf s) rootInode i) → LinkSound s n i
   links-of i c l = record { counted = c .counted; named = c .named; one = c .one; leads = l }

@@ -1,0 +1,57 @@
+use Rattle.sound.proofs.inodes.all_zero.Statement.{statement}
+use Rattle.sound.proofs.inodes.all_zero.Tie as tie
+use Rattle.sound.proofs.inodes.all_zero.Reads as reads
+use Rattle.sound.proofs.inodes.all_zero.Lts as lts
+
+abbrev Inv-loop : tie.InvT-loop
+Inv-loop s o k j₀ j = ?
+
+abbrev μ-loop : tie.MeasureT-loop
+μ-loop s o k j₀ j = ?
+
+-- src/inodes.rt:78:5
+loop-holds : tie.Need-loop-holds Inv-loop μ-loop
+loop-holds c = ?
+
+-- src/inodes.rt:79:14
+add-if1 : tie.Need-add-if1 Inv-loop μ-loop
+add-if1 c = ?
+
+-- src/inodes.rt:79:12
+shared-slice-read-if1 : tie.Need-shared-slice-read-if1 Inv-loop μ-loop
+shared-slice-read-if1 c = ?
+
+-- src/inodes.rt:80:13
+returns : tie.Need-returns Inv-loop μ-loop
+returns c = ?
+
+-- src/inodes.rt:78:9
+add-j : tie.Need-add-j Inv-loop μ-loop
+add-j c = ?
+
+-- src/inodes.rt:78:5
+loop-less : tie.Need-loop-less Inv-loop μ-loop
+loop-less c = ?
+
+-- src/inodes.rt:78:5
+loop-again : tie.Need-loop-again Inv-loop μ-loop
+loop-again c = ?
+
+-- src/inodes.rt:74:1
+returns-2 : tie.Need-returns-2 Inv-loop μ-loop
+returns-2 c = ?
+
+pub all-zero-spec : {M : Type 1} → statement M
+all-zero-spec =
+    tie.close
+    (tie.spec
+    Inv-loop
+    μ-loop
+    loop-holds
+    add-if1
+    shared-slice-read-if1
+    returns
+    add-j
+    loop-less
+    loop-again
+    returns-2)

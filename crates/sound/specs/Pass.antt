@@ -1,0 +1,42 @@
+-- What the check's pass over the entries holds in its arrays. n is the inode count, d a directory.
+use Prim.Native.Nat.{ℕ, _+_, _*_, _-_, _≤_}
+use mathlib.Core.Path.{_≡_}
+use mathlib.Core.List.{List}
+use lib.ListN.{length, getD}
+use Rattle.bounded.specs.Climb.{Leads}
+use Rattle.bounded.specs.Count.{Tallied}
+use Rattle.bounded.specs.Table.{Filled}
+use Rattle.names.specs.Entry.{wordsAt, nameAt}
+use Rattle.directory.specs.Slot.{mostSlots, entryOf}
+use Rattle.layout.specs.Sizes.{mostInodes, rootInode}
+use Rattle.layout.specs.Inode.{kindOf, parentOf, directoryKind}
+use Rattle.sound.specs.Place.{naming}
+
+-- the place of slot t of d
+abbrev pub placeOf : ℕ → ℕ → ℕ
+placeOf d t = mostSlots * (d - 1) + t
+
+-- the name in slot t of d, as two words
+abbrev pub lowOf : List ℕ → ℕ → ℕ → ℕ → ℕ
+lowOf s n d t = wordsAt (entryOf s n d t) nameAt .low
+
+abbrev pub highOf : List ℕ → ℕ → ℕ → ℕ → ℕ
+highOf s n d t = wordsAt (entryOf s n d t) nameAt .high
+
+-- the names of the first t slots of d are read, and the inodes that all places before p name are counted
+pub record Passed (s : List ℕ) (n d t p : ℕ) (low high counts : List ℕ) : Type 0 where
+  pub lows : Filled (lowOf s n d) mostSlots t low
+  pub highs : Filled (highOf s n d) mostSlots t high
+  pub counted : Tallied (naming s n) 1 (mostInodes + 1) p counts
+
+-- d is a directory of n inodes
+pub record IsDir (s : List ℕ) (n d : ℕ) : Type 0 where
+  pub low : 1 ≤ d
+  pub high : d ≤ n
+  pub kind : kindOf s d ≡ directoryKind
+
+-- the list tells of some numbers, the root among them, that they lead to the root
+pub record Known (s : List ℕ) (known : List ℕ) : Type 0 where
+  pub long : length known ≡ mostInodes + 1
+  pub root : getD known rootInode 0 ≡ 0 → ⊥
+  pub each : (x : ℕ) → (getD known x 0 ≡ 0 → ⊥) → Leads (parentOf s) rootInode x
