@@ -1,54 +1,60 @@
+use Prim.Native.Nat.{ℕ, _≤_, _<_, _+_, _-_}
+use mathlib.Core.Path.{_≡_}
+use native.Mathlib.Omega.{arith}
+use Rattle.sound.specs.Pass.{IsDir, Known}
+use Rattle.sound.proofs.LinkLaws.{Climbing, climbing-start, climbing-turn, climbing-known, climbing-end}
+use borrow.Author.Needs.{needs}
 use Rattle.sound.proofs.links.climbs.Statement.{statement}
 use Rattle.sound.proofs.links.climbs.Tie as tie
-use Rattle.sound.proofs.links.climbs.Reads as reads
-use Rattle.sound.proofs.links.climbs.Lts as lts
-use Rattle.layout.proofs.inode.parent.Reads as parent-reads
 
 abbrev Inv-loop : tie.InvT-loop
-Inv-loop s n d known at₀ counter₀ at counter = ?
+Inv-loop s n d known at₀ counter₀ at counter = Climbing s n d counter at
 
 abbrev μ-loop : tie.MeasureT-loop
-μ-loop s n d known at₀ counter₀ at counter = ?
+μ-loop s n d known at₀ counter₀ at counter = n - counter
 
--- src/links.rt:59:5
 loop-holds : tie.Need-loop-holds Inv-loop μ-loop
-loop-holds c = ?
+loop-holds c = climbing-start _ _ _ (c .before .before .pre .2)
 
--- src/links.rt:60:12
 shared-slice-read-if1 : tie.Need-shared-slice-read-if1 Inv-loop μ-loop
-shared-slice-read-if1 c = ?
+shared-slice-read-if1 c =
+    let p = c .before .before .before .before .before .pre in
+    omega (arith, p .0, p .3 .long, c .before .before .loop .inv .dir .high)
 
--- src/links.rt:61:13
 returns : tie.Need-returns Inv-loop μ-loop
-returns c = ?
+returns c =
+    let p = c .before .before .before .before .before .before .pre in
+    climbing-known _ _ _ (p .4) _ (p .3) _ _ (c .before .before .before .loop .inv) (p .2) (c .if1 .taken)
 
--- src/links.rt:63:14
 parent-requires : tie.Need-parent-requires Inv-loop μ-loop
-parent-requires c κs = ?
+parent-requires c κs =
+    let p = c .before .before .before .before .before .before .pre in
+    let i = c .before .before .before .loop .inv in
+    record { low = i .dir .low; high = i .dir .high; few = p .0; area = p .1 }
 
--- src/links.rt:63:14
 cast-at : tie.Need-cast-at Inv-loop μ-loop
-cast-at c = ?
+cast-at c = omega arith
 
--- src/links.rt:59:9
 add-counter : tie.Need-add-counter Inv-loop μ-loop
-add-counter c = ?
+add-counter c = omega arith
 
--- src/links.rt:59:5
 loop-less : tie.Need-loop-less Inv-loop μ-loop
-loop-less c = ?
+loop-less c = omega arith
 
--- src/links.rt:59:5
 loop-again : tie.Need-loop-again Inv-loop μ-loop
-loop-again c = ?
+loop-again c =
+    let p = c .before .before .before .before .before .before .before .pre in
+    climbing-turn _ _ _ (p .4) _ (p .3) _ _ (c .before .before .before .before .loop .inv) _ (c .before .if1 .left) (omega arith) (c .parent .ensures)
 
--- src/links.rt:65:5
 shared-slice-read-result : tie.Need-shared-slice-read-result Inv-loop μ-loop
-shared-slice-read-result c = ?
+shared-slice-read-result c =
+    let p = c .before .before .before .before .before .pre in
+    omega (arith, p .0, p .3 .long, c .before .before .loop .inv .dir .high)
 
--- src/links.rt:54:1
 returns-2 : tie.Need-returns-2 Inv-loop μ-loop
-returns-2 c = ?
+returns-2 c =
+    let p = c .before .before .before .before .before .pre in
+    climbing-end _ _ _ (p .4) _ (p .3) _ _ (c .before .before .loop .inv) (p .2) (omega arith)
 
 pub climbs-spec : {M : Type 1} → statement M
 climbs-spec =

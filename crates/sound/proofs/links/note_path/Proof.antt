@@ -1,62 +1,64 @@
+use Prim.Native.Nat.{ℕ, _≤_, _<_, _+_, _-_}
+use mathlib.Core.Path.{_≡_, sym, subst, _∙_}
+use native.Mathlib.Omega.{arith}
+use Rattle.bounded.specs.Climb.{Leads}
+use Rattle.layout.specs.Sizes.{rootInode}
+use Rattle.layout.specs.Inode.{parentOf}
+use Rattle.sound.specs.Pass.{IsDir, Known}
+use Rattle.sound.proofs.LinkLaws.{Path, path-turn}
+use borrow.Author.Needs.{needs}
 use Rattle.sound.proofs.links.note_path.Statement.{statement}
 use Rattle.sound.proofs.links.note_path.Tie as tie
-use Rattle.sound.proofs.links.note_path.Reads as reads
-use Rattle.sound.proofs.links.note_path.Lts as lts
-use Rattle.layout.proofs.inode.parent.Reads as parent-reads
 
 abbrev Inv-loop : tie.InvT-loop
-Inv-loop s n d known₀ at₀ counter₀ known at counter = ?
+Inv-loop s n d known₀ at₀ counter₀ known at counter = (counter ≤ n) × Path s n at known
 
 abbrev μ-loop : tie.MeasureT-loop
-μ-loop s n d known₀ at₀ counter₀ known at counter = ?
+μ-loop s n d known₀ at₀ counter₀ known at counter = n - counter
 
--- src/links.rt:75:5
 loop-holds : tie.Need-loop-holds Inv-loop μ-loop
-loop-holds c = ?
+loop-holds c = let p = c .before .pre in (omega arith, record { dir = p .0 .2; leads = p .1; known = p .0 .3 })
 
--- src/links.rt:76:12
 slice-read-if1 : tie.Need-slice-read-if1 Inv-loop μ-loop
 slice-read-if1 c = ?
 
--- src/links.rt:77:13
 same-length : tie.Need-same-length Inv-loop μ-loop
 same-length c = ?
 
--- src/links.rt:77:13
 returns : tie.Need-returns Inv-loop μ-loop
-returns c = ?
+returns c = c .before .before .before .loop .inv .1 .known
 
--- src/links.rt:79:9
 slice-write-known : tie.Need-slice-write-known Inv-loop μ-loop
-slice-write-known c = ?
+slice-write-known c =
+    let p = c .before .before .before .before .before .before .pre .0 in
+    let i = c .before .before .before .loop .inv .1 in
+    omega (arith, p .0, i .known .long, i .dir .high)
 
--- src/links.rt:80:14
 parent-requires : tie.Need-parent-requires Inv-loop μ-loop
-parent-requires c κs = ?
+parent-requires c κs =
+    let p = c .before .before .before .before .before .before .pre .0 in
+    let i = c .before .before .before .loop .inv .1 in
+    record { low = i .dir .low; high = i .dir .high; few = p .0; area = p .1 }
 
--- src/links.rt:80:14
 cast-at : tie.Need-cast-at Inv-loop μ-loop
-cast-at c = ?
+cast-at c = omega arith
 
--- src/links.rt:75:9
 add-counter : tie.Need-add-counter Inv-loop μ-loop
-add-counter c = ?
+add-counter c = omega arith
 
--- src/links.rt:75:5
 loop-less : tie.Need-loop-less Inv-loop μ-loop
-loop-less c = ?
+loop-less c = omega arith
 
--- src/links.rt:75:5
 loop-again : tie.Need-loop-again Inv-loop μ-loop
-loop-again c = ?
+loop-again c =
+    let p = c .before .before .before .before .before .before .before .pre .0 in
+    (omega arith, path-turn _ _ _ _ _ (p .0) (p .4) (c .before .before .before .before .loop .inv .1) (c .before .if1 .left) (c .parent .ensures))
 
--- src/links.rt:69:1
 same-length-2 : tie.Need-same-length-2 Inv-loop μ-loop
 same-length-2 c = ?
 
--- src/links.rt:69:1
 returns-2 : tie.Need-returns-2 Inv-loop μ-loop
-returns-2 c = ?
+returns-2 c = c .before .loop .inv .1 .known
 
 pub note-path-spec : {M : Type 1} → statement M
 note-path-spec =
