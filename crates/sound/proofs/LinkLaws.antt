@@ -18,7 +18,7 @@ use Rattle.bounded.proofs.BoolLaws.{holds-or-fails}
 use Rattle.bounded.proofs.ClimbLaws.{leads-self, leads-up, leads-turn, leads-end, leads-bool}
 use Rattle.bounded.proofs.ReflectLaws.{r-eq, r-le, r-says, r-fails, reflects-ext}
 use Rattle.layout.specs.Sizes.{rootInode}
-use Rattle.layout.specs.Inode.{kindOf, linksOf, parentOf, freeKind, directoryKind}
+use Rattle.layout.specs.Inode.{InodeFits, kindOf, linksOf, parentOf, freeKind, directoryKind}
 use Rattle.directory.specs.Slot.{mostSlots}
 use Rattle.sound.specs.Place.{naming}
 use Rattle.sound.specs.Link.{countedB, leadB}
@@ -55,6 +55,7 @@ module _ (s : List ℕ) (n i count l : ℕ) (t : count ≡ tally (naming s n) (m
 
 -- ---- a number other than a that leads to a does so through its parent
 pub leads-on : (up : ℕ → ℕ) (a d : ℕ) → (d ≡ a → ⊥) → Leads up a d → Leads up a (up d)
+unfolding climb
 leads-on up a d h r = go (r .0) (r .1)
   where
     go : (k : ℕ) → climb up k d ≡ a → Leads up a (up d)
@@ -92,22 +93,25 @@ module _ (s : List ℕ) where
         at y (no e) f = g .each y (λ z. f (getD-set-other l x y 1 0 e ∙ z))
 
   -- before any look: the root alone
-  zeros : (n x : ℕ) → getD (replicate n 0) x 0 ≡ 0
+  abbrev blank : ℕ → List ℕ
+  blank n = replicate n 0
+
+  zeros : (n x : ℕ) → getD (blank n) x 0 ≡ 0
   zeros zero x = refl
   zeros (suc n) zero = refl
   zeros (suc n) (suc x) = zeros n x
 
+  start-at : (y : ℕ) → Dec (y ≡ rootInode) → (getD (set (blank 257) rootInode 1) y 0 ≡ 0 → ⊥) → Leads (parentOf s) rootInode y
+  start-at y (yes e) f = subst (Leads (parentOf s) rootInode) (sym e) (leads-self (parentOf s) rootInode)
+  start-at y (no e) f = absurd (f (getD-set-other (blank 257) rootInode y 1 0 e ∙ zeros 257 y))
+
   pub known-start : Known s (set (replicate 257 0) rootInode 1)
   known-start =
       record {
-        long = length-set (replicate 257 0) rootInode 1 ∙ length-replicate 257 0;
-        root = λ z. (let w = noted (replicate 257 0) rootInode (length-replicate 257 0) (omega arith) in omega arith);
-        each = λ y f. at y (ℕ-discrete y rootInode) f;
+        long = length-set (blank 257) rootInode 1 ∙ length-replicate {A = ℕ} 257 0;
+        root = λ z. (let w = noted (blank 257) rootInode (length-replicate {A = ℕ} 257 0) (omega arith) in omega arith);
+        each = λ y f. start-at y (ℕ-discrete y rootInode) f;
       }
-    where
-      at : (y : ℕ) → Dec (y ≡ rootInode) → (getD (set (replicate 257 0) rootInode 1) y 0 ≡ 0 → ⊥) → Leads (parentOf s) rootInode y
-      at y (yes e) f = subst (Leads (parentOf s) rootInode) (sym e) (leads-self (parentOf s) rootInode)
-      at y (no e) f = absurd (f (getD-set-other (replicate 257 0) rootInode y 1 0 e ∙ zeros 257 y))
 
 -- ---- k steps up from d the climb is at x
 pub record Climbing (s : List ℕ) (n d k x : ℕ) : Type 0 where
@@ -153,6 +157,9 @@ module _ (s : List ℕ) (n d k : ℕ) (e : k ≡ kindOf s d) where
   pub lead-other : (k ≡ directoryKind → ⊥) → true ≡ leadB s n d
   unfolding leadB
   lead-other h = sym (ap (λ (b : Bool). not b || leadsB (parentOf s) rootInode n d) (ne-eqb (kindOf s d) directoryKind (λ u. h (e ∙ u))))
+
+  pub is-dir : InodeFits s n d → k ≡ directoryKind → IsDir s n d
+  is-dir f h = record { low = f .low; high = f .high; kind = sym e ∙ h }
 
   pub lead-dir : k ≡ directoryKind → leadB s n d ≡ leadsB (parentOf s) rootInode n d
   unfolding leadB

@@ -17,13 +17,16 @@ abbrev μ-loop : tie.MeasureT-loop
 μ-loop s n d known₀ at₀ counter₀ known at counter = n - counter
 
 loop-holds : tie.Need-loop-holds Inv-loop μ-loop
-loop-holds c = let p = c .before .pre in (omega arith, record { dir = p .0 .2; leads = p .1; known = p .0 .3 })
+loop-holds c = let p = c .before .before .pre in (omega arith, record { dir = p .0 .2; leads = p .1; known = p .0 .3 })
 
 slice-read-if1 : tie.Need-slice-read-if1 Inv-loop μ-loop
-slice-read-if1 c = ?
+slice-read-if1 c =
+    let p = c .before .before .before .before .before .pre .0 in
+    let i = c .before .before .loop .inv .1 in
+    omega (arith, p .0, i .known .long, i .dir .high)
 
 same-length : tie.Need-same-length Inv-loop μ-loop
-same-length c = ?
+same-length c = c .before .before .before .loop .inv .1 .known .long ∙ sym (c .before .before .before .before .before .before .pre .0 .3 .long)
 
 returns : tie.Need-returns Inv-loop μ-loop
 returns c = c .before .before .before .loop .inv .1 .known
@@ -55,7 +58,7 @@ loop-again c =
     (omega arith, path-turn _ _ _ _ _ (p .0) (p .4) (c .before .before .before .before .loop .inv .1) (c .before .if1 .left) (c .parent .ensures))
 
 same-length-2 : tie.Need-same-length-2 Inv-loop μ-loop
-same-length-2 c = ?
+same-length-2 c = c .before .loop .inv .1 .known .long ∙ sym (c .before .before .before .before .pre .0 .3 .long)
 
 returns-2 : tie.Need-returns-2 Inv-loop μ-loop
 returns-2 c = c .before .loop .inv .1 .known
