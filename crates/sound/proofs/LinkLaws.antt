@@ -7,13 +7,12 @@ use Prim.Native.Nat.{ℕ, zero, suc, _+_, _*_, _-_, _≤_, _<_}
 use native.Mathlib.Decide.{ℕ-discrete}
 use native.Mathlib.Nat.{sub-zero}
 use native.Mathlib.Omega.{arith}
-use borrow.Author.Tests.{eq-eqb, ne-eqb, eqb-true, eqb-false, not-true, not-false}
+use borrow.Author.Tests.{eq-eqb, ne-eqb, eqb-true, eqb-false}
 use lib.Dec.{eqb, leb}
 use lib.ListN.{length, getD, set, replicate, length-set, length-replicate}
 use lib.Seq.{getD-set-same, getD-set-other}
 use Rattle.bounded.specs.Count.{tally}
 use Rattle.bounded.specs.Climb.{climb, Leads, leadsB, Closed}
-use Rattle.bounded.specs.Reflect.{Reflects}
 use Rattle.bounded.proofs.BoolLaws.{holds-or-fails}
 use Rattle.bounded.proofs.ClimbLaws.{leads-self, leads-up, leads-turn, leads-end, leads-bool}
 use Rattle.bounded.proofs.ReflectLaws.{r-eq, r-le, r-says, r-fails, reflects-ext}
@@ -23,7 +22,7 @@ use Rattle.directory.specs.Slot.{mostSlots}
 use Rattle.sound.specs.Place.{naming}
 use Rattle.sound.specs.Link.{countedB, leadB}
 use Rattle.sound.specs.Pass.{IsDir, Known}
-use Rattle.sound.proofs.SoundLaws.{Counted, counted-is}
+use Rattle.sound.proofs.SoundLaws.{counted-is}
 
 -- ---- the link count l of inode i, which count entries name
 module _ (s : List ℕ) (n i count l : ℕ) (t : count ≡ tally (naming s n) (mostSlots * n) i) (e : l ≡ linksOf s i) where

@@ -1,9 +1,6 @@
-use Prim.Native.Nat.{ℕ, _≤_, _<_, _+_, _-_}
-use mathlib.Core.Path.{_≡_}
+use Prim.Native.Nat.{_-_}
 use native.Mathlib.Omega.{arith}
-use Rattle.sound.specs.Pass.{IsDir, Known}
 use Rattle.sound.proofs.LinkLaws.{Climbing, climbing-start, climbing-turn, climbing-known, climbing-end}
-use borrow.Author.Needs.{needs}
 use Rattle.sound.proofs.links.climbs.Statement.{statement}
 use Rattle.sound.proofs.links.climbs.Tie as tie
 

@@ -1,13 +1,11 @@
-use Prim.Native.Nat.{ℕ, _≤_, _<_, _+_, _-_}
+use Prim.Native.Nat.{_≤_, _+_, _-_}
 use mathlib.Core.Path.{_≡_}
 use mathlib.Core.Bool.{true}
 use native.Mathlib.Omega.{arith}
-use borrow.Author.Tests.{not-true, not-false}
 use Rattle.bounded.specs.Below.{allBelow}
 use Rattle.bounded.proofs.BelowLaws.{all-none, all-more, all-stopped, all-done}
 use Rattle.bounded.proofs.BoolLaws.{chain-on, chain-off}
 use Rattle.sound.specs.Link.{countedB}
-use borrow.Author.Needs.{needs}
 use Rattle.sound.proofs.links.links_right.Statement.{statement}
 use Rattle.sound.proofs.links.links_right.Tie as tie
 

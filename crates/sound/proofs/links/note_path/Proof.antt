@@ -1,12 +1,7 @@
-use Prim.Native.Nat.{ℕ, _≤_, _<_, _+_, _-_}
-use mathlib.Core.Path.{_≡_, sym, subst, _∙_}
+use Prim.Native.Nat.{_≤_, _-_}
+use mathlib.Core.Path.{sym, _∙_}
 use native.Mathlib.Omega.{arith}
-use Rattle.bounded.specs.Climb.{Leads}
-use Rattle.layout.specs.Sizes.{rootInode}
-use Rattle.layout.specs.Inode.{parentOf}
-use Rattle.sound.specs.Pass.{IsDir, Known}
 use Rattle.sound.proofs.LinkLaws.{Path, path-turn}
-use borrow.Author.Needs.{needs}
 use Rattle.sound.proofs.links.note_path.Statement.{statement}
 use Rattle.sound.proofs.links.note_path.Tie as tie
 

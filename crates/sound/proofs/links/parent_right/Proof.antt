@@ -1,8 +1,6 @@
-use mathlib.Core.Path.{_≡_, sym, _∙_}
-use native.Mathlib.Omega.{arith}
+use mathlib.Core.Path.{sym, _∙_}
 use Rattle.bounded.proofs.BoolLaws.{chain-on, chain-off}
 use Rattle.bounded.proofs.ClimbLaws.{leads-prop}
-use Rattle.sound.specs.Pass.{IsDir, Known}
 use Rattle.sound.proofs.LinkLaws.{is-dir, lead-other, lead-dir}
 use borrow.Author.Needs.{needs}
 use Rattle.sound.proofs.links.parent_right.Statement.{statement}
@@ -28,8 +26,7 @@ returns-2 c =
 
 note-path-requires : tie.Need-note-path-requires
 note-path-requires c κs =
-    let p = c .before .before .before .before .before .before .before .before .pre in
-    (
+    let p = c .before .before .before .before .before .before .before .before .pre in (
       (p .0 .few, p .0 .area, is-dir _ _ _ _ (c .before .before .before .before .before .kind .ensures) (p .0) (c .before .before .before .before .if1 .left), p .1, p .2),
       leads-prop _ _ _ _ (chain-on _ _ (c .before .before .climbs .ensures) (c .before .if2 .left)),
     )

@@ -1,4 +1,4 @@
-use Prim.Native.Nat.{ℕ, _≤_, _<_, _+_, _-_}
+use Prim.Native.Nat.{_≤_, _+_, _-_}
 use mathlib.Core.Path.{_≡_, sym}
 use mathlib.Core.Bool.{true}
 use native.Mathlib.Omega.{arith}
@@ -8,7 +8,6 @@ use Rattle.bounded.proofs.BoolLaws.{chain-on, chain-off}
 use Rattle.sound.specs.Link.{leadB}
 use Rattle.sound.specs.Pass.{Known}
 use Rattle.sound.proofs.LinkLaws.{known-start}
-use borrow.Author.Needs.{needs}
 use Rattle.sound.proofs.links.parents_right.Statement.{statement}
 use Rattle.sound.proofs.links.parents_right.Tie as tie
 
