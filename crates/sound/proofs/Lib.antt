@@ -2,3 +2,4 @@ pub mod PlaceLaws
 pub mod SoundLaws
 pub mod FactLaws
 pub mod LinkLaws
+pub mod CheckLaws

@@ -1,4 +1,5 @@
 // What a sound store or finished image is, and the check of it.
+pub mod check;
 pub mod entries;
 pub mod inodes;
 pub mod links;
