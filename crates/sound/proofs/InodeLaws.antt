@@ -4,8 +4,8 @@ use mathlib.Core.Path.{_≡_, refl, sym, ap, ap₂, _∙_, subst}
 use mathlib.Core.Bool.{Bool, true, false, not, _&&_, _||_}
 use mathlib.Core.List.{List}
 use native.Mathlib.Omega.{arith}
-use borrow.Author.Tests.{eq-eqb, ne-eqb}
-use lib.Dec.{eqb, leb, ltb}
+use borrow.Author.Tests.{eq-eqb, ne-eqb, le-leb, lt-leb}
+use lib.Dec.{eqb, leb}
 use lib.ListN.{getD}
 use Rattle.bounded.specs.Below.{allBelow}
 use Rattle.bounded.specs.Count.{count, newAt, tally}
@@ -18,10 +18,10 @@ use Rattle.bounded.proofs.SeenLaws.{seen-not, seen-some}
 use Rattle.bounded.proofs.ReflectLaws.{r-eq, r-le, r-lt, r-and, r-imp, r-fails, r-says, reflects-ext}
 use Rattle.octets.proofs.PartLaws.{getD-part}
 use Rattle.layout.specs.Sizes.{addressCount, blockBytes, mostFileBytes, mostImageBlocks}
-use Rattle.layout.specs.Inode.{kindOf, spareOf, linksOf, sizeOf, parentOf, addressOf, place, freeKind, fileKind, directoryKind}
+use Rattle.layout.specs.Inode.{kindOf, spareOf, linksOf, sizeOf, parentOf, addressOf, freeKind, fileKind, directoryKind}
 use Rattle.layout.specs.Block.{blockAt, blockOf, blocksUsed, kthBlock}
 use Rattle.layout.specs.Free.{named}
-use Rattle.sound.specs.Inode.{usedB, restB, tailB, attributesB, addressesB, zeroTailB}
+use Rattle.sound.specs.Inode.{tailByte, usedB, restB, tailB, attributesB, addressesB, zeroTailB}
 use Rattle.sound.specs.Sound.{unnamedB, zeroBlockB}
 
 -- a count that begins
@@ -142,6 +142,32 @@ from-on p q t n l h g =
     ap (allBelow p) e ∙ all-split p t (n - t) ∙ ap (λ (x : Bool). x && allBelow (λ k. p (t + k)) (n - t)) (all-of p t h)
     ∙ all-ext (λ k. p (t + k)) q (n - t) g
 
+tail-bytes : (s : List ℕ) (n i : ℕ) →
+    allBelow (tailB s n i) blockBytes ≡ allBelow (λ j. eqb (getD s (blockAt n (kthBlock s n i (sizeOf s i / blockBytes)) + sizeOf s i % blockBytes + j) 0) 0) (blockBytes - sizeOf s i % blockBytes)
+tail-bytes s n i =
+    let t = sizeOf s i % blockBytes in
+    let c = kthBlock s n i (sizeOf s i / blockBytes) in
+    from-on (tailB s n i) (λ j. eqb (getD s (blockAt n c + t + j) 0) 0) t blockBytes (omega arith)
+    (λ o l. or-l (not (leb t o)) (eqb (tailByte s n i o) 0) (ap not (lt-leb t o l)))
+    (λ j l.
+    let e : blockAt n c + (t + j) ≡ blockAt n c + t + j = omega arith in
+    ap₂ _||_ (ap not (le-leb t (t + j) (omega arith))) (ap (λ (x : ℕ). eqb x 0) (block-byte s n c (t + j) (omega arith) ∙ ap (λ (x : ℕ). getD s x 0) e)))
+
+-- what is no file, and a size that fills its blocks, has no bytes to test
+pub tail-none : (s : List ℕ) (n i : ℕ) → (kindOf s i ≡ fileKind → ⊥) → true ≡ zeroTailB s n i
+unfolding zeroTailB
+tail-none s n i h =
+    sym
+    (or-l (not (eqb (kindOf s i) fileKind)) (eqb (sizeOf s i % blockBytes) 0 || allBelow (tailB s n i) blockBytes)
+    (ap not (ne-eqb (kindOf s i) fileKind h)))
+
+pub tail-full : (s : List ℕ) (n i : ℕ) → sizeOf s i % blockBytes ≡ 0 → true ≡ zeroTailB s n i
+unfolding zeroTailB
+tail-full s n i e =
+    sym
+    (or-r (not (eqb (kindOf s i) fileKind)) (eqb (sizeOf s i % blockBytes) 0 || allBelow (tailB s n i) blockBytes)
+    (or-l (eqb (sizeOf s i % blockBytes) 0) (allBelow (tailB s n i) blockBytes) (eq-eqb (sizeOf s i % blockBytes) 0 e)))
+
 -- the last block of a file whose size z ends in it: it is there, and the bytes from z on are what the code tests
 module _ (s : List ℕ) (n i z : ℕ) (ez : z ≡ sizeOf s i) (h : z % blockBytes ≡ 0 → ⊥) where
   pub last-block : (b : ℕ) → attributesB s i ≡ true → addressesB s n b i ≡ true → (z / blockBytes < addressCount) × (1 ≤ kthBlock s n i (z / blockBytes)) × (kthBlock s n i (z / blockBytes) ≤ b)
@@ -159,7 +185,7 @@ module _ (s : List ℕ) (n i z : ℕ) (ez : z ≡ sizeOf s i) (h : z % blockByte
   tail-tested c o ek ec eo =
       sym
       (ap₂ _||_ (ap not (eq-eqb (kindOf s i) fileKind ek)) (ap (λ (x : Bool). x || allBelow (tailB s n i) blockBytes) (ne-eqb (sizeOf s i % blockBytes) 0 (λ q. h (ap (λ (x : ℕ). x % blockBytes) ez ∙ q))))
-      ∙ ?)
+      ∙ rw eo rw ec rw ez (tail-bytes s n i))
 
 -- ---- the blocks that the map does not have
 module _ (s : List ℕ) (n k : ℕ) (map : List ℕ) (h : Seen (addressOf s n) 4097 (addressCount * n) map) (l : k < mostImageBlocks) where

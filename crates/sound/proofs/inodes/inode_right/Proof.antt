@@ -3,35 +3,24 @@ use Rattle.sound.specs.Inode.{inodeB}
 use borrow.Author.Needs.{needs}
 use Rattle.sound.proofs.inodes.inode_right.Statement.{statement}
 use Rattle.sound.proofs.inodes.inode_right.Tie as tie
-use Rattle.sound.proofs.inodes.inode_right.Reads as reads
-use Rattle.sound.proofs.inodes.inode_right.Lts as lts
-use Rattle.sound.proofs.inodes.addresses_right.Reads as addresses-right-reads
-use Rattle.sound.proofs.inodes.attributes_right.Reads as attributes-right-reads
-use Rattle.sound.proofs.inodes.zero_tail.Reads as zero-tail-reads
 
--- src/inodes.rt:107:9
 attributes-right-requires : tie.Need-attributes-right-requires
 attributes-right-requires c κs = search needs
 
--- src/inodes.rt:108:9
 returns : tie.Need-returns
 unfolding inodeB
 returns c = chain-stop _ _ _ (c .before .attributes-right .ensures) (c .if1 .taken)
 
--- src/inodes.rt:110:9
 addresses-right-requires : tie.Need-addresses-right-requires
 addresses-right-requires c κs = search needs
 
--- src/inodes.rt:111:9
 returns-2 : tie.Need-returns-2
 unfolding inodeB
 returns-2 c = chain-end _ _ _ (chain-on _ _ (c .before .before .before .attributes-right .ensures) (c .before .before .if1 .left)) (chain-stop _ _ _ (c .before .addresses-right .ensures) (c .if2 .taken))
 
--- src/inodes.rt:113:5
 zero-tail-requires : tie.Need-zero-tail-requires
 zero-tail-requires c κs = (c .before .before .before .before .before .pre .0, c .before .before .before .before .before .pre .1, chain-on _ _ (c .before .before .before .attributes-right .ensures) (c .before .before .if1 .left), chain-on _ _ (c .before .addresses-right .ensures) (c .if2 .left))
 
--- src/inodes.rt:103:1
 returns-3 : tie.Need-returns-3
 unfolding inodeB
 returns-3 c = chain-end _ _ _ (chain-on _ _ (c .before .before .before .before .attributes-right .ensures) (c .before .before .before .if1 .left)) (chain-end _ _ _ (chain-on _ _ (c .before .before .addresses-right .ensures) (c .before .if2 .left)) (c .zero-tail .ensures))

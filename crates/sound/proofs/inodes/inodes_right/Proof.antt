@@ -9,9 +9,6 @@ use Rattle.bounded.proofs.BelowLaws.{all-none, all-more, all-stopped, all-done}
 use Rattle.sound.specs.Inode.{inodeB}
 use Rattle.sound.proofs.inodes.inodes_right.Statement.{statement}
 use Rattle.sound.proofs.inodes.inodes_right.Tie as tie
-use Rattle.sound.proofs.inodes.inodes_right.Reads as reads
-use Rattle.sound.proofs.inodes.inodes_right.Lts as lts
-use Rattle.sound.proofs.inodes.inode_right.Reads as inode-right-reads
 
 abbrev Inv-loop : tie.InvT-loop
 Inv-loop s n b k₀ k = (k ≤ n) × (allBelow (λ j. inodeB s n b (j + 1)) k ≡ true)
@@ -19,35 +16,27 @@ Inv-loop s n b k₀ k = (k ≤ n) × (allBelow (λ j. inodeB s n b (j + 1)) k �
 abbrev μ-loop : tie.MeasureT-loop
 μ-loop s n b k₀ k = n - k
 
--- src/inodes.rt:120:5
 loop-holds : tie.Need-loop-holds Inv-loop μ-loop
 loop-holds c = (omega arith, all-none _)
 
--- src/inodes.rt:121:34
 add-inode-right : tie.Need-add-inode-right Inv-loop μ-loop
 add-inode-right c = search needs
 
--- src/inodes.rt:121:13
 inode-right-requires : tie.Need-inode-right-requires Inv-loop μ-loop
 inode-right-requires c κs = search needs
 
--- src/inodes.rt:122:13
 returns : tie.Need-returns Inv-loop μ-loop
 returns c = all-stopped _ _ (c .before .before .before .loop .k) (omega arith) (chain-off _ _ (c .before .inode-right .ensures) (c .if1 .taken))
 
--- src/inodes.rt:120:9
 add-k : tie.Need-add-k Inv-loop μ-loop
 add-k c = search needs
 
--- src/inodes.rt:120:5
 loop-less : tie.Need-loop-less Inv-loop μ-loop
 loop-less c = search needs
 
--- src/inodes.rt:120:5
 loop-again : tie.Need-loop-again Inv-loop μ-loop
 loop-again c = (omega arith, all-more _ _ (c .before .before .before .loop .inv .1) (chain-on _ _ (c .before .inode-right .ensures) (c .if1 .left)))
 
--- src/inodes.rt:116:1
 returns-2 : tie.Need-returns-2 Inv-loop μ-loop
 returns-2 c = all-done _ _ (c .before .loop .k) (omega arith) (omega arith) (c .before .loop .inv .1)
 
