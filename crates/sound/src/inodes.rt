@@ -12,8 +12,8 @@ ghost use Rattle.layout.specs.Inode.{InodeFits, addressOf};
 ghost use Rattle.layout.specs.Block.{Sized};
 ghost use Rattle.sound.specs.Inode.{attributesB, addressesB, zeroTailB, inodeB};
 ghost use Rattle.sound.specs.Sound.{freeB, unnamedB, zeroBlockB};
-use layout::inode;
 use layout::block;
+use layout::inode;
 use layout::sizes::ADDRESS_COUNT;
 use layout::sizes::BLOCK_BYTES;
 use layout::sizes::DIRECTORY;
@@ -38,7 +38,13 @@ fn attributes_right(s: &[u8], n: usize, i: usize) -> bool
         return false;
     }
     if kind == FREE {
-        return inode::links(s, n, i) == 0 && size == 0 && inode::parent(s, n, i) == 0;
+        if inode::links(s, n, i) != 0 {
+            return false;
+        }
+        if size != 0 {
+            return false;
+        }
+        return inode::parent(s, n, i) == 0;
     }
     if kind == FILE {
         return inode::parent(s, n, i) == 0;
@@ -133,8 +139,10 @@ pub fn addresses_differ(s: &[u8], n: usize, map: &mut [u8]) -> bool
 {
     for x in 0..ADDRESS_COUNT * n {
         let a = inode::address(s, n, x) as usize;
-        if a != 0 && map[a] != 0 {
-            return false;
+        if map[a] != 0 {
+            if a != 0 {
+                return false;
+            }
         }
         map[a] = 1;
     }

@@ -1,66 +1,65 @@
+use Prim.Native.Nat.{ℕ, _*_, _-_, _≤_}
+use mathlib.Core.Path.{_≡_, sym, ap, _∙_}
+use mathlib.Core.Bool.{true, true≢false}
+use mathlib.Core.Logic.{⊎-elim}
+use native.Mathlib.Omega.{arith}
+use borrow.Author.Needs.{needs}
+use lib.ListN.{length, length-replicate}
+use Rattle.bounded.specs.Below.{allBelow}
+use Rattle.bounded.specs.Count.{newAt}
+use Rattle.bounded.specs.Seen.{Seen}
+use Rattle.bounded.proofs.BelowLaws.{all-none, all-more, all-stopped, all-done}
+use Rattle.bounded.proofs.CountLaws.{new-zero}
+use Rattle.bounded.proofs.SeenLaws.{seen-start, seen-more}
+use Rattle.layout.specs.Inode.{addressOf}
+use Rattle.sound.proofs.InodeLaws.{new-noted, again-noted}
 use Rattle.sound.proofs.inodes.addresses_differ.Statement.{statement}
 use Rattle.sound.proofs.inodes.addresses_differ.Tie as tie
-use Rattle.sound.proofs.inodes.addresses_differ.Reads as reads
-use Rattle.sound.proofs.inodes.addresses_differ.Lts as lts
-use Rattle.layout.proofs.inode.address.Reads as address-reads
 
 abbrev Inv-loop : tie.InvT-loop
-Inv-loop s n map₀ x₀ x-end map x = ?
+Inv-loop s n map₀ x₀ x-end map x = (x ≤ 12 * n) × (allBelow (newAt (addressOf s n)) x ≡ true) × Seen (addressOf s n) 4097 x map
 
 abbrev μ-loop : tie.MeasureT-loop
-μ-loop s n map₀ x₀ x-end map x = ?
+μ-loop s n map₀ x₀ x-end map x = 12 * n - x
 
--- src/inodes.rt:134:17
 mul-x-end : tie.Need-mul-x-end Inv-loop μ-loop
-mul-x-end c = ?
+mul-x-end c = search needs
 
--- src/inodes.rt:134:5
 loop-holds : tie.Need-loop-holds Inv-loop μ-loop
-loop-holds c = ?
+loop-holds c = (omega arith, all-none _, rw (c .before .before .pre .0 .2) (seen-start _ 4097))
 
--- src/inodes.rt:135:17
 address-requires : tie.Need-address-requires Inv-loop μ-loop
-address-requires c κs = ?
+address-requires c κs = search needs
 
--- src/inodes.rt:135:17
 cast-a : tie.Need-cast-a Inv-loop μ-loop
-cast-a c = ?
+cast-a c = search needs
 
--- src/inodes.rt:136:22
-slice-read-if2 : tie.Need-slice-read-if2 Inv-loop μ-loop
-slice-read-if2 c = ?
+slice-read-if1 : tie.Need-slice-read-if1 Inv-loop μ-loop
+slice-read-if1 c = omega (arith, c .before .before .before .loop .inv .2 .long, c .before .address .ensures, c .before .before .before .before .before .before .pre .1 (c .before .before .before .loop .x) (omega arith))
 
--- src/inodes.rt:137:13
 same-length : tie.Need-same-length Inv-loop μ-loop
-same-length c = ?
+same-length c = c .before .before .before .before .before .loop .inv .2 .long ∙ sym (ap length (c .before .before .before .before .before .before .before .before .pre .0 .2) ∙ length-replicate {A = ℕ} 4097 0)
 
--- src/inodes.rt:137:13
 returns : tie.Need-returns Inv-loop μ-loop
-returns c = ?
+returns c = let i = c .before .before .before .before .before .loop in let e = c .before .before .before .address .ensures in (all-stopped _ _ (i .x) (omega arith) (again-noted _ 4097 (i .x) _ _ e (omega (arith, c .before .before .before .address .ensures, c .before .before .before .before .before .before .before .before .pre .1 (c .before .before .before .before .before .loop .x) (omega arith))) (i .inv .2) (c .before .if1 .taken) (c .if2 .taken)), λ q. absurd (true≢false (sym q)))
 
--- src/inodes.rt:139:9
 slice-write-map : tie.Need-slice-write-map Inv-loop μ-loop
-slice-write-map c = ?
+slice-write-map c = omega (arith, c .before .before .before .before .loop .inv .2 .long, c .before .before .address .ensures, c .before .before .before .before .before .before .before .pre .1 (c .before .before .before .before .loop .x) (omega arith))
 
--- src/inodes.rt:134:9
 add-x : tie.Need-add-x Inv-loop μ-loop
-add-x c = ?
+add-x c = search needs
 
--- src/inodes.rt:134:5
 loop-less : tie.Need-loop-less Inv-loop μ-loop
-loop-less c = ?
+loop-less c = search needs
 
--- src/inodes.rt:134:5
 loop-again : tie.Need-loop-again Inv-loop μ-loop
-loop-again c = ?
+loop-again c = let a = c .before .before .before .before .before .before .before .args in let i = c .before .before .before .before .loop in let e = c .before .before .address .ensures in (omega arith, all-more _ _ (i .inv .1) (⊎-elim (λ w. new-zero (addressOf (a .s .now) (a .n)) (i .x) _ e (w .1 .left)) (λ w. new-noted _ 4097 (i .x) _ _ e (omega (arith, c .before .before .address .ensures, c .before .before .before .before .before .before .before .pre .1 (c .before .before .before .before .loop .x) (omega arith))) (i .inv .2) (w .left)) (c .if1 .came)), seen-more _ 4097 (i .x) _ _ e (omega (arith, c .before .before .address .ensures, c .before .before .before .before .before .before .before .pre .1 (c .before .before .before .before .loop .x) (omega arith))) (i .inv .2))
 
--- src/inodes.rt:129:1
 same-length-2 : tie.Need-same-length-2 Inv-loop μ-loop
-same-length-2 c = ?
+same-length-2 c = c .before .loop .inv .2 .long ∙ sym (ap length (c .before .before .before .before .pre .0 .2) ∙ length-replicate {A = ℕ} 4097 0)
 
--- src/inodes.rt:129:1
 returns-2 : tie.Need-returns-2 Inv-loop μ-loop
-returns-2 c = ?
+returns-2 c = let i = c .before .loop in let e : i .x ≡ 12 * c .before .before .before .before .args .n = omega arith in (all-done _ _ (i .x) (omega arith) (omega arith) (i .inv .1), λ q. rw e at (i .inv .2))
 
 pub addresses-differ-spec : {M : Type 1} → statement M
 addresses-differ-spec =
@@ -72,7 +71,7 @@ addresses-differ-spec =
     loop-holds
     address-requires
     cast-a
-    slice-read-if2
+    slice-read-if1
     same-length
     returns
     slice-write-map

@@ -1,68 +1,66 @@
+use Prim.Native.Nat.{_-_, _≤_}
+use mathlib.Core.Path.{_≡_, ap, _∙_}
+use mathlib.Core.Bool.{true, _&&_}
+use mathlib.Core.Logic.{⊎-elim}
+use native.Mathlib.Omega.{arith}
+use borrow.Author.Needs.{needs}
+use Rattle.bounded.specs.Below.{allBelow}
+use Rattle.bounded.proofs.BelowLaws.{all-none, all-more, all-stopped, all-done}
+use Rattle.layout.specs.Inode.{sizeOf}
+use Rattle.layout.specs.Block.{blocksUsed}
+use Rattle.sound.specs.Inode.{usedB, restB, addressesB}
+use Rattle.sound.proofs.InodeLaws.{address-used, address-rest, address-zero, address-past, address-extra}
 use Rattle.sound.proofs.inodes.addresses_right.Statement.{statement}
 use Rattle.sound.proofs.inodes.addresses_right.Tie as tie
-use Rattle.sound.proofs.inodes.addresses_right.Reads as reads
-use Rattle.sound.proofs.inodes.addresses_right.Lts as lts
-use Rattle.layout.proofs.block.blocks_used.Reads as blocks-used-reads
-use Rattle.layout.proofs.block.kth_block.Reads as kth-block-reads
-use Rattle.layout.proofs.inode.size.Reads as size-reads
 
 abbrev Inv-loop : tie.InvT-loop
-Inv-loop s n b i used k₀ k = ?
+Inv-loop s n b i used k₀ k = (k ≤ 12) × (used ≡ blocksUsed (sizeOf s i)) × (allBelow (λ j. usedB s n b i j && restB s n i j) k ≡ true)
 
 abbrev μ-loop : tie.MeasureT-loop
-μ-loop s n b i used k₀ k = ?
+μ-loop s n b i used k₀ k = 12 - k
 
--- src/inodes.rt:54:35
 size-requires : tie.Need-size-requires Inv-loop μ-loop
-size-requires c κs = ?
+size-requires c κs = search needs
 
--- src/inodes.rt:54:35
 cast-blocks-used : tie.Need-cast-blocks-used Inv-loop μ-loop
-cast-blocks-used c = ?
+cast-blocks-used c = search needs
 
--- src/inodes.rt:54:9
 blocks-used-requires : tie.Need-blocks-used-requires Inv-loop μ-loop
-blocks-used-requires c κs = ?
+blocks-used-requires c κs = search needs
 
--- src/inodes.rt:55:5
 loop-holds : tie.Need-loop-holds Inv-loop μ-loop
-loop-holds c = ?
+loop-holds c = (omega arith, c .blocks-used .ensures ∙ ap blocksUsed (c .before .size .ensures), all-none _)
 
--- src/inodes.rt:56:17
 kth-block-requires : tie.Need-kth-block-requires Inv-loop μ-loop
-kth-block-requires c κs = ?
+kth-block-requires c κs = search needs
 
--- src/inodes.rt:56:17
 cast-a : tie.Need-cast-a Inv-loop μ-loop
-cast-a c = ?
+cast-a c = search needs
 
--- src/inodes.rt:59:17
 returns : tie.Need-returns Inv-loop μ-loop
-returns c = ?
+unfolding addressesB
+returns c = let i = c .before .before .before .before .loop in all-stopped _ _ (i .k) (omega arith) (address-zero _ _ _ _ (i .k) _ _ (i .inv .1) (c .before .before .kth-block .ensures) (c .before .if1 .taken) (c .if2 .taken))
 
--- src/inodes.rt:62:17
 returns-2 : tie.Need-returns-2 Inv-loop μ-loop
-returns-2 c = ?
+unfolding addressesB
+returns-2 c = let i = c .before .before .before .before .before .loop in all-stopped _ _ (i .k) (omega arith) (address-past _ _ _ _ (i .k) _ _ (i .inv .1) (c .before .before .before .kth-block .ensures) (c .before .before .if1 .taken) (c .if3 .taken))
 
--- src/inodes.rt:66:17
 returns-3 : tie.Need-returns-3 Inv-loop μ-loop
-returns-3 c = ?
+unfolding addressesB
+returns-3 c = let i = c .before .before .before .before .loop in all-stopped _ _ (i .k) (omega arith) (address-extra _ _ _ _ (i .k) _ _ (i .inv .1) (c .before .before .kth-block .ensures) (c .before .if1 .left) (c .if4 .taken))
 
--- src/inodes.rt:55:9
 add-k : tie.Need-add-k Inv-loop μ-loop
-add-k c = ?
+add-k c = search needs
 
--- src/inodes.rt:55:5
 loop-less : tie.Need-loop-less Inv-loop μ-loop
-loop-less c = ?
+loop-less c = search needs
 
--- src/inodes.rt:55:5
 loop-again : tie.Need-loop-again Inv-loop μ-loop
-loop-again c = ?
+loop-again c = let i = c .before .before .before .loop in let e = c .before .kth-block .ensures in (omega arith, i .inv .1, all-more _ _ (i .inv .2) (⊎-elim (λ w. address-used _ _ _ _ (i .k) _ _ (i .inv .1) e (w .0 .taken) (w .1 .left) (w .2 .left)) (λ w. address-rest _ _ _ _ (i .k) _ _ (i .inv .1) e (w .0 .left) (w .1 .left)) (c .if1 .came)))
 
--- src/inodes.rt:50:1
 returns-4 : tie.Need-returns-4 Inv-loop μ-loop
-returns-4 c = ?
+unfolding addressesB
+returns-4 c = all-done _ _ (c .before .loop .k) (omega arith) (omega arith) (c .before .loop .inv .2)
 
 pub addresses-right-spec : {M : Type 1} → statement M
 addresses-right-spec =
