@@ -1,3 +1,4 @@
 pub mod PlaceLaws
 pub mod SoundLaws
 pub mod FactLaws
+pub mod EntryLaws
