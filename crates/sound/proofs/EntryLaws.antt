@@ -182,13 +182,13 @@ module _ (low high : List ℕ) (t u : ℕ) where
   pub low-apart : (getD low u 0 ≡ getD low t 0 → ⊥) → apartB low high t u ≡ true
   low-apart h = ap not (and-false-l (eqb (getD low u 0) (getD low t 0)) (eqb (getD high u 0) (getD high t 0)) (ne-eqb (getD low u 0) (getD low t 0) h))
 
-  pub high-apart : (getD high u 0 ≡ getD high t 0 → ⊥) → apartB low high t u ≡ true
-  high-apart h = ap not (and-false-r (eqb (getD low u 0) (getD low t 0)) (eqb (getD high u 0) (getD high t 0)) (ne-eqb (getD high u 0) (getD high t 0) h))
+  pub high-apart : eqb (getD high u 0) (getD high t 0) ≡ false → apartB low high t u ≡ true
+  high-apart h = ap not (and-false-r (eqb (getD low u 0) (getD low t 0)) (eqb (getD high u 0) (getD high t 0)) h)
 
-  pub not-apart : getD low u 0 ≡ getD low t 0 → getD high u 0 ≡ getD high t 0 → apartB low high t u ≡ false
+  pub not-apart : getD low u 0 ≡ getD low t 0 → eqb (getD high u 0) (getD high t 0) ≡ true → apartB low high t u ≡ false
   not-apart p q =
       ap not
-      (and-true (eqb (getD low u 0) (getD low t 0)) (eqb (getD high u 0) (getD high t 0)) (eq-eqb (getD low u 0) (getD low t 0) p) (eq-eqb (getD high u 0) (getD high t 0) q))
+      (and-true (eqb (getD low u 0) (getD low t 0)) (eqb (getD high u 0) (getD high t 0)) (eq-eqb (getD low u 0) (getD low t 0) p) q)
 
 -- an empty entry has no legal name
 empty-differs : (a b : List ℕ) → isEmpty a ≡ true → legalEntry b ≡ true → sameName a (part b nameAt nameBytes) ≡ false
