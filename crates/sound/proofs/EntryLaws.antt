@@ -253,7 +253,7 @@ module _ (s : List ℕ) (n d t : ℕ) (h : Octets s) (f : DirFits s n d) (k : ki
       ∙ ap₂ (λ (q j : ℕ). allBelow (λ u. not (filled s n (mostSlots * q + u)) || not (sameNames s n (mostSlots * q + u) p)) j) a b
 
 -- ---- slot_right
-never : {A : Type 0} → false ≡ true → A
+pub never : {A : Type 0} → false ≡ true → A
 never e = absurd (true≢false (sym e))
 
 module _ (s : List ℕ) (n d t o : ℕ) (x : Here s n d t o) (low high counts : List ℕ) (y : Passed s n d t (placeOf d t) low high counts)
@@ -325,3 +325,35 @@ module _ (s : List ℕ) (n d t o : ℕ) (x : Here s n d t o) (low high counts : 
                 highs = high-read;
                 counted = tally-one (naming s n) 1 (mostInodes + 1) (placeOf d t) i counts (a ∙ sym (naming-here s n d t o x)) (k .0) (k .1) (y .counted);
               })
+
+-- ---- block_right: slot j of block k is slot 4 × k + j
+module _ (s : List ℕ) (n d k : ℕ) where
+  pub slot-start : (j : ℕ) → j < 4 → blockAt n (kthBlock s n d k) + 16 * j ≡ slotAt s n d (4 * k + j)
+  unfolding slotAt
+  slot-start j l =
+      let a : k ≡ (4 * k + j) / 4 = omega arith in
+      let b : j ≡ (4 * k + j) % 4 = omega arith in
+      ap₂ (λ (q r : ℕ). blockAt n (kthBlock s n d q) + 16 * r) a b
+
+  pub slot-inside : 4 * k < slots s d → (j : ℕ) → j < 4 → 4 * k + j < slots s d
+  unfolding slots
+  slot-inside l j h = omega arith
+
+  -- the same pass, in other words
+  passed-at : {low high counts : List ℕ} (t u p : ℕ) → t ≡ u → p ≡ placeOf d u → Passed s n d t p low high counts → Passed s n d u (placeOf d u) low high counts
+  passed-at {low} {high} {counts} t u p e f y =
+      subst (λ (q : ℕ). Passed s n d u q low high counts) f (subst (λ (q : ℕ). Passed s n d q p low high counts) e y)
+
+  pub block-begin : {low high counts : List ℕ} → Passed s n d (4 * k) (placeOf d (4 * k)) low high counts → Passed s n d (4 * k + 0) (placeOf d (4 * k + 0)) low high counts
+  block-begin = let e : 4 * k ≡ 4 * k + 0 = omega arith in passed-at (4 * k) (4 * k + 0) (placeOf d (4 * k)) e (ap (placeOf d) e)
+
+  pub block-more : {low high counts : List ℕ} (j : ℕ) → Passed s n d (4 * k + j + 1) (placeOf d (4 * k + j) + 1) low high counts → Passed s n d (4 * k + (j + 1)) (placeOf d (4 * k + (j + 1))) low high counts
+  block-more j =
+      let e : 4 * k + j + 1 ≡ 4 * k + (j + 1) = omega arith in
+      let f : placeOf d (4 * k + j) + 1 ≡ placeOf d (4 * k + (j + 1)) = omega arith in
+      passed-at (4 * k + j + 1) (4 * k + (j + 1)) (placeOf d (4 * k + j) + 1) e f
+
+  pub block-done : {low high counts : List ℕ} (j : ℕ) → j ≤ 4 → 4 ≤ j → Passed s n d (4 * k + j) (placeOf d (4 * k + j)) low high counts → Passed s n d (4 * k + 4) (placeOf d (4 * k + 4)) low high counts
+  block-done j l h =
+      let e : 4 * k + j ≡ 4 * k + 4 = omega arith in
+      passed-at (4 * k + j) (4 * k + 4) (placeOf d (4 * k + j)) e (ap (placeOf d) e)
