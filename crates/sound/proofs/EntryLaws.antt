@@ -15,7 +15,7 @@ use Rattle.bounded.specs.Search.{pick}
 use Rattle.bounded.specs.Reflect.{Reflects}
 use Rattle.bounded.specs.Table.{Filled}
 use Rattle.bounded.proofs.BoolLaws.{clash, fails, holds, holds-or-fails, same-test, and-true, and-left, and-right, and-false-l, and-false-r, or-l, or-r}
-use Rattle.bounded.proofs.BelowLaws.{all-at, all-of, all-fail, all-stop, all-ext, all-split}
+use Rattle.bounded.proofs.BelowLaws.{all-none, all-at, all-of, all-fail, all-stop, all-ext, all-split}
 use Rattle.bounded.proofs.CountLaws.{tally-skip, tally-one}
 use Rattle.bounded.proofs.TableLaws.{filled-none, filled-more}
 use Rattle.bounded.proofs.ReflectLaws.{r-eq, r-le, r-lt, r-true, r-false, r-and, r-not, r-imp, r-same, r-says, r-no, r-fails, reflects-ext}
@@ -357,3 +357,103 @@ module _ (s : List ℕ) (n d k : ℕ) where
   block-done j l h =
       let e : 4 * k + j ≡ 4 * k + 4 = omega arith in
       passed-at (4 * k + j) (4 * k + 4) (placeOf d (4 * k + j)) e (ap (placeOf d) e)
+
+-- ---- directory_right
+-- k turns that pass a value below lo over
+pub tally-skips : (f : ℕ → ℕ) (lo n m k : ℕ) (l : List ℕ) → ((j : ℕ) → j < k → f (m + j) < lo) → Tallied f lo n m l → Tallied f lo n (m + k) l
+tally-skips f lo n m zero l h t = subst (λ (q : ℕ). Tallied f lo n q l) (sym (add-zero m)) t
+tally-skips f lo n m (suc k) l h t =
+    let e : m + k + 1 ≡ m + suc k = omega arith in
+    subst (λ (q : ℕ). Tallied f lo n q l) e (tally-skip f lo n (m + k) l (h k (omega arith)) (tally-skips f lo n m k l (λ j p. h j (omega arith)) t))
+
+module _ (s : List ℕ) (n d : ℕ) (f : DirFits s n d) where
+  abbrev pub rightAt : ℕ → Bool
+  rightAt t = entryB s n (placeOf d t)
+
+  -- the slots below u are passed, and the places from u on are no slots
+  rest-right : (counts : List ℕ) (u : ℕ) → u ≤ mostSlots → ((t : ℕ) → u ≤ t → t < mostSlots → isSlot s (placeOf d t) ≡ false)
+      → allBelow rightAt u ≡ true → Tallied (naming s n) 1 257 (placeOf d u) counts
+      → (true ≡ allBelow rightAt mostSlots) × (true ≡ true → Tallied (naming s n) 1 257 (mostSlots * d) counts)
+  rest-right counts u l h a y =
+      let e : placeOf d u + (mostSlots - u) ≡ mostSlots * d = omega (arith, f .inode .low) in
+      (sym (all-of rightAt mostSlots (λ t m. go t m (decLt t u))),
+      λ q. subst (λ (p : ℕ). Tallied (naming s n) 1 257 p counts) e (tally-skips (naming s n) 1 257 (placeOf d u) (mostSlots - u) counts (λ j m. none j m) y))
+    where
+      go : (t : ℕ) → t < mostSlots → Dec (t < u) → rightAt t ≡ true
+      go t m (yes z) = all-at rightAt u a t z
+      go t m (no z) = other-right s n (placeOf d t) (h t (omega arith) m)
+
+      none : (j : ℕ) → j < mostSlots - u → naming s n (placeOf d u + j) < 1
+      none j m =
+          let e : placeOf d (u + j) ≡ placeOf d u + j = omega arith in
+          subst (λ (p : ℕ). naming s n p < 1) e (other-naming s n (placeOf d (u + j)) (h (u + j) (omega arith) (omega arith)))
+
+  first-place : (counts : List ℕ) → Tallied (naming s n) 1 257 (mostSlots * (d - 1)) counts → Tallied (naming s n) 1 257 (placeOf d 0) counts
+  first-place counts y = subst (λ (p : ℕ). Tallied (naming s n) 1 257 p counts) (sym (add-zero (mostSlots * (d - 1)))) y
+
+  -- no directory
+  pub other-inode : (counts : List ℕ) (k : ℕ) → k ≡ kindOf s d → (k ≡ directoryKind → ⊥) → Tallied (naming s n) 1 257 (mostSlots * (d - 1)) counts
+      → (true ≡ allBelow rightAt mostSlots) × (true ≡ true → Tallied (naming s n) 1 257 (mostSlots * d) counts)
+  other-inode counts k e h y =
+      rest-right counts 0 (omega arith) (λ t l m. r-fails (slot-place s n d t (f .inode .low) m) (λ w. h (e ∙ w .0))) (all-none rightAt)
+      (first-place counts y)
+
+  -- before the first block, a block that is right, one that is not, and after the last
+  pub dir-begin : (low high counts : List ℕ) → length low ≡ mostSlots → length high ≡ mostSlots → Tallied (naming s n) 1 257 (mostSlots * (d - 1)) counts → Passed s n d 0 (placeOf d 0) low high counts
+  dir-begin low high counts p q y =
+      record { lows = filled-none (lowOf s n d) mostSlots low p; highs = filled-none (highOf s n d) mostSlots high q; counted = first-place counts y }
+
+  pub dir-more : (k : ℕ) (r : Bool) → allBelow rightAt (4 * k) ≡ true → r ≡ allBelow (λ j. rightAt (4 * k + j)) 4 → not r ≡ false → allBelow rightAt (4 * (k + 1)) ≡ true
+  dir-more k r a b c =
+      let e : 4 * (k + 1) ≡ 4 * k + 4 = omega arith in
+      ap (allBelow rightAt) e ∙ all-split rightAt (4 * k) 4
+      ∙ and-true (allBelow rightAt (4 * k)) (allBelow (λ j. rightAt (4 * k + j)) 4) a (sym b ∙ not-false r c)
+
+  pub dir-next : {low high counts : List ℕ} (k : ℕ) → Passed s n d (4 * k + 4) (placeOf d (4 * k + 4)) low high counts → Passed s n d (4 * (k + 1)) (placeOf d (4 * (k + 1))) low high counts
+  dir-next k =
+      let e : 4 * k + 4 ≡ 4 * (k + 1) = omega arith in
+      passed-at s n d k (4 * k + 4) (4 * (k + 1)) (placeOf d (4 * k + 4)) e (ap (placeOf d) e)
+
+  pub dir-stop : {A : Type 0} (k : ℕ) (r : Bool) → 4 * k < slots s d → r ≡ allBelow (λ j. rightAt (4 * k + j)) 4 → not r ≡ true → (false ≡ allBelow rightAt mostSlots) × (false ≡ true → A)
+  dir-stop k r l b c =
+      let w = few-slots s n d f in
+      let x = all-fail (λ j. rightAt (4 * k + j)) 4 (sym b ∙ not-true r c) in
+      let y = slot-inside s n d k l (x .0) (x .1) in
+      (sym (all-stop rightAt mostSlots (4 * k + x .0) (omega arith) (x .2)), never)
+
+  pub dir-done : {low high counts : List ℕ} (k m : ℕ) → m ≡ slots s d → k ≤ m / 4 → m / 4 ≤ k → allBelow rightAt (4 * k) ≡ true → Passed s n d (4 * k) (placeOf d (4 * k)) low high counts
+      → (true ≡ allBelow rightAt mostSlots) × (true ≡ true → Tallied (naming s n) 1 257 (mostSlots * d) counts)
+  unfolding slots
+  dir-done {low} {high} {counts} k m e p q a y =
+      let w = f .few in
+      let z : 4 * k ≡ slots s d = omega arith in
+      rest-right counts (4 * k) (omega arith)
+      (λ t l m. r-fails (slot-place s n d t (f .inode .low) m) (λ w. let v = w .1 in omega arith)) a (y .counted)
+
+-- ---- entries_right: directory k + 1
+module _ (s : List ℕ) (n : ℕ) where
+  dir-places : (k : ℕ) → allBelow (λ t. entryB s n (placeOf (k + 1) t)) mostSlots ≡ allBelow (λ t. entryB s n (mostSlots * k + t)) mostSlots
+  dir-places k =
+      let e : k + 1 - 1 ≡ k = omega arith in
+      ap (λ (q : ℕ). allBelow (λ t. entryB s n (mostSlots * q + t)) mostSlots) e
+
+  pub all-begin : (counts : List ℕ) (k : ℕ) → Tallied (naming s n) 1 257 (mostSlots * k) counts → Tallied (naming s n) 1 257 (mostSlots * (k + 1 - 1)) counts
+  all-begin counts k = let e : mostSlots * k ≡ mostSlots * (k + 1 - 1) = omega arith in subst (λ (p : ℕ). Tallied (naming s n) 1 257 p counts) e
+
+  pub dirs-more : (k : ℕ) (r : Bool) → allBelow (entryB s n) (mostSlots * k) ≡ true → r ≡ allBelow (λ t. entryB s n (placeOf (k + 1) t)) mostSlots → not r ≡ false → allBelow (entryB s n) (mostSlots * (k + 1)) ≡ true
+  dirs-more k r a b c =
+      let e : mostSlots * (k + 1) ≡ mostSlots * k + mostSlots = omega arith in
+      ap (allBelow (entryB s n)) e ∙ all-split (entryB s n) (mostSlots * k) mostSlots
+      ∙ and-true (allBelow (entryB s n) (mostSlots * k)) (allBelow (λ t. entryB s n (mostSlots * k + t)) mostSlots) a (sym (dir-places k) ∙ sym b ∙ not-false r c)
+
+  pub dirs-stop : {A : Type 0} (k : ℕ) (r : Bool) → k < n → r ≡ allBelow (λ t. entryB s n (placeOf (k + 1) t)) mostSlots → not r ≡ true → (false ≡ allBelow (entryB s n) (mostSlots * n)) × (false ≡ true → A)
+  dirs-stop k r l b c =
+      let x = all-fail (λ t. entryB s n (mostSlots * k + t)) mostSlots (sym (dir-places k) ∙ sym b ∙ not-true r c) in
+      let y = x .1 in
+      (sym (all-stop (entryB s n) (mostSlots * n) (mostSlots * k + x .0) (omega arith) (x .2)), never)
+
+  pub dirs-done : (counts : List ℕ) (k : ℕ) → k ≤ n → n ≤ k → allBelow (entryB s n) (mostSlots * k) ≡ true → Tallied (naming s n) 1 257 (mostSlots * k) counts
+      → (true ≡ allBelow (entryB s n) (mostSlots * n)) × (true ≡ true → Tallied (naming s n) 1 257 (mostSlots * n) counts)
+  dirs-done counts k l m a y =
+      let e : mostSlots * k ≡ mostSlots * n = omega arith in
+      (sym (ap (allBelow (entryB s n)) (sym e) ∙ a), λ q. subst (λ (p : ℕ). Tallied (naming s n) 1 257 p counts) e y)
