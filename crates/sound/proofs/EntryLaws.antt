@@ -8,7 +8,7 @@ use native.Mathlib.Decide.{decLt}
 use native.Mathlib.Omega.{arith}
 use borrow.Author.Tests.{eq-eqb, ne-eqb, eqb-true, not-true, not-false}
 use lib.Dec.{eqb, leb, ltb}
-use lib.ListN.{length, getD, set, take, drop}
+use lib.ListN.{length, getD, set, take, drop, replicate}
 use Rattle.bounded.specs.Below.{allBelow}
 use Rattle.bounded.specs.Count.{Tallied}
 use Rattle.bounded.specs.Search.{pick}
@@ -16,7 +16,7 @@ use Rattle.bounded.specs.Reflect.{Reflects}
 use Rattle.bounded.specs.Table.{Filled}
 use Rattle.bounded.proofs.BoolLaws.{clash, fails, holds, holds-or-fails, same-test, and-true, and-left, and-right, and-false-l, and-false-r, or-l, or-r}
 use Rattle.bounded.proofs.BelowLaws.{all-none, all-at, all-of, all-fail, all-stop, all-ext, all-split}
-use Rattle.bounded.proofs.CountLaws.{tally-skip, tally-one}
+use Rattle.bounded.proofs.CountLaws.{tally-start, tally-skip, tally-one}
 use Rattle.bounded.proofs.TableLaws.{filled-none, filled-more}
 use Rattle.bounded.proofs.ReflectLaws.{r-eq, r-le, r-lt, r-true, r-false, r-and, r-not, r-imp, r-same, r-says, r-no, r-fails, reflects-ext}
 use Rattle.octets.specs.Octets.{Octets, part}
@@ -437,8 +437,11 @@ module _ (s : List ℕ) (n : ℕ) where
       let e : k + 1 - 1 ≡ k = omega arith in
       ap (λ (q : ℕ). allBelow (λ t. entryB s n (mostSlots * q + t)) mostSlots) e
 
-  pub all-begin : (counts : List ℕ) (k : ℕ) → Tallied (naming s n) 1 257 (mostSlots * k) counts → Tallied (naming s n) 1 257 (mostSlots * (k + 1 - 1)) counts
-  all-begin counts k = let e : mostSlots * k ≡ mostSlots * (k + 1 - 1) = omega arith in subst (λ (p : ℕ). Tallied (naming s n) 1 257 p counts) e
+  pub dirs-begin : (counts : List ℕ) → counts ≡ replicate 257 0 → Tallied (naming s n) 1 257 0 counts
+  dirs-begin counts e = subst (λ (l : List ℕ). Tallied (naming s n) 1 257 0 l) (sym e) (tally-start (naming s n) 1 257)
+
+  pub dir-turn : (counts : List ℕ) (k : ℕ) → Tallied (naming s n) 1 257 (mostSlots * k) counts → Tallied (naming s n) 1 257 (mostSlots * (k + 1 - 1)) counts
+  dir-turn counts k = let e : mostSlots * k ≡ mostSlots * (k + 1 - 1) = omega arith in subst (λ (p : ℕ). Tallied (naming s n) 1 257 p counts) e
 
   pub dirs-more : (k : ℕ) (r : Bool) → allBelow (entryB s n) (mostSlots * k) ≡ true → r ≡ allBelow (λ t. entryB s n (placeOf (k + 1) t)) mostSlots → not r ≡ false → allBelow (entryB s n) (mostSlots * (k + 1)) ≡ true
   dirs-more k r a b c =
