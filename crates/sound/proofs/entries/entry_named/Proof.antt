@@ -1,80 +1,96 @@
+use native.Mathlib.Omega.{arith}
+use denote.Ref.{now}
 use borrow.Author.Needs.{needs}
+use Rattle.sound.proofs.EntryLaws.{cut-fits, illegal, nameless, past-inodes, free-named, root-named, file-named, dir-named}
 use Rattle.sound.proofs.entries.entry_named.Statement.{statement}
 use Rattle.sound.proofs.entries.entry_named.Tie as tie
-use Rattle.sound.proofs.entries.entry_named.Reads as reads
-use Rattle.sound.proofs.entries.entry_named.Lts as lts
-use Rattle.layout.proofs.inode.kind.Reads as kind-reads
-use Rattle.layout.proofs.inode.parent.Reads as parent-reads
-use Rattle.names.proofs.entry_inode.Reads as entry-inode-reads
-use Rattle.names.proofs.legal_entry.Reads as legal-entry-reads
 
--- src/entries.rt:27:19
 add-e : tie.Need-add-e
-add-e c = ?
+add-e c = let a = c .before .args in omega (arith, cut-fits (now (a .s)) (a .n) (a .d) (a .t) (a .o) (c .before .pre))
 
--- src/entries.rt:27:13
 sub-e : tie.Need-sub-e
 sub-e c = search needs
 
--- src/entries.rt:27:13
 part-e-start : tie.Need-part-e-start
 part-e-start c = search needs
 
--- src/entries.rt:27:13
 part-e-end : tie.Need-part-e-end
-part-e-end c = ?
+part-e-end c = let a = c .before .args in omega (arith, cut-fits (now (a .s)) (a .n) (a .d) (a .t) (a .o) (c .before .pre))
 
--- src/entries.rt:28:13
 entry-inode-requires : tie.Need-entry-inode-requires
 entry-inode-requires c κs = search needs
 
--- src/entries.rt:28:13
 cast-i : tie.Need-cast-i
 cast-i c = search needs
 
--- src/entries.rt:29:9
 legal-entry-requires : tie.Need-legal-entry-requires
 legal-entry-requires c κs = search needs
 
--- src/entries.rt:30:9
 returns : tie.Need-returns
-returns c = ?
+returns c =
+    let z = c .before .before .before .before .before in
+    let a = z .args in
+    illegal (now (a .s)) (a .n) (a .d) (a .t) (a .o) (z .pre) _ _ (c .before .before .entry-inode .ensures) (c .before .legal-entry .ensures) (c .if1 .taken)
 
--- src/entries.rt:33:9
 returns-2 : tie.Need-returns-2
-returns-2 c = ?
+returns-2 c =
+    let y = c .before .before in
+    let z = y .before .before .before .before in
+    let a = z .args in
+    nameless (now (a .s)) (a .n) (a .d) (a .t) (a .o) (z .pre) _ _ (y .before .entry-inode .ensures) (y .legal-entry .ensures) (c .if2 .taken)
 
--- src/entries.rt:36:9
 returns-3 : tie.Need-returns-3
-returns-3 c = ?
+returns-3 c =
+    let y = c .before .before .before in
+    let z = y .before .before .before .before in
+    let a = z .args in
+    past-inodes (now (a .s)) (a .n) (a .d) (a .t) (a .o) (z .pre) _ _ (y .before .entry-inode .ensures) (y .legal-entry .ensures) (c .if3 .taken)
 
--- src/entries.rt:38:9
 kind-requires : tie.Need-kind-requires
 kind-requires c κs = search needs
 
--- src/entries.rt:40:9
 returns-4 : tie.Need-returns-4
-returns-4 c = ?
+returns-4 c =
+    let y = c .before .before .before .before .before in
+    let z = y .before .before .before .before in
+    let a = z .args in
+    free-named (now (a .s)) (a .n) (a .d) (a .t) (a .o) (z .pre) _ _ (y .before .entry-inode .ensures) (y .legal-entry .ensures)
+    _ (c .before .kind .ensures) (c .if4 .taken)
 
--- src/entries.rt:43:9
 returns-5 : tie.Need-returns-5
-returns-5 c = ?
+returns-5 c =
+    let w = c .before .before in
+    let y = w .before .before .before .before in
+    let z = y .before .before .before .before in
+    let a = z .args in
+    root-named (now (a .s)) (a .n) (a .d) (a .t) (a .o) (z .pre) _ _ (y .before .entry-inode .ensures) (y .legal-entry .ensures)
+    _ (w .kind .ensures) (c .if5 .taken)
 
--- src/entries.rt:46:9
 returns-6 : tie.Need-returns-6
-returns-6 c = ?
+returns-6 c =
+    let w = c .before .before .before in
+    let y = w .before .before .before .before in
+    let z = y .before .before .before .before in
+    let a = z .args in
+    file-named (now (a .s)) (a .n) (a .d) (a .t) (a .o) (z .pre) _ _ (y .before .entry-inode .ensures) (y .legal-entry .ensures)
+    _ (w .kind .ensures) (w .before .before .before .if1 .left) (w .before .before .if2 .left) (w .before .if3 .left)
+    (c .before .before .if4 .left) (c .before .if5 .left) (c .if6 .taken)
 
--- src/entries.rt:48:5
 parent-requires : tie.Need-parent-requires
 parent-requires c κs = search needs
 
--- src/entries.rt:48:5
 cast-result : tie.Need-cast-result
 cast-result c = search needs
 
--- src/entries.rt:23:1
 returns-7 : tie.Need-returns-7
-returns-7 c = ?
+returns-7 c =
+    let w = c .before .before .before .before in
+    let y = w .before .before .before .before in
+    let z = y .before .before .before .before in
+    let a = z .args in
+    dir-named (now (a .s)) (a .n) (a .d) (a .t) (a .o) (z .pre) _ _ (y .before .entry-inode .ensures) (y .legal-entry .ensures)
+    _ (w .kind .ensures) (w .before .before .before .if1 .left) (w .before .before .if2 .left) (w .before .if3 .left)
+    (c .before .before .before .if4 .left) (c .before .before .if5 .left) _ (c .parent .ensures) (c .before .if6 .left)
 
 pub entry-named-spec : {M : Type 1} → statement M
 entry-named-spec =
