@@ -85,14 +85,17 @@ module _ (s : List ℕ) (i : ℕ) where
       (λ q. (omega arith, (eo, ((λ x. absurd (omega arith)), (omega arith, ((λ x. omega (arith, ez, q)), λ x. absurd (omega arith)))))))
       attributes-are)
 
-  pub attr-small : attributesB s i ≡ true → sizeOf s i ≤ mostFileBytes
+  attr-small : attributesB s i ≡ true → sizeOf s i ≤ mostFileBytes
   attr-small h = attributes-are .to h .1 .1 .1 .0
 
 -- ---- address k of inode i, of which the size uses u
 module _ (s : List ℕ) (n b i k u a : ℕ) (eu : u ≡ blocksUsed (sizeOf s i)) (ea : a ≡ kthBlock s n i k) where
   address-is : Reflects (usedB s n b i k && restB s n i k) ((k < u → (1 ≤ a) × (a ≤ b)) × (u ≤ k → a ≡ 0))
   unfolding kthBlock
-  address-is = rw eu rw ea (r-and (r-imp (r-lt k (blocksUsed (sizeOf s i))) (r-and (r-le 1 (kthBlock s n i k)) (r-le (kthBlock s n i k) b))) (r-imp (r-le (blocksUsed (sizeOf s i)) k) (r-eq (kthBlock s n i k) 0)))
+  address-is =
+      rw eu rw ea
+      (r-and (r-imp (r-lt k (blocksUsed (sizeOf s i))) (r-and (r-le 1 (kthBlock s n i k)) (r-le (kthBlock s n i k) b)))
+      (r-imp (r-le (blocksUsed (sizeOf s i)) k) (r-eq (kthBlock s n i k) 0)))
 
   pub address-used : k < u → 1 ≤ a → a ≤ b → usedB s n b i k && restB s n i k ≡ true
   address-used l h m = address-is .from ((λ x. (h, m)), λ x. absurd (omega arith))
@@ -129,7 +132,7 @@ block-byte : (s : List ℕ) (n c o : ℕ) → o < 64 → getD (blockOf s n c) o 
 unfolding blockOf
 block-byte s n c o l = getD-part s (blockAt n c) 64 o l
 
-pub zero-block-is : (s : List ℕ) (n k a : ℕ) → a ≡ blockAt n (k + 1) → allBelow (λ j. eqb (getD s (a + j) 0) 0) 64 ≡ zeroBlockB s n k
+zero-block-is : (s : List ℕ) (n k a : ℕ) → a ≡ blockAt n (k + 1) → allBelow (λ j. eqb (getD s (a + j) 0) 0) 64 ≡ zeroBlockB s n k
 unfolding zeroBlockB
 zero-block-is s n k a e =
     rw e (all-ext (λ j. eqb (getD s (blockAt n (k + 1) + j) 0) 0) (λ o. eqb (getD (blockOf s n (k + 1)) o 0) 0) 64
@@ -170,7 +173,8 @@ tail-full s n i e =
 
 -- the last block of a file whose size z ends in it: it is there, and the bytes from z on are what the code tests
 module _ (s : List ℕ) (n i z : ℕ) (ez : z ≡ sizeOf s i) (h : z % blockBytes ≡ 0 → ⊥) where
-  pub last-block : (b : ℕ) → attributesB s i ≡ true → addressesB s n b i ≡ true → (z / blockBytes < addressCount) × (1 ≤ kthBlock s n i (z / blockBytes)) × (kthBlock s n i (z / blockBytes) ≤ b)
+  pub last-block : (b : ℕ) → attributesB s i ≡ true → addressesB s n b i ≡ true →
+      (z / blockBytes < addressCount) × (1 ≤ kthBlock s n i (z / blockBytes)) × (kthBlock s n i (z / blockBytes) ≤ b)
   unfolding addressesB blocksUsed
   last-block b a d =
       let k = z / blockBytes in
@@ -180,11 +184,13 @@ module _ (s : List ℕ) (n i z : ℕ) (ez : z ≡ sizeOf s i) (h : z % blockByte
       let r = address-is s n b i k (blocksUsed z) (kthBlock s n i k) (ap blocksUsed ez) refl .to (all-at _ addressCount d k l) .0 u in
       (l, r .0, r .1)
 
-  pub tail-tested : (c o : ℕ) → kindOf s i ≡ fileKind → c ≡ kthBlock s n i (z / blockBytes) → o ≡ blockAt n c → allBelow (λ j. eqb (getD s (o + z % blockBytes + j) 0) 0) (blockBytes - z % blockBytes) ≡ zeroTailB s n i
+  pub tail-tested : (c o : ℕ) → kindOf s i ≡ fileKind → c ≡ kthBlock s n i (z / blockBytes) → o ≡ blockAt n c →
+      allBelow (λ j. eqb (getD s (o + z % blockBytes + j) 0) 0) (blockBytes - z % blockBytes) ≡ zeroTailB s n i
   unfolding zeroTailB
   tail-tested c o ek ec eo =
       sym
-      (ap₂ _||_ (ap not (eq-eqb (kindOf s i) fileKind ek)) (ap (λ (x : Bool). x || allBelow (tailB s n i) blockBytes) (ne-eqb (sizeOf s i % blockBytes) 0 (λ q. h (ap (λ (x : ℕ). x % blockBytes) ez ∙ q))))
+      (ap₂ _||_ (ap not (eq-eqb (kindOf s i) fileKind ek))
+      (ap (λ (x : Bool). x || allBelow (tailB s n i) blockBytes) (ne-eqb (sizeOf s i % blockBytes) 0 (λ q. h (ap (λ (x : ℕ). x % blockBytes) ez ∙ q))))
       ∙ rw eo rw ec rw ez (tail-bytes s n i))
 
 -- ---- the blocks that the map does not have
@@ -193,7 +199,8 @@ module _ (s : List ℕ) (n k : ℕ) (map : List ℕ) (h : Seen (addressOf s n) 4
   unfolding named
   blank-named z = or-l _ (zeroBlockB s n k) (ap (λ (x : Bool). not (not x)) (seen-some (addressOf s n) 4097 (addressCount * n) (k + 1) map h (omega arith) z))
 
-  pub blank-tested : (a : ℕ) → getD map (k + 1) 0 ≡ 0 → a ≡ blockAt n (k + 1) → allBelow (λ j. eqb (getD s (a + j) 0) 0) blockBytes ≡ not (unnamedB s n k) || zeroBlockB s n k
+  pub blank-tested : (a : ℕ) → getD map (k + 1) 0 ≡ 0 → a ≡ blockAt n (k + 1) →
+      allBelow (λ j. eqb (getD s (a + j) 0) 0) blockBytes ≡ not (unnamedB s n k) || zeroBlockB s n k
   unfolding named
   blank-tested a z e =
       zero-block-is s n k a e

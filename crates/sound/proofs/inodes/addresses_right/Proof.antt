@@ -39,15 +39,24 @@ cast-a c = search needs
 
 returns : tie.Need-returns Inv-loop μ-loop
 unfolding addressesB
-returns c = let i = c .before .before .before .before .loop in all-stopped _ _ (i .k) (omega arith) (address-zero _ _ _ _ (i .k) _ _ (i .inv .1) (c .before .before .kth-block .ensures) (c .before .if1 .taken) (c .if2 .taken))
+returns c =
+    let i = c .before .before .before .before .loop in
+    all-stopped _ _ (i .k) (omega arith)
+    (address-zero _ _ _ _ (i .k) _ _ (i .inv .1) (c .before .before .kth-block .ensures) (c .before .if1 .taken) (c .if2 .taken))
 
 returns-2 : tie.Need-returns-2 Inv-loop μ-loop
 unfolding addressesB
-returns-2 c = let i = c .before .before .before .before .before .loop in all-stopped _ _ (i .k) (omega arith) (address-past _ _ _ _ (i .k) _ _ (i .inv .1) (c .before .before .before .kth-block .ensures) (c .before .before .if1 .taken) (c .if3 .taken))
+returns-2 c =
+    let i = c .before .before .before .before .before .loop in
+    all-stopped _ _ (i .k) (omega arith)
+    (address-past _ _ _ _ (i .k) _ _ (i .inv .1) (c .before .before .before .kth-block .ensures) (c .before .before .if1 .taken) (c .if3 .taken))
 
 returns-3 : tie.Need-returns-3 Inv-loop μ-loop
 unfolding addressesB
-returns-3 c = let i = c .before .before .before .before .loop in all-stopped _ _ (i .k) (omega arith) (address-extra _ _ _ _ (i .k) _ _ (i .inv .1) (c .before .before .kth-block .ensures) (c .before .if1 .left) (c .if4 .taken))
+returns-3 c =
+    let i = c .before .before .before .before .loop in
+    all-stopped _ _ (i .k) (omega arith)
+    (address-extra _ _ _ _ (i .k) _ _ (i .inv .1) (c .before .before .kth-block .ensures) (c .before .if1 .left) (c .if4 .taken))
 
 add-k : tie.Need-add-k Inv-loop μ-loop
 add-k c = search needs
@@ -56,7 +65,15 @@ loop-less : tie.Need-loop-less Inv-loop μ-loop
 loop-less c = search needs
 
 loop-again : tie.Need-loop-again Inv-loop μ-loop
-loop-again c = let i = c .before .before .before .loop in let e = c .before .kth-block .ensures in (omega arith, i .inv .1, all-more _ _ (i .inv .2) (⊎-elim (λ w. address-used _ _ _ _ (i .k) _ _ (i .inv .1) e (w .0 .taken) (w .1 .left) (w .2 .left)) (λ w. address-rest _ _ _ _ (i .k) _ _ (i .inv .1) e (w .0 .left) (w .1 .left)) (c .if1 .came)))
+loop-again c =
+    let i = c .before .before .before .loop in
+    let e = c .before .kth-block .ensures in (
+      omega arith,
+      i .inv .1,
+      all-more _ _ (i .inv .2)
+          (⊎-elim (λ w. address-used _ _ _ _ (i .k) _ _ (i .inv .1) e (w .0 .taken) (w .1 .left) (w .2 .left))
+          (λ w. address-rest _ _ _ _ (i .k) _ _ (i .inv .1) e (w .0 .left) (w .1 .left)) (c .if1 .came)),
+    )
 
 returns-4 : tie.Need-returns-4 Inv-loop μ-loop
 unfolding addressesB

@@ -31,13 +31,20 @@ add-block-at : tie.Need-add-block-at Inv-loop μ-loop
 add-block-at c = search needs
 
 block-at-requires : tie.Need-block-at-requires Inv-loop μ-loop
-block-at-requires c κs = (c .before .before .before .before .before .before .pre .0 .inodes, omega arith, omega (arith, c .before .before .before .before .before .before .pre .0 .blocks))
+block-at-requires c κs = let p = c .before .before .before .before .before .before .pre .0 in (p .inodes, omega arith, omega (arith, p .blocks))
 
 all-zero-requires : tie.Need-all-zero-requires Inv-loop μ-loop
 all-zero-requires c κs = omega (arith, c .block-at .ensures, c .before .before .before .before .before .before .before .pre .0 .long)
 
 returns : tie.Need-returns Inv-loop μ-loop
-returns c = let k = c .before .before .before .before .before .before .loop .k in all-stopped _ _ k (omega arith) (chain-off _ _ (c .before .all-zero .ensures ∙ blank-tested _ _ k _ (c .before .before .before .before .before .before .before .before .before .pre .1) (omega (arith, c .before .before .before .before .before .before .before .before .before .pre .0 .blocks)) _ (c .before .before .before .if1 .taken) (c .before .before .block-at .ensures)) (c .if2 .taken))
+returns c =
+    let k = c .before .before .before .before .before .before .loop .k in
+    let p = c .before .before .before .before .before .before .before .before .before .pre in
+    all-stopped _ _ k (omega arith)
+    (chain-off _ _
+    (c .before .all-zero .ensures
+    ∙ blank-tested _ _ k _ (p .1) (omega (arith, p .0 .blocks)) _ (c .before .before .before .if1 .taken) (c .before .before .block-at .ensures))
+    (c .if2 .taken))
 
 add-k : tie.Need-add-k Inv-loop μ-loop
 add-k c = search needs
@@ -46,7 +53,17 @@ loop-less : tie.Need-loop-less Inv-loop μ-loop
 loop-less c = search needs
 
 loop-again : tie.Need-loop-again Inv-loop μ-loop
-loop-again c = let i = c .before .before .before .loop in let h = c .before .before .before .before .before .before .pre .1 in (omega arith, all-more _ _ (i .inv .1) (⊎-elim (λ w. chain-on _ _ (w .2 .ensures ∙ blank-tested _ _ (i .k) _ h (omega (arith, c .before .before .before .before .before .before .pre .0 .blocks)) _ (w .0 .taken) (w .1 .ensures)) (w .3 .left)) (λ w. blank-named _ _ (i .k) _ h (omega (arith, c .before .before .before .before .before .before .pre .0 .blocks)) (w .left)) (c .if1 .came)))
+loop-again c =
+    let i = c .before .before .before .loop in
+    let p = c .before .before .before .before .before .before .pre in (
+      omega arith,
+      all-more _ _ (i .inv .1)
+          (⊎-elim
+          (λ w.
+          chain-on _ _ (w .2 .ensures ∙ blank-tested _ _ (i .k) _ (p .1) (omega (arith, p .0 .blocks)) _ (w .0 .taken) (w .1 .ensures))
+          (w .3 .left))
+          (λ w. blank-named _ _ (i .k) _ (p .1) (omega (arith, p .0 .blocks)) (w .left)) (c .if1 .came)),
+    )
 
 returns-2 : tie.Need-returns-2 Inv-loop μ-loop
 returns-2 c = all-done _ _ (c .before .loop .k) (omega arith) (omega arith) (c .before .loop .inv .1)

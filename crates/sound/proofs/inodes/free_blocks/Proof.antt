@@ -37,7 +37,11 @@ loop-less : tie.Need-loop-less Inv-loop μ-loop
 loop-less c = search needs
 
 loop-again : tie.Need-loop-again Inv-loop μ-loop
-loop-again c = let i = c .before .before .before .loop in ⊎-elim (λ w. (omega arith, w .1 ∙ ap (λ (x : ℕ). x + 1) (i .inv .1) ∙ sym (count-hit _ (i .k) (eq-eqb _ 0 (w .0 .taken))))) (λ w. (omega arith, w .1 ∙ i .inv .1 ∙ sym (count-miss _ (i .k) (ne-eqb _ 0 (w .0 .left))))) (c .if1 .came)
+loop-again c =
+    let i = c .before .before .before .loop in
+    ⊎-elim (λ w. (omega arith, w .1 ∙ ap (λ (x : ℕ). x + 1) (i .inv .1) ∙ sym (count-hit _ (i .k) (eq-eqb _ 0 (w .0 .taken)))))
+    (λ w. (omega arith, w .1 ∙ i .inv .1 ∙ sym (count-miss _ (i .k) (ne-eqb _ 0 (w .0 .left)))))
+    (c .if1 .came)
 
 returns : tie.Need-returns Inv-loop μ-loop
 returns c = let e : c .before .loop .k ≡ c .before .before .args .b = omega arith in rw e at (c .before .loop .inv .1)

@@ -36,7 +36,13 @@ loop-less : tie.Need-loop-less Inv-loop μ-loop
 loop-less c = search needs
 
 loop-again : tie.Need-loop-again Inv-loop μ-loop
-loop-again c = let i = c .before .before .before .loop in ⊎-elim (λ w. (omega arith, w .1 ∙ ap (λ (x : ℕ). x + 1) (i .inv .1) ∙ sym (count-hit _ (i .k) (eq-eqb _ 0 (sym (c .before .kind .ensures) ∙ w .0 .taken))))) (λ w. (omega arith, w .1 ∙ i .inv .1 ∙ sym (count-miss _ (i .k) (ne-eqb _ 0 (λ z. w .0 .left (c .before .kind .ensures ∙ z)))))) (c .if1 .came)
+loop-again c =
+    let i = c .before .before .before .loop in
+    let e = c .before .kind .ensures in
+    ⊎-elim
+    (λ w. (omega arith, w .1 ∙ ap (λ (x : ℕ). x + 1) (i .inv .1) ∙ sym (count-hit _ (i .k) (eq-eqb _ 0 (sym e ∙ w .0 .taken)))))
+    (λ w. (omega arith, w .1 ∙ i .inv .1 ∙ sym (count-miss _ (i .k) (ne-eqb _ 0 (λ z. w .0 .left (e ∙ z))))))
+    (c .if1 .came)
 
 returns : tie.Need-returns Inv-loop μ-loop
 returns c = let e : c .before .loop .k ≡ c .before .before .before .args .n = omega arith in rw e at (c .before .loop .inv .1)

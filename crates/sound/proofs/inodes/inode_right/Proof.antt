@@ -16,14 +16,23 @@ addresses-right-requires c κs = search needs
 
 returns-2 : tie.Need-returns-2
 unfolding inodeB
-returns-2 c = chain-end _ _ _ (chain-on _ _ (c .before .before .before .attributes-right .ensures) (c .before .before .if1 .left)) (chain-stop _ _ _ (c .before .addresses-right .ensures) (c .if2 .taken))
+returns-2 c =
+    chain-end _ _ _ (chain-on _ _ (c .before .before .before .attributes-right .ensures) (c .before .before .if1 .left))
+    (chain-stop _ _ _ (c .before .addresses-right .ensures) (c .if2 .taken))
 
 zero-tail-requires : tie.Need-zero-tail-requires
-zero-tail-requires c κs = (c .before .before .before .before .before .pre .0, c .before .before .before .before .before .pre .1, chain-on _ _ (c .before .before .before .attributes-right .ensures) (c .before .before .if1 .left), chain-on _ _ (c .before .addresses-right .ensures) (c .if2 .left))
+zero-tail-requires c κs = (
+  c .before .before .before .before .before .pre .0,
+  c .before .before .before .before .before .pre .1,
+  chain-on _ _ (c .before .before .before .attributes-right .ensures) (c .before .before .if1 .left),
+  chain-on _ _ (c .before .addresses-right .ensures) (c .if2 .left),
+)
 
 returns-3 : tie.Need-returns-3
 unfolding inodeB
-returns-3 c = chain-end _ _ _ (chain-on _ _ (c .before .before .before .before .attributes-right .ensures) (c .before .before .before .if1 .left)) (chain-end _ _ _ (chain-on _ _ (c .before .before .addresses-right .ensures) (c .before .if2 .left)) (c .zero-tail .ensures))
+returns-3 c =
+    chain-end _ _ _ (chain-on _ _ (c .before .before .before .before .attributes-right .ensures) (c .before .before .before .if1 .left))
+    (chain-end _ _ _ (chain-on _ _ (c .before .before .addresses-right .ensures) (c .before .if2 .left)) (c .zero-tail .ensures))
 
 pub inode-right-spec : {M : Type 1} → statement M
 inode-right-spec =
