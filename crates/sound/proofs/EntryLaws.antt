@@ -32,7 +32,7 @@ use Rattle.names.proofs.EntryLaws.{named, same-words-two, octets-part, empty-al
 use Rattle.directory.specs.Slot.{mostSlots, slots, slotAt, entryOf, DirFits}
 use Rattle.directory.proofs.SlotLaws.{few-slots, slot-fits}
 use Rattle.sound.specs.Place.{dirOf, slotOf, isSlot, entryAt, filled, naming}
-use Rattle.sound.specs.Entry.{sameNames, sibling, namedB, newNameB, entryB}
+use Rattle.sound.specs.Entry.{sameNames, namedB, newNameB, entryB}
 use Rattle.sound.specs.Pass.{placeOf, lowOf, highOf, Passed}
 use Rattle.sound.proofs.PlaceLaws.{filled-is, naming-entry}
 
@@ -43,9 +43,6 @@ module _ (d t : ℕ) (l : 1 ≤ d) (h : t < mostSlots) where
 
   pub place-slot : slotOf (placeOf d t) ≡ t
   place-slot = omega arith
-
-  pub place-sibling : (u : ℕ) → sibling (placeOf d t) u ≡ placeOf d u
-  place-sibling u = omega arith
 
 module _ (s : List ℕ) (n d t : ℕ) (l : 1 ≤ d) (h : t < mostSlots) where
   pub entry-place : entryAt s n (placeOf d t) ≡ entryOf s n d t
@@ -330,12 +327,12 @@ module _ (s : List ℕ) (n d t o : ℕ) (x : Here s n d t o) (low high counts : 
 
 -- ---- block_right: slot j of block k is slot 4 × k + j
 module _ (s : List ℕ) (n d k : ℕ) where
-  pub slot-start : (j : ℕ) → j < 4 → blockAt n (kthBlock s n d k) + 16 * j ≡ slotAt s n d (4 * k + j)
+  pub slot-start : (o j : ℕ) → o ≡ blockAt n (kthBlock s n d k) → j < 4 → o + 16 * j ≡ slotAt s n d (4 * k + j)
   unfolding slotAt
-  slot-start j l =
+  slot-start o j e l =
       let a : k ≡ (4 * k + j) / 4 = omega arith in
       let b : j ≡ (4 * k + j) % 4 = omega arith in
-      ap₂ (λ (q r : ℕ). blockAt n (kthBlock s n d q) + 16 * r) a b
+      ap (λ (x : ℕ). x + 16 * j) e ∙ ap₂ (λ (q r : ℕ). blockAt n (kthBlock s n d q) + 16 * r) a b
 
   pub slot-inside : 4 * k < slots s d → (j : ℕ) → j < 4 → 4 * k + j < slots s d
   unfolding slots
