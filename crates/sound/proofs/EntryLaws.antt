@@ -14,16 +14,16 @@ use Rattle.bounded.specs.Count.{Tallied}
 use Rattle.bounded.specs.Search.{pick}
 use Rattle.bounded.specs.Reflect.{Reflects}
 use Rattle.bounded.specs.Table.{Filled}
-use Rattle.bounded.proofs.BoolLaws.{clash, fails, holds, holds-or-fails, same-test, and-true, and-left, and-right, and-false-l, and-false-r, or-l, or-r}
+use Rattle.bounded.proofs.BoolLaws.{clash, holds, same-test, and-true, and-left, and-false-l, and-false-r, or-l}
 use Rattle.bounded.proofs.BelowLaws.{all-none, all-at, all-of, all-fail, all-stop, all-ext, all-split}
 use Rattle.bounded.proofs.CountLaws.{tally-start, tally-skip, tally-one}
 use Rattle.bounded.proofs.TableLaws.{filled-none, filled-more}
-use Rattle.bounded.proofs.ReflectLaws.{r-eq, r-le, r-lt, r-true, r-false, r-and, r-not, r-imp, r-same, r-says, r-no, r-fails, reflects-ext}
+use Rattle.bounded.proofs.ReflectLaws.{r-eq, r-le, r-lt, r-true, r-and, r-not, r-imp, r-same, r-says, r-fails, reflects-ext}
 use Rattle.octets.specs.Octets.{Octets, part}
 use Rattle.octets.proofs.PartLaws.{cut, getD-part}
 use Rattle.layout.specs.Sizes.{rootInode, mostInodes}
 use Rattle.layout.specs.Inode.{kindOf, parentOf, freeKind, directoryKind}
-use Rattle.layout.specs.Block.{blockAt, blocksUsed, kthBlock}
+use Rattle.layout.specs.Block.{blockAt, kthBlock}
 use Rattle.names.specs.Name.{nameBytes}
 use Rattle.names.specs.declared.Name.{Name}
 use Rattle.names.specs.Entry.{entryInode, isEmpty, nameAt, sameName, entryName, legalEntry, wordsAt, sameWords}
@@ -32,9 +32,9 @@ use Rattle.names.proofs.EntryLaws.{named, same-words-two, octets-part, empty-al
 use Rattle.directory.specs.Slot.{mostSlots, slots, slotAt, entryOf, DirFits}
 use Rattle.directory.proofs.SlotLaws.{few-slots, slot-fits}
 use Rattle.sound.specs.Place.{dirOf, slotOf, isSlot, entryAt, filled, naming}
-use Rattle.sound.specs.Entry.{sameNames, sibling, namedB, newNameB, entryB}
+use Rattle.sound.specs.Entry.{sameNames, namedB, newNameB, entryB}
 use Rattle.sound.specs.Pass.{placeOf, lowOf, highOf, Passed}
-use Rattle.sound.proofs.PlaceLaws.{slot-is, filled-is, naming-entry}
+use Rattle.sound.proofs.PlaceLaws.{filled-is, naming-entry}
 
 -- ---- slot t of directory d, and its place
 module _ (d t : ℕ) (l : 1 ≤ d) (h : t < mostSlots) where
@@ -43,9 +43,6 @@ module _ (d t : ℕ) (l : 1 ≤ d) (h : t < mostSlots) where
 
   pub place-slot : slotOf (placeOf d t) ≡ t
   place-slot = omega arith
-
-  pub place-sibling : (u : ℕ) → sibling (placeOf d t) u ≡ placeOf d u
-  place-sibling u = omega arith
 
 module _ (s : List ℕ) (n d t : ℕ) (l : 1 ≤ d) (h : t < mostSlots) where
   pub entry-place : entryAt s n (placeOf d t) ≡ entryOf s n d t
@@ -279,9 +276,10 @@ module _ (s : List ℕ) (n d t o : ℕ) (x : Here s n d t o) (low high counts : 
     unfolding entryB
     empty-slot z =
         let f : filled s n (placeOf d t) ≡ false = filled-here s n d t o x ∙ ap not (sym r ∙ z) in
-        let m = naming-here s n d t o x ∙ empty-inode (cutAt s o) (sym r ∙ z) in
-        (sym (or-l (not (filled s n (placeOf d t))) (namedB s n (placeOf d t) && newNameB s n (placeOf d t)) (ap not f)),
-        λ q. record { lows = low-read; highs = high-read; counted = tally-skip (naming s n) 1 (mostInodes + 1) (placeOf d t) counts (omega arith) (y .counted) })
+        let m = naming-here s n d t o x ∙ empty-inode (cutAt s o) (sym r ∙ z) in (
+          sym (or-l (not (filled s n (placeOf d t))) (namedB s n (placeOf d t) && newNameB s n (placeOf d t)) (ap not f)),
+          λ q. record { lows = low-read; highs = high-read; counted = tally-skip (naming s n) 1 (mostInodes + 1) (placeOf d t) counts (omega arith) (y .counted) },
+        )
 
     module _ (z : b ≡ false) (g : Bool) (c : g ≡ namedB s n (placeOf d t)) where
       full-slot : entryB s n (placeOf d t) ≡ namedB s n (placeOf d t) && newNameB s n (placeOf d t)
@@ -318,22 +316,23 @@ module _ (s : List ℕ) (n d t o : ℕ) (x : Here s n d t o) (low high counts : 
           pub counted-slot : not m ≡ false → (i : ℕ) → i ≡ entryInode (cutAt s o)
               → (true ≡ entryB s n (placeOf d t)) × (true ≡ true → Passed s n d (t + 1) (placeOf d t + 1) lowNow highNow (set counts i (getD counts i 0 + 1)))
           counted-slot q i a =
-              let k = slot-range i a in
-              (sym (full-slot ∙ and-true (namedB s n (placeOf d t)) (newNameB s n (placeOf d t)) named-slot (sym new-slot ∙ not-false m q)),
-              λ p. record {
-                lows = low-read;
-                highs = high-read;
-                counted = tally-one (naming s n) 1 (mostInodes + 1) (placeOf d t) i counts (a ∙ sym (naming-here s n d t o x)) (k .0) (k .1) (y .counted);
-              })
+              let k = slot-range i a in (
+                sym (full-slot ∙ and-true (namedB s n (placeOf d t)) (newNameB s n (placeOf d t)) named-slot (sym new-slot ∙ not-false m q)),
+                λ p. record {
+                  lows = low-read;
+                  highs = high-read;
+                  counted = tally-one (naming s n) 1 (mostInodes + 1) (placeOf d t) i counts (a ∙ sym (naming-here s n d t o x)) (k .0) (k .1) (y .counted);
+                },
+              )
 
 -- ---- block_right: slot j of block k is slot 4 × k + j
 module _ (s : List ℕ) (n d k : ℕ) where
-  pub slot-start : (j : ℕ) → j < 4 → blockAt n (kthBlock s n d k) + 16 * j ≡ slotAt s n d (4 * k + j)
+  pub slot-start : (o j : ℕ) → o ≡ blockAt n (kthBlock s n d k) → j < 4 → o + 16 * j ≡ slotAt s n d (4 * k + j)
   unfolding slotAt
-  slot-start j l =
+  slot-start o j e l =
       let a : k ≡ (4 * k + j) / 4 = omega arith in
       let b : j ≡ (4 * k + j) % 4 = omega arith in
-      ap₂ (λ (q r : ℕ). blockAt n (kthBlock s n d q) + 16 * r) a b
+      ap (λ (x : ℕ). x + 16 * j) e ∙ ap₂ (λ (q r : ℕ). blockAt n (kthBlock s n d q) + 16 * r) a b
 
   pub slot-inside : 4 * k < slots s d → (j : ℕ) → j < 4 → 4 * k + j < slots s d
   unfolding slots
@@ -375,9 +374,10 @@ module _ (s : List ℕ) (n d : ℕ) (f : DirFits s n d) where
       → allBelow rightAt u ≡ true → Tallied (naming s n) 1 257 (placeOf d u) counts
       → (true ≡ allBelow rightAt mostSlots) × (true ≡ true → Tallied (naming s n) 1 257 (mostSlots * d) counts)
   rest-right counts u l h a y =
-      let e : placeOf d u + (mostSlots - u) ≡ mostSlots * d = omega (arith, f .inode .low) in
-      (sym (all-of rightAt mostSlots (λ t m. go t m (decLt t u))),
-      λ q. subst (λ (p : ℕ). Tallied (naming s n) 1 257 p counts) e (tally-skips (naming s n) 1 257 (placeOf d u) (mostSlots - u) counts (λ j m. none j m) y))
+      let e : placeOf d u + (mostSlots - u) ≡ mostSlots * d = omega (arith, f .inode .low) in (
+        sym (all-of rightAt mostSlots (λ t m. go t m (decLt t u))),
+        λ q. subst (λ (p : ℕ). Tallied (naming s n) 1 257 p counts) e (tally-skips (naming s n) 1 257 (placeOf d u) (mostSlots - u) counts (λ j m. none j m) y),
+      )
     where
       go : (t : ℕ) → t < mostSlots → Dec (t < u) → rightAt t ≡ true
       go t m (yes z) = all-at rightAt u a t z

@@ -6,18 +6,17 @@ ghost use lib.Dec.{eqb};
 ghost use lib.ListN.{length, getD, replicate};
 ghost use Rattle.bounded.specs.Below.{allBelow};
 ghost use Rattle.bounded.specs.Count.{Tallied};
-ghost use Rattle.layout.specs.Inode.{InodeFits, kindOf, directoryKind};
+ghost use Rattle.layout.specs.Inode.{kindOf, directoryKind};
 ghost use Rattle.directory.specs.Slot.{DirFits, mostSlots, slots, slotAt};
 ghost use Rattle.sound.specs.Place.{naming};
-ghost use Rattle.sound.specs.Entry.{namedB, newNameB, entryB};
+ghost use Rattle.sound.specs.Entry.{namedB, entryB};
 ghost use Rattle.sound.specs.Pass.{placeOf, Passed};
 use layout::inode;
 use layout::sizes::DIRECTORY;
 use layout::sizes::FREE;
-use layout::sizes::MOST_INODES;
 use layout::sizes::ROOT;
-use names::Name;
 use names::ENTRY_BYTES;
+use names::Name;
 
 // The entry at o, in slot t of d, names an inode in use, by a legal name; a directory's parent is d.
 fn entry_named(s: &[u8], n: usize, d: usize, t: usize, o: usize) -> bool
@@ -62,7 +61,16 @@ fn name_new(low: &[u64], high: &[u64], t: usize) -> bool
 }
 
 // Slot t of d, whose bytes start at o.
-fn slot_right(s: &[u8], n: usize, d: usize, t: usize, o: usize, low: &mut [u64], high: &mut [u64], counts: &mut [u16]) -> bool
+fn slot_right(
+    s: &[u8],
+    n: usize,
+    d: usize,
+    t: usize,
+    o: usize,
+    low: &mut [u64],
+    high: &mut [u64],
+    counts: &mut [u16],
+) -> bool
     requires { ⌜ DirFits (now s) n d × (t < slots (now s) d) × (kindOf (now s) d ≡ directoryKind) × (o ≡ slotAt (now s) n d t) ⌝ }
     requires { ⌜ Passed (now s) n d t (placeOf d t) (now low) (now high) (now counts) ⌝ }
     ensures { λ r. ⌜ (r ≡ entryB (now (s .entry)) n (placeOf d t)) × (r ≡ true → Passed (now (s .entry)) n d (t + 1) (placeOf d t + 1) (now (low .exit)) (now (high .exit)) (now (counts .exit))) ⌝ }
@@ -86,14 +94,31 @@ fn slot_right(s: &[u8], n: usize, d: usize, t: usize, o: usize, low: &mut [u64],
 }
 
 // The four slots of the k-th block of d.
-fn block_right(s: &[u8], n: usize, d: usize, k: usize, low: &mut [u64], high: &mut [u64], counts: &mut [u16]) -> bool
+fn block_right(
+    s: &[u8],
+    n: usize,
+    d: usize,
+    k: usize,
+    low: &mut [u64],
+    high: &mut [u64],
+    counts: &mut [u16],
+) -> bool
     requires { ⌜ DirFits (now s) n d × (4 * k < slots (now s) d) × (kindOf (now s) d ≡ directoryKind) ⌝ }
     requires { ⌜ Passed (now s) n d (4 * k) (placeOf d (4 * k)) (now low) (now high) (now counts) ⌝ }
     ensures { λ r. ⌜ (r ≡ allBelow (λ j. entryB (now (s .entry)) n (placeOf d (4 * k + j))) 4) × (r ≡ true → Passed (now (s .entry)) n d (4 * k + 4) (placeOf d (4 * k + 4)) (now (low .exit)) (now (high .exit)) (now (counts .exit))) ⌝ }
 {
     let o = directory::block_start(s, n, d, k);
     for j in 0..4 {
-        if !slot_right(s, n, d, 4 * k + j, o + ENTRY_BYTES * j, &mut *low, &mut *high, &mut *counts) {
+        if !slot_right(
+            s,
+            n,
+            d,
+            4 * k + j,
+            o + ENTRY_BYTES * j,
+            &mut *low,
+            &mut *high,
+            &mut *counts,
+        ) {
             return false;
         }
     }

@@ -1,10 +1,10 @@
-use Prim.Native.Nat.{ℕ, _+_, _*_, _-_, _≤_}
-use mathlib.Core.Path.{_≡_, refl, sym, ap, _∙_}
+use Prim.Native.Nat.{_+_, _*_, _-_, _≤_}
+use mathlib.Core.Path.{_≡_}
 use mathlib.Core.Bool.{true}
 use native.Mathlib.Omega.{arith}
 use denote.Ref.{now}
 use borrow.Author.Needs.{needs}
-use borrow.Author.Tests.{not-true, not-false}
+use borrow.Author.Tests.{not-false}
 use Rattle.bounded.specs.Below.{allBelow}
 use Rattle.bounded.proofs.BoolLaws.{chain-on, chain-off}
 use Rattle.bounded.proofs.BelowLaws.{all-none, all-more, all-stopped, all-done}
@@ -54,7 +54,7 @@ slot-right-requires c κs =
     let i = c .before .before .before .loop-test .taken in
     let z = l .before .before .before .before .before .before in
     let a = z .args in
-    ((z .pre .0 .0, slot-inside (now (a .s)) (a .n) (a .d) (a .k) (z .pre .0 .1) (l .loop .j) i, z .pre .0 .2, ap (λ (o : ℕ). o + 16 * l .loop .j) (l .before .block-start .ensures .0) ∙ slot-start (now (a .s)) (a .n) (a .d) (a .k) (l .loop .j) i), l .loop .inv .2)
+    ((z .pre .0 .0, slot-inside (now (a .s)) (a .n) (a .d) (a .k) (z .pre .0 .1) (l .loop .j) i, z .pre .0 .2, slot-start (now (a .s)) (a .n) (a .d) (a .k) (l .before .block-start .result) (l .loop .j) (l .before .block-start .ensures .0) i), l .loop .inv .2)
 
 same-length : tie.Need-same-length Inv-loop μ-loop
 same-length c = search needs
@@ -69,7 +69,8 @@ returns : tie.Need-returns Inv-loop μ-loop
 returns c =
     let y = c .before .before .before .before .before .before .before in
     let l = y .before .before .before .before .before in
-    (all-stopped _ 4 (l .loop .j) (y .before .before .before .before .loop-test .taken) (chain-off _ _ (y .slot-right .ensures .0) (c .if1 .taken)), never)
+    let a = l .before .before .before .before .before .before .args in
+    (all-stopped _ 4 (l .loop .j) (y .before .before .before .before .loop-test .taken) (chain-off (y .slot-right .result) (entryB (now (a .s)) (a .n) (placeOf (a .d) (4 * a .k + l .loop .j))) (y .slot-right .ensures .0) (c .if1 .taken)), never)
 
 add-j : tie.Need-add-j Inv-loop μ-loop
 add-j c = omega arith
@@ -82,7 +83,7 @@ loop-again c =
     let y = c .before .before .before .before .before .before .before in
     let l = y .before .before .before .before .before in
     let a = l .before .before .before .before .before .before .args in
-    (omega arith, all-more _ (l .loop .j) (l .loop .inv .1) (chain-on _ _ (y .slot-right .ensures .0) (c .if1 .left)), block-more (now (a .s)) (a .n) (a .d) (a .k) (l .loop .j) (y .slot-right .ensures .1 (not-false _ (c .if1 .left))))
+    (omega arith, all-more _ (l .loop .j) (l .loop .inv .1) (chain-on (y .slot-right .result) (entryB (now (a .s)) (a .n) (placeOf (a .d) (4 * a .k + l .loop .j))) (y .slot-right .ensures .0) (c .if1 .left)), block-more (now (a .s)) (a .n) (a .d) (a .k) (l .loop .j) (y .slot-right .ensures .1 (not-false _ (c .if1 .left))))
 
 same-length-4 : tie.Need-same-length-4 Inv-loop μ-loop
 same-length-4 c = search needs

@@ -4,7 +4,6 @@ use mathlib.Core.Bool.{true}
 use mathlib.Core.Logic.{⊎-elim}
 use native.Mathlib.Omega.{arith}
 use denote.Ref.{now}
-use borrow.Author.Needs.{needs}
 use Rattle.bounded.specs.Below.{allBelow}
 use Rattle.bounded.proofs.BelowLaws.{all-none, all-more, all-stopped, all-done}
 use Rattle.sound.proofs.EntryLaws.{apartB, low-apart, high-apart, not-apart}
