@@ -1,26 +1,35 @@
 -- Each way that the check's own functions return.
-use Prim.Native.Nat.{ℕ, _+_, _*_, _≤_, _<_}
+use Prim.Native.Nat.{ℕ, _+_, _*_, _/_, _%_, _≤_, _<_}
 use mathlib.Core.Path.{_≡_, refl, sym, ap, ap₂, _∙_}
-use mathlib.Core.Bool.{Bool, true, false, not, _&&_}
+use mathlib.Core.Bool.{Bool, true, false, not, _&&_, _||_}
+use native.Mathlib.Decide.{decLt}
 use mathlib.Core.List.{List}
 use native.Mathlib.Omega.{arith}
 use borrow.Author.Tests.{le-leb, lt-leb, eq-eqb, ne-eqb, not-true, not-false}
 use lib.Dec.{eqb, leb}
 use lib.ListN.{length, getD}
-use Rattle.bounded.specs.Count.{count}
+use Rattle.bounded.specs.Below.{allBelow}
+use Rattle.bounded.specs.Count.{count, differB}
+use Rattle.bounded.specs.Climb.{Closed}
 use Rattle.bounded.specs.Seen.{Seen}
-use Rattle.bounded.proofs.BoolLaws.{fails, and-false-l, chain-end}
+use Rattle.bounded.proofs.BoolLaws.{fails, and-false-l, chain-end, or-l}
 use Rattle.bounded.proofs.CountLaws.{count-ext}
+use Rattle.bounded.proofs.ReflectLaws.{r-all, r-to}
 use Rattle.bounded.proofs.SeenLaws.{seen-test}
 use Rattle.octets.specs.Octets.{numAt}
-use Rattle.layout.specs.Sizes.{mostInodes, rootInode, addressCount}
+use Rattle.layout.specs.Sizes.{mostInodes, mostImageBlocks, rootInode, addressCount}
 use Rattle.layout.specs.Header.{headerOf, reservedZero}
-use Rattle.layout.specs.Inode.{kindOf, parentOf, addressOf, directoryKind}
-use Rattle.layout.specs.Block.{storeLength}
+use Rattle.layout.specs.Inode.{InodeFits, kindOf, sizeOf, parentOf, addressOf, place, directoryKind}
+use Rattle.layout.specs.Block.{storeLength, Sized, blocksUsed, kthBlock}
+use Rattle.directory.specs.Slot.{mostSlots, DirFits}
 use Rattle.layout.specs.Free.{named}
 use Rattle.layout.specs.declared.header.Header.{Header}
-use Rattle.sound.specs.Sound.{inodesIn, blocksIn, Framed, framedB, headerB, freeB, unnamedB, freeCountsB}
-use Rattle.sound.proofs.SoundLaws.{framed}
+use Rattle.sound.specs.Inode.{InodeSound, inodeB}
+use Rattle.sound.specs.Entry.{entryB}
+use Rattle.sound.specs.Link.{countedB, leadB}
+use Rattle.sound.specs.Pass.{IsDir}
+use Rattle.sound.specs.Sound.{inodesIn, blocksIn, Framed, framedB, headerB, freeB, unnamedB, freeCountsB, zeroBlockB, blanksB, bodyB, soundB}
+use Rattle.sound.proofs.SoundLaws.{framed, inode-sound, entry-sound, counted-is, climbs}
 
 -- the counts, as the code reads them
 pub read-inodes : (s : List ℕ) → numAt 2 s 0 ≡ inodesIn s
@@ -110,3 +119,148 @@ module _ (s : List ℕ) (h : Header) (e : h ≡ headerOf s) (x : ℕ) (f : x ≡
   counts-2 b y l q m g i z =
       chain-end _ _ _ (eq-eqb (headerOf s .«free_inodes») (count (freeB s) (inodesIn s)) (sym (ap (λ (w : Header). w .«free_inodes») e) ∙ q ∙ f))
       (ap₂ eqb (ap (λ (w : Header). w .«free_blocks») e) (z ∙ map-count s (inodesIn s) b l m i ∙ ap (count (unnamedB s (inodesIn s))) g))
+
+-- ---- the body: n and b are the counts that the code has read
+abbrev inodesRight : List ℕ → ℕ → ℕ → Bool
+inodesRight s n b = allBelow (λ k. inodeB s n b (k + 1)) n
+
+abbrev entriesRight : List ℕ → ℕ → Bool
+entriesRight s n = allBelow (entryB s n) (mostSlots * n)
+
+abbrev linksRight : List ℕ → ℕ → Bool
+linksRight s n = allBelow (λ k. countedB s n (k + 1)) n
+
+abbrev parentsRight : List ℕ → ℕ → Bool
+parentsRight s n = allBelow (λ k. leadB s n (k + 1)) n
+
+abbrev blanksRight : List ℕ → ℕ → ℕ → Bool
+blanksRight s n b = allBelow (λ k. not (unnamedB s n k) || zeroBlockB s n k) b
+
+abbrev bodyAs : Bool → List ℕ → ℕ → ℕ → Bool
+bodyAs blank s n b =
+  headerB s && (inodesRight s n b && (differB (addressOf s n) (addressCount * n) && (entriesRight s n && (linksRight s n && (parentsRight s n && (freeCountsB s && (not blank || blanksRight s n b)))))))
+
+body-as : (blank : Bool) (s : List ℕ) {n b : ℕ} → n ≡ inodesIn s → b ≡ blocksIn s → bodyAs blank s n b ≡ bodyB blank s
+unfolding bodyB blanksB
+body-as blank s e g = ap₂ (bodyAs blank s) e g
+
+of-body : (blank : Bool) (s : List ℕ) {n b : ℕ} → n ≡ inodesIn s → b ≡ blocksIn s → (x : Bool) → x ≡ bodyAs blank s n b → x ≡ bodyB blank s
+of-body blank s e g x q = q ∙ body-as blank s e g
+
+stop : (t rest : Bool) → t ≡ false → false ≡ t && rest
+stop t rest h = sym (and-false-l t rest h)
+
+on : (t rest x : Bool) → t ≡ true → x ≡ rest → x ≡ t && rest
+on t rest x h q = chain-end x t rest h q
+
+module _ (blank : Bool) (s : List ℕ) {n b : ℕ} (e : n ≡ inodesIn s) (g : b ≡ blocksIn s) where
+  pub stop-1 : headerB s ≡ false → false ≡ bodyB blank s
+  stop-1 h = of-body blank s e g false (stop _ _ h)
+
+  module _ (t₁ : headerB s ≡ true) where
+    pub stop-2 : inodesRight s n b ≡ false → false ≡ bodyB blank s
+    stop-2 h = of-body blank s e g false (on _ _ _ t₁ (stop _ _ h))
+
+    module _ (t₂ : inodesRight s n b ≡ true) where
+      pub stop-3 : differB (addressOf s n) (addressCount * n) ≡ false → false ≡ bodyB blank s
+      stop-3 h = of-body blank s e g false (on _ _ _ t₁ (on _ _ _ t₂ (stop _ _ h)))
+
+      module _ (t₃ : differB (addressOf s n) (addressCount * n) ≡ true) where
+        pub stop-4 : entriesRight s n ≡ false → false ≡ bodyB blank s
+        stop-4 h = of-body blank s e g false (on _ _ _ t₁ (on _ _ _ t₂ (on _ _ _ t₃ (stop _ _ h))))
+
+        module _ (t₄ : entriesRight s n ≡ true) where
+          pub stop-5 : linksRight s n ≡ false → false ≡ bodyB blank s
+          stop-5 h = of-body blank s e g false (on _ _ _ t₁ (on _ _ _ t₂ (on _ _ _ t₃ (on _ _ _ t₄ (stop _ _ h)))))
+
+          module _ (t₅ : linksRight s n ≡ true) where
+            pub stop-6 : parentsRight s n ≡ false → false ≡ bodyB blank s
+            stop-6 h = of-body blank s e g false (on _ _ _ t₁ (on _ _ _ t₂ (on _ _ _ t₃ (on _ _ _ t₄ (on _ _ _ t₅ (stop _ _ h))))))
+
+            module _ (t₆ : parentsRight s n ≡ true) where
+              pub stop-7 : freeCountsB s ≡ false → false ≡ bodyB blank s
+              stop-7 h = of-body blank s e g false (on _ _ _ t₁ (on _ _ _ t₂ (on _ _ _ t₃ (on _ _ _ t₄ (on _ _ _ t₅ (on _ _ _ t₆ (stop _ _ h)))))))
+
+              module _ (t₇ : freeCountsB s ≡ true) where
+                done : (x : Bool) → x ≡ not blank || blanksRight s n b → x ≡ bodyB blank s
+                done x q = of-body blank s e g x (on _ _ _ t₁ (on _ _ _ t₂ (on _ _ _ t₃ (on _ _ _ t₄ (on _ _ _ t₅ (on _ _ _ t₆ (on _ _ _ t₇ q)))))))
+
+                pub done-store : not blank ≡ true → true ≡ bodyB blank s
+                done-store h = done true (sym (or-l (not blank) (blanksRight s n b) h))
+
+                pub done-image : not blank ≡ false → (x : Bool) → x ≡ blanksRight s n b → x ≡ bodyB blank s
+                done-image h x q = done x (q ∙ sym (ap (λ (y : Bool). y || blanksRight s n b) h))
+
+-- ---- what the passes need of each other
+unfolded : (s : List ℕ) (n i k : ℕ) {b : ℕ} → kthBlock s n i k ≤ b → addressOf s n (place i k) ≤ b
+unfolding kthBlock
+unfolded s n i k h = h
+
+module _ (s : List ℕ) {n b : ℕ} (f : Framed mostImageBlocks s) (e : n ≡ inodesIn s) (g : b ≡ blocksIn s) where
+  pub frame-sized : Sized s n b
+  frame-sized =
+      let x = f .most-inodes in
+      let y = f .most-blocks in
+      let z = f .long in
+      record { inodes = omega arith; blocks = omega arith; long = omega arith }
+
+  pub frame-fits : (i : ℕ) → 1 ≤ i → i ≤ n → InodeFits s n i
+  frame-fits i l m =
+      let x = f .most-inodes in
+      let z = f .long in
+      record { low = l; high = m; few = omega arith; area = omega arith }
+
+  pub root-fits : InodeFits s n rootInode
+  root-fits = let x = f .some-inodes in frame-fits rootInode (omega arith) (omega arith)
+
+  module _ (t : inodesRight s n b ≡ true) where
+    each : (i : ℕ) → 1 ≤ i → i ≤ n → InodeSound s n b i
+    each = r-to n (λ i l m. inode-sound s n b i) .to t
+
+    -- an address is 0 or names a block
+    pub address-most : (x : ℕ) → x < addressCount * n → addressOf s n x ≤ mostImageBlocks
+    address-most x l =
+        let h = each (x / 12 + 1) (omega arith) (omega arith) in
+        let q : place (x / 12 + 1) (x % 12) ≡ x = omega arith in
+        let y = f .most-blocks in
+        go (decLt (x % 12) (blocksUsed (sizeOf s (x / 12 + 1)))) h q
+      where
+        go : Dec (x % 12 < blocksUsed (sizeOf s (x / 12 + 1))) → InodeSound s n b (x / 12 + 1) → place (x / 12 + 1) (x % 12) ≡ x → addressOf s n x ≤ mostImageBlocks
+        go (yes u) h q =
+            let k = h .used (x % 12) (omega arith) u in
+            let v : addressOf s n x ≤ b = rw q at (unfolded s n (x / 12 + 1) (x % 12) (k .1)) in
+            let y = f .most-blocks in
+            omega arith
+        go (no u) h q = let v : addressOf s n x ≡ 0 = rw q at (h .rest (x % 12) (omega arith) (omega arith)) in omega arith
+
+    pub dir-fits : (d : ℕ) → 1 ≤ d → d ≤ n → DirFits s n d
+    unfolding blocksUsed
+    dir-fits d l m =
+        let h = each d l m in
+        let z = h .size in
+        let w = f .long in
+        record {
+          inode = frame-fits d l m;
+          few = omega arith;
+          blocks = λ k u. let v = h .used k (omega arith) u in record { low = v .0; inside = let p = v .1 in omega arith };
+        }
+
+    -- parents of directories are directories
+    pub parents-closed : entriesRight s n ≡ true → linksRight s n ≡ true → Closed (IsDir s n) (parentOf s) rootInode n
+    parents-closed a c =
+        climbs s n (r-all (mostSlots * n) (entry-sound s n) .to a) (r-to n (λ i l m. counted-is s n i) .to c)
+
+-- ---- the whole
+pub framed-on : (limit : ℕ) (s : List ℕ) → limit ≤ mostImageBlocks → framedB limit s ≡ true → Framed mostImageBlocks s
+framed-on limit s l t =
+    let f = framed limit s .to t in
+    let y = f .most-blocks in
+    record { some-inodes = f .some-inodes; most-inodes = f .most-inodes; some-blocks = f .some-blocks; most-blocks = omega arith; long = f .long }
+
+pub sound-stop : (limit : ℕ) (blank : Bool) (s : List ℕ) → framedB limit s ≡ false → false ≡ soundB limit blank s
+unfolding soundB
+sound-stop limit blank s h = stop (framedB limit s) (bodyB blank s) h
+
+pub sound-on : (limit : ℕ) (blank : Bool) (s : List ℕ) (x : Bool) → framedB limit s ≡ true → x ≡ bodyB blank s → x ≡ soundB limit blank s
+unfolding soundB
+sound-on limit blank s x h q = on (framedB limit s) (bodyB blank s) x h q

@@ -1,33 +1,28 @@
+use mathlib.Core.Path.{_∙_, sym, ap}
+use denote.Ref.{now}
+use Rattle.sound.specs.Sound.{isSound}
+use Rattle.sound.specs.declared.Form.{Form}
 use borrow.Author.Needs.{needs}
 use Rattle.sound.proofs.check.check.Statement.{statement}
 use Rattle.sound.proofs.check.check.Tie as tie
-use Rattle.sound.proofs.check.check.Reads as reads
-use Rattle.sound.proofs.check.check.Lts as lts
-use Rattle.sound.proofs.check.check_as.Reads as check-as-reads
 
--- src/check.rt:124:24
 enum-told : tie.Need-enum-told
 enum-told c = search needs
 
--- src/check.rt:124:24
 check-as-requires : tie.Need-check-as-requires
 check-as-requires c κs = search needs
 
--- src/check.rt:125:24
 enum-told-2 : tie.Need-enum-told-2
 enum-told-2 c = search needs
 
--- src/check.rt:125:24
 check-as-requires-2 : tie.Need-check-as-requires-2
 check-as-requires-2 c κs = search needs
 
--- src/check.rt:120:1
 returns : tie.Need-returns
-returns c = ?
+returns c = c .check-as .ensures ∙ ap (λ (f : Form). isSound f (now (c .before .before .before .before .args .s))) (sym (c .before .enum-told .given .1))
 
--- src/check.rt:120:1
 returns-2 : tie.Need-returns-2
-returns-2 c = ?
+returns-2 c = c .check-as2 .ensures ∙ ap (λ (f : Form). isSound f (now (c .before .before .before .before .args .s))) (sym (c .before .enum-told2 .given .1))
 
 pub check-spec : {M : Type 1} → statement M
 check-spec =

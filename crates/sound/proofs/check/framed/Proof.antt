@@ -3,52 +3,37 @@ use Rattle.sound.proofs.CheckLaws.{read-inodes, read-blocks, frame-shor
 use borrow.Author.Needs.{needs}
 use Rattle.sound.proofs.check.framed.Statement.{statement}
 use Rattle.sound.proofs.check.framed.Tie as tie
-use Rattle.sound.proofs.check.framed.Reads as reads
-use Rattle.sound.proofs.check.framed.Lts as lts
-use Rattle.layout.proofs.block.store_length.Reads as store-length-reads
-use Rattle.octets.proofs.get_16.Reads as get-16-reads
 
--- src/check.rt:34:9
 returns : tie.Need-returns
 returns c = frame-short _ _ (c .if1 .taken)
 
--- src/check.rt:36:13
 get-16-requires : tie.Need-get-16-requires
 get-16-requires c κs = search needs
 
--- src/check.rt:36:13
 cast-n : tie.Need-cast-n
 cast-n c = search needs
 
--- src/check.rt:37:13
 get-16-requires-2 : tie.Need-get-16-requires-2
 get-16-requires-2 c κs = search needs
 
--- src/check.rt:37:13
 cast-b : tie.Need-cast-b
 cast-b c = search needs
 
--- src/check.rt:39:9
 returns-2 : tie.Need-returns-2
 returns-2 c = frame-1 _ _ (c .before .before .get-16 .ensures ∙ read-inodes _) (c .before .get-162 .ensures ∙ read-blocks _) (c .if2 .taken)
 
--- src/check.rt:42:9
 returns-3 : tie.Need-returns-3
 returns-3 c = frame-2 _ _ (c .before .before .before .get-16 .ensures ∙ read-inodes _) (c .before .before .get-162 .ensures ∙ read-blocks _) (c .before .if2 .left) (c .if3 .taken)
 
--- src/check.rt:45:9
 returns-4 : tie.Need-returns-4
 returns-4 c = frame-3 _ _ (c .before .before .before .before .get-16 .ensures ∙ read-inodes _) (c .before .before .before .get-162 .ensures ∙ read-blocks _) (c .before .before .if2 .left) (c .before .if3 .left) (c .if4 .taken)
 
--- src/check.rt:48:9
 returns-5 : tie.Need-returns-5
 returns-5 c = frame-4 _ _ (c .before .before .before .before .before .get-16 .ensures ∙ read-inodes _) (c .before .before .before .before .get-162 .ensures ∙ read-blocks _) (c .before .before .before .if2 .left) (c .before .before .if3 .left) (c .before .if4 .left) (c .if5 .taken)
 
--- src/check.rt:50:16
 store-length-requires : tie.Need-store-length-requires
 store-length-requires c κs = search needs
 
--- src/check.rt:29:1
 returns-6 : tie.Need-returns-6
 returns-6 c = frame-5 _ _ (c .before .before .before .before .before .before .get-16 .ensures ∙ read-inodes _) (c .before .before .before .before .before .get-162 .ensures ∙ read-blocks _) (c .before .before .before .before .if2 .left) (c .before .before .before .if3 .left) _ (c .before .before .if4 .left) (c .before .if5 .left) (c .store-length .ensures)
 

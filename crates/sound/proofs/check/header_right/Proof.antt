@@ -1,52 +1,39 @@
+use mathlib.Core.Path.{sym, _∙_}
+use borrow.Author.Tests.{not-true, not-false}
+use Rattle.sound.proofs.CheckLaws.{header-1, header-2, header-3, header-4, header-5}
 use borrow.Author.Needs.{needs}
 use Rattle.sound.proofs.check.header_right.Statement.{statement}
 use Rattle.sound.proofs.check.header_right.Tie as tie
-use Rattle.sound.proofs.check.header_right.Reads as reads
-use Rattle.sound.proofs.check.header_right.Lts as lts
-use Rattle.layout.proofs.header.Header.read.Reads as read-reads
-use Rattle.layout.proofs.header.reserved_zero.Reads as reserved-zero-reads
-use Rattle.layout.proofs.inode.kind.Reads as kind-reads
-use Rattle.layout.proofs.inode.parent.Reads as parent-reads
 
--- src/check.rt:58:9
 read-requires : tie.Need-read-requires
 read-requires c κs = search needs
 
--- src/check.rt:60:9
 returns : tie.Need-returns
-returns c = ?
+returns c = header-1 _ _ (c .before .before .read .ensures) (c .if1 .taken)
 
--- src/check.rt:62:8
 cast-if2 : tie.Need-cast-if2
 cast-if2 c = search needs
 
--- src/check.rt:63:9
 returns-2 : tie.Need-returns-2
-returns-2 c = ?
+returns-2 c = header-2 _ _ (c .before .before .before .before .read .ensures) (c .before .before .if1 .left) (c .if2 .taken)
 
--- src/check.rt:65:9
 reserved-zero-requires : tie.Need-reserved-zero-requires
 reserved-zero-requires c κs = search needs
 
--- src/check.rt:66:9
 returns-3 : tie.Need-returns-3
-returns-3 c = ?
+returns-3 c = header-3 _ _ (c .before .before .before .before .before .before .read .ensures) (c .before .before .before .before .if1 .left) (c .before .before .if2 .left) (sym (c .before .reserved-zero .ensures) ∙ not-true _ (c .if3 .taken))
 
--- src/check.rt:68:8
 kind-requires : tie.Need-kind-requires
 kind-requires c κs = search needs
 
--- src/check.rt:69:9
 returns-4 : tie.Need-returns-4
-returns-4 c = ?
+returns-4 c = header-4 _ _ (c .before .before .before .before .before .before .before .before .read .ensures) (c .before .before .before .before .before .before .if1 .left) (c .before .before .before .before .if2 .left) (sym (c .before .before .before .reserved-zero .ensures) ∙ not-false _ (c .before .before .if3 .left)) _ (c .before .kind .ensures) (c .if4 .taken)
 
--- src/check.rt:71:5
 parent-requires : tie.Need-parent-requires
 parent-requires c κs = search needs
 
--- src/check.rt:54:1
 returns-5 : tie.Need-returns-5
-returns-5 c = ?
+returns-5 c = header-5 _ _ (c .before .before .before .before .before .before .before .before .before .read .ensures) (c .before .before .before .before .before .before .before .if1 .left) (c .before .before .before .before .before .if2 .left) (sym (c .before .before .before .before .reserved-zero .ensures) ∙ not-false _ (c .before .before .before .if3 .left)) _ (c .before .before .kind .ensures) _ (c .before .if4 .left) (c .parent .ensures)
 
 pub header-right-spec : {M : Type 1} → statement M
 header-right-spec =
