@@ -1,3 +1,7 @@
 pub mod PlaceLaws
 pub mod SoundLaws
 pub mod FactLaws
+pub mod InodeLaws
+pub mod EntryLaws
+pub mod LinkLaws
+pub mod CheckLaws

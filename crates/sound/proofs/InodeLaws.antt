@@ -1,0 +1,207 @@
+-- What the check of the inodes finds at each step, said of the definitions. n and b are the counts of inodes and blocks.
+use Prim.Native.Nat.{ℕ, _+_, _*_, _-_, _/_, _%_, _≤_, _<_}
+use mathlib.Core.Path.{_≡_, refl, sym, ap, ap₂, _∙_, subst}
+use mathlib.Core.Bool.{Bool, true, false, not, _&&_, _||_}
+use mathlib.Core.List.{List}
+use native.Mathlib.Omega.{arith}
+use borrow.Author.Tests.{eq-eqb, ne-eqb, le-leb, lt-leb}
+use lib.Dec.{eqb, leb}
+use lib.ListN.{getD}
+use Rattle.bounded.specs.Below.{allBelow}
+use Rattle.bounded.specs.Count.{count, newAt, tally}
+use Rattle.bounded.specs.Seen.{Seen}
+use Rattle.bounded.specs.Reflect.{Reflects}
+use Rattle.bounded.proofs.BoolLaws.{or-l, or-r}
+use Rattle.bounded.proofs.BelowLaws.{all-at, all-of, all-ext, all-split, some-at, some-none}
+use Rattle.bounded.proofs.CountLaws.{count-none, count-pos}
+use Rattle.bounded.proofs.SeenLaws.{seen-not, seen-some}
+use Rattle.bounded.proofs.ReflectLaws.{r-eq, r-le, r-lt, r-and, r-imp, r-fails, r-says, reflects-ext}
+use Rattle.octets.proofs.PartLaws.{getD-part}
+use Rattle.layout.specs.Sizes.{addressCount, blockBytes, mostFileBytes, mostImageBlocks}
+use Rattle.layout.specs.Inode.{kindOf, spareOf, linksOf, sizeOf, parentOf, addressOf, freeKind, fileKind, directoryKind}
+use Rattle.layout.specs.Block.{blockAt, blockOf, blocksUsed, kthBlock}
+use Rattle.layout.specs.Free.{named}
+use Rattle.sound.specs.Inode.{tailByte, usedB, restB, tailB, attributesB, addressesB, zeroTailB}
+use Rattle.sound.specs.Sound.{unnamedB, zeroBlockB}
+
+-- a count that begins
+pub count-zero : (p : ℕ → Bool) → 0 ≡ count p 0
+unfolding count
+count-zero p = refl
+
+-- ---- the attributes of inode i
+module _ (s : List ℕ) (i : ℕ) where
+  attributes-are : Reflects (attributesB s i)
+      ((kindOf s i ≤ directoryKind)
+      × ((spareOf s i ≡ 0)
+      × ((kindOf s i ≡ freeKind → (linksOf s i ≡ 0) × ((sizeOf s i ≡ 0) × (parentOf s i ≡ 0)))
+      × ((sizeOf s i ≤ mostFileBytes)
+      × ((kindOf s i ≡ directoryKind → sizeOf s i % blockBytes ≡ 0)
+      × (kindOf s i ≡ fileKind → parentOf s i ≡ 0))))))
+  unfolding attributesB
+  attributes-are =
+      r-and (r-le (kindOf s i) directoryKind)
+      (r-and (r-eq (spareOf s i) 0)
+      (r-and (r-imp (r-eq (kindOf s i) freeKind) (r-and (r-eq (linksOf s i) 0) (r-and (r-eq (sizeOf s i) 0) (r-eq (parentOf s i) 0))))
+      (r-and (r-le (sizeOf s i) mostFileBytes)
+      (r-and (r-imp (r-eq (kindOf s i) directoryKind) (r-eq (sizeOf s i % blockBytes) 0))
+      (r-imp (r-eq (kindOf s i) fileKind) (r-eq (parentOf s i) 0))))))
+
+  pub attr-kind : directoryKind < kindOf s i → false ≡ attributesB s i
+  attr-kind h = sym (r-fails attributes-are (λ a. omega (arith, a .0)))
+
+  pub attr-spare : (spareOf s i ≡ 0 → ⊥) → false ≡ attributesB s i
+  attr-spare h = sym (r-fails attributes-are (λ a. h (a .1 .0)))
+
+  pub attr-size : mostFileBytes < sizeOf s i → false ≡ attributesB s i
+  attr-size h = sym (r-fails attributes-are (λ a. omega (arith, a .1 .1 .1 .0)))
+
+  -- a free inode that has links, or a size
+  pub attr-linked : kindOf s i ≡ freeKind → (linksOf s i ≡ 0 → ⊥) → false ≡ attributesB s i
+  attr-linked e h = sym (r-fails attributes-are (λ a. h (a .1 .1 .0 e .0)))
+
+  pub attr-sized : kindOf s i ≡ freeKind → (sizeOf s i ≡ 0 → ⊥) → false ≡ attributesB s i
+  attr-sized e h = sym (r-fails attributes-are (λ a. h (a .1 .1 .0 e .1 .0)))
+
+  -- the last test of each kind, where the code has the parent p or the size z
+  pub attr-free : (p : ℕ) → kindOf s i ≡ freeKind → spareOf s i ≡ 0 → linksOf s i ≡ 0 → sizeOf s i ≡ 0 → p ≡ parentOf s i → eqb p 0 ≡ attributesB s i
+  attr-free p ek eo el ez ep =
+      reflects-ext (r-eq p 0)
+      (r-says (λ a. ep ∙ a .1 .1 .0 ek .1 .1)
+      (λ q. (omega arith, (eo, ((λ x. (el, (ez, sym ep ∙ q))), (omega arith, ((λ x. absurd (omega arith)), λ x. absurd (omega arith)))))))
+      attributes-are)
+
+  pub attr-file : (p : ℕ) → kindOf s i ≡ fileKind → spareOf s i ≡ 0 → sizeOf s i ≤ mostFileBytes → p ≡ parentOf s i → eqb p 0 ≡ attributesB s i
+  attr-file p ek eo h ep =
+      reflects-ext (r-eq p 0)
+      (r-says (λ a. ep ∙ a .1 .1 .1 .1 .1 ek)
+      (λ q. (omega arith, (eo, ((λ x. absurd (omega arith)), (h, ((λ x. absurd (omega arith)), λ x. sym ep ∙ q))))))
+      attributes-are)
+
+  pub attr-directory : (z : ℕ) → kindOf s i ≡ directoryKind → spareOf s i ≡ 0 → z ≤ mostFileBytes → z ≡ sizeOf s i → eqb (z % blockBytes) 0 ≡ attributesB s i
+  attr-directory z ek eo h ez =
+      reflects-ext (r-eq (z % blockBytes) 0)
+      (r-says (λ a. omega (arith, ez, a .1 .1 .1 .1 .0 ek))
+      (λ q. (omega arith, (eo, ((λ x. absurd (omega arith)), (omega arith, ((λ x. omega (arith, ez, q)), λ x. absurd (omega arith)))))))
+      attributes-are)
+
+  attr-small : attributesB s i ≡ true → sizeOf s i ≤ mostFileBytes
+  attr-small h = attributes-are .to h .1 .1 .1 .0
+
+-- ---- address k of inode i, of which the size uses u
+module _ (s : List ℕ) (n b i k u a : ℕ) (eu : u ≡ blocksUsed (sizeOf s i)) (ea : a ≡ kthBlock s n i k) where
+  address-is : Reflects (usedB s n b i k && restB s n i k) ((k < u → (1 ≤ a) × (a ≤ b)) × (u ≤ k → a ≡ 0))
+  unfolding kthBlock
+  address-is =
+      rw eu rw ea
+      (r-and (r-imp (r-lt k (blocksUsed (sizeOf s i))) (r-and (r-le 1 (kthBlock s n i k)) (r-le (kthBlock s n i k) b)))
+      (r-imp (r-le (blocksUsed (sizeOf s i)) k) (r-eq (kthBlock s n i k) 0)))
+
+  pub address-used : k < u → 1 ≤ a → a ≤ b → usedB s n b i k && restB s n i k ≡ true
+  address-used l h m = address-is .from ((λ x. (h, m)), λ x. absurd (omega arith))
+
+  pub address-rest : u ≤ k → a ≡ 0 → usedB s n b i k && restB s n i k ≡ true
+  address-rest l h = address-is .from ((λ x. absurd (omega arith)), λ x. h)
+
+  pub address-zero : k < u → a < 1 → usedB s n b i k && restB s n i k ≡ false
+  address-zero l h = r-fails address-is (λ p. let q : 1 ≤ a = p .0 l .0 in omega arith)
+
+  pub address-past : k < u → b < a → usedB s n b i k && restB s n i k ≡ false
+  address-past l h = r-fails address-is (λ p. let q : a ≤ b = p .0 l .1 in omega arith)
+
+  pub address-extra : u ≤ k → (a ≡ 0 → ⊥) → usedB s n b i k && restB s n i k ≡ false
+  address-extra l h = r-fails address-is (λ p. h (p .1 l))
+
+-- ---- values noted in a list: is the value a of f at m new
+module _ (f : ℕ → ℕ) (n m a : ℕ) (l : List ℕ) (e : a ≡ f m) (h : a < n) (s : Seen f n m l) where
+  pub new-noted : getD l a 0 ≡ 0 → newAt f m ≡ true
+  new-noted z =
+      or-r (eqb (f m) 0) (eqb (tally f m (f m)) 0)
+      (eq-eqb (tally f m (f m)) 0 (ap (tally f m) (sym e) ∙ count-none (λ k. eqb (f k) a) m (some-none (λ k. eqb (f k) a) m (seen-not f n m a l s h z))))
+
+  pub again-noted : (getD l a 0 ≡ 0 → ⊥) → (a ≡ 0 → ⊥) → newAt f m ≡ false
+  again-noted z g =
+      let r = some-at (λ k. eqb (f k) a) m (seen-some f n m a l s h z) in
+      let u : 0 < tally f m a = count-pos (λ k. eqb (f k) a) m (r .0) (r .1) (r .2) in
+      let v : 0 < tally f m (f m) = subst (λ (x : ℕ). 0 < tally f m x) e u in
+      ap₂ _||_ (ne-eqb (f m) 0 (λ q. g (e ∙ q))) (ne-eqb (tally f m (f m)) 0 (omega arith))
+
+-- ---- zero bytes
+-- a range inside of a block, from byte o of it on
+block-byte : (s : List ℕ) (n c o : ℕ) → o < 64 → getD (blockOf s n c) o 0 ≡ getD s (blockAt n c + o) 0
+unfolding blockOf
+block-byte s n c o l = getD-part s (blockAt n c) 64 o l
+
+zero-block-is : (s : List ℕ) (n k a : ℕ) → a ≡ blockAt n (k + 1) → allBelow (λ j. eqb (getD s (a + j) 0) 0) 64 ≡ zeroBlockB s n k
+unfolding zeroBlockB
+zero-block-is s n k a e =
+    rw e (all-ext (λ j. eqb (getD s (blockAt n (k + 1) + j) 0) 0) (λ o. eqb (getD (blockOf s n (k + 1)) o 0) 0) 64
+    (λ o l. ap (λ (x : ℕ). eqb x 0) (sym (block-byte s n (k + 1) o l))))
+
+-- the test from t on, where it holds below t
+from-on : (p q : ℕ → Bool) (t n : ℕ) → t ≤ n → ((o : ℕ) → o < t → p o ≡ true) → ((j : ℕ) → j < n - t → p (t + j) ≡ q j) → allBelow p n ≡ allBelow q (n - t)
+from-on p q t n l h g =
+    let e : n ≡ t + (n - t) = omega arith in
+    ap (allBelow p) e ∙ all-split p t (n - t) ∙ ap (λ (x : Bool). x && allBelow (λ k. p (t + k)) (n - t)) (all-of p t h)
+    ∙ all-ext (λ k. p (t + k)) q (n - t) g
+
+tail-bytes : (s : List ℕ) (n i : ℕ) →
+    allBelow (tailB s n i) blockBytes ≡ allBelow (λ j. eqb (getD s (blockAt n (kthBlock s n i (sizeOf s i / blockBytes)) + sizeOf s i % blockBytes + j) 0) 0) (blockBytes - sizeOf s i % blockBytes)
+tail-bytes s n i =
+    let t = sizeOf s i % blockBytes in
+    let c = kthBlock s n i (sizeOf s i / blockBytes) in
+    from-on (tailB s n i) (λ j. eqb (getD s (blockAt n c + t + j) 0) 0) t blockBytes (omega arith)
+    (λ o l. or-l (not (leb t o)) (eqb (tailByte s n i o) 0) (ap not (lt-leb t o l)))
+    (λ j l.
+    let e : blockAt n c + (t + j) ≡ blockAt n c + t + j = omega arith in
+    ap₂ _||_ (ap not (le-leb t (t + j) (omega arith))) (ap (λ (x : ℕ). eqb x 0) (block-byte s n c (t + j) (omega arith) ∙ ap (λ (x : ℕ). getD s x 0) e)))
+
+-- what is no file, and a size that fills its blocks, has no bytes to test
+pub tail-none : (s : List ℕ) (n i : ℕ) → (kindOf s i ≡ fileKind → ⊥) → true ≡ zeroTailB s n i
+unfolding zeroTailB
+tail-none s n i h =
+    sym
+    (or-l (not (eqb (kindOf s i) fileKind)) (eqb (sizeOf s i % blockBytes) 0 || allBelow (tailB s n i) blockBytes)
+    (ap not (ne-eqb (kindOf s i) fileKind h)))
+
+pub tail-full : (s : List ℕ) (n i : ℕ) → sizeOf s i % blockBytes ≡ 0 → true ≡ zeroTailB s n i
+unfolding zeroTailB
+tail-full s n i e =
+    sym
+    (or-r (not (eqb (kindOf s i) fileKind)) (eqb (sizeOf s i % blockBytes) 0 || allBelow (tailB s n i) blockBytes)
+    (or-l (eqb (sizeOf s i % blockBytes) 0) (allBelow (tailB s n i) blockBytes) (eq-eqb (sizeOf s i % blockBytes) 0 e)))
+
+-- the last block of a file whose size z ends in it: it is there, and the bytes from z on are what the code tests
+module _ (s : List ℕ) (n i z : ℕ) (ez : z ≡ sizeOf s i) (h : z % blockBytes ≡ 0 → ⊥) where
+  pub last-block : (b : ℕ) → attributesB s i ≡ true → addressesB s n b i ≡ true →
+      (z / blockBytes < addressCount) × (1 ≤ kthBlock s n i (z / blockBytes)) × (kthBlock s n i (z / blockBytes) ≤ b)
+  unfolding addressesB blocksUsed
+  last-block b a d =
+      let k = z / blockBytes in
+      let m = attr-small s i a in
+      let l : k < addressCount = omega (arith, ez, m, h) in
+      let u : k < blocksUsed z = omega (arith, h) in
+      let r = address-is s n b i k (blocksUsed z) (kthBlock s n i k) (ap blocksUsed ez) refl .to (all-at _ addressCount d k l) .0 u in
+      (l, r .0, r .1)
+
+  pub tail-tested : (c o : ℕ) → kindOf s i ≡ fileKind → c ≡ kthBlock s n i (z / blockBytes) → o ≡ blockAt n c →
+      allBelow (λ j. eqb (getD s (o + z % blockBytes + j) 0) 0) (blockBytes - z % blockBytes) ≡ zeroTailB s n i
+  unfolding zeroTailB
+  tail-tested c o ek ec eo =
+      sym
+      (ap₂ _||_ (ap not (eq-eqb (kindOf s i) fileKind ek))
+      (ap (λ (x : Bool). x || allBelow (tailB s n i) blockBytes) (ne-eqb (sizeOf s i % blockBytes) 0 (λ q. h (ap (λ (x : ℕ). x % blockBytes) ez ∙ q))))
+      ∙ rw eo rw ec rw ez (tail-bytes s n i))
+
+-- ---- the blocks that the map does not have
+module _ (s : List ℕ) (n k : ℕ) (map : List ℕ) (h : Seen (addressOf s n) 4097 (addressCount * n) map) (l : k < mostImageBlocks) where
+  pub blank-named : (getD map (k + 1) 0 ≡ 0 → ⊥) → not (unnamedB s n k) || zeroBlockB s n k ≡ true
+  unfolding named
+  blank-named z = or-l _ (zeroBlockB s n k) (ap (λ (x : Bool). not (not x)) (seen-some (addressOf s n) 4097 (addressCount * n) (k + 1) map h (omega arith) z))
+
+  pub blank-tested : (a : ℕ) → getD map (k + 1) 0 ≡ 0 → a ≡ blockAt n (k + 1) →
+      allBelow (λ j. eqb (getD s (a + j) 0) 0) blockBytes ≡ not (unnamedB s n k) || zeroBlockB s n k
+  unfolding named
+  blank-tested a z e =
+      zero-block-is s n k a e
+      ∙ sym (ap (λ (x : Bool). not (not x) || zeroBlockB s n k) (seen-not (addressOf s n) 4097 (addressCount * n) (k + 1) map h (omega arith) z))
