@@ -5,7 +5,7 @@ use mathlib.Core.Bool.{Bool, true, false, not, _&&_, _||_}
 use native.Mathlib.Decide.{decLt}
 use mathlib.Core.List.{List}
 use native.Mathlib.Omega.{arith}
-use borrow.Author.Tests.{le-leb, lt-leb, eq-eqb, ne-eqb, not-true, not-false}
+use borrow.Author.Tests.{le-leb, lt-leb, eq-eqb, ne-eqb}
 use lib.Dec.{eqb, leb}
 use lib.ListN.{length, getD}
 use Rattle.bounded.specs.Below.{allBelow}
@@ -138,7 +138,7 @@ blanksRight s n b = allBelow (λ k. not (unnamedB s n k) || zeroBlockB s n k) b
 
 abbrev bodyAs : Bool → List ℕ → ℕ → ℕ → Bool
 bodyAs blank s n b =
-  headerB s && (inodesRight s n b && (differB (addressOf s n) (addressCount * n) && (entriesRight s n && (linksRight s n && (parentsRight s n && (freeCountsB s && (not blank || blanksRight s n b)))))))
+    headerB s && (inodesRight s n b && (differB (addressOf s n) (addressCount * n) && (entriesRight s n && (linksRight s n && (parentsRight s n && (freeCountsB s && (not blank || blanksRight s n b)))))))
 
 body-as : (blank : Bool) (s : List ℕ) {n b : ℕ} → n ≡ inodesIn s → b ≡ blocksIn s → bodyAs blank s n b ≡ bodyB blank s
 unfolding bodyB blanksB

@@ -32,8 +32,8 @@ free-blocks-requires c κs = search needs
 
 returns-2 : tie.Need-returns-2
 returns-2 c = let p = c .before .before .before .before .before .before .before .before .pre in let a = c .before .before .before .before .before .before .before .before .args in let m = p .0 .most-blocks in
-  counts-2 _ _ (c .before .before .before .before .before .read .ensures) _ (c .before .before .before .free-inodes .ensures ∙ ap (count (freeB (now (a .s)))) (p .1)) (a .b) _ (now (a .map)) (c .before .before .if1 .left)
-  (subst (λ (x : ℕ). Seen (addressOf (now (a .s)) x) 4097 (addressCount * x) (now (a .map))) (p .1) (p .3)) (p .2) (omega arith) (c .free-blocks .ensures)
+    counts-2 _ _ (c .before .before .before .before .before .read .ensures) _ (c .before .before .before .free-inodes .ensures ∙ ap (count (freeB (now (a .s)))) (p .1)) (a .b) _ (now (a .map)) (c .before .before .if1 .left)
+    (subst (λ (x : ℕ). Seen (addressOf (now (a .s)) x) 4097 (addressCount * x) (now (a .map))) (p .1) (p .3)) (p .2) (omega arith) (c .free-blocks .ensures)
 
 pub counts-right-spec : {M : Type 1} → statement M
 counts-right-spec =
