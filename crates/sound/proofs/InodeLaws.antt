@@ -21,6 +21,7 @@ use Rattle.layout.specs.Sizes.{addressCount, blockBytes, mostFileBytes, mostIma
 use Rattle.layout.specs.Inode.{kindOf, spareOf, linksOf, sizeOf, parentOf, addressOf, freeKind, fileKind, directoryKind}
 use Rattle.layout.specs.Block.{blockAt, blockOf, blocksUsed, kthBlock}
 use Rattle.layout.specs.Free.{named}
+use Rattle.sound.proofs.SoundLaws.{attributes}
 use Rattle.sound.specs.Inode.{tailByte, usedB, restB, tailB, attributesB, addressesB, zeroTailB}
 use Rattle.sound.specs.Sound.{unnamedB, zeroBlockB}
 
@@ -31,37 +32,21 @@ count-zero p = refl
 
 -- ---- the attributes of inode i
 module _ (s : List ℕ) (i : ℕ) where
-  attributes-are : Reflects (attributesB s i)
-      ((kindOf s i ≤ directoryKind)
-      × ((spareOf s i ≡ 0)
-      × ((kindOf s i ≡ freeKind → (linksOf s i ≡ 0) × ((sizeOf s i ≡ 0) × (parentOf s i ≡ 0)))
-      × ((sizeOf s i ≤ mostFileBytes)
-      × ((kindOf s i ≡ directoryKind → sizeOf s i % blockBytes ≡ 0)
-      × (kindOf s i ≡ fileKind → parentOf s i ≡ 0))))))
-  unfolding attributesB
-  attributes-are =
-      r-and (r-le (kindOf s i) directoryKind)
-      (r-and (r-eq (spareOf s i) 0)
-      (r-and (r-imp (r-eq (kindOf s i) freeKind) (r-and (r-eq (linksOf s i) 0) (r-and (r-eq (sizeOf s i) 0) (r-eq (parentOf s i) 0))))
-      (r-and (r-le (sizeOf s i) mostFileBytes)
-      (r-and (r-imp (r-eq (kindOf s i) directoryKind) (r-eq (sizeOf s i % blockBytes) 0))
-      (r-imp (r-eq (kindOf s i) fileKind) (r-eq (parentOf s i) 0))))))
-
   pub attr-kind : directoryKind < kindOf s i → false ≡ attributesB s i
-  attr-kind h = sym (r-fails attributes-are (λ a. omega (arith, a .0)))
+  attr-kind h = sym (r-fails (attributes s i) (λ a. omega (arith, a .0)))
 
   pub attr-spare : (spareOf s i ≡ 0 → ⊥) → false ≡ attributesB s i
-  attr-spare h = sym (r-fails attributes-are (λ a. h (a .1 .0)))
+  attr-spare h = sym (r-fails (attributes s i) (λ a. h (a .1 .0)))
 
   pub attr-size : mostFileBytes < sizeOf s i → false ≡ attributesB s i
-  attr-size h = sym (r-fails attributes-are (λ a. omega (arith, a .1 .1 .1 .0)))
+  attr-size h = sym (r-fails (attributes s i) (λ a. omega (arith, a .1 .1 .1 .0)))
 
   -- a free inode that has links, or a size
   pub attr-linked : kindOf s i ≡ freeKind → (linksOf s i ≡ 0 → ⊥) → false ≡ attributesB s i
-  attr-linked e h = sym (r-fails attributes-are (λ a. h (a .1 .1 .0 e .0)))
+  attr-linked e h = sym (r-fails (attributes s i) (λ a. h (a .1 .1 .0 e .0)))
 
   pub attr-sized : kindOf s i ≡ freeKind → (sizeOf s i ≡ 0 → ⊥) → false ≡ attributesB s i
-  attr-sized e h = sym (r-fails attributes-are (λ a. h (a .1 .1 .0 e .1 .0)))
+  attr-sized e h = sym (r-fails (attributes s i) (λ a. h (a .1 .1 .0 e .1 .0)))
 
   -- the last test of each kind, where the code has the parent p or the size z
   pub attr-free : (p : ℕ) → kindOf s i ≡ freeKind → spareOf s i ≡ 0 → linksOf s i ≡ 0 → sizeOf s i ≡ 0 → p ≡ parentOf s i → eqb p 0 ≡ attributesB s i
@@ -69,24 +54,24 @@ module _ (s : List ℕ) (i : ℕ) where
       reflects-ext (r-eq p 0)
       (r-says (λ a. ep ∙ a .1 .1 .0 ek .1 .1)
       (λ q. (omega arith, (eo, ((λ x. (el, (ez, sym ep ∙ q))), (omega arith, ((λ x. absurd (omega arith)), λ x. absurd (omega arith)))))))
-      attributes-are)
+      (attributes s i))
 
   pub attr-file : (p : ℕ) → kindOf s i ≡ fileKind → spareOf s i ≡ 0 → sizeOf s i ≤ mostFileBytes → p ≡ parentOf s i → eqb p 0 ≡ attributesB s i
   attr-file p ek eo h ep =
       reflects-ext (r-eq p 0)
       (r-says (λ a. ep ∙ a .1 .1 .1 .1 .1 ek)
       (λ q. (omega arith, (eo, ((λ x. absurd (omega arith)), (h, ((λ x. absurd (omega arith)), λ x. sym ep ∙ q))))))
-      attributes-are)
+      (attributes s i))
 
   pub attr-directory : (z : ℕ) → kindOf s i ≡ directoryKind → spareOf s i ≡ 0 → z ≤ mostFileBytes → z ≡ sizeOf s i → eqb (z % blockBytes) 0 ≡ attributesB s i
   attr-directory z ek eo h ez =
       reflects-ext (r-eq (z % blockBytes) 0)
       (r-says (λ a. omega (arith, ez, a .1 .1 .1 .1 .0 ek))
       (λ q. (omega arith, (eo, ((λ x. absurd (omega arith)), (omega arith, ((λ x. omega (arith, ez, q)), λ x. absurd (omega arith)))))))
-      attributes-are)
+      (attributes s i))
 
   attr-small : attributesB s i ≡ true → sizeOf s i ≤ mostFileBytes
-  attr-small h = attributes-are .to h .1 .1 .1 .0
+  attr-small h = (attributes s i) .to h .1 .1 .1 .0
 
 -- ---- address k of inode i, of which the size uses u
 module _ (s : List ℕ) (n b i k u a : ℕ) (eu : u ≡ blocksUsed (sizeOf s i)) (ea : a ≡ kthBlock s n i k) where

@@ -36,7 +36,7 @@ framed limit s =
     (r-and (r-le (blocksIn s) limit) (r-eq (length s) (storeLength (inodesIn s) (blocksIn s)))))))
 
 -- ---- an inode by itself
-module _ (s : List ℕ) (n b i : ℕ) where
+module _ (s : List ℕ) (i : ℕ) where
   abbrev Free : Type 0
   Free = kindOf s i ≡ freeKind → (linksOf s i ≡ 0) × ((sizeOf s i ≡ 0) × (parentOf s i ≡ 0))
 
@@ -49,7 +49,7 @@ module _ (s : List ℕ) (n b i : ℕ) where
       × ((kindOf s i ≡ directoryKind → sizeOf s i % blockBytes ≡ 0)
       × (kindOf s i ≡ fileKind → parentOf s i ≡ 0)))))
 
-  attributes : Reflects (attributesB s i) Attributes
+  pub attributes : Reflects (attributesB s i) Attributes
   unfolding attributesB
   attributes =
       r-and (r-le (kindOf s i) directoryKind)
@@ -59,6 +59,7 @@ module _ (s : List ℕ) (n b i : ℕ) where
       (r-and (r-imp (r-eq (kindOf s i) directoryKind) (r-eq (sizeOf s i % blockBytes) 0))
       (r-imp (r-eq (kindOf s i) fileKind) (r-eq (parentOf s i) 0))))))
 
+module _ (s : List ℕ) (n b i : ℕ) where
   abbrev Address : ℕ → Type 0
   Address k =
       (k < blocksUsed (sizeOf s i) → (1 ≤ kthBlock s n i k) × (kthBlock s n i k ≤ b))
@@ -98,7 +99,7 @@ module _ (s : List ℕ) (n b i : ℕ) where
         parent = p .0 .1 .1 .1 .1 .1;
       })
       (λ r. ((r .kind, (r .spare, (r .free, (r .size, (r .directory, r .parent))))), ((λ k l. (r .used k l, r .rest k l)), r .tail)))
-      (r-and attributes (r-and addresses zero-tail))
+      (r-and (attributes s i) (r-and addresses zero-tail))
 
 -- ---- an entry
 module _ (s : List ℕ) (n p : ℕ) where
