@@ -1,0 +1,35 @@
+use borrow.Author.Needs.{needs}
+use Rattle.files.proofs.plan.shorten_plan.Statement.{statement}
+use Rattle.files.proofs.plan.shorten_plan.Tie as tie
+use Rattle.files.proofs.plan.shorten_plan.Reads as reads
+use Rattle.files.proofs.plan.shorten_plan.Lts as lts
+use Rattle.files.proofs.plan.is_kind.Reads as is-kind-reads
+use Rattle.layout.proofs.inode.size.Reads as size-reads
+
+-- src/plan.rt:92:9
+is-kind-requires : tie.Need-is-kind-requires
+is-kind-requires c κs = search needs
+
+-- src/plan.rt:93:9
+returns : tie.Need-returns
+returns c = ?
+
+-- src/plan.rt:95:9
+size-requires : tie.Need-size-requires
+size-requires c κs = ?
+
+-- src/plan.rt:95:9
+cast-if2 : tie.Need-cast-if2
+cast-if2 c = search needs
+
+-- src/plan.rt:96:9
+returns-2 : tie.Need-returns-2
+returns-2 c = ?
+
+-- src/plan.rt:88:1
+returns-3 : tie.Need-returns-3
+returns-3 c = ?
+
+pub shorten-plan-spec : {M : Type 1} → statement M
+shorten-plan-spec =
+    tie.close (tie.spec is-kind-requires returns size-requires cast-if2 returns-2 returns-3)
