@@ -1,3 +1,10 @@
+use Prim.Native.Nat.{ℕ, _≤_}
+use mathlib.Core.Path.{_≡_, sym, _∙_}
+use mathlib.Core.Bool.{true, false}
+use native.Mathlib.Omega.{arith}
+use denote.Ref.{now}
+use borrow.Author.Tests.{not-true, not-false}
+use Rattle.files.proofs.SizePlanLaws.{kind-fits, read-wrong, read-past, read-done}
 use borrow.Author.Needs.{needs}
 use Rattle.files.proofs.plan.read_plan.Statement.{statement}
 use Rattle.files.proofs.plan.read_plan.Tie as tie
@@ -13,11 +20,11 @@ is-kind-requires c κs = search needs
 
 -- src/plan.rt:79:9
 returns : tie.Need-returns
-returns c = ?
+returns c = read-wrong _ _ _ _ _ (sym (c .before .is-kind .ensures) ∙ not-true _ (c .if1 .taken))
 
 -- src/plan.rt:81:16
 size-requires : tie.Need-size-requires
-size-requires c κs = ?
+size-requires c κs = let p = c .before .before .before .pre in kind-fits _ _ (p .0) (p .1) _ _ (sym (c .before .is-kind .ensures) ∙ not-false _ (c  .if1 .left))
 
 -- src/plan.rt:81:16
 cast-size : tie.Need-cast-size
@@ -25,7 +32,7 @@ cast-size c = search needs
 
 -- src/plan.rt:83:9
 returns-2 : tie.Need-returns-2
-returns-2 c = ?
+returns-2 c = read-past _ _ _ _ _ _ (sym (c .before .before .before .is-kind .ensures) ∙ not-false _ (c .before .before .if1 .left)) (c .before .size .ensures) (c .if2 .taken)
 
 -- src/plan.rt:85:18
 lesser-requires : tie.Need-lesser-requires
@@ -33,7 +40,7 @@ lesser-requires c κs = search needs
 
 -- src/plan.rt:74:1
 returns-3 : tie.Need-returns-3
-returns-3 c = ?
+returns-3 c = read-done _ _ _ _ _ _ _ (sym (c .before .before .before .before .is-kind .ensures) ∙ not-false _ (c .before .before .before .if1 .left)) (c .before .before .size .ensures) (c .before .if2 .left) (c .lesser .ensures)
 
 pub read-plan-spec : {M : Type 1} → statement M
 read-plan-spec =
