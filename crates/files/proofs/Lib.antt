@@ -1,2 +1,4 @@
 pub mod PlainLaws
 pub mod PlanLaws
+pub mod SizePlanLaws
+pub mod StoreLaws

@@ -1,4 +1,6 @@
 // The plain store's file calls: what a call is to do, decided before any byte changes.
+pub mod plan;
+
 use answers::Refusal;
 
 // Where a new entry goes: a slot, and the block that the directory takes first, 0 for none.

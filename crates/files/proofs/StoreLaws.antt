@@ -1,0 +1,56 @@
+-- What a sound store gives to the calls on it. n and b are the counts that the code has read.
+use Prim.Native.Nat.{ℕ, _*_, _≤_, _<_}
+use mathlib.Core.Path.{_≡_, refl, sym, ap, _∙_, subst}
+use mathlib.Core.Bool.{Bool, true, false, _&&_}
+use mathlib.Core.List.{List}
+use native.Mathlib.Omega.{arith}
+use borrow.Author.Tests.{leb-true, eqb-true, le-leb, lt-leb}
+use lib.Dec.{eqb, leb}
+use Rattle.bounded.proofs.BoolLaws.{and-false-l, and-left, and-right, chain-end}
+use Rattle.layout.specs.Sizes.{mostStoreBlocks, mostImageBlocks, addressCount}
+use Rattle.layout.specs.Inode.{InodeFits, kindOf, addressOf}
+use Rattle.directory.specs.Slot.{DirFits}
+use Rattle.sound.specs.Sound.{Sound, inodesIn, blocksIn}
+use Rattle.sound.proofs.FactLaws.{inode-fits, dir-fits, address-bound}
+use Rattle.files.specs.Inode.{isKind}
+
+-- ---- the kind of a number
+module _ (s : List ℕ) (n k i : ℕ) where
+  pub kind-low : i < 1 → false ≡ isKind s n k i
+  unfolding isKind
+  kind-low h = sym (and-false-l _ _ (lt-leb 1 i h))
+
+  pub kind-high : 1 ≤ i → n < i → false ≡ isKind s n k i
+  unfolding isKind
+  kind-high l h = chain-end _ _ _ (le-leb 1 i l) (sym (and-false-l _ _ (lt-leb i n h)))
+
+  pub kind-read : (x : ℕ) → 1 ≤ i → i ≤ n → x ≡ kindOf s i → eqb x k ≡ isKind s n k i
+  unfolding isKind
+  kind-read x l h q = chain-end _ _ _ (le-leb 1 i l) (chain-end _ _ _ (le-leb i n h) (ap (λ (y : ℕ). eqb y k) q))
+
+  module _ (t : isKind s n k i ≡ true) where
+    pub kind-some : 1 ≤ i
+    unfolding isKind
+    kind-some = leb-true 1 i (and-left (leb 1 i) (leb i n && eqb (kindOf s i) k) t)
+
+    pub kind-most : i ≤ n
+    unfolding isKind
+    kind-most = leb-true i n (and-left (leb i n) (eqb (kindOf s i) k) (and-right (leb 1 i) (leb i n && eqb (kindOf s i) k) t))
+
+    pub kind-is : kindOf s i ≡ k
+    unfolding isKind
+    kind-is = eqb-true (kindOf s i) k (and-right (leb i n) (eqb (kindOf s i) k) (and-right (leb 1 i) (leb i n && eqb (kindOf s i) k) t))
+
+-- ---- a sound store
+module _ (s : List ℕ) (n : ℕ) (h : Sound mostStoreBlocks false s) (e : n ≡ inodesIn s) where
+  pub fits : (i : ℕ) → 1 ≤ i → i ≤ n → InodeFits s n i
+  fits i l m = subst (λ (x : ℕ). InodeFits s x i) (sym e) (inode-fits h i l (omega arith))
+
+  pub dir-of : (i : ℕ) → 1 ≤ i → i ≤ n → DirFits s n i
+  dir-of i l m = subst (λ (x : ℕ). DirFits s x i) (sym e) (dir-fits h i l (omega arith))
+
+  pub addresses-most : (x : ℕ) → x < addressCount * n → addressOf s n x ≤ mostImageBlocks
+  addresses-most x l =
+      let m = h .framed .most-blocks in
+      let q = address-bound h x (omega arith) in
+      subst (λ (y : ℕ). addressOf s y x ≤ mostImageBlocks) (sym e) (omega arith)

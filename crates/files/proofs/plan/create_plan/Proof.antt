@@ -1,0 +1,99 @@
+use borrow.Author.Needs.{needs}
+use Rattle.files.proofs.plan.create_plan.Statement.{statement}
+use Rattle.files.proofs.plan.create_plan.Tie as tie
+use Rattle.files.proofs.plan.create_plan.Reads as reads
+use Rattle.files.proofs.plan.create_plan.Lts as lts
+use Rattle.directory.proofs.find_slot.Reads as find-slot-reads
+use Rattle.files.proofs.plan.is_kind.Reads as is-kind-reads
+use Rattle.files.proofs.plan.room_in.Reads as room-in-reads
+use Rattle.layout.proofs.free.free_inode.Reads as free-inode-reads
+use Rattle.names.proofs.legal_name.Reads as legal-name-reads
+
+-- src/plan.rt:145:9
+legal-name-requires : tie.Need-legal-name-requires
+legal-name-requires c κs = search needs
+
+-- src/plan.rt:146:9
+returns : tie.Need-returns
+returns c = ?
+
+-- src/plan.rt:148:9
+is-kind-requires : tie.Need-is-kind-requires
+is-kind-requires c κs = search needs
+
+-- src/plan.rt:149:9
+returns-2 : tie.Need-returns-2
+returns-2 c = ?
+
+-- src/plan.rt:151:27
+find-slot-requires : tie.Need-find-slot-requires
+find-slot-requires c κs = ?
+
+-- src/plan.rt:152:37
+enum-told : tie.Need-enum-told
+enum-told c = search needs
+
+-- src/plan.rt:152:9
+returns-3 : tie.Need-returns-3
+returns-3 c = ?
+
+enum-told-2 : tie.Need-enum-told-2
+enum-told-2 c = search needs
+
+-- src/plan.rt:154:24
+free-inode-requires : tie.Need-free-inode-requires
+free-inode-requires c κs = search needs
+
+-- src/plan.rt:154:19
+enum-known-i : tie.Need-enum-known-i
+enum-known-i c = search needs
+
+-- src/plan.rt:155:37
+enum-told-3 : tie.Need-enum-told-3
+enum-told-3 c = search needs
+
+-- src/plan.rt:155:9
+returns-4 : tie.Need-returns-4
+returns-4 c = ?
+
+-- src/plan.rt:157:11
+room-in-requires : tie.Need-room-in-requires
+room-in-requires c κs = ?
+
+-- src/plan.rt:158:23
+enum-known-room : tie.Need-enum-known-room
+enum-known-room c = search needs
+
+-- src/plan.rt:159:26
+enum-known-why : tie.Need-enum-known-why
+enum-known-why c = search needs
+
+-- src/plan.rt:141:1
+returns-5 : tie.Need-returns-5
+returns-5 c = ?
+
+-- src/plan.rt:141:1
+returns-6 : tie.Need-returns-6
+returns-6 c = ?
+
+pub create-plan-spec : {M : Type 1} → statement M
+create-plan-spec =
+    tie.close
+    (tie.spec
+    legal-name-requires
+    returns
+    is-kind-requires
+    returns-2
+    find-slot-requires
+    enum-told
+    returns-3
+    enum-told-2
+    free-inode-requires
+    enum-known-i
+    enum-told-3
+    returns-4
+    room-in-requires
+    enum-known-room
+    enum-known-why
+    returns-5
+    returns-6)

@@ -1,0 +1,88 @@
+use borrow.Author.Needs.{needs}
+use Rattle.files.proofs.plan.link_plan.Statement.{statement}
+use Rattle.files.proofs.plan.link_plan.Tie as tie
+use Rattle.files.proofs.plan.link_plan.Reads as reads
+use Rattle.files.proofs.plan.link_plan.Lts as lts
+use Rattle.directory.proofs.find_slot.Reads as find-slot-reads
+use Rattle.files.proofs.plan.is_kind.Reads as is-kind-reads
+use Rattle.files.proofs.plan.room_in.Reads as room-in-reads
+use Rattle.names.proofs.legal_name.Reads as legal-name-reads
+
+-- src/plan.rt:167:9
+legal-name-requires : tie.Need-legal-name-requires
+legal-name-requires c κs = search needs
+
+-- src/plan.rt:168:9
+returns : tie.Need-returns
+returns c = ?
+
+-- src/plan.rt:170:9
+is-kind-requires : tie.Need-is-kind-requires
+is-kind-requires c κs = search needs
+
+-- src/plan.rt:171:9
+returns-2 : tie.Need-returns-2
+returns-2 c = ?
+
+-- src/plan.rt:173:9
+is-kind-requires-2 : tie.Need-is-kind-requires-2
+is-kind-requires-2 c κs = search needs
+
+-- src/plan.rt:174:9
+returns-3 : tie.Need-returns-3
+returns-3 c = ?
+
+-- src/plan.rt:176:27
+find-slot-requires : tie.Need-find-slot-requires
+find-slot-requires c κs = ?
+
+-- src/plan.rt:177:33
+enum-told : tie.Need-enum-told
+enum-told c = search needs
+
+-- src/plan.rt:177:9
+returns-4 : tie.Need-returns-4
+returns-4 c = ?
+
+enum-told-2 : tie.Need-enum-told-2
+enum-told-2 c = search needs
+
+-- src/plan.rt:179:11
+room-in-requires : tie.Need-room-in-requires
+room-in-requires c κs = ?
+
+-- src/plan.rt:180:23
+enum-known-room : tie.Need-enum-known-room
+enum-known-room c = search needs
+
+-- src/plan.rt:181:26
+enum-known-why : tie.Need-enum-known-why
+enum-known-why c = search needs
+
+-- src/plan.rt:163:1
+returns-5 : tie.Need-returns-5
+returns-5 c = ?
+
+-- src/plan.rt:163:1
+returns-6 : tie.Need-returns-6
+returns-6 c = ?
+
+pub link-plan-spec : {M : Type 1} → statement M
+link-plan-spec =
+    tie.close
+    (tie.spec
+    legal-name-requires
+    returns
+    is-kind-requires
+    returns-2
+    is-kind-requires-2
+    returns-3
+    find-slot-requires
+    enum-told
+    returns-4
+    enum-told-2
+    room-in-requires
+    enum-known-room
+    enum-known-why
+    returns-5
+    returns-6)

@@ -1,0 +1,183 @@
+// What each file call is to do on a sound store, decided before any byte changes. n and b are the store's counts.
+ghost use mathlib.Core.Path.{_≡_};
+ghost use mathlib.Core.Bool.{true, false};
+ghost use Prim.Native.Nat.{ℕ, _+_, _<_, _≤_, min, max};
+ghost use lib.ListN.{length};
+ghost use Rattle.bounded.specs.Climb.{leadsB};
+ghost use Rattle.layout.specs.Sizes.{mostStoreBlocks};
+ghost use Rattle.layout.specs.Inode.{parentOf};
+ghost use Rattle.sound.specs.Sound.{Sound, inodesIn, blocksIn};
+ghost use Rattle.files.specs.Inode.{isKind, isFile, isDirectory};
+ghost use Rattle.files.specs.Room.{roomIn};
+ghost use Rattle.files.specs.Plan.{inodeAt, lookUpPlan, readPlan, createPlan, writePlan, shortenPlan, linkPlan, holdsNone, unlinkPlan, isBelow, renameTo, renamePlan};
+use answers::Refusal;
+use bounded::Found;
+use crate::CreatePlan;
+use crate::LinkPlan;
+use crate::RenamePlan;
+use crate::Room;
+use crate::RoomPlan;
+use crate::SizePlan;
+use crate::UnlinkPlan;
+use layout::block::blocks_used;
+use layout::free;
+use layout::header::Header;
+use layout::inode;
+use layout::sizes::ADDRESS_COUNT;
+use layout::sizes::DIRECTORY;
+use layout::sizes::FILE;
+use layout::sizes::MOST_FILE_BYTES;
+
+// The number i is an inode of the kind.
+fn is_kind(s: &[u8], n: usize, kind: u8, i: usize) -> bool
+    requires { ⌜ Sound mostStoreBlocks false (now s) × (n ≡ inodesIn (now s)) ⌝ }
+    ensures { λ r. ⌜ r ≡ isKind (now (s .entry)) n kind i ⌝ }
+{
+    if i < 1 {
+        return false;
+    }
+    if n < i {
+        return false;
+    }
+    inode::kind(s, n, i) == kind
+}
+
+pub fn look_up_plan(s: &[u8], n: usize, d: usize, name: &[u8]) -> SizePlan
+    requires { ⌜ Sound mostStoreBlocks false (now s) × (n ≡ inodesIn (now s)) ⌝ }
+    ensures { λ r. ⌜ r ≡ lookUpPlan (now (s .entry)) n d (now (name .entry)) ⌝ }
+{
+    if !names::legal_name(name) {
+        return SizePlan::NoSize(Refusal::IllegalName);
+    }
+    if !is_kind(s, n, DIRECTORY, d) {
+        return SizePlan::NoSize(Refusal::WrongInode);
+    }
+    let Found::At(t) = directory::find_slot(s, n, d, name) else {
+        return SizePlan::NoSize(Refusal::NameAbsent);
+    };
+    SizePlan::To(directory::slot_inode(s, n, d, t) as usize)
+}
+
+fn lesser(a: usize, b: usize) -> usize
+    ensures { λ r. ⌜ r ≡ min a b ⌝ }
+{
+    if a < b { a } else { b }
+}
+
+fn greater(a: usize, b: usize) -> usize
+    ensures { λ r. ⌜ r ≡ max a b ⌝ }
+{
+    if a < b { b } else { a }
+}
+
+// A read at o into a buffer of k bytes.
+pub fn read_plan(s: &[u8], n: usize, i: usize, o: usize, k: usize) -> SizePlan
+    requires { ⌜ Sound mostStoreBlocks false (now s) × (n ≡ inodesIn (now s)) ⌝ }
+    ensures { λ r. ⌜ r ≡ readPlan (now (s .entry)) n i o k ⌝ }
+{
+    if !is_kind(s, n, FILE, i) {
+        return SizePlan::NoSize(Refusal::WrongInode);
+    }
+    let size = inode::size(s, n, i) as usize;
+    if size < o {
+        return SizePlan::NoSize(Refusal::PastEnd);
+    }
+    SizePlan::To(lesser(k, size - o))
+}
+
+pub fn shorten_plan(s: &[u8], n: usize, i: usize, z: usize) -> SizePlan
+    requires { ⌜ Sound mostStoreBlocks false (now s) × (n ≡ inodesIn (now s)) ⌝ }
+    ensures { λ r. ⌜ r ≡ shortenPlan (now (s .entry)) n i z ⌝ }
+{
+    if !is_kind(s, n, FILE, i) {
+        return SizePlan::NoSize(Refusal::WrongInode);
+    }
+    if (inode::size(s, n, i) as usize) < z {
+        return SizePlan::NoSize(Refusal::PastEnd);
+    }
+    SizePlan::To(z)
+}
+
+// A write of k bytes at o.
+pub fn write_plan(s: &[u8], n: usize, i: usize, o: usize, k: usize) -> SizePlan
+    requires { ⌜ Sound mostStoreBlocks false (now s) × (n ≡ inodesIn (now s)) ⌝ }
+    ensures { λ r. ⌜ r ≡ writePlan (now (s .entry)) n i o k ⌝ }
+{
+    if !is_kind(s, n, FILE, i) {
+        return SizePlan::NoSize(Refusal::WrongInode);
+    }
+    let size = inode::size(s, n, i) as usize;
+    if size < o {
+        return SizePlan::NoSize(Refusal::PastEnd);
+    }
+    if MOST_FILE_BYTES - o < k {
+        return SizePlan::NoSize(Refusal::PastEnd);
+    }
+    let end = greater(size, o + k);
+    if (Header::read(s).free_blocks as usize) < blocks_used(end) - blocks_used(size) {
+        return SizePlan::NoSize(Refusal::NoBlocks);
+    }
+    SizePlan::To(end)
+}
+
+// Where an entry more in directory d goes.
+pub fn room_in(s: &[u8], n: usize, b: usize, d: usize) -> RoomPlan
+    requires { ⌜ Sound mostStoreBlocks false (now s) × (n ≡ inodesIn (now s)) × (b ≡ blocksIn (now s)) × (isDirectory (now s) n d ≡ true) ⌝ }
+    ensures { λ r. ⌜ r ≡ roomIn (now (s .entry)) n b d ⌝ }
+{
+    if let Found::At(t) = directory::empty_slot(s, n, d) {
+        return RoomPlan::Has(Room { slot: t, block: 0 });
+    }
+    let slots = directory::slot_count(s, n, d);
+    if directory::SLOTS_IN_BLOCK * ADDRESS_COUNT <= slots {
+        return RoomPlan::NoRoom(Refusal::NoSlot);
+    }
+    let Found::At(c) = free::free_block(s, n, b) else {
+        return RoomPlan::NoRoom(Refusal::NoBlocks);
+    };
+    RoomPlan::Has(Room { slot: slots, block: c })
+}
+
+pub fn create_plan(s: &[u8], n: usize, b: usize, d: usize, name: &[u8]) -> CreatePlan
+    requires { ⌜ Sound mostStoreBlocks false (now s) × (n ≡ inodesIn (now s)) × (b ≡ blocksIn (now s)) ⌝ }
+    ensures { λ r. ⌜ r ≡ createPlan (now (s .entry)) n b d (now (name .entry)) ⌝ }
+{
+    if !names::legal_name(name) {
+        return CreatePlan::NoCreate(Refusal::IllegalName);
+    }
+    if !is_kind(s, n, DIRECTORY, d) {
+        return CreatePlan::NoCreate(Refusal::WrongInode);
+    }
+    if let Found::At(_) = directory::find_slot(s, n, d, name) {
+        return CreatePlan::NoCreate(Refusal::NameTaken);
+    }
+    let Found::At(i) = free::free_inode(s, n) else {
+        return CreatePlan::NoCreate(Refusal::NoInode);
+    };
+    match room_in(s, n, b, d) {
+        RoomPlan::Has(room) => CreatePlan::Make(i, room),
+        RoomPlan::NoRoom(why) => CreatePlan::NoCreate(why),
+    }
+}
+
+pub fn link_plan(s: &[u8], n: usize, b: usize, d: usize, name: &[u8], i: usize) -> LinkPlan
+    requires { ⌜ Sound mostStoreBlocks false (now s) × (n ≡ inodesIn (now s)) × (b ≡ blocksIn (now s)) ⌝ }
+    ensures { λ r. ⌜ r ≡ linkPlan (now (s .entry)) n b d (now (name .entry)) i ⌝ }
+{
+    if !names::legal_name(name) {
+        return LinkPlan::NoLink(Refusal::IllegalName);
+    }
+    if !is_kind(s, n, DIRECTORY, d) {
+        return LinkPlan::NoLink(Refusal::WrongInode);
+    }
+    if !is_kind(s, n, FILE, i) {
+        return LinkPlan::NoLink(Refusal::WrongInode);
+    }
+    if let Found::At(_) = directory::find_slot(s, n, d, name) {
+        return LinkPlan::NoLink(Refusal::NameTaken);
+    }
+    match room_in(s, n, b, d) {
+        RoomPlan::Has(room) => LinkPlan::Add(room),
+        RoomPlan::NoRoom(why) => LinkPlan::NoLink(why),
+    }
+}
