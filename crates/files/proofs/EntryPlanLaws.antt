@@ -1,12 +1,11 @@
 -- Each way that the plans for an entry more return: the room for it, create and link.
-use Prim.Native.Nat.{ℕ, _*_, _≤_, _<_}
-use mathlib.Core.Path.{_≡_, sym}
-use mathlib.Core.Bool.{Bool, true, false, _&&_}
+use Prim.Native.Nat.{ℕ, _≤_, _<_}
+use mathlib.Core.Path.{_≡_}
+use mathlib.Core.Bool.{true, false}
 use mathlib.Core.List.{List}
 use native.Mathlib.Omega.{arith}
 use borrow.Author.Tests.{lt-ltb, le-ltb}
 use Rattle.bounded.specs.declared.Found.the-variants.{At, Absent}
-use Rattle.bounded.proofs.BoolLaws.{and-false-l, and-false-r}
 use Rattle.layout.specs.Sizes.{mostStoreBlocks, mostDirectoryBlocks}
 use Rattle.layout.specs.Inode.{sizeOf, directoryKind}
 use Rattle.layout.specs.Block.{blocksUsed}
