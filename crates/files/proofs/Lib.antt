@@ -1,3 +1,4 @@
+pub mod EntryPlanLaws
 pub mod PlainLaws
 pub mod PlanLaws
 pub mod SizePlanLaws

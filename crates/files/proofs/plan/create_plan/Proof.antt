@@ -1,80 +1,77 @@
+use mathlib.Core.Path.{_≡_, sym, _∙_}
+use mathlib.Core.Bool.{true}
+use denote.Ref.{now}
+use Rattle.bounded.specs.declared.Found.the-variants.{Absent}
+use Rattle.bounded.proofs.BoolLaws.{chain-on, chain-off}
+use Rattle.names.specs.Name.{legalName}
+use Rattle.names.proofs.NameLaws.{legal-bounds}
+use Rattle.directory.specs.Slot.{findSlot}
+use Rattle.files.specs.Inode.{isDirectory}
+use Rattle.files.proofs.EntryPlanLaws.{directory-fits, create-illegal, create-wrong, create-taken, create-full, create-make, create-roomless}
 use borrow.Author.Needs.{needs}
 use Rattle.files.proofs.plan.create_plan.Statement.{statement}
 use Rattle.files.proofs.plan.create_plan.Tie as tie
-use Rattle.files.proofs.plan.create_plan.Reads as reads
-use Rattle.files.proofs.plan.create_plan.Lts as lts
-use Rattle.directory.proofs.find_slot.Reads as find-slot-reads
-use Rattle.files.proofs.plan.is_kind.Reads as is-kind-reads
-use Rattle.files.proofs.plan.room_in.Reads as room-in-reads
-use Rattle.layout.proofs.free.free_inode.Reads as free-inode-reads
-use Rattle.names.proofs.legal_name.Reads as legal-name-reads
 
--- src/plan.rt:145:9
+-- what the tests that passed say
+is-legal : (c : tie.Else1) → legalName (now (c .before .before .before .before .args .name)) ≡ true
+is-legal c = chain-on _ _ (c .before .legal-name .ensures) (c .if1 .left)
+
+is-dir : (c : tie.Else2) → isDirectory (now (c .before .before .before .before .before .before .args .s)) (c .before .before .before .before .before .before .args .n) (c .before .before .before .before .before .before .args .d) ≡ true
+is-dir c = chain-on _ _ (c .before .is-kind .ensures) (c .if2 .left)
+
+not-there : (c : tie.After-enum-told2) → findSlot (now (c .before .before .before .before .before .before .before .before .before .args .s)) (c .before .before .before .before .before .before .before .before .before .args .n) (c .before .before .before .before .before .before .before .before .before .args .d) (now (c .before .before .before .before .before .before .before .before .before .args .name)) ≡ Absent
+not-there c = sym (c .before .before .find-slot .ensures) ∙ c .enum-told2 .given .1
+
 legal-name-requires : tie.Need-legal-name-requires
 legal-name-requires c κs = search needs
 
--- src/plan.rt:146:9
 returns : tie.Need-returns
-returns c = ?
+returns c = create-illegal _ _ _ _ _ (chain-off _ _ (c .before .legal-name .ensures) (c .if1 .taken))
 
--- src/plan.rt:148:9
 is-kind-requires : tie.Need-is-kind-requires
 is-kind-requires c κs = search needs
 
--- src/plan.rt:149:9
 returns-2 : tie.Need-returns-2
-returns-2 c = ?
+returns-2 c = create-wrong _ _ _ _ _ (is-legal (c .before .before)) (chain-off _ _ (c .before .is-kind .ensures) (c .if2 .taken))
 
--- src/plan.rt:151:27
 find-slot-requires : tie.Need-find-slot-requires
-find-slot-requires c κs = ?
+find-slot-requires c κs = let p = c .before .before .before .before .before .before .pre in (directory-fits _ _ _ (p .0) (p .1) (is-dir c), legal-bounds _ (is-legal (c .before .before)) .1)
 
--- src/plan.rt:152:37
 enum-told : tie.Need-enum-told
 enum-told c = search needs
 
--- src/plan.rt:152:9
 returns-3 : tie.Need-returns-3
-returns-3 c = ?
+returns-3 c = create-taken _ _ _ _ _ (is-legal (c .before .before .before .before .before)) (is-dir (c .before .before .before)) _ (sym (c .before .before .find-slot .ensures) ∙ c .enum-told .given .1)
 
 enum-told-2 : tie.Need-enum-told-2
 enum-told-2 c = search needs
 
--- src/plan.rt:154:24
 free-inode-requires : tie.Need-free-inode-requires
 free-inode-requires c κs = search needs
 
--- src/plan.rt:154:19
 enum-known-i : tie.Need-enum-known-i
 enum-known-i c = search needs
 
--- src/plan.rt:155:37
 enum-told-3 : tie.Need-enum-told-3
 enum-told-3 c = search needs
 
--- src/plan.rt:155:9
 returns-4 : tie.Need-returns-4
-returns-4 c = ?
+returns-4 c = create-full _ _ _ _ _ (is-legal (c .before .before .before .before .before .before .before .before)) (is-dir (c .before .before .before .before .before .before)) (not-there (c .before .before .before)) (sym (c .before .before .free-inode .ensures) ∙ c .enum-told3 .given .1)
 
--- src/plan.rt:157:11
 room-in-requires : tie.Need-room-in-requires
-room-in-requires c κs = ?
+room-in-requires c κs = let p = c .before .before .before .before .before .before .before .before .before .before .before .before .before .pre in (p .0, p .1, p .2, is-dir (c .before .before .before .before .before .before .before))
 
--- src/plan.rt:158:23
 enum-known-room : tie.Need-enum-known-room
 enum-known-room c = search needs
 
--- src/plan.rt:159:26
 enum-known-why : tie.Need-enum-known-why
 enum-known-why c = search needs
 
--- src/plan.rt:141:1
 returns-5 : tie.Need-returns-5
-returns-5 c = ?
+returns-5 c = create-make _ _ _ _ _ (is-legal (c .before .before .before .before .before .before .before .before .before .before .before .before .before)) (is-dir (c .before .before .before .before .before .before .before .before .before .before .before)) (not-there (c .before .before .before .before .before .before .before .before)) _ (sym (c .before .before .before .before .before .before .before .free-inode .ensures) ∙ c .before .before .before .before .before .i .given .1) _ (sym (c .before .before .before .room-in .ensures) ∙ c .before .room .given .1)
 
--- src/plan.rt:141:1
 returns-6 : tie.Need-returns-6
-returns-6 c = ?
+returns-6 c = create-roomless _ _ _ _ _ (is-legal (c .before .before .before .before .before .before .before .before .before .before .before .before .before)) (is-dir (c .before .before .before .before .before .before .before .before .before .before .before)) (not-there (c .before .before .before .before .before .before .before .before)) _ (sym (c .before .before .before .before .before .before .before .free-inode .ensures) ∙ c .before .before .before .before .before .i .given .1) _ (sym (c .before .before .before .room-in .ensures) ∙ c .before .why .given .1)
 
 pub create-plan-spec : {M : Type 1} → statement M
 create-plan-spec =

@@ -1,58 +1,65 @@
+use mathlib.Core.Path.{_≡_, sym, _∙_}
+use native.Mathlib.Omega.{arith}
+use denote.Ref.{now}
+use Rattle.bounded.specs.declared.Found.the-variants.{Absent}
+use Rattle.directory.specs.Slot.{DirFits, emptySlot}
+use Rattle.files.proofs.StoreLaws.{addresses-most}
+use Rattle.files.proofs.EntryPlanLaws.{directory-fits, room-empty, room-none, room-blockless, room-more}
 use borrow.Author.Needs.{needs}
 use Rattle.files.proofs.plan.room_in.Statement.{statement}
 use Rattle.files.proofs.plan.room_in.Tie as tie
-use Rattle.files.proofs.plan.room_in.Reads as reads
-use Rattle.files.proofs.plan.room_in.Lts as lts
-use Rattle.directory.proofs.empty_slot.Reads as empty-slot-reads
-use Rattle.directory.proofs.slot_count.Reads as slot-count-reads
-use Rattle.layout.proofs.free.free_block.Reads as free-block-reads
 
--- src/plan.rt:128:27
+-- the directory fits
+fits : (c : tie.Start) → DirFits (now (c .args .s)) (c .args .n) (c .args .d)
+fits c = directory-fits (now (c .args .s)) (c .args .n) (c .args .d) (c .pre .0) (c .pre .1) (c .pre .3)
+
+-- no slot is empty
+full : (c : tie.After-enum-told) → emptySlot (now (c .before .before .before .before .args .s)) (c .before .before .before .before .args .n) (c .before .before .before .before .args .d) ≡ Absent
+full c = sym (c .before .before .empty-slot .ensures) ∙ c .enum-told .given .1
+
 empty-slot-requires : tie.Need-empty-slot-requires
-empty-slot-requires c κs = ?
+empty-slot-requires c κs = fits (c .before)
 
--- src/plan.rt:128:22
 enum-known-t : tie.Need-enum-known-t
 enum-known-t c = search needs
 
--- src/plan.rt:129:9
 returns : tie.Need-returns
-returns c = ?
+returns c = room-empty _ _ _ _ _ (sym (c .before .before .before .empty-slot .ensures) ∙ c .before .t .given .1)
 
 enum-told : tie.Need-enum-told
 enum-told c = search needs
 
--- src/plan.rt:131:9
 slot-count-requires : tie.Need-slot-count-requires
-slot-count-requires c κs = ?
+slot-count-requires c κs = fits (c .before .before .before .before)
 
--- src/plan.rt:132:8
 mul-if1 : tie.Need-mul-if1
 mul-if1 c = search needs
 
--- src/plan.rt:133:9
 returns-2 : tie.Need-returns-2
-returns-2 c = ?
+returns-2 c = room-none _ _ _ _ _ (full (c .before .before)) (c .before .slot-count .ensures .0) (c .if1 .taken)
 
--- src/plan.rt:135:24
 free-block-requires : tie.Need-free-block-requires
-free-block-requires c κs = ?
+free-block-requires c κs =
+    let p = c .before .before .before .before .before .before .pre in
+    let e = p .1 in
+    let q = p .2 in
+    let f = p .0 .framed in
+    let i = f .most-inodes in
+    let m = f .most-blocks in
+    let l = f .long in
+    ((omega arith, omega arith, omega arith), addresses-most _ _ (p .0) e)
 
--- src/plan.rt:135:19
 enum-known-c : tie.Need-enum-known-c
 enum-known-c c = search needs
 
--- src/plan.rt:136:33
 enum-told-2 : tie.Need-enum-told-2
 enum-told-2 c = search needs
 
--- src/plan.rt:136:9
 returns-3 : tie.Need-returns-3
-returns-3 c = ?
+returns-3 c = room-blockless _ _ _ _ _ (full (c .before .before .before .before .before)) (c .before .before .before .before .slot-count .ensures .0) (c .before .before .before .if1 .left) (sym (c .before .before .free-block .ensures) ∙ c .enum-told2 .given .1)
 
--- src/plan.rt:124:1
 returns-4 : tie.Need-returns-4
-returns-4 c = ?
+returns-4 c = room-more _ _ _ _ _ (full (c .before .before .before .before .before .before)) (c .before .before .before .before .before .slot-count .ensures .0) _ (c .before .before .before .before .if1 .left) (sym (c .before .before .before .free-block .ensures) ∙ c .before .c .given .1)
 
 pub room-in-spec : {M : Type 1} → statement M
 room-in-spec =
