@@ -1,44 +1,28 @@
-use Prim.Native.Nat.{ℕ, _≤_}
-use mathlib.Core.Path.{_≡_, sym, _∙_}
-use mathlib.Core.Bool.{true, false}
-use native.Mathlib.Omega.{arith}
-use denote.Ref.{now}
+use mathlib.Core.Path.{sym, _∙_}
 use borrow.Author.Tests.{not-true, not-false}
 use Rattle.files.proofs.SizePlanLaws.{kind-fits, read-wrong, read-past, read-done}
 use borrow.Author.Needs.{needs}
 use Rattle.files.proofs.plan.read_plan.Statement.{statement}
 use Rattle.files.proofs.plan.read_plan.Tie as tie
-use Rattle.files.proofs.plan.read_plan.Reads as reads
-use Rattle.files.proofs.plan.read_plan.Lts as lts
-use Rattle.files.proofs.plan.is_kind.Reads as is-kind-reads
-use Rattle.files.proofs.plan.lesser.Reads as lesser-reads
-use Rattle.layout.proofs.inode.size.Reads as size-reads
 
--- src/plan.rt:78:9
 is-kind-requires : tie.Need-is-kind-requires
 is-kind-requires c κs = search needs
 
--- src/plan.rt:79:9
 returns : tie.Need-returns
 returns c = read-wrong _ _ _ _ _ (sym (c .before .is-kind .ensures) ∙ not-true _ (c .if1 .taken))
 
--- src/plan.rt:81:16
 size-requires : tie.Need-size-requires
-size-requires c κs = let p = c .before .before .before .pre in kind-fits _ _ (p .0) (p .1) _ _ (sym (c .before .is-kind .ensures) ∙ not-false _ (c  .if1 .left))
+size-requires c κs = let p = c .before .before .before .pre in kind-fits _ _ (p .0) (p .1) _ _ (sym (c .before .is-kind .ensures) ∙ not-false _ (c .if1 .left))
 
--- src/plan.rt:81:16
 cast-size : tie.Need-cast-size
 cast-size c = search needs
 
--- src/plan.rt:83:9
 returns-2 : tie.Need-returns-2
 returns-2 c = read-past _ _ _ _ _ _ (sym (c .before .before .before .is-kind .ensures) ∙ not-false _ (c .before .before .if1 .left)) (c .before .size .ensures) (c .if2 .taken)
 
--- src/plan.rt:85:18
 lesser-requires : tie.Need-lesser-requires
 lesser-requires c κs = search needs
 
--- src/plan.rt:74:1
 returns-3 : tie.Need-returns-3
 returns-3 c = read-done _ _ _ _ _ _ _ (sym (c .before .before .before .before .is-kind .ensures) ∙ not-false _ (c .before .before .before .if1 .left)) (c .before .before .size .ensures) (c .before .if2 .left) (c .lesser .ensures)
 
