@@ -10,8 +10,6 @@ ghost use Rattle.sound.specs.Sound.{Sound, inodesIn, blocksIn};
 ghost use Rattle.files.specs.Inode.{isKind, isFile, isDirectory};
 ghost use Rattle.files.specs.Room.{roomIn};
 ghost use Rattle.files.specs.Plan.{inodeAt, lookUpPlan, readPlan, createPlan, writePlan, shortenPlan, linkPlan, holdsNone, unlinkPlan, isBelow, renameTo, renamePlan};
-use answers::Refusal;
-use bounded::Found;
 use crate::CreatePlan;
 use crate::LinkPlan;
 use crate::RenamePlan;
@@ -19,6 +17,8 @@ use crate::Room;
 use crate::RoomPlan;
 use crate::SizePlan;
 use crate::UnlinkPlan;
+use answers::Refusal;
+use bounded::Found;
 use layout::block::blocks_used;
 use layout::free;
 use layout::header::Header;
@@ -135,7 +135,10 @@ pub fn room_in(s: &[u8], n: usize, b: usize, d: usize) -> RoomPlan
     let Found::At(c) = free::free_block(s, n, b) else {
         return RoomPlan::NoRoom(Refusal::NoBlocks);
     };
-    RoomPlan::Has(Room { slot: slots, block: c })
+    RoomPlan::Has(Room {
+        slot: slots,
+        block: c,
+    })
 }
 
 pub fn create_plan(s: &[u8], n: usize, b: usize, d: usize, name: &[u8]) -> CreatePlan
