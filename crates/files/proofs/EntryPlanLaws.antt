@@ -6,13 +6,12 @@ use mathlib.Core.List.{List}
 use native.Mathlib.Omega.{arith}
 use borrow.Author.Tests.{lt-ltb, le-ltb}
 use Rattle.bounded.specs.declared.Found.the-variants.{At, Absent}
-use Rattle.layout.specs.Sizes.{mostStoreBlocks, mostDirectoryBlocks}
-use Rattle.layout.specs.Inode.{sizeOf, directoryKind}
+use Rattle.layout.specs.Sizes.{mostDirectoryBlocks}
+use Rattle.layout.specs.Inode.{sizeOf}
 use Rattle.layout.specs.Block.{blocksUsed}
 use Rattle.layout.specs.Free.{freeInode, freeBlock}
 use Rattle.names.specs.Name.{legalName}
-use Rattle.directory.specs.Slot.{DirFits, slots, mostSlots, emptySlot, findSlot}
-use Rattle.sound.specs.Sound.{Sound, inodesIn}
+use Rattle.directory.specs.Slot.{slots, mostSlots, emptySlot, findSlot}
 use Rattle.answers.specs.declared.Refusal.{Refusal}
 use Rattle.answers.specs.declared.Refusal.the-variants.{IllegalName, WrongInode, NameTaken, NoInode, NoBlocks, NoSlot}
 use Rattle.files.specs.declared.Room.{Room}
@@ -22,11 +21,6 @@ use Rattle.files.specs.declared.LinkPlan.the-variants.{Add, NoLink}
 use Rattle.files.specs.Inode.{isFile, isDirectory}
 use Rattle.files.specs.Room.{room, roomIn}
 use Rattle.files.specs.Plan.{createPlan, linkPlan}
-use Rattle.files.proofs.StoreLaws.{kind-some, kind-most, dir-of}
-
--- a directory of a sound store
-pub directory-fits : (s : List ℕ) (n d : ℕ) → Sound mostStoreBlocks false s → n ≡ inodesIn s → isDirectory s n d ≡ true → DirFits s n d
-directory-fits s n d h e t = dir-of s n h e d (kind-some s n directoryKind d t) (kind-most s n directoryKind d t)
 
 -- ---- the room for an entry
 module _ (s : List ℕ) (n b d : ℕ) where

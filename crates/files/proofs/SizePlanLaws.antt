@@ -6,31 +6,18 @@ use mathlib.Core.List.{List}
 use native.Mathlib.Omega.{arith}
 use borrow.Author.Tests.{lt-ltb, le-ltb}
 use Rattle.bounded.specs.declared.Found.the-variants.{At, Absent}
-use Rattle.layout.specs.Sizes.{mostStoreBlocks, mostFileBytes}
+use Rattle.layout.specs.Sizes.{mostFileBytes}
 use Rattle.layout.specs.declared.header.Header.{Header}
 use Rattle.layout.specs.Header.{headerOf}
-use Rattle.layout.specs.Inode.{InodeFits, sizeOf}
+use Rattle.layout.specs.Inode.{sizeOf}
 use Rattle.layout.specs.Block.{blocksUsed}
 use Rattle.names.specs.Name.{legalName}
-use Rattle.directory.specs.Slot.{DirFits, findSlot}
+use Rattle.directory.specs.Slot.{findSlot}
 use Rattle.answers.specs.declared.Refusal.the-variants.{IllegalName, WrongInode, NameAbsent, PastEnd, NoBlocks}
-use Rattle.sound.specs.Sound.{Sound, inodesIn}
 use Rattle.files.specs.declared.SizePlan.the-variants.{To, NoSize}
-use Rattle.files.specs.Inode.{isKind, isFile, isDirectory}
+use Rattle.files.specs.Inode.{isFile, isDirectory}
 use Rattle.files.specs.Plan.{inodeAt, lookUpPlan, readPlan, writePlan, shortenPlan}
-use Rattle.files.proofs.StoreLaws.{kind-some, kind-most, fits, dir-of}
 use Rattle.files.proofs.PlanLaws.{write-passes, write-past, write-beyond}
-
--- ---- an inode of a kind on a sound store
-module _ (s : List ℕ) (n : ℕ) (h : Sound mostStoreBlocks false s) (e : n ≡ inodesIn s) (k i : ℕ) (t : isKind s n k i ≡ true) where
-  pub kind-fits : InodeFits s n i
-  kind-fits = fits s n h e i (kind-some s n k i t) (kind-most s n k i t)
-
-  pub kind-dir : DirFits s n i
-  kind-dir = dir-of s n h e i (kind-some s n k i t) (kind-most s n k i t)
-
-  pub kind-size : sizeOf s i ≤ mostFileBytes
-  kind-size = let m = kind-most s n k i t in h .inodes i (kind-some s n k i t) (omega arith) .size
 
 -- ---- look up
 module _ (s : List ℕ) (n d : ℕ) (name : List ℕ) where

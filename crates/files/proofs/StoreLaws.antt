@@ -1,16 +1,16 @@
 -- What a sound store gives to the calls on it. n and b are the counts that the code has read.
 use Prim.Native.Nat.{ℕ, _*_, _≤_, _<_}
-use mathlib.Core.Path.{_≡_, refl, sym, ap, _∙_, subst}
-use mathlib.Core.Bool.{Bool, true, false, _&&_}
+use mathlib.Core.Path.{_≡_, sym, ap, subst}
+use mathlib.Core.Bool.{true, false, _&&_}
 use mathlib.Core.List.{List}
 use native.Mathlib.Omega.{arith}
 use borrow.Author.Tests.{leb-true, eqb-true, le-leb, lt-leb}
 use lib.Dec.{eqb, leb}
 use Rattle.bounded.proofs.BoolLaws.{and-false-l, and-left, and-right, chain-end}
-use Rattle.layout.specs.Sizes.{mostStoreBlocks, mostImageBlocks, addressCount}
-use Rattle.layout.specs.Inode.{InodeFits, kindOf, addressOf}
+use Rattle.layout.specs.Sizes.{mostStoreBlocks, mostImageBlocks, mostFileBytes, addressCount}
+use Rattle.layout.specs.Inode.{InodeFits, kindOf, sizeOf, addressOf}
 use Rattle.directory.specs.Slot.{DirFits}
-use Rattle.sound.specs.Sound.{Sound, inodesIn, blocksIn}
+use Rattle.sound.specs.Sound.{Sound, inodesIn}
 use Rattle.sound.proofs.FactLaws.{inode-fits, dir-fits, address-bound}
 use Rattle.files.specs.Inode.{isKind}
 
@@ -54,3 +54,14 @@ module _ (s : List ℕ) (n : ℕ) (h : Sound mostStoreBlocks false s) (e : n ≡
       let m = h .framed .most-blocks in
       let q = address-bound h x (omega arith) in
       subst (λ (y : ℕ). addressOf s y x ≤ mostImageBlocks) (sym e) (omega arith)
+
+-- ---- an inode of a kind on a sound store
+module _ (s : List ℕ) (n : ℕ) (h : Sound mostStoreBlocks false s) (e : n ≡ inodesIn s) (k i : ℕ) (t : isKind s n k i ≡ true) where
+  pub kind-fits : InodeFits s n i
+  kind-fits = fits s n h e i (kind-some s n k i t) (kind-most s n k i t)
+
+  pub kind-dir : DirFits s n i
+  kind-dir = dir-of s n h e i (kind-some s n k i t) (kind-most s n k i t)
+
+  pub kind-size : sizeOf s i ≤ mostFileBytes
+  kind-size = let m = kind-most s n k i t in h .inodes i (kind-some s n k i t) (omega arith) .size

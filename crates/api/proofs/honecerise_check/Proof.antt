@@ -1,7 +1,6 @@
 use mathlib.Core.Path.{ap, _∙_, sym}
 use mathlib.Core.Bool.{Bool}
 use denote.Ref.{now}
-use lib.Dec.{eqb}
 use borrow.Author.Tests.{eq-eqb, ne-eqb}
 use Rattle.bounded.specs.Count.{one}
 use Rattle.bounded.specs.Search.{pick}

@@ -1,3 +1,4 @@
+use Rattle.files.proofs.StoreLaws.{kind-dir}
 use mathlib.Core.Path.{_≡_, sym, _∙_}
 use mathlib.Core.Bool.{true}
 use denote.Ref.{now}
@@ -7,7 +8,7 @@ use Rattle.names.specs.Name.{legalName}
 use Rattle.names.proofs.NameLaws.{legal-bounds}
 use Rattle.directory.specs.Slot.{findSlot}
 use Rattle.files.specs.Inode.{isDirectory}
-use Rattle.files.proofs.EntryPlanLaws.{directory-fits, create-illegal, create-wrong, create-taken, create-full, create-make, create-roomless}
+use Rattle.files.proofs.EntryPlanLaws.{create-illegal, create-wrong, create-taken, create-full, create-make, create-roomless}
 use borrow.Author.Needs.{needs}
 use Rattle.files.proofs.plan.create_plan.Statement.{statement}
 use Rattle.files.proofs.plan.create_plan.Tie as tie
@@ -35,7 +36,7 @@ returns-2 : tie.Need-returns-2
 returns-2 c = create-wrong _ _ _ _ _ (is-legal (c .before .before)) (chain-off _ _ (c .before .is-kind .ensures) (c .if2 .taken))
 
 find-slot-requires : tie.Need-find-slot-requires
-find-slot-requires c κs = let p = c .before .before .before .before .before .before .pre in (directory-fits _ _ _ (p .0) (p .1) (is-dir c), legal-bounds _ (is-legal (c .before .before)) .1)
+find-slot-requires c κs = let p = c .before .before .before .before .before .before .pre in (kind-dir _ _ (p .0) (p .1) _ _ (is-dir c), legal-bounds _ (is-legal (c .before .before)) .1)
 
 enum-told : tie.Need-enum-told
 enum-told c = search needs

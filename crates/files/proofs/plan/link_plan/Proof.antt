@@ -1,3 +1,4 @@
+use Rattle.files.proofs.StoreLaws.{kind-dir}
 use mathlib.Core.Path.{_≡_, sym, _∙_}
 use mathlib.Core.Bool.{true}
 use denote.Ref.{now}
@@ -7,7 +8,7 @@ use Rattle.names.specs.Name.{legalName}
 use Rattle.names.proofs.NameLaws.{legal-bounds}
 use Rattle.directory.specs.Slot.{findSlot}
 use Rattle.files.specs.Inode.{isFile, isDirectory}
-use Rattle.files.proofs.EntryPlanLaws.{directory-fits, link-illegal, link-wrong, link-other, link-taken, link-add, link-roomless}
+use Rattle.files.proofs.EntryPlanLaws.{link-illegal, link-wrong, link-other, link-taken, link-add, link-roomless}
 use borrow.Author.Needs.{needs}
 use Rattle.files.proofs.plan.link_plan.Statement.{statement}
 use Rattle.files.proofs.plan.link_plan.Tie as tie
@@ -44,7 +45,7 @@ returns-3 : tie.Need-returns-3
 returns-3 c = link-other _ _ _ _ _ _ (is-legal (c .before .before .before .before)) (is-dir (c .before .before)) (chain-off _ _ (c .before .is-kind2 .ensures) (c .if3 .taken))
 
 find-slot-requires : tie.Need-find-slot-requires
-find-slot-requires c κs = let p = c .before .before .before .before .before .before .before .before .pre in (directory-fits _ _ _ (p .0) (p .1) (is-dir (c .before .before)), legal-bounds _ (is-legal (c .before .before .before .before)) .1)
+find-slot-requires c κs = let p = c .before .before .before .before .before .before .before .before .pre in (kind-dir _ _ (p .0) (p .1) _ _ (is-dir (c .before .before)), legal-bounds _ (is-legal (c .before .before .before .before)) .1)
 
 enum-told : tie.Need-enum-told
 enum-told c = search needs

@@ -1,17 +1,19 @@
+use Rattle.layout.specs.Inode.{directoryKind}
+use Rattle.files.proofs.StoreLaws.{kind-dir}
 use mathlib.Core.Path.{_≡_, sym, _∙_}
 use native.Mathlib.Omega.{arith}
 use denote.Ref.{now}
 use Rattle.bounded.specs.declared.Found.the-variants.{Absent}
 use Rattle.directory.specs.Slot.{DirFits, emptySlot}
 use Rattle.files.proofs.StoreLaws.{addresses-most}
-use Rattle.files.proofs.EntryPlanLaws.{directory-fits, room-empty, room-none, room-blockless, room-more}
+use Rattle.files.proofs.EntryPlanLaws.{room-empty, room-none, room-blockless, room-more}
 use borrow.Author.Needs.{needs}
 use Rattle.files.proofs.plan.room_in.Statement.{statement}
 use Rattle.files.proofs.plan.room_in.Tie as tie
 
 -- the directory fits
 fits : (c : tie.Start) → DirFits (now (c .args .s)) (c .args .n) (c .args .d)
-fits c = directory-fits (now (c .args .s)) (c .args .n) (c .args .d) (c .pre .0) (c .pre .1) (c .pre .3)
+fits c = kind-dir (now (c .args .s)) (c .args .n) (c .pre .0) (c .pre .1) directoryKind (c .args .d) (c .pre .3)
 
 -- no slot is empty
 full : (c : tie.After-enum-told) → emptySlot (now (c .before .before .before .before .args .s)) (c .before .before .before .before .args .n) (c .before .before .before .before .args .d) ≡ Absent
