@@ -1,6 +1,6 @@
 -- Each writer is one update of the view: a reader of any field, after any writer, reads off the view.
 use Prim.Native.Nat.{ℕ, _+_, _*_, _-_, _≤_, _<_}
-use mathlib.Core.Path.{_≡_, refl, sym, ap, _∙_, fun-ext}
+use mathlib.Core.Path.{_≡_, refl, sym, ap, ap₂, _∙_, fun-ext}
 use mathlib.Core.Bool.{Bool}
 use mathlib.Core.Logic.{_≢_}
 use mathlib.Core.List.{List}
@@ -285,24 +285,30 @@ module _ (n : ℕ) (s : List ℕ) (i : ℕ) (f : InodeFits s n i) where
         content = contents n s p xs (omega arith) k;
       }
 
+-- a splice past the attributes: all but addresses and bytes of blocks stays
+view-past : (n : ℕ) (s : List ℕ) (p : ℕ) (xs : List ℕ) → 16 + 8 * n ≤ p
+    → viewOf n (splice s p xs) ≡ withContent (withAddress (viewOf n s) (below (12 * n) (addressOf (splice s p xs) n))) (contentOf n (splice s p xs))
+unfolding viewOf
+view-past n s p xs l =
+    let a : Apart 16 (8 * n) p (length xs) = omega arith in
+    λ k. record {
+      header = header-past s p xs (omega arith) k;
+      reserved = num-apart 1 s 9 p xs (omega arith) k;
+      reserved4 = num-apart 4 s 12 p xs (omega arith) k;
+      kind = kinds n s p xs a k;
+      spare = spares n s p xs a k;
+      links = linkss n s p xs a k;
+      size = sizes n s p xs a k;
+      parent = parents n s p xs a k;
+      address = below (12 * n) (addressOf (splice s p xs) n);
+      content = contentOf n (splice s p xs);
+    }
+
 -- a splice inside of the addresses: all but them stays
 module _ (n : ℕ) (s : List ℕ) (p : ℕ) (xs : List ℕ) (l : 16 + 8 * n ≤ p) (m : p + length xs ≤ 16 + 32 * n) where
   view-row : viewOf n (splice s p xs) ≡ withAddress (viewOf n s) (below (12 * n) (addressOf (splice s p xs) n))
   unfolding viewOf
-  view-row =
-      let a : Apart 16 (8 * n) p (length xs) = omega arith in
-      λ k. record {
-        header = header-past s p xs (omega arith) k;
-        reserved = num-apart 1 s 9 p xs (omega arith) k;
-        reserved4 = num-apart 4 s 12 p xs (omega arith) k;
-        kind = kinds n s p xs a k;
-        spare = spares n s p xs a k;
-        links = linkss n s p xs a k;
-        size = sizes n s p xs a k;
-        parent = parents n s p xs a k;
-        address = below (12 * n) (addressOf (splice s p xs) n);
-        content = contents n s p xs m k;
-      }
+  view-row = view-past n s p xs l ∙ ap (withContent (withAddress (viewOf n s) (below (12 * n) (addressOf (splice s p xs) n)))) (contents n s p xs m)
 
 -- a splice inside of the blocks: all but their bytes stays
 module _ (n : ℕ) (s : List ℕ) (o : ℕ) (xs : List ℕ) (fits : 16 + 32 * n + o + length xs ≤ length s) where
@@ -317,20 +323,8 @@ module _ (n : ℕ) (s : List ℕ) (o : ℕ) (xs : List ℕ) (fits : 16 + 32 * n 
   view-bytes : viewOf n (splice s (16 + 32 * n + o) xs) ≡ withContent (viewOf n s) (overlay (contentOf n s) o xs)
   unfolding viewOf
   view-bytes =
-      let p = 16 + 32 * n + o in
-      let a : Apart 16 (8 * n) p (length xs) = omega arith in
-      λ k. record {
-        header = header-past s p xs (omega arith) k;
-        reserved = num-apart 1 s 9 p xs (omega arith) k;
-        reserved4 = num-apart 4 s 12 p xs (omega arith) k;
-        kind = kinds n s p xs a k;
-        spare = spares n s p xs a k;
-        links = linkss n s p xs a k;
-        size = sizes n s p xs a k;
-        parent = parents n s p xs a k;
-        address = addresses n s p xs (omega arith) k;
-        content = contents-over k;
-      }
+      view-past n s (16 + 32 * n + o) xs (omega arith)
+      ∙ ap₂ (λ (a c : ℕ → ℕ). withContent (withAddress (viewOf n s) a) c) (addresses n s (16 + 32 * n + o) xs (omega arith)) contents-over
 
 -- one address
 address-same : (n : ℕ) (s : List ℕ) (x b : ℕ) → x < 12 * n → 16 + 32 * n ≤ length s → addressOf (putAddress s n x b) n x ≡ b
