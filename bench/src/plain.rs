@@ -1,4 +1,4 @@
-//! An independent check of document 01's "A sound store", in plain Rust.
+//! An independent check of document 01's "A sound store", in plain Rust: fixed arrays, no allocation, names compared as one word.
 
 fn le16(s: &[u8], o: usize) -> usize {
     u16::from_le_bytes([s[o], s[o + 1]]) as usize
@@ -29,7 +29,7 @@ pub fn sound(s: &[u8], image: bool) -> bool {
     if attr(1)[0] != 2 || le16(attr(1), 6) != 0 {
         return false;
     }
-    let mut seen = vec![false; b + 1];
+    let mut seen = [false; 4097];
     let (mut free_inodes, mut free_blocks) = (0, b);
     for i in 1..=n {
         let a = attr(i);
@@ -72,26 +72,28 @@ pub fn sound(s: &[u8], image: bool) -> bool {
             return false;
         }
     }
-    let mut links = vec![0usize; n + 1];
-    let mut names: Vec<&[u8]> = Vec::with_capacity(48);
+    let mut links = [0usize; 257];
+    let mut names = [0u128; 48];
     for d in 1..=n {
         if attr(d)[0] != 2 {
             continue;
         }
-        names.clear();
+        let mut filled = 0;
         for k in 0..le16(attr(d), 4) / 64 {
             for e in block(addr(d, k)).chunks_exact(16) {
-                if e.iter().all(|&x| x == 0) {
+                if e == [0; 16] {
                     continue;
                 }
                 let (i, name) = (le16(e, 0), &e[2..]);
-                if !legal(name) || i < 2 || i > n || attr(i)[0] == 0 || names.contains(&name) {
+                let word = u128::from_le_bytes(e.try_into().unwrap()) >> 16;
+                if !legal(name) || i < 2 || i > n || attr(i)[0] == 0 || names[..filled].contains(&word) {
                     return false;
                 }
                 if attr(i)[0] == 2 && le16(attr(i), 6) != d {
                     return false;
                 }
-                names.push(name);
+                names[filled] = word;
+                filled += 1;
                 links[i] += 1;
             }
         }
@@ -102,7 +104,7 @@ pub fn sound(s: &[u8], image: bool) -> bool {
             return false;
         }
     }
-    let mut known = vec![false; n + 1];
+    let mut known = [false; 257];
     known[1] = true;
     for i in 1..=n {
         if attr(i)[0] != 2 {
