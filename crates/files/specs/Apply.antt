@@ -46,6 +46,6 @@ renamed s n d other t i = putEntry s n d t i other
 unfoldable pub setParent : List ℕ → ℕ → ℕ → ℕ → List ℕ
 setParent s n i e = pick (eqb (kindOf s i) directoryKind) (putAttributes s i (withParent (inodeOf s n i) e)) s
 
--- to another directory
+-- to another directory: it takes its block first, if it needs one; then the old slot is emptied and the new one filled
 unfoldable pub moved : List ℕ → ℕ → ℕ → ℕ → List ℕ → ℕ → ℕ → Room → List ℕ
-moved s n d e other t i r = setParent (enter (clearEntry s n d t) n e r i other) n i e
+moved s n d e other t i r = setParent (putEntry (clearEntry (makeRoom s n e r) n d t) n e (r .slot) i other) n i e
