@@ -1,5 +1,7 @@
 pub mod EntryPlanLaws
+pub mod ParentLaws
 pub mod PlainLaws
 pub mod PlanLaws
 pub mod SizePlanLaws
 pub mod StoreLaws
+pub mod TakePlanLaws

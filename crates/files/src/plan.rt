@@ -6,6 +6,8 @@ ghost use lib.ListN.{length};
 ghost use Rattle.bounded.specs.Climb.{leadsB};
 ghost use Rattle.layout.specs.Sizes.{mostStoreBlocks};
 ghost use Rattle.layout.specs.Inode.{parentOf};
+ghost use Rattle.names.specs.Name.{legalName};
+ghost use Rattle.directory.specs.Slot.{DirFits};
 ghost use Rattle.sound.specs.Sound.{Sound, inodesIn, blocksIn};
 ghost use Rattle.files.specs.Inode.{isKind, isFile, isDirectory};
 ghost use Rattle.files.specs.Room.{roomIn};
@@ -27,6 +29,8 @@ use layout::sizes::ADDRESS_COUNT;
 use layout::sizes::DIRECTORY;
 use layout::sizes::FILE;
 use layout::sizes::MOST_FILE_BYTES;
+use layout::sizes::ROOT;
+use names::ENTRY_BYTES;
 
 // The number i is an inode of the kind.
 fn is_kind(s: &[u8], n: usize, kind: u8, i: usize) -> bool
@@ -183,4 +187,133 @@ pub fn link_plan(s: &[u8], n: usize, b: usize, d: usize, name: &[u8], i: usize) 
         RoomPlan::Has(room) => LinkPlan::Add(room),
         RoomPlan::NoRoom(why) => LinkPlan::NoLink(why),
     }
+}
+
+// No entry stands in directory d.
+fn holds_none(s: &[u8], n: usize, d: usize) -> bool
+    requires { ⌜ DirFits (now s) n d ⌝ }
+    ensures { λ r. ⌜ r ≡ holdsNone (now (s .entry)) n d ⌝ }
+{
+    for t in 0..directory::slot_count(s, n, d) {
+        let o = directory::slot_at(s, n, d, t);
+        if !names::is_empty(&s[o..o + ENTRY_BYTES]) {
+            return false;
+        }
+    }
+    true
+}
+
+pub fn unlink_plan(s: &[u8], n: usize, d: usize, name: &[u8]) -> UnlinkPlan
+    requires { ⌜ Sound mostStoreBlocks false (now s) × (n ≡ inodesIn (now s)) ⌝ }
+    ensures { λ r. ⌜ r ≡ unlinkPlan (now (s .entry)) n d (now (name .entry)) ⌝ }
+{
+    if !names::legal_name(name) {
+        return UnlinkPlan::NoUnlink(Refusal::IllegalName);
+    }
+    if !is_kind(s, n, DIRECTORY, d) {
+        return UnlinkPlan::NoUnlink(Refusal::WrongInode);
+    }
+    let Found::At(t) = directory::find_slot(s, n, d, name) else {
+        return UnlinkPlan::NoUnlink(Refusal::NameAbsent);
+    };
+    let i = directory::slot_inode(s, n, d, t) as usize;
+    if inode::kind(s, n, i) == DIRECTORY {
+        if !holds_none(s, n, i) {
+            return UnlinkPlan::NoUnlink(Refusal::NotEmpty);
+        }
+    }
+    UnlinkPlan::Take(t, i)
+}
+
+// Directory e is i or below it: up from e, no further than the root.
+fn leads_to(s: &[u8], n: usize, i: usize, e: usize) -> bool
+    requires { ⌜ Sound mostStoreBlocks false (now s) × (n ≡ inodesIn (now s)) × (isDirectory (now s) n e ≡ true) × (1 ≤ i) ⌝ }
+    ensures { λ r. ⌜ r ≡ leadsB (parentOf (now (s .entry))) i n e ⌝ }
+{
+    let mut x = e;
+    for _ in 0..n {
+        if x == i {
+            return true;
+        }
+        if x == ROOT {
+            return false;
+        }
+        x = inode::parent(s, n, x) as usize;
+    }
+    x == i
+}
+
+fn is_below(s: &[u8], n: usize, i: usize, e: usize) -> bool
+    requires { ⌜ Sound mostStoreBlocks false (now s) × (n ≡ inodesIn (now s)) × (isDirectory (now s) n e ≡ true) × (1 ≤ i) × (i ≤ n) ⌝ }
+    ensures { λ r. ⌜ r ≡ isBelow (now (s .entry)) n i e ⌝ }
+{
+    if inode::kind(s, n, i) != DIRECTORY {
+        return false;
+    }
+    leads_to(s, n, i, e)
+}
+
+// The entry in slot t of d, which names i, is to have another name in e.
+fn rename_to(
+    s: &[u8],
+    n: usize,
+    b: usize,
+    d: usize,
+    t: usize,
+    i: usize,
+    e: usize,
+    other: &[u8],
+) -> RenamePlan
+    requires { ⌜ Sound mostStoreBlocks false (now s) × (n ≡ inodesIn (now s)) × (b ≡ blocksIn (now s)) × (isDirectory (now s) n e ≡ true) × (legalName (now other) ≡ true) × (1 ≤ i) × (i ≤ n) ⌝ }
+    ensures { λ r. ⌜ r ≡ renameTo (now (s .entry)) n b d t i e (now (other .entry)) ⌝ }
+{
+    if let Found::At(u) = directory::find_slot(s, n, e, other) {
+        if d == e {
+            if u == t {
+                return RenamePlan::Same;
+            }
+        }
+        return RenamePlan::NoRename(Refusal::NameTaken);
+    }
+    if d == e {
+        return RenamePlan::Rename(t, i);
+    }
+    if is_below(s, n, i, e) {
+        return RenamePlan::NoRename(Refusal::IntoItself);
+    }
+    match room_in(s, n, b, e) {
+        RoomPlan::Has(room) => RenamePlan::Move(t, i, room),
+        RoomPlan::NoRoom(why) => RenamePlan::NoRename(why),
+    }
+}
+
+pub fn rename_plan(
+    s: &[u8],
+    n: usize,
+    b: usize,
+    d: usize,
+    name: &[u8],
+    e: usize,
+    other: &[u8],
+) -> RenamePlan
+    requires { ⌜ Sound mostStoreBlocks false (now s) × (n ≡ inodesIn (now s)) × (b ≡ blocksIn (now s)) ⌝ }
+    ensures { λ r. ⌜ r ≡ renamePlan (now (s .entry)) n b d (now (name .entry)) e (now (other .entry)) ⌝ }
+{
+    if !names::legal_name(name) {
+        return RenamePlan::NoRename(Refusal::IllegalName);
+    }
+    if !names::legal_name(other) {
+        return RenamePlan::NoRename(Refusal::IllegalName);
+    }
+    if !is_kind(s, n, DIRECTORY, d) {
+        return RenamePlan::NoRename(Refusal::WrongInode);
+    }
+    if !is_kind(s, n, DIRECTORY, e) {
+        return RenamePlan::NoRename(Refusal::WrongInode);
+    }
+    let Found::At(t) = directory::find_slot(s, n, d, name) else {
+        return RenamePlan::NoRename(Refusal::NameAbsent);
+    };
+    let i = directory::slot_inode(s, n, d, t) as usize;
+    rename_to(s, n, b, d, t, i, e, other)
 }
