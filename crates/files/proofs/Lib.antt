@@ -1,3 +1,4 @@
+pub mod AddressLaws
 pub mod EntryPlanLaws
 pub mod KeepLaws
 pub mod PlainLaws
