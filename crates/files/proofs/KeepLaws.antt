@@ -31,7 +31,7 @@ use Rattle.sound.specs.Link.{LinkSound}
 use Rattle.sound.specs.Sound.{Framed, Sound, inodesIn, blocksIn, freeB, unnamedB}
 use Rattle.sound.specs.Pass.{IsDir}
 use Rattle.sound.proofs.PlaceLaws.{slot-is, filled-is, naming-entry}
-use Rattle.sound.proofs.SoundLaws.{climbs, all-counted}
+use Rattle.sound.proofs.SoundLaws.{climbs}
 use Rattle.files.proofs.SameLaws.{SameFrame, SameInode, SameBlock}
 
 -- ---- an inode by itself: the bytes of the block that its size ends in are the same, where they count
@@ -206,6 +206,20 @@ pub record Body (t : List ℕ) (n b : ℕ) : Type 0 where
   pub free-inodes : headerOf t .«free_inodes» ≡ count (freeB t) n
   pub free-blocks : headerOf t .«free_blocks» ≡ count (unnamedB t n) b
 
+pub body-of : (s : List ℕ) (n b : ℕ) → Sound mostStoreBlocks false s → n ≡ inodesIn s → b ≡ blocksIn s → Body s n b
+body-of s n b h x y =
+    let r : Body s (inodesIn s) (blocksIn s) = record {
+      inodes = h .inodes;
+      once = h .once;
+      root = h .root;
+      root-parent = h .root-parent;
+      entries = h .entries;
+      links = h .links;
+      free-inodes = h .free-inodes;
+      free-blocks = h .free-blocks;
+    } in
+    subst (λ (z : ℕ). Body s z b) (sym x) (subst (Body s (inodesIn s)) (sym y) r)
+
 module _ (s t : List ℕ) (h : Sound mostStoreBlocks false s) (f : SameFrame s t) where
   framed-kept : Framed mostStoreBlocks t
   framed-kept =
@@ -249,17 +263,14 @@ module _ (s t : List ℕ) (h : Sound mostStoreBlocks false s) (f : SameFrame s t
         → headerOf t .«free_inodes» ≡ headerOf s .«free_inodes» → headerOf t .«free_blocks» ≡ count (unnamedB t n) b → Sound mostStoreBlocks false t
     sound-kept inodes once free-inodes free-blocks =
         let g = h .framed .some-inodes in
+        let r = body-of s n b h x y in
         sound-of n b x y (record {
           inodes = inodes;
           once = once;
-          root = e .kinds rootInode (omega arith) (omega arith) ∙ h .root;
-          root-parent = e .parents rootInode (omega arith) (omega arith) ∙ h .root-parent;
-          entries = λ p l q.
-              let q′ = sym (e .places p l .stands) ∙ q in
-              entry-sound-kept s t n p e l (subst (λ (z : ℕ). EntrySound s z p) (sym x) (h .entries p (omega arith) (subst (λ (z : ℕ). filled s z p ≡ true) x q′))) q′;
-          links = λ i l m.
-              link-sound-kept s t n e (subst (λ (z : ℕ). Closed (IsDir s z) (parentOf s) rootInode z) (sym x) (climbs s (inodesIn s) (h .entries) (all-counted h))) i l m
-              (subst (λ (z : ℕ). LinkSound s z i) (sym x) (h .links i l (omega arith)));
-          free-inodes = free-inodes ∙ h .free-inodes ∙ ap (count (freeB s)) (sym x) ∙ sym (free-inodes-kept s t n e);
+          root = e .kinds rootInode (omega arith) (omega arith) ∙ r .root;
+          root-parent = e .parents rootInode (omega arith) (omega arith) ∙ r .root-parent;
+          entries = λ p l q. let q′ = sym (e .places p l .stands) ∙ q in entry-sound-kept s t n p e l (r .entries p l q′) q′;
+          links = λ i l m. link-sound-kept s t n e (climbs s n (r .entries) (λ j k o. let c = r .links j k o in record { counted = c .counted; named = c .named; one = c .one })) i l m (r .links i l m);
+          free-inodes = free-inodes ∙ r .free-inodes ∙ sym (free-inodes-kept s t n e);
           free-blocks = free-blocks;
         })
