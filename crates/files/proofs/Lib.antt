@@ -1,7 +1,11 @@
+pub mod AddressLaws
 pub mod EntryPlanLaws
+pub mod GrowLaws
+pub mod KeepLaws
 pub mod ParentLaws
 pub mod PlainLaws
 pub mod PlanLaws
+pub mod SameLaws
 pub mod SizePlanLaws
 pub mod StoreLaws
 pub mod TakePlanLaws
