@@ -5,6 +5,8 @@ pub mod KeepLaws
 pub mod ParentLaws
 pub mod PlainLaws
 pub mod PlanLaws
+pub mod PutLaws
+pub mod ReadLaws
 pub mod SameLaws
 pub mod SizePlanLaws
 pub mod StoreLaws

@@ -1,3 +1,4 @@
+pub mod Fits
 pub mod Inode
 pub mod Content
 pub mod Room
