@@ -4,6 +4,7 @@ pub mod GrowLaws
 pub mod KeepLaws
 pub mod ParentLaws
 pub mod PlainLaws
+pub mod PlanFacts
 pub mod PlanLaws
 pub mod PutLaws
 pub mod ReadLaws

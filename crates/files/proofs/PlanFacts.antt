@@ -1,0 +1,343 @@
+-- What a plan that is no refusal says of the store: the conditions that it has passed. n and b are the counts of inodes and blocks.
+use Prim.Native.Nat.{ℕ, _+_, _-_, _≤_, max, min}
+use mathlib.Core.Path.{_≡_, refl, sym, ap, _∙_, subst}
+use mathlib.Core.Bool.{Bool, true, false, not, _&&_, _||_}
+use mathlib.Core.List.{List}
+use native.Mathlib.Omega.{arith}
+use borrow.Author.Tests.{eq-eqb, eqb-true, eqb-false, ltb-false}
+use lib.Dec.{eqb, ltb}
+use Rattle.bounded.specs.Search.{pick, onFound}
+use Rattle.bounded.specs.declared.Found.{Found}
+use Rattle.bounded.specs.declared.Found.the-variants.{At, Absent}
+use Rattle.bounded.proofs.BoolLaws.{and-left, and-right, clash}
+use Rattle.layout.specs.Sizes.{mostFileBytes}
+use Rattle.layout.specs.Header.{headerOf}
+use Rattle.layout.specs.Inode.{kindOf, sizeOf, directoryKind}
+use Rattle.layout.specs.Block.{blocksUsed}
+use Rattle.layout.specs.Free.{freeInode}
+use Rattle.names.specs.Name.{legalName}
+use Rattle.directory.specs.Slot.{findSlot}
+use Rattle.answers.specs.declared.Refusal.{Refusal}
+use Rattle.answers.specs.declared.Refusal.the-variants.{NameTaken, IntoItself}
+use Rattle.files.specs.declared.Room.{Room}
+use Rattle.files.specs.declared.RoomPlan.{RoomPlan}
+use Rattle.files.specs.declared.RoomPlan.the-variants.{Has, NoRoom}
+use Rattle.files.specs.declared.CreatePlan.the-variants.{Make, NoCreate}
+use Rattle.files.specs.declared.LinkPlan.the-variants.{Add, NoLink}
+use Rattle.files.specs.declared.UnlinkPlan.the-variants.{Take, NoUnlink}
+use Rattle.files.specs.declared.RenamePlan.{RenamePlan}
+use Rattle.files.specs.declared.RenamePlan.the-variants.{Same, Rename, Move, NoRename}
+use Rattle.files.specs.declared.SizePlan.the-variants.{To, NoSize}
+use Rattle.files.specs.Inode.{isFile, isDirectory}
+use Rattle.files.specs.Room.{roomIn, onRoom}
+use Rattle.files.specs.Plan.{inodeAt, readPlan, createPlan, writePlan, shortenPlan, linkPlan, holdsNone, unlinkPlan, isBelow, renameTo, renamePlan}
+
+-- ---- a choice whose outcome is known, and cannot have come from one of its branches
+module _ {A : Type 0} where
+  pub pick-else : (c : Bool) (x y z : A) → pick c x y ≡ z → (x ≡ z → ⊥) → (c ≡ false) × (y ≡ z)
+  pick-else true x y z e h = absurd (h e)
+  pick-else false x y z e h = (refl, e)
+
+  pub pick-not : (c : Bool) (x y z : A) → pick (not c) x y ≡ z → (x ≡ z → ⊥) → (c ≡ true) × (y ≡ z)
+  pick-not true x y z e h = (refl, e)
+  pick-not false x y z e h = absurd (h e)
+
+  pub found-none : (f : Found) (g : ℕ → A) (y z : A) → onFound f g y ≡ z → ((t : ℕ) → g t ≡ z → ⊥) → (f ≡ Absent) × (y ≡ z)
+  found-none (At t) g y z e h = absurd (h t e)
+  found-none Absent g y z e h = (refl, e)
+
+  pub found-at : (f : Found) (g : ℕ → A) (y z : A) → onFound f g y ≡ z → (y ≡ z → ⊥) → (t : ℕ) × (f ≡ At t) × (g t ≡ z)
+  found-at (At t) g y z e h = (t, refl, e)
+  found-at Absent g y z e h = absurd (h e)
+
+  pub room-had : (f : RoomPlan) (g : Room → A) (k : Refusal → A) (z : A) → onRoom f g k ≡ z → ((w : Refusal) → k w ≡ z → ⊥) → (r : Room) × (f ≡ Has r) × (g r ≡ z)
+  room-had (Has r) g k z e h = (r, refl, e)
+  room-had (NoRoom w) g k z e h = absurd (h w e)
+
+or-false-l : (a b : Bool) → a || b ≡ false → a ≡ false
+or-false-l true b e = e
+or-false-l false b e = refl
+
+or-false-r : (a b : Bool) → a || b ≡ false → b ≡ false
+or-false-r true b e = absurd (clash true refl e)
+or-false-r false b e = e
+
+-- ---- create
+no-make : (e : Refusal) (i : ℕ) (r : Room) → NoCreate e ≡ Make i r → ⊥
+no-make e i r h = let z : _≡_ {A = ℕ} 0 1 = cc in absurd (omega arith)
+
+make-inode : (j i : ℕ) (q r : Room) → Make j q ≡ Make i r → j ≡ i
+make-inode j i q r h = cc
+
+make-room : (j i : ℕ) (q r : Room) → Make j q ≡ Make i r → q ≡ r
+make-room j i q r h = cc
+
+pub record Creates (s : List ℕ) (n b d : ℕ) (name : List ℕ) (i : ℕ) (r : Room) : Type 0 where
+  pub legal : legalName name ≡ true
+  pub directory : isDirectory s n d ≡ true
+  pub absent : findSlot s n d name ≡ Absent
+  pub inode : freeInode s n ≡ At i
+  pub room : roomIn s n b d ≡ Has r
+
+pub creates : (s : List ℕ) (n b d : ℕ) (name : List ℕ) (i : ℕ) (r : Room) → createPlan s n b d name ≡ Make i r → Creates s n b d name i r
+unfolding createPlan
+creates s n b d name i r e =
+    let z = Make i r in
+    let a = pick-not (legalName name) (NoCreate _) _ z e (no-make _ i r) in
+    let c = pick-not (isDirectory s n d) (NoCreate _) _ z (a .1) (no-make _ i r) in
+    let f = found-none (findSlot s n d name) _ _ z (c .1) (λ t. no-make _ i r) in
+    let g = found-at (freeInode s n) _ _ z (f .1) (no-make _ i r) in
+    let h = room-had (roomIn s n b d) _ _ z (g .2) (λ w. no-make w i r) in
+    record { legal = a .0; directory = c .0; absent = f .0; inode = g .1 ∙ ap At (make-inode (g .0) i (h .0) r (h .2)); room = h .1 ∙ ap Has (make-room (g .0) i (h .0) r (h .2)) }
+
+-- ---- link
+no-add : (e : Refusal) (r : Room) → NoLink e ≡ Add r → ⊥
+no-add e r h = let z : _≡_ {A = ℕ} 0 1 = cc in absurd (omega arith)
+
+add-room : (q r : Room) → Add q ≡ Add r → q ≡ r
+add-room q r h = cc
+
+pub record Links (s : List ℕ) (n b d : ℕ) (name : List ℕ) (i : ℕ) (r : Room) : Type 0 where
+  pub legal : legalName name ≡ true
+  pub directory : isDirectory s n d ≡ true
+  pub file : isFile s n i ≡ true
+  pub absent : findSlot s n d name ≡ Absent
+  pub room : roomIn s n b d ≡ Has r
+
+pub links : (s : List ℕ) (n b d : ℕ) (name : List ℕ) (i : ℕ) (r : Room) → linkPlan s n b d name i ≡ Add r → Links s n b d name i r
+unfolding linkPlan
+links s n b d name i r e =
+    let z = Add r in
+    let a = pick-not (legalName name) (NoLink _) _ z e (no-add _ r) in
+    let c = pick-not (isDirectory s n d && isFile s n i) (NoLink _) _ z (a .1) (no-add _ r) in
+    let f = found-none (findSlot s n d name) _ _ z (c .1) (λ t. no-add _ r) in
+    let h = room-had (roomIn s n b d) _ _ z (f .1) (λ w. no-add w r) in
+    record { legal = a .0; directory = and-left (isDirectory s n d) (isFile s n i) (c .0); file = and-right (isDirectory s n d) (isFile s n i) (c .0); absent = f .0; room = h .1 ∙ ap Has (add-room (h .0) r (h .2)) }
+
+-- ---- unlink
+no-take : (e : Refusal) (t i : ℕ) → NoUnlink e ≡ Take t i → ⊥
+no-take e t i h = let z : _≡_ {A = ℕ} 0 1 = cc in absurd (omega arith)
+
+take-slot : (u t j i : ℕ) → Take u j ≡ Take t i → u ≡ t
+take-slot u t j i h = cc
+
+take-inode : (u t j i : ℕ) → Take u j ≡ Take t i → j ≡ i
+take-inode u t j i h = cc
+
+pub record Unlinks (s : List ℕ) (n d : ℕ) (name : List ℕ) (t i : ℕ) : Type 0 where
+  pub legal : legalName name ≡ true
+  pub directory : isDirectory s n d ≡ true
+  pub found : findSlot s n d name ≡ At t
+  pub inode : i ≡ inodeAt s n d t
+  -- "Directories unlink only when empty"
+  pub empty : kindOf s i ≡ directoryKind → holdsNone s n i ≡ true
+
+unlink-empty : (s : List ℕ) (n i : ℕ) → eqb (kindOf s i) directoryKind && not (holdsNone s n i) ≡ false → kindOf s i ≡ directoryKind → holdsNone s n i ≡ true
+unlink-empty s n i e k = go (holdsNone s n i) refl
+  where
+    go : (x : Bool) → holdsNone s n i ≡ x → x ≡ true
+    go true q = refl
+    go false q = absurd (clash (eqb (kindOf s i) directoryKind && not (holdsNone s n i)) (rw (eq-eqb (kindOf s i) directoryKind k, q) refl) e)
+
+pub unlinks : (s : List ℕ) (n d : ℕ) (name : List ℕ) (t i : ℕ) → unlinkPlan s n d name ≡ Take t i → Unlinks s n d name t i
+unfolding unlinkPlan
+unlinks s n d name t i e =
+    let z = Take t i in
+    let a = pick-not (legalName name) (NoUnlink _) _ z e (no-take _ t i) in
+    let c = pick-not (isDirectory s n d) (NoUnlink _) _ z (a .1) (no-take _ t i) in
+    let f = found-at (findSlot s n d name) _ _ z (c .1) (no-take _ t i) in
+    let g = pick-else (eqb (kindOf s (inodeAt s n d (f .0))) directoryKind && not (holdsNone s n (inodeAt s n d (f .0)))) (NoUnlink _) _ z (f .2) (no-take _ t i) in
+    let p = take-slot (f .0) t (inodeAt s n d (f .0)) i (g .1) in
+    let q = take-inode (f .0) t (inodeAt s n d (f .0)) i (g .1) in
+    record {
+      legal = a .0;
+      directory = c .0;
+      found = f .1 ∙ ap At p;
+      inode = sym q ∙ ap (inodeAt s n d) p;
+      empty = unlink-empty s n i (subst (λ (j : ℕ). eqb (kindOf s j) directoryKind && not (holdsNone s n j) ≡ false) q (g .0));
+    }
+
+-- ---- rename
+-- the entry that is there
+pub record Renames (s : List ℕ) (n d : ℕ) (name : List ℕ) (e : ℕ) (other : List ℕ) (t i : ℕ) : Type 0 where
+  pub legal : legalName name ≡ true
+  pub legal-new : legalName other ≡ true
+  pub directory : isDirectory s n d ≡ true
+  pub directory-new : isDirectory s n e ≡ true
+  pub found : findSlot s n d name ≡ At t
+  pub inode : i ≡ inodeAt s n d t
+  pub absent : findSlot s n e other ≡ Absent
+
+pub record Moves (s : List ℕ) (n b d e i : ℕ) (r : Room) : Type 0 where
+  pub other : d ≡ e → ⊥
+  pub outside : isBelow s n i e ≡ false
+  pub room : roomIn s n b e ≡ Has r
+
+no-rename : (e : Refusal) (t i : ℕ) → NoRename e ≡ Rename t i → ⊥
+no-rename e t i h = let z : _≡_ {A = ℕ} 0 1 = cc in absurd (omega arith)
+
+no-move : (e : Refusal) (t i : ℕ) (r : Room) → NoRename e ≡ Move t i r → ⊥
+no-move e t i r h = let z : _≡_ {A = ℕ} 0 1 = cc in absurd (omega arith)
+
+rename-slot : (u t j i : ℕ) → Rename u j ≡ Rename t i → u ≡ t
+rename-slot u t j i h = cc
+
+rename-inode : (u t j i : ℕ) → Rename u j ≡ Rename t i → j ≡ i
+rename-inode u t j i h = cc
+
+move-not-rename : (u j t i : ℕ) (r : Room) → Move u j r ≡ Rename t i → ⊥
+move-not-rename u j t i r h = let z : _≡_ {A = ℕ} 0 1 = cc in absurd (omega arith)
+
+rename-not-move : (u j t i : ℕ) (r : Room) → Rename u j ≡ Move t i r → ⊥
+rename-not-move u j t i r h = let z : _≡_ {A = ℕ} 0 1 = cc in absurd (omega arith)
+
+move-slot : (u t j i : ℕ) (q r : Room) → Move u j q ≡ Move t i r → u ≡ t
+move-slot u t j i q r h = cc
+
+move-inode : (u t j i : ℕ) (q r : Room) → Move u j q ≡ Move t i r → j ≡ i
+move-inode u t j i q r h = cc
+
+move-room : (u t j i : ℕ) (q r : Room) → Move u j q ≡ Move t i r → q ≡ r
+move-room u t j i q r h = cc
+
+same-or-no-rename : (c : Bool) (w : Refusal) (t i : ℕ) → pick c Same (NoRename w) ≡ Rename t i → ⊥
+same-or-no-rename true w t i h = let z : _≡_ {A = ℕ} 0 1 = cc in absurd (omega arith)
+same-or-no-rename false w t i h = no-rename w t i h
+
+same-or-no-move : (c : Bool) (w : Refusal) (t i : ℕ) (r : Room) → pick c Same (NoRename w) ≡ Move t i r → ⊥
+same-or-no-move true w t i r h = let z : _≡_ {A = ℕ} 0 1 = cc in absurd (omega arith)
+same-or-no-move false w t i r h = no-move w t i r h
+
+-- within a directory, and to another
+module _ (s : List ℕ) (n b d t i e : ℕ) (other : List ℕ) where
+  abbrev within : RenamePlan
+  within = onFound (findSlot s n e other) (λ u. pick (eqb u t) Same (NoRename NameTaken)) (Rename t i)
+
+  abbrev away : RenamePlan
+  away = onFound (findSlot s n e other) (λ u. NoRename NameTaken) (pick (isBelow s n i e) (NoRename IntoItself) (onRoom (roomIn s n b e) (λ r. Move t i r) NoRename))
+
+  away-no-rename : (u j : ℕ) → away ≡ Rename u j → ⊥
+  away-no-rename u j h =
+      let z = Rename u j in
+      let a = found-none (findSlot s n e other) _ _ z h (λ v. no-rename _ u j) in
+      let c = pick-else (isBelow s n i e) (NoRename _) _ z (a .1) (no-rename _ u j) in
+      let f = room-had (roomIn s n b e) _ _ z (c .1) (λ w. no-rename w u j) in
+      move-not-rename t i u j (f .0) (f .2)
+
+  pub to-renames : (u j : ℕ) → renameTo s n b d t i e other ≡ Rename u j → (d ≡ e) × (findSlot s n e other ≡ Absent) × (t ≡ u) × (i ≡ j)
+  unfolding renameTo
+  to-renames u j h = go (eqb d e) refl h
+    where
+      go : (c : Bool) → eqb d e ≡ c → pick c within away ≡ Rename u j → (d ≡ e) × (findSlot s n e other ≡ Absent) × (t ≡ u) × (i ≡ j)
+      go true q g =
+          let a = found-none (findSlot s n e other) (λ v. pick (eqb v t) Same (NoRename NameTaken)) (Rename t i) (Rename u j) g (λ v. same-or-no-rename (eqb v t) NameTaken u j) in
+          (eqb-true d e q, a .0, rename-slot t u i j (a .1), rename-inode t u i j (a .1))
+      go false q g = absurd (away-no-rename u j g)
+
+  pub to-moves : (u j : ℕ) (r : Room) → renameTo s n b d t i e other ≡ Move u j r → Moves s n b d e i r × (findSlot s n e other ≡ Absent) × (t ≡ u) × (i ≡ j)
+  unfolding renameTo
+  to-moves u j r h = go (eqb d e) refl h
+    where
+      go : (c : Bool) → eqb d e ≡ c → pick c within away ≡ Move u j r → Moves s n b d e i r × (findSlot s n e other ≡ Absent) × (t ≡ u) × (i ≡ j)
+      go true q g =
+          let a = found-none (findSlot s n e other) (λ v. pick (eqb v t) Same (NoRename NameTaken)) (Rename t i) (Move u j r) g (λ v. same-or-no-move (eqb v t) NameTaken u j r) in
+          absurd (rename-not-move t i u j r (a .1))
+      go false q g =
+          let z = Move u j r in
+          let a = found-none (findSlot s n e other) (λ v. NoRename NameTaken) (pick (isBelow s n i e) (NoRename IntoItself) (onRoom (roomIn s n b e) (λ x. Move t i x) NoRename)) z g (λ v. no-move NameTaken u j r) in
+          let c = pick-else (isBelow s n i e) (NoRename IntoItself) (onRoom (roomIn s n b e) (λ x. Move t i x) NoRename) z (a .1) (no-move IntoItself u j r) in
+          let f = room-had (roomIn s n b e) (λ x. Move t i x) NoRename z (c .1) (λ w. no-move w u j r) in
+          (record { other = eqb-false d e q; outside = c .0; room = f .1 ∙ ap Has (move-room t u i j (f .0) r (f .2)) }, a .0, move-slot t u i j (f .0) r (f .2), move-inode t u i j (f .0) r (f .2))
+
+module _ (s : List ℕ) (n b d : ℕ) (name : List ℕ) (e : ℕ) (other : List ℕ) where
+  -- a plan z that is no refusal
+  renames-there : (z : RenamePlan) → ((w : Refusal) → NoRename w ≡ z → ⊥) → renamePlan s n b d name e other ≡ z
+      → (legalName name && legalName other ≡ true) × (isDirectory s n d && isDirectory s n e ≡ true) × ((t : ℕ) × (findSlot s n d name ≡ At t) × (renameTo s n b d t (inodeAt s n d t) e other ≡ z))
+  unfolding renamePlan
+  renames-there z never h =
+      let a = pick-not (legalName name && legalName other) (NoRename _) _ z h (never _) in
+      let c = pick-not (isDirectory s n d && isDirectory s n e) (NoRename _) _ z (a .1) (never _) in
+      (a .0, c .0, found-at (findSlot s n d name) _ _ z (c .1) (never _))
+
+  pub renames : (t i : ℕ) → renamePlan s n b d name e other ≡ Rename t i → Renames s n d name e other t i × (d ≡ e)
+  renames t i h =
+      let a = renames-there (Rename t i) (λ w. no-rename w t i) h in
+      let u = a .2 .0 in
+      let c = to-renames s n b d u (inodeAt s n d u) e other t i (a .2 .2) in
+      (record {
+        legal = and-left (legalName name) (legalName other) (a .0);
+        legal-new = and-right (legalName name) (legalName other) (a .0);
+        directory = and-left (isDirectory s n d) (isDirectory s n e) (a .1);
+        directory-new = and-right (isDirectory s n d) (isDirectory s n e) (a .1);
+        found = a .2 .1 ∙ ap At (c .2);
+        inode = sym (c .3) ∙ ap (inodeAt s n d) (c .2);
+        absent = c .1;
+      }, c .0)
+
+  pub moves : (t i : ℕ) (r : Room) → renamePlan s n b d name e other ≡ Move t i r → Renames s n d name e other t i × Moves s n b d e i r
+  moves t i r h =
+      let a = renames-there (Move t i r) (λ w. no-move w t i r) h in
+      let u = a .2 .0 in
+      let c = to-moves s n b d u (inodeAt s n d u) e other t i r (a .2 .2) in
+      (record {
+        legal = and-left (legalName name) (legalName other) (a .0);
+        legal-new = and-right (legalName name) (legalName other) (a .0);
+        directory = and-left (isDirectory s n d) (isDirectory s n e) (a .1);
+        directory-new = and-right (isDirectory s n d) (isDirectory s n e) (a .1);
+        found = a .2 .1 ∙ ap At (c .2);
+        inode = sym (c .3) ∙ ap (inodeAt s n d) (c .2);
+        absent = c .1;
+      }, subst (λ (j : ℕ). Moves s n b d e j r) (c .3) (c .0))
+
+-- ---- read, write and shorten
+no-size : (e : Refusal) (z : ℕ) → NoSize e ≡ To z → ⊥
+no-size e z h = let y : _≡_ {A = ℕ} 0 1 = cc in absurd (omega arith)
+
+to-size : (y z : ℕ) → To y ≡ To z → y ≡ z
+to-size y z h = cc
+
+pub record Reads (s : List ℕ) (n i o k m : ℕ) : Type 0 where
+  pub file : isFile s n i ≡ true
+  pub inside : o ≤ sizeOf s i
+  pub count : m ≡ min k (sizeOf s i - o)
+
+pub reads : (s : List ℕ) (n i o k m : ℕ) → readPlan s n i o k ≡ To m → Reads s n i o k m
+unfolding readPlan
+reads s n i o k m e =
+    let a = pick-not (isFile s n i) (NoSize _) _ (To m) e (no-size _ m) in
+    let c = pick-else (ltb (sizeOf s i) o) (NoSize _) _ (To m) (a .1) (no-size _ m) in
+    record { file = a .0; inside = ltb-false (sizeOf s i) o (c .0); count = sym (to-size (min k (sizeOf s i - o)) m (c .1)) }
+
+pub record Shortens (s : List ℕ) (n i z y : ℕ) : Type 0 where
+  pub file : isFile s n i ≡ true
+  pub inside : z ≤ sizeOf s i
+  pub size : y ≡ z
+
+pub shortens : (s : List ℕ) (n i z y : ℕ) → shortenPlan s n i z ≡ To y → Shortens s n i z y
+unfolding shortenPlan
+shortens s n i z y e =
+    let a = pick-not (isFile s n i) (NoSize _) _ (To y) e (no-size _ y) in
+    let c = pick-else (ltb (sizeOf s i) z) (NoSize _) _ (To y) (a .1) (no-size _ y) in
+    record { file = a .0; inside = ltb-false (sizeOf s i) z (c .0); size = sym (to-size z y (c .1)) }
+
+pub record Writes (s : List ℕ) (n i o k z : ℕ) : Type 0 where
+  pub file : isFile s n i ≡ true
+  pub inside : o ≤ sizeOf s i
+  pub most : o + k ≤ mostFileBytes
+  pub size : z ≡ max (sizeOf s i) (o + k)
+  pub blocks : blocksUsed z - blocksUsed (sizeOf s i) ≤ headerOf s .«free_blocks»
+
+pub writes : (s : List ℕ) (n i o k z : ℕ) → writePlan s n i o k ≡ To z → Writes s n i o k z
+unfolding writePlan
+writes s n i o k z e =
+    let a = pick-not (isFile s n i) (NoSize _) _ (To z) e (no-size _ z) in
+    let c = pick-else (ltb (sizeOf s i) o || ltb mostFileBytes (o + k)) (NoSize _) _ (To z) (a .1) (no-size _ z) in
+    let f = pick-else (ltb (headerOf s .«free_blocks») (blocksUsed (max (sizeOf s i) (o + k)) - blocksUsed (sizeOf s i))) (NoSize _) _ (To z) (c .1) (no-size _ z) in
+    let q = to-size (max (sizeOf s i) (o + k)) z (f .1) in
+    record {
+      file = a .0;
+      inside = ltb-false (sizeOf s i) o (or-false-l (ltb (sizeOf s i) o) (ltb mostFileBytes (o + k)) (c .0));
+      most = ltb-false mostFileBytes (o + k) (or-false-r (ltb (sizeOf s i) o) (ltb mostFileBytes (o + k)) (c .0));
+      size = sym q;
+      blocks = subst (λ (y : ℕ). blocksUsed y - blocksUsed (sizeOf s i) ≤ headerOf s .«free_blocks») q (ltb-false (headerOf s .«free_blocks») (blocksUsed (max (sizeOf s i) (o + k)) - blocksUsed (sizeOf s i)) (f .0));
+    }
