@@ -2,14 +2,18 @@
 use Prim.Native.Nat.{ℕ, _+_, _-_, _*_, _/_, _%_, _≤_, _<_}
 use mathlib.Core.Path.{_≡_, refl, sym, ap, _∙_, subst}
 use mathlib.Core.Logic.{_≢_}
-use mathlib.Core.Bool.{true, false}
+use mathlib.Core.Bool.{Bool, true, false, not}
 use mathlib.Core.List.{List}
 use native.Mathlib.Decide.{ℕ-discrete, decLt}
 use native.Mathlib.Omega.{arith}
+use borrow.Author.Tests.{not-true}
 use lib.ListN.{length, getD, set, replicate, length-set, getD-replicate}
 use lib.Seq.{getD-set-same, getD-set-other}
 use Rattle.bounded.specs.Count.{Differ}
 use Rattle.bounded.specs.Table.{table}
+use Rattle.bounded.specs.declared.Found.the-variants.{At}
+use Rattle.bounded.proofs.CountLaws.{count-some}
+use Rattle.bounded.proofs.SearchLaws.{found-lowest, lowest-of, lowest-found}
 use Rattle.bounded.proofs.TableLaws.{length-table, getD-table}
 use Rattle.bounded.proofs.ReflectLaws.{r-fails}
 use Rattle.octets.specs.Octets.{part}
@@ -20,18 +24,19 @@ use Rattle.layout.specs.declared.inode.Inode.{Inode}
 use Rattle.layout.specs.Header.{headerOf}
 use Rattle.layout.specs.Inode.{InodeFits, kindOf, spareOf, linksOf, sizeOf, parentOf, addressOf, addressesOf, inodeOf, place, putInode, freeKind, directoryKind}
 use Rattle.layout.specs.Block.{blockAt, blockOf, zeroBlock, blocksUsed, kthBlock}
-use Rattle.layout.specs.Free.{named}
+use Rattle.layout.specs.Free.{named, freeBlock}
 use Rattle.layout.proofs.ViewLaws.{inode-fits}
 use Rattle.names.specs.Entry.{isEmpty}
 use Rattle.names.proofs.EntryLaws.{empty}
 use Rattle.directory.specs.Slot.{mostSlots, slots, entryOf, slotEmpty}
 use Rattle.sound.specs.Place.{dirOf, slotOf, isSlot, entryAt}
 use Rattle.sound.specs.Inode.{InodeSound}
-use Rattle.sound.specs.Sound.{Sound, inodesIn, blocksIn}
+use Rattle.sound.specs.Sound.{Sound, inodesIn, blocksIn, unnamedB}
 use Rattle.sound.proofs.FactLaws.{unnamed}
 use Rattle.sound.proofs.PlaceLaws.{slot-is}
 use Rattle.files.specs.Inode.{withBlocks, lessFree}
 use Rattle.files.specs.Content.{addBlock}
+use Rattle.files.proofs.StoreLaws.{fits}
 use Rattle.files.proofs.SameLaws.{SameFrame, SameInode, SameBlock, InBlock, InInode, InCounts, NewInode, frame-then, inode-then, zero-block, zero-block-is, put-inode, inode-new, inode-blocks, less-free}
 use Rattle.files.proofs.KeepLaws.{SamePlace, SameTree, Body, body-of, inode-kept, entry-in, entry-kept, place-slot, place-new, place-kept, slot-kept, sound-kept}
 use Rattle.files.proofs.AddressLaws.{differ-new, address-kth, unnamed-change}
@@ -277,3 +282,42 @@ module _ (s t : List ℕ) (n b i c : ℕ) (h : Sound mostStoreBlocks false s) (x
       let p = body .free-blocks in
       let q = g .free-blocks in
       sound-kept s t h (g .frame) n b x y grown-tree grown-inodes grown-differ (g .free-inodes) (omega arith)
+
+-- ---- the lowest free block
+module _ (s : List ℕ) (n b : ℕ) where
+  pub record FreeBlock (c : ℕ) : Type 0 where
+    pub low : 1 ≤ c
+    pub high : c ≤ b
+    pub free : named s n c ≡ false
+
+  pub free-block : (c : ℕ) → freeBlock s n b ≡ At c → FreeBlock c
+  unfolding freeBlock
+  free-block c e =
+      let r = found-lowest (λ a. not (named s n a)) 1 b c e in
+      let l = r .below in
+      record { low = r .from; high = omega arith; free = not-true (named s n c) (r .holds) }
+
+  -- "The free counts are true.": where the header tells of one there is one
+  pub some-free : Body s n b → 1 ≤ headerOf s .«free_blocks» → (c : ℕ) × (freeBlock s n b ≡ At c)
+  unfolding freeBlock
+  some-free h l =
+      let f : ℕ → Bool = λ a. not (named s n a) in
+      let e = h .free-blocks in
+      let r = count-some (unnamedB s n) b (omega arith) in
+      let k = r .0 in
+      let a : k < b = r .1 in
+      let d = lowest-of f 1 b (k + 1) (omega arith) (omega arith) (r .2) in
+      (d .0, lowest-found f 1 b (d .0) (d .1))
+
+-- ---- a block more for an inode in use
+module _ (s : List ℕ) (n b i c : ℕ) (h : Sound mostStoreBlocks false s) (x : n ≡ inodesIn s) (y : b ≡ blocksIn s)
+    (l : 1 ≤ i) (m : i ≤ n) (u : blocksUsed (sizeOf s i) < addressCount) (w : FreeBlock s n b c) where
+  pub block-added : Grown s (addBlock s n i c) n i c
+  block-added =
+      let z = h .framed .long in
+      let a = w .low in
+      let d = w .high in
+      add-block s n i c (fits s n h x i l m) a (omega arith) u
+
+  pub add-block-sound : kindOf s i ≢ freeKind → Sound mostStoreBlocks false (addBlock s n i c)
+  add-block-sound v = grown-sound s (addBlock s n i c) n b i c h x y block-added l m v u (w .low) (w .high) (w .free)
