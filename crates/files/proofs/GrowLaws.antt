@@ -127,12 +127,7 @@ module _ (s t : List ℕ) (n i c : ℕ) (g : Grown s t n i c) where
   unfolding slots
   grown-slots = let u = grown-used in omega arith
 
-  -- the slots before them hold what they held
-  pub grown-entry : (u : ℕ) → u < mostSlots → u < slots s i → 1 ≤ kthBlock s n i (u / 4) → kthBlock s n i (u / 4) ≢ c → entryOf t n i u ≡ entryOf s n i u
-  unfolding slots
-  grown-entry u v l a q = entry-kept s t n i u (g .old (u / 4) (omega arith) (omega arith)) (g .bytes (kthBlock s n i (u / 4)) a q)
-
-  -- and they are empty
+  -- they are empty
   pub grown-empty : (u : ℕ) → slots s i ≤ u → u < slots t i → isEmpty (entryOf t n i u) ≡ true
   unfolding slots
   grown-empty u l m =
@@ -185,9 +180,22 @@ module _ (s t : List ℕ) (n b i c : ℕ) (h : Sound mostStoreBlocks false s) (x
       let w : k < 12 = omega arith in
       g .bytes (kthBlock s n j k) (body .inodes j a d .used k w q .0) (not-new j k a d w)
 
+  grown-kth : (e k : ℕ) → 1 ≤ e → e ≤ n → k < blocksUsed (sizeOf s e) → k < addressCount → kthBlock t n e k ≡ kthBlock s n e k
+  grown-kth e k a d q w = elim (ℕ-discrete e i) as (λ _. kthBlock t n e k ≡ kthBlock s n e k) [
+    | yes z ↦ ap (λ (j : ℕ). kthBlock t n j k) z ∙ g .old k w (let o = ap (λ (j : ℕ). blocksUsed (sizeOf s j)) z in (λ r. omega arith)) ∙ ap (λ (j : ℕ). kthBlock s n j k) (sym z)
+    | no z ↦ g .others e a d z .blocks k w
+  ]
+
+  -- every slot that was there holds what it held
+  pub grown-entry : (e u : ℕ) → 1 ≤ e → e ≤ n → u < slots s e → entryOf t n e u ≡ entryOf s n e u
+  unfolding slots blocksUsed
+  grown-entry e u a d q =
+      let z = body .inodes e a d .size in
+      entry-kept s t n e u (grown-kth e (u / 4) a d (omega arith) (omega arith)) (grown-bytes e (u / 4) a d (omega arith))
+
   -- a place of the inode that grows
   grown-at : (p : ℕ) → dirOf p ≤ n → Grown s t n (dirOf p) c → SamePlace s t n p
-  unfolding entryAt slots
+  unfolding entryAt
   grown-at p a r = go (ℕ-discrete (kindOf s (dirOf p)) directoryKind) (decLt (slotOf p) (slots s (dirOf p))) (decLt (slotOf p) (slots t (dirOf p)))
     where
       d : ℕ
@@ -199,21 +207,16 @@ module _ (s t : List ℕ) (n b i c : ℕ) (h : Sound mostStoreBlocks false s) (x
       more : slots t d ≡ slots s d + 4
       more = grown-slots s t n d c r
 
-      entry : slotOf p < slots s d → entryOf t n d (slotOf p) ≡ entryOf s n d (slotOf p)
-      entry o =
-          let w : slotOf p / 4 < 12 = omega arith in
-          grown-entry s t n d c r (slotOf p) (omega arith) o (body .inodes d low a .used (slotOf p / 4) w (omega arith) .0) (not-new d (slotOf p / 4) low a w)
-
       go : Dec (kindOf s d ≡ directoryKind) → Dec (slotOf p < slots s d) → Dec (slotOf p < slots t d) → SamePlace s t n p
       go (no q) o w = place-slot s t n p (slot-kept s t p (r .kind) (λ e. absurd (q e))) (λ e. absurd (q (slot-is s p .to e .0)))
       go (yes q) (yes o) w =
-          place-slot s t n p (slot-is t p .from (r .kind ∙ q, (let z = more in omega arith)) ∙ sym (slot-is s p .from (q, o))) (λ _. entry o)
+          place-slot s t n p (slot-is t p .from (r .kind ∙ q, (let z = more in omega arith)) ∙ sym (slot-is s p .from (q, o))) (λ _. grown-entry d (slotOf p) low a o)
       go (yes q) (no o) (yes w) =
           place-new s t n p (r-fails (slot-is s p) (λ e. o (e .1))) (slot-is t p .from (r .kind ∙ q, w)) (grown-empty s t n d c r (slotOf p) (omega arith) w)
       go (yes q) (no o) (no w) =
           place-slot s t n p (r-fails (slot-is t p) (λ e. w (e .1)) ∙ sym (r-fails (slot-is s p) (λ e. o (e .1)))) (λ e. absurd (o (slot-is s p .to e .1)))
 
-  grown-tree : SameTree s t n
+  pub grown-tree : SameTree s t n
   grown-tree = record {
     kinds = grown-kind s t n i c g;
     links = grown-links s t n i c g;

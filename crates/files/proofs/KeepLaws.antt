@@ -124,6 +124,9 @@ pub record SameTree (s t : List ℕ) (n : ℕ) : Type 0 where
   pub parents : (i : ℕ) → 1 ≤ i → i ≤ n → parentOf t i ≡ parentOf s i
   pub places : (p : ℕ) → p < mostSlots * n → SamePlace s t n p
 
+pub tree-stays : (s : List ℕ) (n : ℕ) → SameTree s s n
+tree-stays s n = record { kinds = λ i l m. refl; links = λ i l m. refl; parents = λ i l m. refl; places = λ p l. record { stands = refl; names = refl; entry = λ e. refl } }
+
 pub tree-then : {s t u : List ℕ} {n : ℕ} → SameTree s t n → SameTree t u n → SameTree s u n
 tree-then a b = record {
   kinds = λ i l m. b .kinds i l m ∙ a .kinds i l m;

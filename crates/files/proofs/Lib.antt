@@ -4,6 +4,7 @@ pub mod GrowLaws
 pub mod KeepLaws
 pub mod PlainLaws
 pub mod PlanLaws
+pub mod RoomLaws
 pub mod SameLaws
 pub mod SizePlanLaws
 pub mod StoreLaws
