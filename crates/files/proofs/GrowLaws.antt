@@ -38,7 +38,7 @@ use Rattle.files.specs.Inode.{withBlocks, lessFree}
 use Rattle.files.specs.Content.{addBlock}
 use Rattle.files.proofs.StoreLaws.{fits}
 use Rattle.files.proofs.SameLaws.{SameFrame, SameInode, SameBlock, InBlock, InInode, InCounts, NewInode, frame-then, inode-then, zero-block, zero-block-is, put-inode, inode-new, inode-blocks, less-free}
-use Rattle.files.proofs.KeepLaws.{SamePlace, SameTree, Body, body-of, inode-kept, entry-in, entry-kept, place-slot, place-new, place-kept, slot-kept, sound-kept}
+use Rattle.files.proofs.KeepLaws.{SamePlace, SameTree, Body, body-of, inode-kept, entry-in, entry-kept, place-slot, place-new, place-kept, slot-kept, changed, sound-kept}
 use Rattle.files.proofs.AddressLaws.{differ-new, address-kth, unnamed-change}
 
 -- block c is the next of inode i in t
@@ -141,26 +141,6 @@ module _ (s t : List ℕ) (n i c : ℕ) (g : Grown s t n i c) where
       ∙ ap (λ (x : List ℕ). getD x (16 * (u % 4) + k) 0) e
       ∙ getD-replicate 64 (16 * (u % 4) + k) 0 0 (omega arith))
 
-  -- kinds, links and parents
-  module _ (j : ℕ) (l : 1 ≤ j) (m : j ≤ n) where
-    grown-kind : kindOf t j ≡ kindOf s j
-    grown-kind = elim (ℕ-discrete j i) as (λ _. kindOf t j ≡ kindOf s j) [
-      | yes e ↦ ap (kindOf t) e ∙ g .kind ∙ ap (kindOf s) (sym e)
-      | no q ↦ g .others j l m q .kind
-    ]
-
-    grown-links : linksOf t j ≡ linksOf s j
-    grown-links = elim (ℕ-discrete j i) as (λ _. linksOf t j ≡ linksOf s j) [
-      | yes e ↦ ap (linksOf t) e ∙ g .links ∙ ap (linksOf s) (sym e)
-      | no q ↦ g .others j l m q .links
-    ]
-
-    grown-parent : parentOf t j ≡ parentOf s j
-    grown-parent = elim (ℕ-discrete j i) as (λ _. parentOf t j ≡ parentOf s j) [
-      | yes e ↦ ap (parentOf t) e ∙ g .parent ∙ ap (parentOf s) (sym e)
-      | no q ↦ g .others j l m q .parent
-    ]
-
 -- ---- on a sound store, with a block that no address names
 module _ (s t : List ℕ) (n b i c : ℕ) (h : Sound mostStoreBlocks false s) (x : n ≡ inodesIn s) (y : b ≡ blocksIn s)
     (g : Grown s t n i c) (l : 1 ≤ i) (m : i ≤ n) (v : kindOf s i ≢ freeKind) (u : blocksUsed (sizeOf s i) < addressCount)
@@ -218,9 +198,9 @@ module _ (s t : List ℕ) (n b i c : ℕ) (h : Sound mostStoreBlocks false s) (x
 
   pub grown-tree : SameTree s t n
   grown-tree = record {
-    kinds = grown-kind s t n i c g;
-    links = grown-links s t n i c g;
-    parents = grown-parent s t n i c g;
+    kinds = changed s t n i (g .others) kindOf (g .kind) (λ j e. e .kind);
+    links = changed s t n i (g .others) linksOf (g .links) (λ j e. e .links);
+    parents = changed s t n i (g .others) parentOf (g .parent) (λ j e. e .parent);
     places = λ p q. elim (ℕ-discrete (dirOf p) i) as (λ _. SamePlace s t n p) [
       | yes e ↦ grown-at p (omega arith) (subst (λ (d : ℕ). Grown s t n d c) (sym e) g)
       | no e ↦ place-kept s t n p (g .others (dirOf p) (omega arith) (omega arith) e) (λ k z w. grown-bytes (dirOf p) k (omega arith) (omega arith) w)
