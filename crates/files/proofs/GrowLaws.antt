@@ -2,14 +2,18 @@
 use Prim.Native.Nat.{ℕ, _+_, _-_, _*_, _/_, _%_, _≤_, _<_}
 use mathlib.Core.Path.{_≡_, refl, sym, ap, _∙_, subst}
 use mathlib.Core.Logic.{_≢_}
-use mathlib.Core.Bool.{true, false}
+use mathlib.Core.Bool.{Bool, true, false, not}
 use mathlib.Core.List.{List}
 use native.Mathlib.Decide.{ℕ-discrete, decLt}
 use native.Mathlib.Omega.{arith}
+use borrow.Author.Tests.{not-true}
 use lib.ListN.{length, getD, set, replicate, length-set, getD-replicate}
 use lib.Seq.{getD-set-same, getD-set-other}
 use Rattle.bounded.specs.Count.{Differ}
 use Rattle.bounded.specs.Table.{table}
+use Rattle.bounded.specs.declared.Found.the-variants.{At}
+use Rattle.bounded.proofs.CountLaws.{count-some}
+use Rattle.bounded.proofs.SearchLaws.{found-lowest, lowest-of, lowest-found}
 use Rattle.bounded.proofs.TableLaws.{length-table, getD-table}
 use Rattle.bounded.proofs.ReflectLaws.{r-fails}
 use Rattle.octets.specs.Octets.{part}
@@ -20,20 +24,21 @@ use Rattle.layout.specs.declared.inode.Inode.{Inode}
 use Rattle.layout.specs.Header.{headerOf}
 use Rattle.layout.specs.Inode.{InodeFits, kindOf, spareOf, linksOf, sizeOf, parentOf, addressOf, addressesOf, inodeOf, place, putInode, freeKind, directoryKind}
 use Rattle.layout.specs.Block.{blockAt, blockOf, zeroBlock, blocksUsed, kthBlock}
-use Rattle.layout.specs.Free.{named}
+use Rattle.layout.specs.Free.{named, freeBlock}
 use Rattle.layout.proofs.ViewLaws.{inode-fits}
 use Rattle.names.specs.Entry.{isEmpty}
 use Rattle.names.proofs.EntryLaws.{empty}
 use Rattle.directory.specs.Slot.{mostSlots, slots, entryOf, slotEmpty}
 use Rattle.sound.specs.Place.{dirOf, slotOf, isSlot, entryAt}
 use Rattle.sound.specs.Inode.{InodeSound}
-use Rattle.sound.specs.Sound.{Sound, inodesIn, blocksIn}
+use Rattle.sound.specs.Sound.{Sound, inodesIn, blocksIn, unnamedB}
 use Rattle.sound.proofs.FactLaws.{unnamed}
 use Rattle.sound.proofs.PlaceLaws.{slot-is}
 use Rattle.files.specs.Inode.{withBlocks, lessFree}
 use Rattle.files.specs.Content.{addBlock}
+use Rattle.files.proofs.StoreLaws.{fits}
 use Rattle.files.proofs.SameLaws.{SameFrame, SameInode, SameBlock, InBlock, InInode, InCounts, NewInode, frame-then, inode-then, zero-block, zero-block-is, put-inode, inode-new, inode-blocks, less-free}
-use Rattle.files.proofs.KeepLaws.{SamePlace, SameTree, Body, body-of, inode-kept, entry-in, entry-kept, place-slot, place-new, place-kept, slot-kept, sound-kept}
+use Rattle.files.proofs.KeepLaws.{SamePlace, SameTree, Body, body-of, inode-kept, entry-in, entry-kept, place-slot, place-new, place-kept, slot-kept, changed, sound-kept}
 use Rattle.files.proofs.AddressLaws.{differ-new, address-kth, unnamed-change}
 
 -- block c is the next of inode i in t
@@ -122,12 +127,7 @@ module _ (s t : List ℕ) (n i c : ℕ) (g : Grown s t n i c) where
   unfolding slots
   grown-slots = let u = grown-used in omega arith
 
-  -- the slots before them hold what they held
-  pub grown-entry : (u : ℕ) → u < mostSlots → u < slots s i → 1 ≤ kthBlock s n i (u / 4) → kthBlock s n i (u / 4) ≢ c → entryOf t n i u ≡ entryOf s n i u
-  unfolding slots
-  grown-entry u v l a q = entry-kept s t n i u (g .old (u / 4) (omega arith) (omega arith)) (g .bytes (kthBlock s n i (u / 4)) a q)
-
-  -- and they are empty
+  -- they are empty
   pub grown-empty : (u : ℕ) → slots s i ≤ u → u < slots t i → isEmpty (entryOf t n i u) ≡ true
   unfolding slots
   grown-empty u l m =
@@ -140,26 +140,6 @@ module _ (s t : List ℕ) (n i c : ℕ) (g : Grown s t n i c) where
       ∙ getD-part (blockOf t n (kthBlock t n i (u / 4))) (16 * (u % 4)) 16 k h
       ∙ ap (λ (x : List ℕ). getD x (16 * (u % 4) + k) 0) e
       ∙ getD-replicate 64 (16 * (u % 4) + k) 0 0 (omega arith))
-
-  -- kinds, links and parents
-  module _ (j : ℕ) (l : 1 ≤ j) (m : j ≤ n) where
-    grown-kind : kindOf t j ≡ kindOf s j
-    grown-kind = elim (ℕ-discrete j i) as (λ _. kindOf t j ≡ kindOf s j) [
-      | yes e ↦ ap (kindOf t) e ∙ g .kind ∙ ap (kindOf s) (sym e)
-      | no q ↦ g .others j l m q .kind
-    ]
-
-    grown-links : linksOf t j ≡ linksOf s j
-    grown-links = elim (ℕ-discrete j i) as (λ _. linksOf t j ≡ linksOf s j) [
-      | yes e ↦ ap (linksOf t) e ∙ g .links ∙ ap (linksOf s) (sym e)
-      | no q ↦ g .others j l m q .links
-    ]
-
-    grown-parent : parentOf t j ≡ parentOf s j
-    grown-parent = elim (ℕ-discrete j i) as (λ _. parentOf t j ≡ parentOf s j) [
-      | yes e ↦ ap (parentOf t) e ∙ g .parent ∙ ap (parentOf s) (sym e)
-      | no q ↦ g .others j l m q .parent
-    ]
 
 -- ---- on a sound store, with a block that no address names
 module _ (s t : List ℕ) (n b i c : ℕ) (h : Sound mostStoreBlocks false s) (x : n ≡ inodesIn s) (y : b ≡ blocksIn s)
@@ -180,9 +160,22 @@ module _ (s t : List ℕ) (n b i c : ℕ) (h : Sound mostStoreBlocks false s) (x
       let w : k < 12 = omega arith in
       g .bytes (kthBlock s n j k) (body .inodes j a d .used k w q .0) (not-new j k a d w)
 
+  grown-kth : (e k : ℕ) → 1 ≤ e → e ≤ n → k < blocksUsed (sizeOf s e) → k < addressCount → kthBlock t n e k ≡ kthBlock s n e k
+  grown-kth e k a d q w = elim (ℕ-discrete e i) as (λ _. kthBlock t n e k ≡ kthBlock s n e k) [
+    | yes z ↦ ap (λ (j : ℕ). kthBlock t n j k) z ∙ g .old k w (let o = ap (λ (j : ℕ). blocksUsed (sizeOf s j)) z in (λ r. omega arith)) ∙ ap (λ (j : ℕ). kthBlock s n j k) (sym z)
+    | no z ↦ g .others e a d z .blocks k w
+  ]
+
+  -- every slot that was there holds what it held
+  pub grown-entry : (e u : ℕ) → 1 ≤ e → e ≤ n → u < slots s e → entryOf t n e u ≡ entryOf s n e u
+  unfolding slots blocksUsed
+  grown-entry e u a d q =
+      let z = body .inodes e a d .size in
+      entry-kept s t n e u (grown-kth e (u / 4) a d (omega arith) (omega arith)) (grown-bytes e (u / 4) a d (omega arith))
+
   -- a place of the inode that grows
   grown-at : (p : ℕ) → dirOf p ≤ n → Grown s t n (dirOf p) c → SamePlace s t n p
-  unfolding entryAt slots
+  unfolding entryAt
   grown-at p a r = go (ℕ-discrete (kindOf s (dirOf p)) directoryKind) (decLt (slotOf p) (slots s (dirOf p))) (decLt (slotOf p) (slots t (dirOf p)))
     where
       d : ℕ
@@ -194,25 +187,20 @@ module _ (s t : List ℕ) (n b i c : ℕ) (h : Sound mostStoreBlocks false s) (x
       more : slots t d ≡ slots s d + 4
       more = grown-slots s t n d c r
 
-      entry : slotOf p < slots s d → entryOf t n d (slotOf p) ≡ entryOf s n d (slotOf p)
-      entry o =
-          let w : slotOf p / 4 < 12 = omega arith in
-          grown-entry s t n d c r (slotOf p) (omega arith) o (body .inodes d low a .used (slotOf p / 4) w (omega arith) .0) (not-new d (slotOf p / 4) low a w)
-
       go : Dec (kindOf s d ≡ directoryKind) → Dec (slotOf p < slots s d) → Dec (slotOf p < slots t d) → SamePlace s t n p
       go (no q) o w = place-slot s t n p (slot-kept s t p (r .kind) (λ e. absurd (q e))) (λ e. absurd (q (slot-is s p .to e .0)))
       go (yes q) (yes o) w =
-          place-slot s t n p (slot-is t p .from (r .kind ∙ q, (let z = more in omega arith)) ∙ sym (slot-is s p .from (q, o))) (λ _. entry o)
+          place-slot s t n p (slot-is t p .from (r .kind ∙ q, (let z = more in omega arith)) ∙ sym (slot-is s p .from (q, o))) (λ _. grown-entry d (slotOf p) low a o)
       go (yes q) (no o) (yes w) =
           place-new s t n p (r-fails (slot-is s p) (λ e. o (e .1))) (slot-is t p .from (r .kind ∙ q, w)) (grown-empty s t n d c r (slotOf p) (omega arith) w)
       go (yes q) (no o) (no w) =
           place-slot s t n p (r-fails (slot-is t p) (λ e. w (e .1)) ∙ sym (r-fails (slot-is s p) (λ e. o (e .1)))) (λ e. absurd (o (slot-is s p .to e .1)))
 
-  grown-tree : SameTree s t n
+  pub grown-tree : SameTree s t n
   grown-tree = record {
-    kinds = grown-kind s t n i c g;
-    links = grown-links s t n i c g;
-    parents = grown-parent s t n i c g;
+    kinds = changed s t n i (g .others) kindOf (g .kind) (λ j e. e .kind);
+    links = changed s t n i (g .others) linksOf (g .links) (λ j e. e .links);
+    parents = changed s t n i (g .others) parentOf (g .parent) (λ j e. e .parent);
     places = λ p q. elim (ℕ-discrete (dirOf p) i) as (λ _. SamePlace s t n p) [
       | yes e ↦ grown-at p (omega arith) (subst (λ (d : ℕ). Grown s t n d c) (sym e) g)
       | no e ↦ place-kept s t n p (g .others (dirOf p) (omega arith) (omega arith) e) (λ k z w. grown-bytes (dirOf p) k (omega arith) (omega arith) w)
@@ -277,3 +265,42 @@ module _ (s t : List ℕ) (n b i c : ℕ) (h : Sound mostStoreBlocks false s) (x
       let p = body .free-blocks in
       let q = g .free-blocks in
       sound-kept s t h (g .frame) n b x y grown-tree grown-inodes grown-differ (g .free-inodes) (omega arith)
+
+-- ---- the lowest free block
+module _ (s : List ℕ) (n b : ℕ) where
+  pub record FreeBlock (c : ℕ) : Type 0 where
+    pub low : 1 ≤ c
+    pub high : c ≤ b
+    pub free : named s n c ≡ false
+
+  pub free-block : (c : ℕ) → freeBlock s n b ≡ At c → FreeBlock c
+  unfolding freeBlock
+  free-block c e =
+      let r = found-lowest (λ a. not (named s n a)) 1 b c e in
+      let l = r .below in
+      record { low = r .from; high = omega arith; free = not-true (named s n c) (r .holds) }
+
+  -- "The free counts are true.": where the header tells of one there is one
+  pub some-free : Body s n b → 1 ≤ headerOf s .«free_blocks» → (c : ℕ) × (freeBlock s n b ≡ At c)
+  unfolding freeBlock
+  some-free h l =
+      let f : ℕ → Bool = λ a. not (named s n a) in
+      let e = h .free-blocks in
+      let r = count-some (unnamedB s n) b (omega arith) in
+      let k = r .0 in
+      let a : k < b = r .1 in
+      let d = lowest-of f 1 b (k + 1) (omega arith) (omega arith) (r .2) in
+      (d .0, lowest-found f 1 b (d .0) (d .1))
+
+-- ---- a block more for an inode in use
+module _ (s : List ℕ) (n b i c : ℕ) (h : Sound mostStoreBlocks false s) (x : n ≡ inodesIn s) (y : b ≡ blocksIn s)
+    (l : 1 ≤ i) (m : i ≤ n) (u : blocksUsed (sizeOf s i) < addressCount) (w : FreeBlock s n b c) where
+  pub block-added : Grown s (addBlock s n i c) n i c
+  block-added =
+      let z = h .framed .long in
+      let a = w .low in
+      let d = w .high in
+      add-block s n i c (fits s n h x i l m) a (omega arith) u
+
+  pub add-block-sound : kindOf s i ≢ freeKind → Sound mostStoreBlocks false (addBlock s n i c)
+  add-block-sound v = grown-sound s (addBlock s n i c) n b i c h x y block-added l m v u (w .low) (w .high) (w .free)

@@ -8,6 +8,7 @@ pub mod PlanFacts
 pub mod PlanLaws
 pub mod PutLaws
 pub mod ReadLaws
+pub mod RoomLaws
 pub mod SameLaws
 pub mod SizePlanLaws
 pub mod StoreLaws

@@ -71,6 +71,9 @@ inode-then a b = record {
   blocks = λ k l. b .blocks k l ∙ a .blocks k l;
 }
 
+pub frame-stays : (s : List ℕ) → SameFrame s s
+frame-stays s = record { long = refl; inodes = refl; blocks = refl; complete = refl; root = refl; reserved = refl }
+
 pub inode-stays : (s : List ℕ) (n i : ℕ) → SameInode s s n i
 inode-stays s n i = record { kind = refl; spare = refl; links = refl; size = refl; parent = refl; blocks = λ k l. refl }
 
