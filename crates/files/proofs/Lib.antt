@@ -1,4 +1,5 @@
 pub mod AddressLaws
+pub mod CallLaws
 pub mod EntryPlanLaws
 pub mod GrowLaws
 pub mod KeepLaws

@@ -4,4 +4,5 @@ pub mod Content
 pub mod Room
 pub mod Plan
 pub mod Apply
+pub mod Guard
 pub mod Plain

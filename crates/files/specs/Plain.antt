@@ -10,6 +10,7 @@ use Rattle.sound.specs.Sound.{framedB, isSound, inodesIn, blocksIn}
 use Rattle.sound.specs.declared.Form.the-variants.{Store}
 use Rattle.answers.specs.declared.Refusal.the-variants.{BadBuffer, UnsoundStore}
 use Rattle.answers.specs.declared.Answer.{Answer}
+use Rattle.answers.specs.Told.{Told, told}
 use Rattle.answers.specs.declared.Answer.the-variants.{Done, Refused}
 use Rattle.files.specs.declared.Kind.{Kind}
 use Rattle.files.specs.declared.CreatePlan.{CreatePlan}
@@ -34,6 +35,15 @@ pub record Outcome : Type 0 where
 
 abbrev pub left : Answer → List ℕ → List ℕ → Outcome
 left a s o = record { answer = a; store = s; out = o }
+
+-- the same by the paper's numbers: what a caller sees
+pub record Shown : Type 0 where
+  pub answer : Told
+  pub store : List ℕ
+  pub out : List ℕ
+
+abbrev pub shown : Outcome → Shown
+shown o = record { answer = told (o .answer); store = o .store; out = o .out }
 
 -- refusals 1 and 2 come before all others
 unfoldable pub guarded : List ℕ → List ℕ → Outcome → Outcome

@@ -1,5 +1,6 @@
 // The plain store's file calls: what a call is to do, decided before any byte changes.
 pub mod content;
+pub mod plain;
 pub mod plan;
 
 use answers::Refusal;
@@ -51,4 +52,10 @@ pub enum SizePlan {
 pub enum Kind {
     File,
     Directory,
+}
+
+// The store is fit for a call, with its counts of inodes and blocks, or a refusal.
+pub enum Guard {
+    Pass(usize, usize),
+    Stop(Refusal),
 }

@@ -1,0 +1,57 @@
+use Rattle.files.proofs.CallLaws.{guard-unframed, guard-unsound, guard-sound}
+use Rattle.sound.proofs.CheckLaws.{read-inodes, read-blocks, framed-on, sound-on}
+use Rattle.sound.specs.Sound.{framedB}
+use Rattle.layout.specs.Sizes.{mostStoreBlocks}
+use Rattle.bounded.proofs.BoolLaws.{chain-on, chain-off}
+use denote.Ref.{now}
+use native.Mathlib.Omega.{arith}
+use mathlib.Core.Bool.{true}
+use mathlib.Core.Path.{_≡_, sym, _∙_}
+use borrow.Author.Needs.{needs}
+use Rattle.files.proofs.plain.guard.Statement.{statement}
+use Rattle.files.proofs.plain.guard.Tie as tie
+
+-- the counts and the length were right
+framed-here : (c : tie.Else1) → framedB mostStoreBlocks (now (c .before .before .before .args .s)) ≡ true
+framed-here c = chain-on _ _ (c .before .framed .ensures) (c .if1 .left)
+
+framed-requires : tie.Need-framed-requires
+framed-requires c κs = search needs
+
+returns : tie.Need-returns
+returns c = guard-unframed _ (chain-off _ _ (c .before .framed .ensures) (c .if1 .taken))
+
+get-16-requires : tie.Need-get-16-requires
+get-16-requires c κs = let f = framed-on mostStoreBlocks _ (omega arith) (framed-here c) in let l = f .long in omega arith
+
+cast-n : tie.Need-cast-n
+cast-n c = search needs
+
+get-16-requires-2 : tie.Need-get-16-requires-2
+get-16-requires-2 c κs = let f = framed-on mostStoreBlocks _ (omega arith) (framed-here (c .before)) in let l = f .long in omega arith
+
+cast-b : tie.Need-cast-b
+cast-b c = search needs
+
+body-right-requires : tie.Need-body-right-requires
+body-right-requires c κs = (framed-on mostStoreBlocks _ (omega arith) (framed-here (c .before .before)), c .before .get-16 .ensures ∙ read-inodes _, c .get-162 .ensures ∙ read-blocks _)
+
+returns-2 : tie.Need-returns-2
+returns-2 c = guard-unsound _ (framed-here (c .before .before .before .before)) (chain-off _ _ (sound-on _ _ _ _ (framed-here (c .before .before .before .before)) (c .before .body-right .ensures)) (c .if2 .taken))
+
+returns-3 : tie.Need-returns-3
+returns-3 c = guard-sound _ (framed-here (c .before .before .before .before)) _ _ (chain-on _ _ (sound-on _ _ _ _ (framed-here (c .before .before .before .before)) (c .before .body-right .ensures)) (c .if2 .left)) (c .before .before .before .get-16 .ensures ∙ read-inodes _) (c .before .before .get-162 .ensures ∙ read-blocks _)
+
+pub guard-spec : {M : Type 1} → statement M
+guard-spec =
+    tie.close
+    (tie.spec
+    framed-requires
+    returns
+    get-16-requires
+    cast-n
+    get-16-requires-2
+    cast-b
+    body-right-requires
+    returns-2
+    returns-3)

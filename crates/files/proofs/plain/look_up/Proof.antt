@@ -1,0 +1,35 @@
+use Rattle.files.proofs.CallLaws.{passed, call-through, call-stopped}
+use Rattle.files.specs.Plain.{doLookUp, plainLookUp}
+use Rattle.files.specs.Plan.{lookUpPlan}
+use denote.Ref.{now}
+use mathlib.Core.List.{[]}
+use mathlib.Core.Path.{sym, _∙_}
+use Prim.Native.Nat.{ℕ}
+use borrow.Author.Needs.{needs}
+use Rattle.files.proofs.plain.look_up.Statement.{statement}
+use Rattle.files.proofs.plain.look_up.Tie as tie
+
+guard-requires : tie.Need-guard-requires
+guard-requires c κs = search needs
+
+enum-known-n : tie.Need-enum-known-n
+enum-known-n c = search needs
+
+looked-up-requires : tie.Need-looked-up-requires
+looked-up-requires c κs = let p = passed _ _ _ (sym (c .before .before .before .guard .ensures) ∙ c .before .n .given .1) in (p .sound, p .inodes)
+
+enum-known-why : tie.Need-enum-known-why
+enum-known-why c = search needs
+
+returns : tie.Need-returns
+unfolding plainLookUp
+returns c = let a = c .before .before .before .before .before .before .before .args in call-through _ _ _ (c .before .before .before .before .guard .ensures) _ _ (λ (n b : ℕ). doLookUp (now (a .store)) [] (lookUpPlan (now (a .store)) n (a .dir) (now (a .name)))) _ (c .before .before .n .given .1) (c .looked-up .ensures)
+
+returns-2 : tie.Need-returns-2
+unfolding plainLookUp
+returns-2 c = call-stopped _ _ _ (c .before .before .before .guard .ensures) _ _ (c .before .why .given .1)
+
+pub look-up-spec : {M : Type 1} → statement M
+look-up-spec =
+    tie.close
+    (tie.spec guard-requires enum-known-n looked-up-requires enum-known-why returns returns-2)

@@ -1,0 +1,26 @@
+use Rattle.files.specs.Plain.{doLookUp}
+use denote.Ref.{now}
+use mathlib.Core.List.{[]}
+use mathlib.Core.Path.{sym, ap, _∙_}
+use borrow.Author.Needs.{needs}
+use Rattle.files.proofs.plain.looked_up.Statement.{statement}
+use Rattle.files.proofs.plain.looked_up.Tie as tie
+
+look-up-plan-requires : tie.Need-look-up-plan-requires
+look-up-plan-requires c κs = search needs
+
+enum-known-i : tie.Need-enum-known-i
+enum-known-i c = search needs
+
+enum-known-why : tie.Need-enum-known-why
+enum-known-why c = search needs
+
+returns : tie.Need-returns
+returns c = ap (doLookUp (now (c .before .before .before .before .before .before .args .s)) []) (sym (c .before .i .given .1) ∙ c .before .before .before .look-up-plan .ensures)
+
+returns-2 : tie.Need-returns-2
+returns-2 c = ap (doLookUp (now (c .before .before .before .before .before .before .args .s)) []) (sym (c .before .why .given .1) ∙ c .before .before .before .look-up-plan .ensures)
+
+pub looked-up-spec : {M : Type 1} → statement M
+looked-up-spec =
+    tie.close (tie.spec look-up-plan-requires enum-known-i enum-known-why returns returns-2)

@@ -1,0 +1,45 @@
+use Rattle.files.proofs.CallLaws.{passed, call-through, call-stopped}
+use Rattle.files.specs.Plain.{doRead, plainRead}
+use Rattle.files.specs.Plan.{readPlan}
+use denote.Ref.{now}
+use lib.ListN.{length}
+use mathlib.Core.Path.{sym, _∙_}
+use Prim.Native.Nat.{ℕ}
+use borrow.Author.Needs.{needs}
+use Rattle.files.proofs.plain.read.Statement.{statement}
+use Rattle.files.proofs.plain.read.Tie as tie
+
+guard-requires : tie.Need-guard-requires
+guard-requires c κs = search needs
+
+enum-known-n : tie.Need-enum-known-n
+enum-known-n c = search needs
+
+read-out-requires : tie.Need-read-out-requires
+read-out-requires c κs = let p = passed _ _ _ (sym (c .before .before .before .before .guard .ensures) ∙ c .before .before .n .given .1) in (p .sound, p .inodes)
+
+enum-known-why : tie.Need-enum-known-why
+enum-known-why c = search needs
+
+same-length : tie.Need-same-length
+same-length c = search needs
+
+returns : tie.Need-returns
+unfolding plainRead
+returns c = let a = c .before .before .before .before .before .before .before .before .before .before .args in call-through _ _ _ (c .before .before .before .before .before .before .before .guard .ensures) _ _ (λ (n b : ℕ). doRead (now (a .store)) n (a .inode) (a .offset) (now (a .out)) (readPlan (now (a .store)) n (a .inode) (a .offset) (length (now (a .out))))) _ (c .before .before .before .before .before .n .given .1) (c .before .before .read-out .ensures)
+
+returns-2 : tie.Need-returns-2
+unfolding plainRead
+returns-2 c = call-stopped _ _ _ (c .before .before .before .guard .ensures) _ _ (c .before .why .given .1)
+
+pub read-spec : {M : Type 1} → statement M
+read-spec =
+    tie.close
+    (tie.spec
+    guard-requires
+    enum-known-n
+    read-out-requires
+    enum-known-why
+    same-length
+    returns
+    returns-2)
