@@ -1,5 +1,6 @@
 pub mod AddressLaws
 pub mod EntryPlanLaws
+pub mod FileLaws
 pub mod GrowLaws
 pub mod KeepLaws
 pub mod PlainLaws
