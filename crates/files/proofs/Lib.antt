@@ -9,3 +9,4 @@ pub mod RoomLaws
 pub mod SameLaws
 pub mod SizePlanLaws
 pub mod StoreLaws
+pub mod WriteLaws
