@@ -170,3 +170,111 @@ module _ (s : List ℕ) (n b i m : ℕ) (h : Spare s n b i (suc m)) where
 pub add-blocks : (m : ℕ) (s : List ℕ) (n b i : ℕ) → Spare s n b i m → Widened s (addBlocks s n b i m) n i m
 add-blocks zero s n b i h = unfold addBlocks in widened-none s n i (h .sound)
 add-blocks (suc m) s n b i h = widened-step s n b i m h (λ r. add-blocks m r n b i)
+
+-- ---- another size on the same blocks
+module _ (s : List ℕ) (n b i z : ℕ) (h : Sound mostStoreBlocks false s) (x : n ≡ inodesIn s) (y : b ≡ blocksIn s)
+    (l : 1 ≤ i) (q : i ≤ n) (u : blocksUsed z ≡ blocksUsed (sizeOf s i)) where
+  pub put-size : Resized s (putSize s n i z) n i z
+  unfolding putSize inodeOf kthBlock
+  put-size =
+      let f = fits s n h x i l q in
+      let v = withSize (inodeOf s n i) z in
+      let g = put-attributes s n i f v in
+      let a = attributes-new s n i f v in
+      let r = body-of s n b h x y .inodes i l q in
+      record {
+        frame = g .frame;
+        others = g .others;
+        kind = a .kind;
+        spare = a .spare;
+        links = a .links;
+        size = a .size;
+        parent = a .parent;
+        kept = λ k m _. attributes-blocks s n i f v k m;
+        rest = λ k m o. attributes-blocks s n i f v k m ∙ r .rest k m (omega arith);
+        bytes = g .bytes;
+        free-inodes = ap (λ (d : Header). d .«free_inodes») (g .header);
+        free-blocks = ap (λ (d : Header). d .«free_blocks») (g .header) ∙ omega arith;
+      }
+
+  pub put-size-sound : kindOf s i ≡ fileKind → ZeroPast s n i z → Sound mostStoreBlocks false (putSize s n i z)
+  put-size-sound v w = resized-sound s (putSize s n i z) n b i z h x y l q v put-size (omega arith) w
+
+-- ---- one byte of a file
+-- a sound store with a file i of more than o bytes
+pub record Holds (s : List ℕ) (n b i o : ℕ) : Type 0 where
+  pub sound : Sound mostStoreBlocks false s
+  pub inodes : n ≡ inodesIn s
+  pub blocks : b ≡ blocksIn s
+  pub low : 1 ≤ i
+  pub high : i ≤ n
+  pub kind : kindOf s i ≡ fileKind
+  pub size : o ≤ sizeOf s i
+
+holds-less : {s : List ℕ} {n b i o : ℕ} (a : ℕ) → a ≤ o → Holds s n b i o → Holds s n b i a
+holds-less a l h = record { sound = h .sound; inodes = h .inodes; blocks = h .blocks; low = h .low; high = h .high; kind = h .kind; size = let z = h .size in omega arith }
+
+abbrev oneByte : List ℕ → ℕ → ℕ → ℕ → ℕ → List ℕ
+oneByte s n i o v = putInBlock s n (kthBlock s n i (o / blockBytes)) (o % blockBytes) (v ∷ [])
+
+module _ (s : List ℕ) (n b i o v : ℕ) (h : Holds s n b i (suc o)) where
+  abbrev k : ℕ
+  k = o / blockBytes
+
+  abbrev after : List ℕ
+  after = oneByte s n i o v
+
+  used : k < blocksUsed (sizeOf s i)
+  unfolding blocksUsed
+  used = let z = h .size in omega arith
+
+  few : blocksUsed (sizeOf s i) ≤ addressCount
+  unfolding blocksUsed
+  few = let z = body-of s n b (h .sound) (h .inodes) (h .blocks) .inodes i (h .low) (h .high) .size in omega arith
+
+  pub put-byte : InBlock s after n (kthBlock s n i k)
+  put-byte = put-in-block s n (kthBlock s n i k) (used-low s n b (h .sound) (h .inodes) (h .blocks) i k (h .low) (h .high) used) (o % blockBytes) (v ∷ []) (omega arith)
+
+  -- the others stay
+  pub put-byte-other : (a : ℕ) → a < blockBytes * blocksUsed (sizeOf s i) → a ≢ o → fileByte after n i a ≡ fileByte s n i a
+  unfolding fileByte
+  put-byte-other a p e = go (ℕ-discrete (a / 64) k)
+    where
+      go : Dec (a / 64 ≡ k) → fileByte after n i a ≡ fileByte s n i a
+      go (no z) = let f = few in other-byte s after n b i k (h .sound) (h .inodes) (h .blocks) (h .low) (h .high) (h .kind) used put-byte a p z (omega arith)
+      go (yes z) =
+          let f = few in
+          let c = put-byte .inodes i (h .low) (h .high) .blocks (a / 64) (omega arith) ∙ ap (kthBlock s n i) z in
+          ap (λ (d : ℕ). getD (blockOf after n d) (a % 64) 0) c
+          ∙ in-block-out s n (kthBlock s n i k) (o % 64) (v ∷ []) (a % 64) (omega arith) (omega arith)
+          ∙ ap (λ (d : ℕ). getD (blockOf s n (kthBlock s n i d)) (a % 64) 0) (sym z)
+
+  pub put-byte-sound : Sound mostStoreBlocks false after
+  put-byte-sound =
+      content-sound s after n b i k (h .sound) (h .inodes) (h .blocks) (h .low) (h .high) (h .kind) used put-byte
+      (λ a p q. let z = h .size in put-byte-other a q (λ e. omega arith) ∙ tail-past s n i (body-of s n b (h .sound) (h .inodes) (h .blocks) .inodes i (h .low) (h .high) .tail) (h .kind) a p q)
+
+  put-byte-holds : (m : ℕ) → m ≤ sizeOf s i → Holds after n b i m
+  put-byte-holds m p =
+      let g = put-byte in
+      let e = g .inodes i (h .low) (h .high) in
+      record {
+        sound = put-byte-sound;
+        inodes = h .inodes ∙ sym (g .frame .inodes);
+        blocks = h .blocks ∙ sym (g .frame .blocks);
+        low = h .low;
+        high = h .high;
+        kind = e .kind ∙ h .kind;
+        size = let z = e .size in omega arith;
+      }
+
+-- ---- all bytes
+put-file-next : (v : ℕ) (xs : List ℕ) (s : List ℕ) (n b i o : ℕ) → Holds s n b i (o + length (v ∷ xs)) → Holds (oneByte s n i o v) n b i (o + 1 + length xs)
+put-file-next v xs s n b i o h =
+    let z = h .size in
+    put-byte-holds s n b i o v (holds-less (suc o) (omega arith) h) (o + 1 + length xs) (omega arith)
+
+pub put-file-sound : (xs : List ℕ) (s : List ℕ) (n b i o : ℕ) → Holds s n b i (o + length xs) → Sound mostStoreBlocks false (putFile s n i o xs)
+unfolding putFile
+put-file-sound [] s n b i o h = h .sound
+put-file-sound (v ∷ xs) s n b i o h = put-file-sound xs (oneByte s n i o v) n b i (o + 1) (put-file-next v xs s n b i o h)
