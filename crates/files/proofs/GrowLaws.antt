@@ -160,7 +160,7 @@ module _ (s t : List ℕ) (n b i c : ℕ) (h : Sound mostStoreBlocks false s) (x
       let w : k < 12 = omega arith in
       g .bytes (kthBlock s n j k) (body .inodes j a d .used k w q .0) (not-new j k a d w)
 
-  grown-kth : (e k : ℕ) → 1 ≤ e → e ≤ n → k < blocksUsed (sizeOf s e) → k < addressCount → kthBlock t n e k ≡ kthBlock s n e k
+  pub grown-kth : (e k : ℕ) → 1 ≤ e → e ≤ n → k < blocksUsed (sizeOf s e) → k < addressCount → kthBlock t n e k ≡ kthBlock s n e k
   grown-kth e k a d q w = elim (ℕ-discrete e i) as (λ _. kthBlock t n e k ≡ kthBlock s n e k) [
     | yes z ↦ ap (λ (j : ℕ). kthBlock t n j k) z ∙ g .old k w (let o = ap (λ (j : ℕ). blocksUsed (sizeOf s j)) z in (λ r. omega arith)) ∙ ap (λ (j : ℕ). kthBlock s n j k) (sym z)
     | no z ↦ g .others e a d z .blocks k w

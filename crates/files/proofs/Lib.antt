@@ -1,6 +1,7 @@
 pub mod AddressLaws
 pub mod CallLaws
 pub mod EntryPlanLaws
+pub mod FileLaws
 pub mod GrowLaws
 pub mod KeepLaws
 pub mod ParentLaws
@@ -14,3 +15,4 @@ pub mod SameLaws
 pub mod SizePlanLaws
 pub mod StoreLaws
 pub mod TakePlanLaws
+pub mod WriteLaws
