@@ -3,3 +3,4 @@ pub mod PlainLaws
 pub mod PlanLaws
 pub mod SizePlanLaws
 pub mod StoreLaws
+pub mod TreeLaws
