@@ -1,8 +1,10 @@
+pub mod ChangeLaws
 pub mod EntryPlanLaws
 pub mod KeepLaws
 pub mod PlainLaws
 pub mod PlanLaws
 pub mod SameLaws
 pub mod SizePlanLaws
+pub mod SoundTreeLaws
 pub mod StoreLaws
 pub mod TreeLaws
