@@ -1,3 +1,4 @@
+pub mod AddressLaws
 pub mod ChangeLaws
 pub mod EntryPlanLaws
 pub mod KeepLaws

@@ -1,0 +1,165 @@
+-- How many blocks no address names: it changes by the blocks that an inode takes or gives back. n and b are the counts of inodes and blocks.
+use Prim.Native.Nat.{ℕ, zero, suc, _+_, _-_, _*_, _/_, _%_, _≤_, _<_}
+use mathlib.Core.Path.{_≡_, refl, sym, ap, _∙_, subst}
+use mathlib.Core.Logic.{_≢_}
+use mathlib.Core.Bool.{Bool, true, false, not}
+use mathlib.Core.List.{List}
+use native.Mathlib.Decide.{ℕ-discrete, decLt}
+use native.Mathlib.Numerals.{add-one}
+use native.Mathlib.Omega.{arith}
+use borrow.Author.Tests.{eq-eqb, ne-eqb, lt-ltb, le-ltb}
+use lib.Dec.{eqb, ltb}
+use Rattle.bounded.specs.Below.{someBelow}
+use Rattle.bounded.specs.Count.{one, count, Differ}
+use Rattle.bounded.specs.Update.{Changed, here, there}
+use Rattle.bounded.proofs.BelowLaws.{none-some, all-ext}
+use Rattle.bounded.proofs.SeenLaws.{some-skip, some-here}
+use Rattle.bounded.proofs.CountLaws.{count-step, count-hit, count-miss, count-none, count-all, count-not, count-ext, count-at, count-split}
+use Rattle.layout.specs.Sizes.{addressCount}
+use Rattle.layout.specs.Inode.{sizeOf, addressOf, place}
+use Rattle.layout.specs.Block.{blocksUsed, kthBlock}
+use Rattle.layout.specs.Free.{named}
+use Rattle.sound.specs.Inode.{InodeSound}
+use Rattle.sound.specs.Sound.{unnamedB}
+
+-- ---- numbers that differ: each value is met once, so as many values are met as numbers are not 0
+-- v is among the first m values
+abbrev met : (ℕ → ℕ) → ℕ → ℕ → Bool
+met f m v = someBelow (λ x. eqb (f x) v) m
+
+abbrev nonzero : (ℕ → ℕ) → ℕ → Bool
+nonzero f x = ltb 0 (f x)
+
+met-count : (f : ℕ → ℕ) (b m : ℕ) → Differ f m → ((x : ℕ) → x < m → f x ≤ b) → count (λ k. met f m (k + 1)) b ≡ count (nonzero f) m
+met-count f b zero d h = count-none (λ k. met f 0 (k + 1)) b (λ k l. none-some (λ x. eqb (f x) (k + 1)) 0 (λ x m. absurd (omega arith))) ∙ sym (count-none (nonzero f) 0 (λ k l. absurd (omega arith)))
+met-count f b (suc m) d h =
+    subst (λ (y : ℕ). count (λ k. met f y (k + 1)) b ≡ count (nonzero f) y) (add-one m)
+    (go (ℕ-discrete (f m) 0) (met-count f b m (λ i j l k. d i j l (omega arith)) (λ x l. h x (omega arith))))
+  where
+    step : (v : ℕ) → f m ≢ v → met f (m + 1) v ≡ met f m v
+    step v q = some-skip (λ x. eqb (f x) v) m (ne-eqb (f m) v q)
+
+    at : f m ≢ 0 → (q : ℕ) → Dec (q ≡ f m - 1) → Changed (λ k. met f m (k + 1)) (f m - 1) true q (met f (m + 1) (q + 1))
+    at z q (yes e) = here e (some-here (λ x. eqb (f x) (q + 1)) m (eq-eqb (f m) (q + 1) (omega arith)))
+    at z q (no e) = there e (step (q + 1) (λ g. e (omega arith)))
+
+    go : Dec (f m ≡ 0) → count (λ k. met f m (k + 1)) b ≡ count (nonzero f) m → count (λ k. met f (m + 1) (k + 1)) b ≡ count (nonzero f) (m + 1)
+    go (yes z) r =
+        count-ext (λ k. met f (m + 1) (k + 1)) (λ k. met f m (k + 1)) b (λ k l. step (k + 1) (λ g. omega arith))
+        ∙ r ∙ sym (count-miss (nonzero f) m (le-ltb 0 (f m) (omega arith)))
+    go (no z) r =
+        let l = h m (omega arith) in
+        let c = count-at (λ k. met f m (k + 1)) (λ k. met f (m + 1) (k + 1)) (f m - 1) true (λ q. at z q (ℕ-discrete q (f m - 1))) b (omega arith) in
+        let w : f m - 1 + 1 ≡ f m = omega arith in
+        let o : one (met f m (f m - 1 + 1)) ≡ 0 = ap one (none-some (λ x. eqb (f x) (f m - 1 + 1)) m (λ x k. ne-eqb (f x) (f m - 1 + 1) (λ g. d x m k (omega arith) (omega arith) (g ∙ w)))) in
+        let y = count-hit (nonzero f) m (lt-ltb 0 (f m) (omega arith)) in
+        omega arith
+
+-- ---- a row of twelve: the first k are not 0
+row-count : (f : ℕ → ℕ) (k : ℕ) → k ≤ addressCount → ((j : ℕ) → j < addressCount → j < k → 1 ≤ f j) → ((j : ℕ) → j < addressCount → k ≤ j → f j ≡ 0) → count (nonzero f) addressCount ≡ k
+row-count f k l g h =
+    let e : k + (12 - k) ≡ 12 = omega arith in
+    let a = count-split (nonzero f) k (12 - k) in
+    let c = count-all (nonzero f) k (λ j m. lt-ltb 0 (f j) (g j (omega arith) m)) in
+    let d = count-none (λ j. nonzero f (k + j)) (12 - k) (λ j m. le-ltb 0 (f (k + j)) (let z = h (k + j) (omega arith) (omega arith) in omega arith)) in
+    ap (count (nonzero f)) (sym e) ∙ a ∙ omega arith
+
+-- the rows of f and g are the same but for that of inode i
+module _ (f g : ℕ → ℕ) (n i : ℕ) (l : 1 ≤ i) (m : i ≤ n) (same : (x : ℕ) → x < addressCount * n → x / addressCount + 1 ≢ i → g x ≡ f x) where
+  -- before row i, row i, and after it
+  split : (u : ℕ → ℕ) → count (nonzero u) (12 * n) ≡ count (nonzero u) (12 * (i - 1)) + (count (λ k. nonzero u (place i k)) 12 + count (λ k. nonzero u (12 * i + k)) (12 * (n - i)))
+  split u =
+      let a : 12 * n ≡ 12 * (i - 1) + (12 + 12 * (n - i)) = omega arith in
+      ap (count (nonzero u)) a ∙ count-split (nonzero u) (12 * (i - 1)) (12 + 12 * (n - i))
+      ∙ ap (λ (x : ℕ). count (nonzero u) (12 * (i - 1)) + x) (count-split (λ k. nonzero u (12 * (i - 1) + k)) 12 (12 * (n - i))
+      ∙ ap (λ (x : ℕ). count (λ k. nonzero u (12 * (i - 1) + k)) 12 + x) (count-ext (λ k. nonzero u (12 * (i - 1) + (12 + k))) (λ k. nonzero u (12 * i + k)) (12 * (n - i))
+      (λ k _. let e : 12 * (i - 1) + (12 + k) ≡ 12 * i + k = omega arith in ap (nonzero u) e)))
+
+  rows-count : (a b : ℕ) → count (λ k. nonzero f (place i k)) 12 ≡ a → count (λ k. nonzero g (place i k)) 12 ≡ b → count (nonzero g) (12 * n) + a ≡ count (nonzero f) (12 * n) + b
+  rows-count a b p q =
+      let x = split f in
+      let y = split g in
+      let v = count-ext (nonzero g) (nonzero f) (12 * (i - 1)) (λ k r. ap (ltb 0) (same k (omega arith) (omega arith))) in
+      let w = count-ext (λ k. nonzero g (12 * i + k)) (λ k. nonzero f (12 * i + k)) (12 * (n - i)) (λ k r. ap (ltb 0) (same (12 * i + k) (omega arith) (omega arith))) in
+      omega arith
+
+-- ---- values that still differ
+-- some of them become 0
+pub differ-less : (f g : ℕ → ℕ) (m : ℕ) → Differ f m → ((x : ℕ) → x < m → 0 < g x → g x ≡ f x) → Differ g m
+differ-less f g m d h i j l k p e =
+    let a = h j k p in
+    let b = h i (omega arith) (omega arith) in
+    d i j l k (omega arith) (omega arith)
+
+-- one becomes c, which was none of them
+pub differ-new : (f g : ℕ → ℕ) (m y c : ℕ) → Differ f m → ((x : ℕ) → x < m → f x ≢ c) → g y ≡ c → ((x : ℕ) → x < m → x ≢ y → g x ≡ f x) → Differ g m
+differ-new f g m y c d u e h i j l k p q = go (ℕ-discrete i y) (ℕ-discrete j y)
+  where
+    go : Dec (i ≡ y) → Dec (j ≡ y) → ⊥
+    go (yes a) (yes b) = omega arith
+    go (yes a) (no b) = u j k (sym (h j k b) ∙ sym q ∙ ap g a ∙ e)
+    go (no a) (yes b) = u i (omega arith) (sym (h i (omega arith) a) ∙ q ∙ ap g b ∙ e)
+    go (no a) (no b) = let v = h i (omega arith) a in let w = h j k b in d i j l k (omega arith) (omega arith)
+
+-- ---- the addresses of all inodes
+-- the row of address x, and its place there
+module _ (s : List ℕ) (n : ℕ) where
+  pub address-kth : (x : ℕ) → addressOf s n x ≡ kthBlock s n (x / addressCount + 1) (x % addressCount)
+  unfolding kthBlock
+  address-kth x = let e : x ≡ place (x / 12 + 1) (x % 12) = omega arith in ap (addressOf s n) e
+
+  -- an address of a sound inode is 0 or a block
+  pub kth-bound : (b i k : ℕ) → k < addressCount → InodeSound s n b i → kthBlock s n i k ≤ b
+  unfolding kthBlock
+  kth-bound b i k l h = go (decLt k (blocksUsed (sizeOf s i)))
+    where
+      go : Dec (k < blocksUsed (sizeOf s i)) → kthBlock s n i k ≤ b
+      go (yes u) = h .used k l u .1
+      go (no u) = let z = h .rest k l (omega arith) in omega arith
+
+  pub addresses-bound : (b : ℕ) → ((i : ℕ) → 1 ≤ i → i ≤ n → InodeSound s n b i) → (x : ℕ) → x < addressCount * n → addressOf s n x ≤ b
+  addresses-bound b h x l =
+      rw (address-kth x) (kth-bound b (x / 12 + 1) (x % 12) (omega arith) (h (x / 12 + 1) (omega arith) (omega arith)))
+
+  used-row : (b i : ℕ) → InodeSound s n b i → count (λ k. nonzero (addressOf s n) (place i k)) addressCount ≡ blocksUsed (sizeOf s i)
+  unfolding kthBlock blocksUsed
+  used-row b i h =
+      let z = h .size in
+      row-count (λ k. addressOf s n (place i k)) (blocksUsed (sizeOf s i)) (omega arith) (λ k l u. h .used k l u .0) (h .rest)
+
+  -- the named blocks are as many as the addresses in use
+  named-count : (b : ℕ) → ((i : ℕ) → 1 ≤ i → i ≤ n → InodeSound s n b i) → Differ (addressOf s n) (addressCount * n) → count (nonzero (addressOf s n)) (addressCount * n) + count (unnamedB s n) b ≡ b
+  unfolding named
+  named-count b h d =
+      let a = met-count (addressOf s n) b (12 * n) d (addresses-bound b h) in
+      let c = count-not (λ k. met (addressOf s n) (12 * n) (k + 1)) b in
+      omega arith
+
+-- ---- the addresses of inode i change: the unnamed blocks are fewer by those that it takes, more by those that it gives back
+pub unnamed-change : (s t : List ℕ) (n b i : ℕ) → 1 ≤ i → i ≤ n
+    → ((j : ℕ) → 1 ≤ j → j ≤ n → InodeSound s n b j) → ((j : ℕ) → 1 ≤ j → j ≤ n → InodeSound t n b j)
+    → Differ (addressOf s n) (addressCount * n) → Differ (addressOf t n) (addressCount * n)
+    → ((j : ℕ) → 1 ≤ j → j ≤ n → j ≢ i → (k : ℕ) → k < addressCount → kthBlock t n j k ≡ kthBlock s n j k)
+    → count (unnamedB t n) b + blocksUsed (sizeOf t i) ≡ count (unnamedB s n) b + blocksUsed (sizeOf s i)
+unnamed-change s t n b i l m hs ht ds dt e =
+    let x = named-count s n b hs ds in
+    let y = named-count t n b ht dt in
+    let z = rows-count (addressOf s n) (addressOf t n) n i l m
+    (λ v k q. address-kth t n v ∙ e (v / 12 + 1) (omega arith) (omega arith) q (v % 12) (omega arith) ∙ sym (address-kth s n v))
+    (blocksUsed (sizeOf s i)) (blocksUsed (sizeOf t i)) (used-row s n b i (hs i l m)) (used-row t n b i (ht i l m)) in
+    omega arith
+
+-- ---- all addresses stay
+module _ (s t : List ℕ) (n : ℕ) (e : (j : ℕ) → 1 ≤ j → j ≤ n → (k : ℕ) → k < addressCount → kthBlock t n j k ≡ kthBlock s n j k) where
+  pub same-addresses : (x : ℕ) → x < addressCount * n → addressOf t n x ≡ addressOf s n x
+  same-addresses x l = address-kth t n x ∙ e (x / 12 + 1) (omega arith) (omega arith) (x % 12) (omega arith) ∙ sym (address-kth s n x)
+
+  pub same-named : (c : ℕ) → named t n c ≡ named s n c
+  unfolding named someBelow
+  same-named c = ap not (all-ext (λ x. not (eqb (addressOf t n x) c)) (λ x. not (eqb (addressOf s n x) c)) (addressCount * n) (λ x l. ap (λ (y : ℕ). not (eqb y c)) (same-addresses x l)))
+
+  pub same-differ : Differ (addressOf s n) (addressCount * n) → Differ (addressOf t n) (addressCount * n)
+  same-differ d = differ-less (addressOf s n) (addressOf t n) (addressCount * n) d (λ x l _. same-addresses x l)
+
+  pub same-unnamed : (b : ℕ) → count (unnamedB t n) b ≡ count (unnamedB s n) b
+  same-unnamed b = count-ext (unnamedB t n) (unnamedB s n) b (λ k l. ap not (same-named (k + 1)))
