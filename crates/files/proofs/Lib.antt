@@ -1,6 +1,7 @@
 pub mod AddressLaws
 pub mod ChangeLaws
 pub mod EntryPlanLaws
+pub mod EntryWriteLaws
 pub mod KeepLaws
 pub mod PlainLaws
 pub mod PlanLaws
