@@ -5,8 +5,11 @@ pub mod EntryWriteLaws
 pub mod KeepLaws
 pub mod PlainLaws
 pub mod PlanLaws
+pub mod RenameKeeps
 pub mod SameLaws
 pub mod SizePlanLaws
+pub mod SlotPlaceLaws
 pub mod SoundTreeLaws
+pub mod StockLaws
 pub mod StoreLaws
 pub mod TreeLaws

@@ -10,7 +10,7 @@ use lib.Dec.{eqb}
 use Rattle.bounded.specs.Count.{one, count, tally}
 use Rattle.bounded.specs.Climb.{climb, Leads}
 use Rattle.bounded.specs.Update.{upd, Changed, here, there}
-use Rattle.bounded.proofs.CountLaws.{count-ext, tally-at, met, met-at, met-once}
+use Rattle.bounded.proofs.CountLaws.{count-ext, count-at, met, met-at, met-once}
 use Rattle.bounded.proofs.ClimbLaws.{leads-up, leads-moved}
 use Rattle.bounded.proofs.UpdateLaws.{changed, upd-same, upd-other}
 use Rattle.layout.specs.Sizes.{rootInode}
@@ -72,17 +72,21 @@ one-same a b e = ap one (eq-eqb a b e)
 pub one-other : (a b : ℕ) → a ≢ b → one (eqb a b) ≡ 0
 one-other a b h = ap one (ne-eqb a b h)
 
--- one value is another: what is met once more, and once less
-pub tally-but : (f g : ℕ → ℕ) (m p : ℕ) → p < m → ElseBelow m p f g → (v : ℕ) → tally g m v + one (eqb (f p) v) ≡ tally f m v + one (eqb (g p) v)
-tally-but f g m p l h v =
+-- one number counts otherwise
+pub count-but : (f g : ℕ → Bool) (m p : ℕ) → p < m → ((q : ℕ) → q < m → q ≢ p → g q ≡ f q) → count g m + one (f p) ≡ count f m + one (g p)
+count-but f g m p l h =
     let u = upd f p (g p) in
-    let e : tally g m v ≡ tally u m v = count-ext (λ k. eqb (g k) v) (λ k. eqb (u k) v) m (λ k b. ap (λ (x : ℕ). eqb x v) (at k b (ℕ-discrete k p))) in
-    let a = tally-at f u p (g p) (changed f p (g p)) m l v in
+    let e : count g m ≡ count u m = count-ext g u m (λ k b. at k b (ℕ-discrete k p)) in
+    let a = count-at f u p (g p) (changed f p (g p)) m l in
     omega arith
   where
     at : (k : ℕ) → k < m → Dec (k ≡ p) → g k ≡ upd f p (g p) k
     at k b (yes e) = ap g e ∙ sym (upd-same f p (g p)) ∙ ap (upd f p (g p)) (sym e)
     at k b (no e) = h k b e ∙ sym (upd-other f p (g p) k e)
+
+-- one value is another: what is met once more, and once less
+pub tally-but : (f g : ℕ → ℕ) (m p : ℕ) → p < m → ElseBelow m p f g → (v : ℕ) → tally g m v + one (eqb (f p) v) ≡ tally f m v + one (eqb (g p) v)
+tally-but f g m p l h v = count-but (λ k. eqb (f k) v) (λ k. eqb (g k) v) m p l (λ q b z. ap (λ (x : ℕ). eqb x v) (h q b z))
 
 -- a place that named nothing names i
 pub tally-filled : (f g : ℕ → ℕ) (m p i : ℕ) → p < m → ElseBelow m p f g → f p ≡ 0 → g p ≡ i → (v : ℕ) → 1 ≤ v → tally g m v ≡ tally f m v + one (eqb i v)
