@@ -26,7 +26,8 @@ use Rattle.sound.proofs.PlaceLaws.{slot-is, filled-is, naming-entry}
 use Rattle.sound.proofs.EntryLaws.{place-dir, place-slot as slot-of, entry-place, slot-place}
 use Rattle.files.proofs.SameLaws.{SameFrame, SameInode, SameBlock, InBlock, frame-then, inode-then, inode-stays, put-entry, clear-entry}
 use Rattle.files.proofs.KeepLaws.{SamePlace, place-slot, slot-kept, same-slots}
-use Rattle.files.proofs.StoreLaws.{dir-of}
+use Rattle.files.specs.Inode.{isDirectory}
+use Rattle.files.proofs.StoreLaws.{dir-of, kind-some, kind-most, kind-is}
 use Rattle.files.proofs.ChangeLaws.{OtherPlaces, Emptied, Filled}
 
 -- entries alone change: the header, all inodes and the bytes of files stay
@@ -55,20 +56,40 @@ pub slot-block : (s : List ℕ) (d t : ℕ) → t < slots s d → t / 4 < blocks
 unfolding slots
 slot-block s d t l = omega arith
 
--- a directory of the sound store s, in a store m that has its inodes
-module _ (s m : List ℕ) (n d t : ℕ) (h : Sound mostStoreBlocks false s) (x : n ≡ inodesIn s) (a : EntriesAlone s m n)
-    (low : 1 ≤ d) (high : d ≤ n) (dir : kindOf s d ≡ directoryKind) (inside : t < slots s d) where
+-- slot t of the directory d
+pub record SlotIn (s : List ℕ) (n d t : ℕ) : Type 0 where
+  pub low : 1 ≤ d
+  pub high : d ≤ n
+  pub dir : kindOf s d ≡ directoryKind
+  pub inside : t < slots s d
+  pub small : t < mostSlots
+
+pub slot-in : (s : List ℕ) (n d t : ℕ) → Sound mostStoreBlocks false s → n ≡ inodesIn s → isDirectory s n d ≡ true → t < slots s d → SlotIn s n d t
+slot-in s n d t h x e l =
+    let a = kind-some s n directoryKind d e in
+    let b = kind-most s n directoryKind d e in
+    let f = few-slots s n d (dir-of s n h x d a b) in
+    record { low = a; high = b; dir = kind-is s n directoryKind d e; inside = l; small = omega arith }
+
+pub place-below : {s : List ℕ} {n d t : ℕ} → SlotIn s n d t → placeOf d t < mostSlots * n
+place-below k = let a = k .low in let b = k .high in let l = k .small in omega arith
+
+-- a slot of the sound store s, in a store m that has its inodes
+module _ (s m : List ℕ) (n d t : ℕ) (h : Sound mostStoreBlocks false s) (x : n ≡ inodesIn s) (a : EntriesAlone s m n) (slot : SlotIn s n d t) where
+  low : 1 ≤ d
+  low = slot .low
+
+  high : d ≤ n
+  high = slot .high
+
   abbrev here : ℕ
   here = kthBlock m n d (t / 4)
 
   used : t / 4 < blocksUsed (sizeOf s d)
-  used = slot-block s d t inside
+  used = slot-block s d t (slot .inside)
 
   few : blocksUsed (sizeOf s d) ≤ 12
   few = dir-of s n h x d low high .few
-
-  pub slot-small : t < mostSlots
-  slot-small = let l = few-slots s n d (dir-of s n h x d low high) in let i = inside in omega arith
 
   same-block : here ≡ kthBlock s n d (t / 4)
   same-block = let f = few in let u = used in a .inodes d low high .blocks (t / 4) (omega arith)
@@ -93,7 +114,7 @@ module _ (s m : List ℕ) (n d t : ℕ) (h : Sound mostStoreBlocks false s) (x :
       }
 
   slots-there : t < slots m d
-  slots-there = rw (same-slots (a .inodes d low high)) inside
+  slots-there = rw (same-slots (a .inodes d low high)) (slot .inside)
 
   pub slot-there : slotAt m n d t + 16 ≤ length m
   slot-there = slot-fits m n d dir-there t slots-there
@@ -144,16 +165,13 @@ module _ (s m : List ℕ) (n d t : ℕ) (h : Sound mostStoreBlocks false s) (x :
 
     is-slot : isSlot w (placeOf d t) ≡ true
     is-slot =
-        let l = slot-small in
+        let l = slot .small in
         let e = i .inodes d low high in
-        slot-place w n d t low l .from (e .kind ∙ a .inodes d low high .kind ∙ dir, subst (λ (z : ℕ). t < z) (sym (same-slots e)) slots-there)
+        slot-place w n d t low l .from (e .kind ∙ a .inodes d low high .kind ∙ slot .dir, subst (λ (z : ℕ). t < z) (sym (same-slots e)) slots-there)
 
     others-same : ((q : ℕ) → q < mostSlots * n → Apart (slotAt m n (dirOf q) (slotOf q)) 16 (slotAt m n d t) 16 → entryOf w n (dirOf q) (slotOf q) ≡ entryOf m n (dirOf q) (slotOf q)) → OtherPlaces m w n (placeOf d t)
     unfolding entryAt
     others-same f q l z = place-slot m w n q (slot-same q l) (λ y. f q l (apart-place q l z y))
-
-  pub place-below : placeOf d t < mostSlots * n
-  place-below = let l = slot-small in omega arith
 
   -- ---- an entry put, for an inode i
   module _ (i : ℕ) (name : List ℕ) (some : 1 ≤ i) where
@@ -166,7 +184,7 @@ module _ (s m : List ℕ) (n d t : ℕ) (h : Sound mostStoreBlocks false s) (x :
     pub put-filled : Filled m (putEntry m n d t i name) n (placeOf d t) i name
     put-filled =
         let w = putEntry m n d t i name in
-        let e : entryAt w n (placeOf d t) ≡ entryFor i name = entry-place w n d t low slot-small ∙ entry-put m n d t i name low high slot-small slot-there in
+        let e : entryAt w n (placeOf d t) ≡ entryFor i name = entry-place w n d t low (slot .small) ∙ entry-put m n d t i name low high (slot .small) slot-there in
         let y = is-slot w put-in in
         record {
           stands = filled-is w n (placeOf d t) .from (y, ap isEmpty e ∙ filled-not-empty i name some);
@@ -185,7 +203,7 @@ module _ (s m : List ℕ) (n d t : ℕ) (h : Sound mostStoreBlocks false s) (x :
   pub clear-emptied : Emptied m (clearEntry m n d t) n (placeOf d t)
   clear-emptied =
       let w = clearEntry m n d t in
-      let e : entryAt w n (placeOf d t) ≡ replicate 16 0 = entry-place w n d t low slot-small ∙ entry-clear m n d t low high slot-small slot-there in
+      let e : entryAt w n (placeOf d t) ≡ replicate 16 0 = entry-place w n d t low (slot .small) ∙ entry-clear m n d t low high (slot .small) slot-there in
       let y = is-slot w clear-in in
       let z : isEmpty (entryAt w n (placeOf d t)) ≡ true = ap isEmpty e ∙ empty-zeros in
       record {

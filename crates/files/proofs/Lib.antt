@@ -2,7 +2,9 @@ pub mod AddressLaws
 pub mod ChangeLaws
 pub mod EntryPlanLaws
 pub mod EntryWriteLaws
+pub mod InodeWriteLaws
 pub mod KeepLaws
+pub mod LinkKeeps
 pub mod PlainLaws
 pub mod PlanLaws
 pub mod RenameKeeps

@@ -7,7 +7,6 @@ use native.Mathlib.Decide.{ℕ-discrete}
 use native.Mathlib.Omega.{arith}
 use Rattle.bounded.specs.declared.Found.the-variants.{Absent}
 use Rattle.layout.specs.Sizes.{mostStoreBlocks}
-use Rattle.layout.specs.Inode.{kindOf, directoryKind}
 use Rattle.names.specs.Name.{legalName}
 use Rattle.directory.specs.Slot.{mostSlots, slots, findSlot, slotEmpty, putEntry}
 use Rattle.sound.specs.Place.{naming}
@@ -17,28 +16,18 @@ use Rattle.sound.specs.Sound.{Sound, inodesIn, blocksIn}
 use Rattle.files.specs.Inode.{isDirectory}
 use Rattle.files.specs.Plan.{inodeAt}
 use Rattle.files.specs.Apply.{renamed}
-use Rattle.files.proofs.StoreLaws.{kind-some, kind-most, kind-is}
 use Rattle.files.proofs.ChangeLaws.{Filled, names-filled}
 use Rattle.files.proofs.TreeLaws.{Tree, tree-rename}
 use Rattle.files.proofs.SoundTreeLaws.{nodesOf, entry-at, names-at, above-at, tree-at}
-use Rattle.files.proofs.EntryWriteLaws.{EntriesAlone, entries-stay, slot-small, place-below, put-alone, put-filled}
+use Rattle.files.proofs.EntryWriteLaws.{EntriesAlone, entries-stay, SlotIn, slot-in, place-below, put-alone, put-filled}
 use Rattle.files.proofs.SlotPlaceLaws.{absent-new, place-naming, place-filled}
 use Rattle.files.proofs.StockLaws.{entries-stock, stock-sound}
 
 module _ (s : List ℕ) (n d t i : ℕ) (other : List ℕ) (h : Sound mostStoreBlocks false s) (x : n ≡ inodesIn s)
     (dir : isDirectory s n d ≡ true) (inside : t < slots s d) (full : slotEmpty s n d t ≡ false) (is : i ≡ inodeAt s n d t)
     (legal : legalName other ≡ true) (absent : findSlot s n d other ≡ Absent) where
-  low : 1 ≤ d
-  low = kind-some s n directoryKind d dir
-
-  high : d ≤ n
-  high = kind-most s n directoryKind d dir
-
-  kind : kindOf s d ≡ directoryKind
-  kind = kind-is s n directoryKind d dir
-
-  small : t < mostSlots
-  small = slot-small s s n d t h x (entries-stay s n) low high kind inside
+  slot : SlotIn s n d t
+  slot = slot-in s n d t h x dir inside
 
   p : ℕ
   p = placeOf d t
@@ -48,15 +37,15 @@ module _ (s : List ℕ) (n d t i : ℕ) (other : List ℕ) (h : Sound mostStoreB
 
   below : p < mostSlots * n
   unfolding p
-  below = place-below s s n d t h x (entries-stay s n) low high kind inside
+  below = place-below slot
 
   named : naming s n p ≡ i
   unfolding p
-  named = place-naming s n d t low small kind inside ∙ sym is
+  named = place-naming s n d t slot ∙ sym is
 
   old : EntrySound s n p
   unfolding p
-  old = entry-at s n h x p below (place-filled s n d t low small kind inside full)
+  old = entry-at s n h x p below (place-filled s n d t slot full)
 
   some : 1 ≤ i
   some = let l = old .low in let e = named in omega arith
@@ -66,11 +55,11 @@ module _ (s : List ℕ) (n d t i : ℕ) (other : List ℕ) (h : Sound mostStoreB
 
   alone : EntriesAlone s w n
   unfolding w
-  alone = put-alone s s n d t h x (entries-stay s n) low high kind inside i other some
+  alone = put-alone s s n d t h x (entries-stay s n) slot i other some
 
   filled : Filled s w n p i other
   unfolding w p
-  filled = put-filled s s n d t h x (entries-stay s n) low high kind inside i other some
+  filled = put-filled s s n d t h x (entries-stay s n) slot i other some
 
   tree : Tree n (nodesOf w n)
   tree =
@@ -87,4 +76,4 @@ module _ (s : List ℕ) (n d t i : ℕ) (other : List ℕ) (h : Sound mostStoreB
   unfolding w p
   rename-sound =
       stock-sound s w n (blocksIn s) h x refl (alone .frame) (entries-stock s w n (blocksIn s) h x refl alone)
-      (names-filled s w n (names-at s n h x) p i other filled some legal (absent-new s n d other t low small absent)) tree
+      (names-filled s w n (names-at s n h x) p i other filled some legal (absent-new s n d other t (slot .low) (slot .small) absent)) tree

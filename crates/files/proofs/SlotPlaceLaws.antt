@@ -6,7 +6,6 @@ use mathlib.Core.List.{List}
 use native.Mathlib.Omega.{arith}
 use Rattle.bounded.specs.declared.Found.the-variants.{At, Absent}
 use Rattle.bounded.proofs.BoolLaws.{clash, fails}
-use Rattle.layout.specs.Inode.{kindOf, directoryKind}
 use Rattle.names.specs.Name.{legalName}
 use Rattle.names.specs.Entry.{entryInode, isEmpty, sameName}
 use Rattle.names.proofs.EntryLaws.{empty-inode, empty-not-named}
@@ -18,6 +17,7 @@ use Rattle.sound.proofs.PlaceLaws.{slot-is, filled-is, naming-entry}
 use Rattle.sound.proofs.EntryLaws.{place-dir, place-slot, entry-place, slot-place}
 use Rattle.files.specs.Plan.{inodeAt}
 use Rattle.files.proofs.ChangeLaws.{NewName}
+use Rattle.files.proofs.EntryWriteLaws.{SlotIn}
 
 module _ (s : List ℕ) (n d : ℕ) (name : List ℕ) where
   -- a name that is found stands in a slot that is not empty
@@ -36,16 +36,16 @@ module _ (s : List ℕ) (n d : ℕ) (name : List ℕ) where
       ap (λ (x : ℕ). sameName (entryOf s n x (slotOf q)) name) k
       ∙ find-absent s n d name e (slotOf q) (subst (λ (x : ℕ). slotOf q < slots s x) k r)
 
-module _ (s : List ℕ) (n d t : ℕ) (low : 1 ≤ d) (small : t < mostSlots) (dir : kindOf s d ≡ directoryKind) (inside : t < slots s d) where
+module _ (s : List ℕ) (n d t : ℕ) (slot : SlotIn s n d t) where
   there : isSlot s (placeOf d t) ≡ true
-  there = slot-place s n d t low small .from (dir, inside)
+  there = slot-place s n d t (slot .low) (slot .small) .from (slot .dir, slot .inside)
 
   pub place-naming : naming s n (placeOf d t) ≡ inodeAt s n d t
-  place-naming = naming-entry s n (placeOf d t) there ∙ ap entryInode (entry-place s n d t low small)
+  place-naming = naming-entry s n (placeOf d t) there ∙ ap entryInode (entry-place s n d t (slot .low) (slot .small))
 
   pub place-filled : slotEmpty s n d t ≡ false → filled s n (placeOf d t) ≡ true
   unfolding slotEmpty
-  place-filled e = filled-is s n (placeOf d t) .from (there, ap isEmpty (entry-place s n d t low small) ∙ e)
+  place-filled e = filled-is s n (placeOf d t) .from (there, ap isEmpty (entry-place s n d t (slot .low) (slot .small)) ∙ e)
 
   pub place-bare : slotEmpty s n d t ≡ true → naming s n (placeOf d t) ≡ 0
   unfolding slotEmpty

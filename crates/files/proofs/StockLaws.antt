@@ -25,6 +25,7 @@ use Rattle.files.proofs.ChangeLaws.{NamesSound}
 use Rattle.files.proofs.TreeLaws.{Tree, count-but}
 use Rattle.files.proofs.SoundTreeLaws.{nodesOf, inode-at, once-at, free-inodes-at, free-blocks-at, tree-sound}
 use Rattle.files.proofs.EntryWriteLaws.{EntriesAlone}
+use Rattle.files.proofs.InodeWriteLaws.{SameBody, Relinked, each-inode, body-all}
 
 -- inodes are sound by themselves, no block is named twice, and the free counts are true
 pub record Stock (t : List ℕ) (n b : ℕ) : Type 0 where
@@ -60,13 +61,6 @@ pub stock-sound : (s t : List ℕ) (n b : ℕ) → Sound mostStoreBlocks false s
 stock-sound s t n b h x y f k a r = tree-sound s t n b h x y f (k .inodes) (k .once) a r (k .free-inodes) (k .free-blocks)
 
 -- ---- an inode in use has other links, or a directory another parent
--- kind, size and blocks stay
-pub record SameBody (s t : List ℕ) (n i : ℕ) : Type 0 where
-  pub kind : kindOf t i ≡ kindOf s i
-  pub spare : spareOf t i ≡ spareOf s i
-  pub size : sizeOf t i ≡ sizeOf s i
-  pub blocks : (k : ℕ) → k < addressCount → kthBlock t n i k ≡ kthBlock s n i k
-
 module _ (s t : List ℕ) (n b i : ℕ) (e : SameBody s t n i) (g : (c : ℕ) → SameBlock s t n c)
     (used : kindOf s i ≡ freeKind → ⊥) (file : kindOf s i ≡ fileKind → parentOf t i ≡ parentOf s i) where
   inode-relinked : InodeSound s n b i → InodeSound t n b i
@@ -91,23 +85,16 @@ module _ (s t : List ℕ) (n b i : ℕ) (e : SameBody s t n i) (g : (c : ℕ) �
         parent = λ k. let k′ = sym (e .kind) ∙ k in file k′ ∙ h .parent k′;
       }
 
--- what holds of i and of all others holds of all
-pub each-inode : (P : ℕ → Type 0) (i j : ℕ) → P i → (j ≢ i → P j) → P j
-each-inode P i j p f = elim (ℕ-discrete j i) as (λ _. P j) [ yes e ↦ subst P (sym e) p | no e ↦ f e ]
-
-module _ (s t : List ℕ) (n b i : ℕ) (a : InInode s t n i) (e : SameBody s t n i)
+module _ (s t : List ℕ) (n b i : ℕ) (a : Relinked s t n i)
     (used : kindOf s i ≡ freeKind → ⊥) (file : kindOf s i ≡ fileKind → parentOf t i ≡ parentOf s i) where
-  kinds-all : (j : ℕ) → 1 ≤ j → j ≤ n → kindOf t j ≡ kindOf s j
-  kinds-all j l m = each-inode (λ (x : ℕ). kindOf t x ≡ kindOf s x) i j (e .kind) (λ z. a .others j l m z .kind)
-
-  blocks-all : (j : ℕ) → 1 ≤ j → j ≤ n → (k : ℕ) → k < addressCount → kthBlock t n j k ≡ kthBlock s n j k
-  blocks-all j l m = each-inode (λ (x : ℕ). (k : ℕ) → k < addressCount → kthBlock t n x k ≡ kthBlock s n x k) i j (e .blocks) (λ z. a .others j l m z .blocks)
-
   pub relinked-stock : 1 ≤ i → i ≤ n → Stock s n b → Stock t n b
-  relinked-stock low high h = record {
-    inodes = λ j l m. each-inode (InodeSound t n b) i j (inode-relinked s t n b i e (a .bytes) used file (h .inodes i low high))
-        (λ z. inode-kept s t n b j (a .others j l m z) (λ _ _. a .bytes (kthBlock s n j (sizeOf s j / blockBytes))) (h .inodes j l m));
-    once = same-differ s t n blocks-all (h .once);
-    free-inodes = ap (λ (v : Header). v .«free_inodes») (a .header) ∙ h .free-inodes ∙ sym (same-free s t n kinds-all);
-    free-blocks = ap (λ (v : Header). v .«free_blocks») (a .header) ∙ h .free-blocks ∙ sym (same-unnamed s t n blocks-all b);
-  }
+  relinked-stock low high h =
+      let o = a .inode in
+      let e = body-all a in
+      record {
+        inodes = λ j l m. each-inode (InodeSound t n b) i j (inode-relinked s t n b i (a .body) (o .bytes) used file (h .inodes i low high))
+            (λ z. inode-kept s t n b j (o .others j l m z) (λ _ _. o .bytes (kthBlock s n j (sizeOf s j / blockBytes))) (h .inodes j l m));
+        once = same-differ s t n (λ j l m. e j l m .blocks) (h .once);
+        free-inodes = ap (λ (v : Header). v .«free_inodes») (o .header) ∙ h .free-inodes ∙ sym (same-free s t n (λ j l m. e j l m .kind));
+        free-blocks = ap (λ (v : Header). v .«free_blocks») (o .header) ∙ h .free-blocks ∙ sym (same-unnamed s t n (λ j l m. e j l m .blocks) b);
+      }
