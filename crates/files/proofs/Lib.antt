@@ -1,4 +1,5 @@
 pub mod AddressLaws
+pub mod BaredLaws
 pub mod ChangeLaws
 pub mod EntryPlanLaws
 pub mod EntryWriteLaws
