@@ -56,7 +56,7 @@ no-slots : (s : List ℕ) (q : ℕ) → sizeOf s (dirOf q) ≡ 0 → isSlot s q 
 unfolding slots blocksUsed
 no-slots s q z = r-fails (slot-is s q) (λ r. let l = r .1 in omega arith)
 
-no-blocks : (z : ℕ) → z ≡ 0 → blocksUsed z ≡ 0
+pub no-blocks : (z : ℕ) → z ≡ 0 → blocksUsed z ≡ 0
 unfolding blocksUsed
 no-blocks z e = omega arith
 

@@ -1,6 +1,7 @@
 pub mod AddressLaws
 pub mod BaredLaws
 pub mod ChangeLaws
+pub mod CreateKeeps
 pub mod EntryPlanLaws
 pub mod EntryWriteLaws
 pub mod InodeWriteLaws

@@ -54,9 +54,9 @@ module _ (s : List ℕ) (n d t i : ℕ) (name : List ℕ) (h : Sound mostStoreBl
   unfolding w
   relinked = links-relinked m n i fits (linksOf m i + 1)
 
-  filled : Filled s w n (placeOf d t) i name
+  entered : Filled s w n (placeOf d t) i name
   unfolding m
-  filled = filled-then (place-below slot) (relinked-places relinked) (put-filled s s n d t h x (entries-stay s n) slot i name some)
+  entered = filled-then (place-below slot) (relinked-places relinked) (put-filled s s n d t h x (entries-stay s n) slot i name some)
 
   parent : kindOf m i ≡ fileKind → parentOf w i ≡ parentOf m i
   unfolding w
@@ -76,7 +76,7 @@ module _ (s : List ℕ) (n d t i : ℕ) (name : List ℕ) (h : Sound mostStoreBl
       tree-link n i (nodesOf s n) (nodesOf w n) (tree-at s n h x) (above-at s n h x) some most
       (λ j l r z. o j l r z .kind ∙ a j l r .kind) (λ j l r z. o j l r z .links ∙ a j l r .links) (λ j l r z. o j l r z .parent ∙ a j l r .parent)
       (relinked .body .kind ∙ a i some most .kind) (parent kind ∙ a i some most .parent)
-      (placeOf d t) (place-below slot) (place-bare s n d t slot free) (filled .names) (λ q l z. filled .others q l z .names)
+      (placeOf d t) (place-below slot) (place-bare s n d t slot free) (entered .names) (λ q l z. entered .others q l z .names)
       (kind-is s n fileKind i file) links
 
   pub link-sound : Sound mostStoreBlocks false (putLinks (putEntry s n d t i name) i (linksOf (putEntry s n d t i name) i + 1))
@@ -84,4 +84,4 @@ module _ (s : List ℕ) (n d t i : ℕ) (name : List ℕ) (h : Sound mostStoreBl
   link-sound =
       stock-sound s w n (blocksIn s) h x refl (frame-then (alone .frame) (relinked .inode .frame))
       (relinked-stock m w n (blocksIn s) i relinked (λ z. let k = kind in omega arith) parent some most (entries-stock s m n (blocksIn s) h x refl alone))
-      (names-filled s w n (names-at s n h x) (placeOf d t) i name filled some legal (absent-new s n d name t (slot .low) (slot .small) absent)) tree
+      (names-filled s w n (names-at s n h x) (placeOf d t) i name entered some legal (absent-new s n d name t (slot .low) (slot .small) absent)) tree

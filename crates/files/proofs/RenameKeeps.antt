@@ -57,9 +57,9 @@ module _ (s : List ℕ) (n d t i : ℕ) (other : List ℕ) (h : Sound mostStoreB
   unfolding w
   alone = put-alone s s n d t h x (entries-stay s n) slot i other some
 
-  filled : Filled s w n p i other
+  entered : Filled s w n p i other
   unfolding w p
-  filled = put-filled s s n d t h x (entries-stay s n) slot i other some
+  entered = put-filled s s n d t h x (entries-stay s n) slot i other some
 
   tree : Tree n (nodesOf w n)
   tree =
@@ -67,8 +67,8 @@ module _ (s : List ℕ) (n d t i : ℕ) (other : List ℕ) (h : Sound mostStoreB
       (λ j l m _. alone .inodes j l m .kind) (λ j l m _. alone .inodes j l m .links) (λ j l m _. alone .inodes j l m .parent)
       (alone .inodes i some most .kind) (alone .inodes i some most .parent)
       (λ q l. elim (ℕ-discrete q p) as (λ _. naming w n q ≡ naming s n q) [
-        | yes e ↦ ap (naming w n) e ∙ filled .names ∙ sym named ∙ ap (naming s n) (sym e)
-        | no e ↦ filled .others q l e .names
+        | yes e ↦ ap (naming w n) e ∙ entered .names ∙ sym named ∙ ap (naming s n) (sym e)
+        | no e ↦ entered .others q l e .names
       ])
       (λ e. old .not-root (named ∙ e)) (alone .inodes i some most .links)
 
@@ -76,4 +76,4 @@ module _ (s : List ℕ) (n d t i : ℕ) (other : List ℕ) (h : Sound mostStoreB
   unfolding w p
   rename-sound =
       stock-sound s w n (blocksIn s) h x refl (alone .frame) (entries-stock s w n (blocksIn s) h x refl alone)
-      (names-filled s w n (names-at s n h x) p i other filled some legal (absent-new s n d other t (slot .low) (slot .small) absent)) tree
+      (names-filled s w n (names-at s n h x) p i other entered some legal (absent-new s n d other t (slot .low) (slot .small) absent)) tree
