@@ -60,16 +60,17 @@ pub no-blocks : (z : ℕ) → z ≡ 0 → blocksUsed z ≡ 0
 unfolding blocksUsed
 no-blocks z e = omega arith
 
--- a place at which no entry stands, before and after
+-- a place at which no entry stands names nothing
+pub naming-none : (s : List ℕ) (n q : ℕ) → filled s n q ≡ false → naming s n q ≡ 0
+naming-none s n q g = elim (ℕ-discrete (naming s n q) 0) as (λ _. naming s n q ≡ 0) [ yes z ↦ z | no z ↦ absurd (clash (filled s n q) (naming-filled s n q (omega arith)) g) ]
+
+-- and stays where none stands after
 pub place-none : (s t : List ℕ) (n q : ℕ) → filled s n q ≡ false → filled t n q ≡ false → SamePlace s t n q
 place-none s t n q e f = record {
   stands = f ∙ sym e;
-  names = none t f ∙ sym (none s e);
+  names = naming-none t n q f ∙ sym (naming-none s n q e);
   entry = λ z. absurd (clash (filled s n q) z e);
 }
-  where
-    none : (r : List ℕ) → filled r n q ≡ false → naming r n q ≡ 0
-    none r g = elim (ℕ-discrete (naming r n q) 0) as (λ _. naming r n q ≡ 0) [ yes z ↦ z | no z ↦ absurd (clash (filled r n q) (naming-filled r n q (omega arith)) g) ]
 
 module _ (s t : List ℕ) (n i : ℕ) (v : Inode) (a : Bared s t n i v) (empty : v .size ≡ 0) where
   size-none : sizeOf t i ≡ 0

@@ -17,3 +17,4 @@ pub mod SoundTreeLaws
 pub mod StockLaws
 pub mod StoreLaws
 pub mod TreeLaws
+pub mod UnlinkKeeps
