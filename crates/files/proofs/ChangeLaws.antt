@@ -80,6 +80,13 @@ pub record NamesSound (s : List ℕ) (n : ℕ) : Type 0 where
 abbrev pub NewName : List ℕ → ℕ → ℕ → List ℕ → Type 0
 NewName s n p name = (q : ℕ) → q < mostSlots * n → q ≢ p → dirOf q ≡ dirOf p → filled s n q ≡ true → sameName (entryAt s n q) name ≡ false
 
+-- it still is new where another place is emptied
+pub new-emptied : (s t : List ℕ) (n p q : ℕ) (name : List ℕ) → Emptied s t n p → NewName s n q name → NewName t n q name
+new-emptied s t n p q name e h r l z d f =
+    let x = e .others r l (λ y. clash (filled t n r) f (ap (filled t n) y ∙ e .stands)) in
+    let g = sym (x .stands) ∙ f in
+    ap (λ (y : List ℕ). sameName y name) (x .entry g) ∙ h r l z d g
+
 pub names-of : (s : List ℕ) (n : ℕ) → ((p : ℕ) → p < mostSlots * n → filled s n p ≡ true → EntrySound s n p) → NamesSound s n
 names-of s n h = record {
   legal = λ p l f. h p l f .legal;

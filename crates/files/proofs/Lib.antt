@@ -7,6 +7,7 @@ pub mod EntryWriteLaws
 pub mod InodeWriteLaws
 pub mod KeepLaws
 pub mod LinkKeeps
+pub mod MoveKeeps
 pub mod PlainLaws
 pub mod PlanLaws
 pub mod RenameKeeps
