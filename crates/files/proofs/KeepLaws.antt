@@ -1,6 +1,7 @@
 -- What of a sound store stays where inodes and blocks stay: each inode by itself, and the tree of entries and links. n and b are the counts of inodes and blocks.
 use Prim.Native.Nat.{ℕ, zero, suc, _+_, _*_, _/_, _%_, _≤_, _<_}
 use mathlib.Core.Path.{_≡_, refl, sym, ap, ap₂, _∙_, subst}
+use mathlib.Core.Logic.{_≢_}
 use mathlib.Core.Bool.{Bool, true, false, _&&_, true≢false}
 use mathlib.Core.List.{List}
 use native.Mathlib.Decide.{ℕ-discrete}
@@ -31,19 +32,19 @@ use Rattle.sound.specs.Link.{LinkSound}
 use Rattle.sound.specs.Sound.{Framed, Sound, inodesIn, blocksIn, freeB, unnamedB}
 use Rattle.sound.specs.Pass.{IsDir}
 use Rattle.sound.proofs.PlaceLaws.{slot-is, filled-is, naming-entry}
-use Rattle.sound.proofs.SoundLaws.{climbs, all-counted}
+use Rattle.sound.proofs.SoundLaws.{climbs}
 use Rattle.files.proofs.SameLaws.{SameFrame, SameInode, SameBlock}
 
--- ---- an inode by itself: the bytes of the block that its size ends in are the same, where they count
-pub inode-kept : (s t : List ℕ) (n b i : ℕ) → SameInode s t n i
-    → (kindOf s i ≡ fileKind → (sizeOf s i % blockBytes ≡ 0 → ⊥) → SameBlock s t n (kthBlock s n i (sizeOf s i / blockBytes)))
-    → InodeSound s n b i → InodeSound t n b i
+-- ---- an inode by itself
+-- "File bytes past the size in the last block are zero."
+abbrev pub ZeroTail : List ℕ → ℕ → ℕ → Type 0
+ZeroTail s n i = kindOf s i ≡ fileKind → (sizeOf s i % blockBytes ≡ 0 → ⊥) → (o : ℕ) → o < blockBytes → sizeOf s i % blockBytes ≤ o → tailByte s n i o ≡ 0
+
+pub inode-like : (s t : List ℕ) (n b i : ℕ) → SameInode s t n i → ZeroTail t n i → InodeSound s n b i → InodeSound t n b i
 unfolding kthBlock
-inode-kept s t n b i e g h =
+inode-like s t n b i e g h =
     let z = e .size in
     let u : blocksUsed (sizeOf t i) ≡ blocksUsed (sizeOf s i) = ap blocksUsed z in
-    let r : sizeOf t i % blockBytes ≡ sizeOf s i % blockBytes = ap (λ (x : ℕ). x % blockBytes) z in
-    let m = h .size in
     record {
       kind = rw (e .kind) (h .kind);
       spare = e .spare ∙ h .spare;
@@ -51,14 +52,26 @@ inode-kept s t n b i e g h =
       size = rw z (h .size);
       used = λ k l w. let q = h .used k l (omega arith) in rw (e .blocks k l) q;
       rest = λ k l w. e .blocks k l ∙ h .rest k l (omega arith);
-      directory = λ k. r ∙ h .directory (sym (e .kind) ∙ k);
-      tail = λ k q o l w.
-          let k′ = sym (e .kind) ∙ k in
-          let q′ : sizeOf s i % blockBytes ≡ 0 → ⊥ = λ x. q (r ∙ x) in
-          let c : kthBlock t n i (sizeOf t i / blockBytes) ≡ kthBlock s n i (sizeOf s i / blockBytes) = ap (λ (x : ℕ). kthBlock t n i (x / blockBytes)) z ∙ e .blocks (sizeOf s i / blockBytes) (omega arith) in
-          ap (λ (x : ℕ). getD (blockOf t n x) o 0) c ∙ ap (λ (x : List ℕ). getD x o 0) (g k′ q′) ∙ h .tail k′ q′ o l (omega arith);
+      directory = λ k. ap (λ (x : ℕ). x % blockBytes) z ∙ h .directory (sym (e .kind) ∙ k);
+      tail = g;
       parent = λ k. e .parent ∙ h .parent (sym (e .kind) ∙ k);
     }
+
+-- the bytes of the block that its size ends in stay, where they count
+pub inode-kept : (s t : List ℕ) (n b i : ℕ) → SameInode s t n i
+    → (kindOf s i ≡ fileKind → (sizeOf s i % blockBytes ≡ 0 → ⊥) → SameBlock s t n (kthBlock s n i (sizeOf s i / blockBytes)))
+    → InodeSound s n b i → InodeSound t n b i
+inode-kept s t n b i e g h =
+    let z = e .size in
+    let r : sizeOf t i % blockBytes ≡ sizeOf s i % blockBytes = ap (λ (x : ℕ). x % blockBytes) z in
+    let m = h .size in
+    inode-like s t n b i e
+    (λ k q o l w.
+    let k′ = sym (e .kind) ∙ k in
+    let q′ : sizeOf s i % blockBytes ≡ 0 → ⊥ = λ x. q (r ∙ x) in
+    let c : kthBlock t n i (sizeOf t i / blockBytes) ≡ kthBlock s n i (sizeOf s i / blockBytes) = ap (λ (x : ℕ). kthBlock t n i (x / blockBytes)) z ∙ e .blocks (sizeOf s i / blockBytes) (omega arith) in
+    ap (λ (x : ℕ). getD (blockOf t n x) o 0) c ∙ ap (λ (x : List ℕ). getD x o 0) (g k′ q′) ∙ h .tail k′ q′ o l (omega arith))
+    h
 
 -- ---- an entry, in a block of the same number and bytes
 pub entry-in : (s : List ℕ) (n d u : ℕ) → entryOf s n d u ≡ part (blockOf s n (kthBlock s n d (u / 4))) (16 * (u % 4)) 16
@@ -124,6 +137,9 @@ pub record SameTree (s t : List ℕ) (n : ℕ) : Type 0 where
   pub parents : (i : ℕ) → 1 ≤ i → i ≤ n → parentOf t i ≡ parentOf s i
   pub places : (p : ℕ) → p < mostSlots * n → SamePlace s t n p
 
+pub tree-stays : (s : List ℕ) (n : ℕ) → SameTree s s n
+tree-stays s n = record { kinds = λ i l m. refl; links = λ i l m. refl; parents = λ i l m. refl; places = λ p l. record { stands = refl; names = refl; entry = λ e. refl } }
+
 pub tree-then : {s t u : List ℕ} {n : ℕ} → SameTree s t n → SameTree t u n → SameTree s u n
 tree-then a b = record {
   kinds = λ i l m. b .kinds i l m ∙ a .kinds i l m;
@@ -135,6 +151,31 @@ tree-then a b = record {
     entry = λ e. b .places p l .entry (a .places p l .stands ∙ e) ∙ a .places p l .entry e;
   };
 }
+
+-- one inode changes that is no directory, and the blocks of directories stay
+module _ (s t : List ℕ) (n i : ℕ) (others : (j : ℕ) → 1 ≤ j → j ≤ n → j ≢ i → SameInode s t n j) where
+  -- a field, where only that of i may change
+  pub changed : (f : List ℕ → ℕ → ℕ) → f t i ≡ f s i → ((j : ℕ) → SameInode s t n j → f t j ≡ f s j) → (j : ℕ) → 1 ≤ j → j ≤ n → f t j ≡ f s j
+  changed f e g j l m = elim (ℕ-discrete j i) as (λ _. f t j ≡ f s j) [
+    | yes q ↦ ap (f t) q ∙ e ∙ ap (f s) (sym q)
+    | no q ↦ g j (others j l m q)
+  ]
+
+  pub file-tree : kindOf t i ≡ kindOf s i → linksOf t i ≡ linksOf s i → parentOf t i ≡ parentOf s i → kindOf s i ≢ directoryKind
+      → ((d k : ℕ) → 1 ≤ d → d ≤ n → kindOf s d ≡ directoryKind → k < blocksUsed (sizeOf s d) → SameBlock s t n (kthBlock s n d k)) → SameTree s t n
+  file-tree a b c v g =
+      record {
+        kinds = kinds;
+        links = changed linksOf b (λ j e. e .links);
+        parents = changed parentOf c (λ j e. e .parent);
+        places = λ p l. elim (ℕ-discrete (dirOf p) i) as (λ _. SamePlace s t n p) [
+          | yes q ↦ place-slot s t n p (slot-kept s t p (kinds (dirOf p) (omega arith) (omega arith)) (λ k. absurd (v (ap (kindOf s) (sym q) ∙ k)))) (λ e. absurd (v (ap (kindOf s) (sym q) ∙ slot-is s p .to e .0)))
+          | no q ↦ place-kept s t n p (others (dirOf p) (omega arith) (omega arith) q) (λ k z w. g (dirOf p) k (omega arith) (omega arith) z w)
+        ];
+      }
+    where
+      kinds : (j : ℕ) → 1 ≤ j → j ≤ n → kindOf t j ≡ kindOf s j
+      kinds = changed kindOf a (λ j e. e .kind)
 
 -- entries
 pub same-names : (s t : List ℕ) (n p q : ℕ) → entryAt t n p ≡ entryAt s n p → entryAt t n q ≡ entryAt s n q → sameNames t n p q ≡ sameNames s n p q
@@ -206,6 +247,20 @@ pub record Body (t : List ℕ) (n b : ℕ) : Type 0 where
   pub free-inodes : headerOf t .«free_inodes» ≡ count (freeB t) n
   pub free-blocks : headerOf t .«free_blocks» ≡ count (unnamedB t n) b
 
+pub body-of : (s : List ℕ) (n b : ℕ) → Sound mostStoreBlocks false s → n ≡ inodesIn s → b ≡ blocksIn s → Body s n b
+body-of s n b h x y =
+    let r : Body s (inodesIn s) (blocksIn s) = record {
+      inodes = h .inodes;
+      once = h .once;
+      root = h .root;
+      root-parent = h .root-parent;
+      entries = h .entries;
+      links = h .links;
+      free-inodes = h .free-inodes;
+      free-blocks = h .free-blocks;
+    } in
+    subst (λ (z : ℕ). Body s z b) (sym x) (subst (Body s (inodesIn s)) (sym y) r)
+
 module _ (s t : List ℕ) (h : Sound mostStoreBlocks false s) (f : SameFrame s t) where
   framed-kept : Framed mostStoreBlocks t
   framed-kept =
@@ -249,17 +304,14 @@ module _ (s t : List ℕ) (h : Sound mostStoreBlocks false s) (f : SameFrame s t
         → headerOf t .«free_inodes» ≡ headerOf s .«free_inodes» → headerOf t .«free_blocks» ≡ count (unnamedB t n) b → Sound mostStoreBlocks false t
     sound-kept inodes once free-inodes free-blocks =
         let g = h .framed .some-inodes in
+        let r = body-of s n b h x y in
         sound-of n b x y (record {
           inodes = inodes;
           once = once;
-          root = e .kinds rootInode (omega arith) (omega arith) ∙ h .root;
-          root-parent = e .parents rootInode (omega arith) (omega arith) ∙ h .root-parent;
-          entries = λ p l q.
-              let q′ = sym (e .places p l .stands) ∙ q in
-              entry-sound-kept s t n p e l (subst (λ (z : ℕ). EntrySound s z p) (sym x) (h .entries p (omega arith) (subst (λ (z : ℕ). filled s z p ≡ true) x q′))) q′;
-          links = λ i l m.
-              link-sound-kept s t n e (subst (λ (z : ℕ). Closed (IsDir s z) (parentOf s) rootInode z) (sym x) (climbs s (inodesIn s) (h .entries) (all-counted h))) i l m
-              (subst (λ (z : ℕ). LinkSound s z i) (sym x) (h .links i l (omega arith)));
-          free-inodes = free-inodes ∙ h .free-inodes ∙ ap (count (freeB s)) (sym x) ∙ sym (free-inodes-kept s t n e);
+          root = e .kinds rootInode (omega arith) (omega arith) ∙ r .root;
+          root-parent = e .parents rootInode (omega arith) (omega arith) ∙ r .root-parent;
+          entries = λ p l q. let q′ = sym (e .places p l .stands) ∙ q in entry-sound-kept s t n p e l (r .entries p l q′) q′;
+          links = λ i l m. link-sound-kept s t n e (climbs s n (r .entries) (λ j k o. let c = r .links j k o in record { counted = c .counted; named = c .named; one = c .one })) i l m (r .links i l m);
+          free-inodes = free-inodes ∙ r .free-inodes ∙ sym (free-inodes-kept s t n e);
           free-blocks = free-blocks;
         })

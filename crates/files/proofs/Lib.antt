@@ -4,6 +4,8 @@ pub mod ChangeLaws
 pub mod CreateKeeps
 pub mod EntryPlanLaws
 pub mod EntryWriteLaws
+pub mod FileLaws
+pub mod GrowLaws
 pub mod InodeWriteLaws
 pub mod KeepLaws
 pub mod LinkKeeps
@@ -11,6 +13,7 @@ pub mod MoveKeeps
 pub mod PlainLaws
 pub mod PlanLaws
 pub mod RenameKeeps
+pub mod RoomLaws
 pub mod SameLaws
 pub mod SizePlanLaws
 pub mod SlotPlaceLaws
@@ -19,3 +22,4 @@ pub mod StockLaws
 pub mod StoreLaws
 pub mod TreeLaws
 pub mod UnlinkKeeps
+pub mod WriteLaws

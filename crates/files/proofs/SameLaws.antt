@@ -9,7 +9,7 @@ use native.Mathlib.Omega.{arith}
 use lib.Dec.{eqb}
 use lib.ListN.{length, getD, replicate, length-replicate}
 use Rattle.octets.specs.Octets.{part, splice, Apart, numAt, putNum, toBytes, wordBytes, zeroed}
-use Rattle.octets.proofs.PartLaws.{length-splice, part-apart, part-same, part-part}
+use Rattle.octets.proofs.PartLaws.{length-splice, getD-part, splice-in, splice-out, part-apart, part-same}
 use Rattle.octets.proofs.NumLaws.{num-apart, num-other, num-same, length-num, length-toBytes, part-other}
 use Rattle.octets.proofs.WordLaws.{length-words}
 use Rattle.layout.specs.Sizes.{headerBytes, inodeBytes, addressCount, blockBytes}
@@ -70,6 +70,9 @@ inode-then a b = record {
   parent = b .parent ∙ a .parent;
   blocks = λ k l. b .blocks k l ∙ a .blocks k l;
 }
+
+pub frame-stays : (s : List ℕ) → SameFrame s s
+frame-stays s = record { long = refl; inodes = refl; blocks = refl; complete = refl; root = refl; reserved = refl }
 
 pub inode-stays : (s : List ℕ) (n i : ℕ) → SameInode s s n i
 inode-stays s n i = record { kind = refl; spare = refl; links = refl; size = refl; parent = refl; blocks = λ k l. refl }
@@ -168,6 +171,20 @@ module _ (s : List ℕ) (n c : ℕ) (l : 1 ≤ c) where
   pub zero-block-is : blockAt n c + blockBytes ≤ length s → blockOf (zeroBlock s n c) n c ≡ replicate blockBytes 0
   unfolding zeroBlock zeroed blockOf
   zero-block-is f = part-same s (blockAt n c) (replicate 64 0) 64 (length-replicate {A = ℕ} 64 0) f
+
+-- the bytes of the block itself
+module _ (s : List ℕ) (n c o : ℕ) (xs : List ℕ) (r : ℕ) (l : r < blockBytes) where
+  pub in-block-out : Apart r 1 o (length xs) → getD (blockOf (putInBlock s n c o xs) n c) r 0 ≡ getD (blockOf s n c) r 0
+  unfolding blockOf putInBlock
+  in-block-out a =
+      getD-part (splice s (blockAt n c + o) xs) (blockAt n c) 64 r l ∙ splice-out s (blockAt n c + o) xs (blockAt n c + r) (omega arith) ∙ sym (getD-part s (blockAt n c) 64 r l)
+
+  pub in-block-in : blockAt n c + o + length xs ≤ length s → o ≤ r → r < o + length xs → getD (blockOf (putInBlock s n c o xs) n c) r 0 ≡ getD xs (r - o) 0
+  unfolding blockOf putInBlock
+  in-block-in f a b =
+      let e : blockAt n c + r ≡ blockAt n c + o + (r - o) = omega arith in
+      getD-part (splice s (blockAt n c + o) xs) (blockAt n c) 64 r l
+      ∙ ap (λ (q : ℕ). getD (splice s (blockAt n c + o) xs) q 0) e ∙ splice-in s (blockAt n c + o) xs (r - o) f (omega arith)
 
 -- an entry of directory d, in block c
 module _ (s : List ℕ) (n d t : ℕ) (l : 1 ≤ kthBlock s n d (t / 4)) where
