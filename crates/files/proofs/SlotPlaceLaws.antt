@@ -1,0 +1,52 @@
+-- What the searches of a directory say of its places. n is the inode count, d a directory with slot t.
+use Prim.Native.Nat.{ℕ, _+_, _*_, _/_, _%_, _≤_, _<_}
+use mathlib.Core.Path.{_≡_, refl, sym, ap, ap₂, _∙_, subst}
+use mathlib.Core.Bool.{true, false}
+use mathlib.Core.List.{List}
+use native.Mathlib.Omega.{arith}
+use Rattle.bounded.specs.declared.Found.the-variants.{At, Absent}
+use Rattle.bounded.proofs.BoolLaws.{clash, fails}
+use Rattle.names.specs.Name.{legalName}
+use Rattle.names.specs.Entry.{entryInode, isEmpty, sameName}
+use Rattle.names.proofs.EntryLaws.{empty-inode, empty-not-named}
+use Rattle.directory.specs.Slot.{mostSlots, slots, entryOf, slotNamed, findSlot, slotEmpty}
+use Rattle.directory.proofs.SlotLaws.{find-absent, find-named}
+use Rattle.sound.specs.Place.{dirOf, slotOf, isSlot, entryAt, filled, naming}
+use Rattle.sound.specs.Pass.{placeOf}
+use Rattle.sound.proofs.PlaceLaws.{slot-is, filled-is, naming-entry}
+use Rattle.sound.proofs.EntryLaws.{place-dir, place-slot, entry-place, slot-place}
+use Rattle.files.specs.Plan.{inodeAt}
+use Rattle.files.proofs.ChangeLaws.{NewName}
+use Rattle.files.proofs.EntryWriteLaws.{SlotIn}
+
+module _ (s : List ℕ) (n d : ℕ) (name : List ℕ) where
+  -- a name that is found stands in a slot that is not empty
+  pub found-full : (t : ℕ) → legalName name ≡ true → findSlot s n d name ≡ At t → slotEmpty s n d t ≡ false
+  unfolding slotEmpty
+  found-full t g e =
+      fails (isEmpty (entryOf s n d t))
+      (λ z. clash (sameName (entryOf s n d t) name) (find-named s n d name t e) (empty-not-named (entryOf s n d t) name z g))
+
+  -- one that is absent is new at any place of the directory
+  pub absent-new : (t : ℕ) → 1 ≤ d → t < mostSlots → findSlot s n d name ≡ Absent → NewName s n (placeOf d t) name
+  unfolding slotNamed entryAt
+  absent-new t l m e q b z h f =
+      let k : dirOf q ≡ d = h ∙ place-dir d t l m in
+      let r = slot-is s q .to (filled-is s n q .to f .0) .1 in
+      ap (λ (x : ℕ). sameName (entryOf s n x (slotOf q)) name) k
+      ∙ find-absent s n d name e (slotOf q) (subst (λ (x : ℕ). slotOf q < slots s x) k r)
+
+module _ (s : List ℕ) (n d t : ℕ) (slot : SlotIn s n d t) where
+  there : isSlot s (placeOf d t) ≡ true
+  there = slot-place s n d t (slot .low) (slot .small) .from (slot .dir, slot .inside)
+
+  pub place-naming : naming s n (placeOf d t) ≡ inodeAt s n d t
+  place-naming = naming-entry s n (placeOf d t) there ∙ ap entryInode (entry-place s n d t (slot .low) (slot .small))
+
+  pub place-filled : slotEmpty s n d t ≡ false → filled s n (placeOf d t) ≡ true
+  unfolding slotEmpty
+  place-filled e = filled-is s n (placeOf d t) .from (there, ap isEmpty (entry-place s n d t (slot .low) (slot .small)) ∙ e)
+
+  pub place-bare : slotEmpty s n d t ≡ true → naming s n (placeOf d t) ≡ 0
+  unfolding slotEmpty
+  place-bare e = place-naming ∙ empty-inode (entryOf s n d t) e
