@@ -1,7 +1,10 @@
+pub mod CutLaws
 pub mod EntryPlanLaws
+pub mod GrowCodeLaws
 pub mod PlainLaws
 pub mod PlanLaws
 pub mod PutLaws
 pub mod ReadLaws
+pub mod RecordLaws
 pub mod SizePlanLaws
 pub mod StoreLaws
