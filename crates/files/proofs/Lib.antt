@@ -3,9 +3,11 @@ pub mod BaredLaws
 pub mod CallLaws
 pub mod ChangeLaws
 pub mod CreateKeeps
+pub mod CutLaws
 pub mod EntryPlanLaws
 pub mod EntryWriteLaws
 pub mod FileLaws
+pub mod GrowCodeLaws
 pub mod GrowLaws
 pub mod InodeWriteLaws
 pub mod KeepLaws
@@ -17,6 +19,7 @@ pub mod PlanFacts
 pub mod PlanLaws
 pub mod PutLaws
 pub mod ReadLaws
+pub mod RecordLaws
 pub mod RenameKeeps
 pub mod RoomLaws
 pub mod SameLaws

@@ -42,6 +42,15 @@ module _ (s : List ℕ) (n i z : ℕ) (f : FileFits s n i z) where
     unfolding byteAt
     byte-inside m h = let b = f .blocks (x / 64) (omega arith) in omega arith
 
+  -- the rest of the block that z falls in
+  module _ (h : z % 64 ≡ 0 → ⊥) where
+    pub edge-block : 1 ≤ kthBlock s n i (z / 64)
+    edge-block = f .blocks (z / 64) (omega arith) .low
+
+    pub edge-inside : byteAt s n i z + (64 - z % 64) ≤ length s
+    unfolding byteAt
+    edge-inside = let b = f .blocks (z / 64) (omega arith) in omega arith
+
 -- ---- bytes of a file
 table-append : (f : ℕ → ℕ) (j m : ℕ) → table f (j + m) ≡ table f j ++ table (λ k. f (j + k)) m
 unfolding table
