@@ -1,5 +1,6 @@
 // The plain store's file calls: what a call is to do, decided before any byte changes.
 pub mod content;
+pub mod entries;
 pub mod plain;
 pub mod plan;
 
