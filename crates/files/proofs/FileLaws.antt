@@ -21,6 +21,19 @@ use Rattle.files.proofs.SameLaws.{SameFrame, SameInode, SameBlock, InBl
 use Rattle.files.proofs.KeepLaws.{SameTree, ZeroTail, Body, body-of, inode-like, inode-kept, file-tree, sound-kept}
 use Rattle.files.proofs.AddressLaws.{differ-less, address-kth, same-differ, same-unnamed, unnamed-change}
 
+-- ---- a sound store with a file i of o bytes or more
+pub record Holds (s : List ℕ) (n b i o : ℕ) : Type 0 where
+  pub sound : Sound mostStoreBlocks false s
+  pub inodes : n ≡ inodesIn s
+  pub blocks : b ≡ blocksIn s
+  pub low : 1 ≤ i
+  pub high : i ≤ n
+  pub kind : kindOf s i ≡ fileKind
+  pub size : o ≤ sizeOf s i
+
+pub holds-less : {s : List ℕ} {n b i o : ℕ} (a : ℕ) → a ≤ o → Holds s n b i o → Holds s n b i a
+holds-less a l h = record { sound = h .sound; inodes = h .inodes; blocks = h .blocks; low = h .low; high = h .high; kind = h .kind; size = let z = h .size in omega arith }
+
 -- ---- the bytes past a size
 -- from z on, up to the end of the blocks in use
 abbrev pub ZeroPast : List ℕ → ℕ → ℕ → ℕ → Type 0

@@ -7,6 +7,7 @@ pub mod PlainLaws
 pub mod PlanLaws
 pub mod RoomLaws
 pub mod SameLaws
+pub mod ShortenLaws
 pub mod SizePlanLaws
 pub mod StoreLaws
 pub mod WriteLaws

@@ -29,7 +29,7 @@ use Rattle.files.proofs.StoreLaws.{fits, kind-some, kind-most, kind-is,
 use Rattle.files.proofs.SameLaws.{SameFrame, SameInode, SameBlock, InBlock, frame-stays, frame-then, inode-stays, inode-then, put-in-block, in-block-out, put-attributes, attributes-new, attributes-blocks}
 use Rattle.files.proofs.KeepLaws.{Body, body-of}
 use Rattle.files.proofs.GrowLaws.{Grown, FreeBlock, free-block, some-free, block-added, add-block-sound, grown-used, grown-kth, grown-bytes}
-use Rattle.files.proofs.FileLaws.{ZeroPast, tail-past, used-low, other-byte, content-sound, Resized, resized-byte, resized-sound}
+use Rattle.files.proofs.FileLaws.{Holds, holds-less, ZeroPast, tail-past, used-low, other-byte, content-sound, Resized, resized-byte, resized-sound}
 
 -- ---- m blocks more
 pub record Widened (s t : List ℕ) (n i m : ℕ) : Type 0 where
@@ -205,19 +205,6 @@ module _ (s : List ℕ) (n b i z : ℕ) (h : Sound mostStoreBlocks false s) (x :
   put-size-sound v w = resized-sound s (putSize s n i z) n b i z h x y l q v put-size (omega arith) w
 
 -- ---- one byte of a file
--- a sound store with a file i of more than o bytes
-pub record Holds (s : List ℕ) (n b i o : ℕ) : Type 0 where
-  pub sound : Sound mostStoreBlocks false s
-  pub inodes : n ≡ inodesIn s
-  pub blocks : b ≡ blocksIn s
-  pub low : 1 ≤ i
-  pub high : i ≤ n
-  pub kind : kindOf s i ≡ fileKind
-  pub size : o ≤ sizeOf s i
-
-holds-less : {s : List ℕ} {n b i o : ℕ} (a : ℕ) → a ≤ o → Holds s n b i o → Holds s n b i a
-holds-less a l h = record { sound = h .sound; inodes = h .inodes; blocks = h .blocks; low = h .low; high = h .high; kind = h .kind; size = let z = h .size in omega arith }
-
 abbrev oneByte : List ℕ → ℕ → ℕ → ℕ → ℕ → List ℕ
 oneByte s n i o v = putInBlock s n (kthBlock s n i (o / blockBytes)) (o % blockBytes) (v ∷ [])
 
