@@ -1,6 +1,6 @@
 -- The bytes and the size of a file change, and a sound store stays sound. n and b are the counts of inodes and blocks, i is a file.
 use Prim.Native.Nat.{ℕ, _+_, _-_, _*_, _/_, _%_, _≤_, _<_}
-use mathlib.Core.Path.{_≡_, refl, sym, ap, ap₂, _∙_, subst}
+use mathlib.Core.Path.{_≡_, sym, ap, ap₂, _∙_, subst}
 use mathlib.Core.Logic.{_≢_}
 use mathlib.Core.Bool.{false}
 use mathlib.Core.List.{List}
@@ -11,14 +11,14 @@ use Rattle.bounded.specs.Count.{Differ}
 use Rattle.layout.specs.Sizes.{addressCount, blockBytes, mostStoreBlocks}
 use Rattle.layout.specs.declared.header.Header.{Header}
 use Rattle.layout.specs.Header.{headerOf}
-use Rattle.layout.specs.Inode.{kindOf, spareOf, linksOf, sizeOf, parentOf, addressOf, place, fileKind, directoryKind}
+use Rattle.layout.specs.Inode.{kindOf, spareOf, linksOf, sizeOf, parentOf, addressOf, fileKind, directoryKind}
 use Rattle.layout.specs.Block.{blockOf, blocksUsed, kthBlock}
 use Rattle.sound.specs.Inode.{InodeSound}
 use Rattle.sound.specs.Sound.{Sound, inodesIn, blocksIn}
 use Rattle.sound.proofs.FactLaws.{one-block}
 use Rattle.files.specs.Content.{fileByte}
 use Rattle.files.proofs.SameLaws.{SameFrame, SameInode, SameBlock, InBlock}
-use Rattle.files.proofs.KeepLaws.{SameTree, ZeroTail, Body, body-of, inode-like, inode-kept, file-tree, sound-kept}
+use Rattle.files.proofs.KeepLaws.{ZeroTail, Body, body-of, inode-like, inode-kept, file-tree, sound-kept}
 use Rattle.files.proofs.AddressLaws.{differ-less, address-kth, same-differ, same-unnamed, unnamed-change}
 
 -- ---- a sound store with a file i of o bytes or more

@@ -4,25 +4,24 @@ use mathlib.Core.Path.{_≡_, refl, sym, ap, ap₂, _∙_, subst}
 use mathlib.Core.Logic.{_≢_}
 use mathlib.Core.Bool.{Bool, true, false, not}
 use mathlib.Core.List.{List}
-use native.Mathlib.Decide.{ℕ-discrete, decLt}
+use native.Mathlib.Decide.{ℕ-discrete}
 use native.Mathlib.Omega.{arith}
 use borrow.Author.Tests.{ltb-false, lt-ltb, le-ltb, eq-eqb, ne-eqb}
-use lib.Dec.{eqb, ltb}
+use lib.Dec.{ltb}
 use lib.ListN.{length, getD, replicate, length-replicate, getD-replicate}
 use Rattle.bounded.specs.Search.{pick}
-use Rattle.bounded.specs.Table.{table}
 use Rattle.bounded.proofs.TableLaws.{length-table, getD-table}
 use Rattle.layout.specs.Sizes.{addressCount, blockBytes, mostStoreBlocks}
 use Rattle.layout.specs.declared.header.Header.{Header}
 use Rattle.layout.specs.declared.inode.Inode.{Inode}
 use Rattle.layout.specs.Header.{headerOf}
-use Rattle.layout.specs.Inode.{InodeFits, kindOf, sizeOf, addressOf, addressesOf, inodeOf, place, putInode, fileKind}
+use Rattle.layout.specs.Inode.{sizeOf, addressOf, addressesOf, inodeOf, place, putInode, fileKind}
 use Rattle.layout.specs.Block.{blockAt, blockOf, blocksUsed, kthBlock, putInBlock}
 use Rattle.layout.proofs.ViewLaws.{inode-fits}
 use Rattle.sound.specs.Sound.{Sound, inodesIn, blocksIn}
 use Rattle.answers.specs.declared.Refusal.the-variants.{WrongInode, PastEnd}
 use Rattle.files.specs.declared.SizePlan.the-variants.{To, NoSize}
-use Rattle.files.specs.Inode.{isFile, withBlocks, moreFree}
+use Rattle.files.specs.Inode.{isFile, withBlocks}
 use Rattle.files.specs.Content.{fileByte, zeroRest, keepFirst, cutTo}
 use Rattle.files.specs.Plan.{shortenPlan}
 use Rattle.files.specs.Apply.{shortened}
