@@ -20,6 +20,7 @@ pub mod ReadLaws
 pub mod RenameKeeps
 pub mod RoomLaws
 pub mod SameLaws
+pub mod ShortenLaws
 pub mod SizePlanLaws
 pub mod SlotPlaceLaws
 pub mod SoundTreeLaws
