@@ -23,6 +23,7 @@ pub mod RecordLaws
 pub mod RenameKeeps
 pub mod RoomLaws
 pub mod SameLaws
+pub mod ShortenLaws
 pub mod SizePlanLaws
 pub mod SlotPlaceLaws
 pub mod SoundTreeLaws

@@ -1,6 +1,6 @@
 -- A write keeps a store sound: the file takes its blocks, then its size, then its bytes. n and b are the counts of inodes and blocks, i is a file.
 use Prim.Native.Nat.{ℕ, zero, suc, _+_, _-_, _*_, _/_, _%_, _≤_, _<_, max}
-use mathlib.Core.Path.{_≡_, refl, sym, ap, ap₂, _∙_, subst}
+use mathlib.Core.Path.{_≡_, refl, sym, ap, _∙_, subst}
 use mathlib.Core.Logic.{_≢_}
 use mathlib.Core.Bool.{Bool, true, false, not, _||_}
 use mathlib.Core.List.{List, [], _∷_}
@@ -15,7 +15,7 @@ use Rattle.bounded.specs.declared.Found.the-variants.{At}
 use Rattle.layout.specs.Sizes.{addressCount, blockBytes, mostStoreBlocks, mostFileBytes}
 use Rattle.layout.specs.declared.header.Header.{Header}
 use Rattle.layout.specs.Header.{headerOf}
-use Rattle.layout.specs.Inode.{kindOf, linksOf, sizeOf, parentOf, inodeOf, putAttributes, freeKind, fileKind}
+use Rattle.layout.specs.Inode.{kindOf, linksOf, sizeOf, parentOf, inodeOf, freeKind, fileKind}
 use Rattle.layout.specs.Block.{blockOf, blocksUsed, kthBlock, putInBlock}
 use Rattle.layout.specs.Free.{freeBlock}
 use Rattle.sound.specs.Sound.{Sound, inodesIn, blocksIn}
@@ -27,9 +27,9 @@ use Rattle.files.specs.Plan.{writePlan}
 use Rattle.files.specs.Apply.{written}
 use Rattle.files.proofs.StoreLaws.{fits, kind-some, kind-most, kind-is, kind-size}
 use Rattle.files.proofs.SameLaws.{SameFrame, SameInode, SameBlock, InBlock, frame-stays, frame-then, inode-stays, inode-then, put-in-block, in-block-out, put-attributes, attributes-new, attributes-blocks}
-use Rattle.files.proofs.KeepLaws.{Body, body-of}
+use Rattle.files.proofs.KeepLaws.{body-of}
 use Rattle.files.proofs.GrowLaws.{Grown, FreeBlock, free-block, some-free, block-added, add-block-sound, grown-used, grown-kth, grown-bytes}
-use Rattle.files.proofs.FileLaws.{ZeroPast, tail-past, used-low, other-byte, content-sound, Resized, resized-byte, resized-sound}
+use Rattle.files.proofs.FileLaws.{Holds, holds-less, ZeroPast, tail-past, used-low, other-byte, content-sound, Resized, resized-sound}
 
 -- ---- m blocks more
 pub record Widened (s t : List ℕ) (n i m : ℕ) : Type 0 where
@@ -205,19 +205,6 @@ module _ (s : List ℕ) (n b i z : ℕ) (h : Sound mostStoreBlocks false s) (x :
   put-size-sound v w = resized-sound s (putSize s n i z) n b i z h x y l q v put-size (omega arith) w
 
 -- ---- one byte of a file
--- a sound store with a file i of more than o bytes
-pub record Holds (s : List ℕ) (n b i o : ℕ) : Type 0 where
-  pub sound : Sound mostStoreBlocks false s
-  pub inodes : n ≡ inodesIn s
-  pub blocks : b ≡ blocksIn s
-  pub low : 1 ≤ i
-  pub high : i ≤ n
-  pub kind : kindOf s i ≡ fileKind
-  pub size : o ≤ sizeOf s i
-
-holds-less : {s : List ℕ} {n b i o : ℕ} (a : ℕ) → a ≤ o → Holds s n b i o → Holds s n b i a
-holds-less a l h = record { sound = h .sound; inodes = h .inodes; blocks = h .blocks; low = h .low; high = h .high; kind = h .kind; size = let z = h .size in omega arith }
-
 abbrev oneByte : List ℕ → ℕ → ℕ → ℕ → ℕ → List ℕ
 oneByte s n i o v = putInBlock s n (kthBlock s n i (o / blockBytes)) (o % blockBytes) (v ∷ [])
 
