@@ -4,6 +4,7 @@ pub mod CallLaws
 pub mod ChangeLaws
 pub mod CreateKeeps
 pub mod CutLaws
+pub mod EnterLaws
 pub mod EntryPlanLaws
 pub mod EntryWriteLaws
 pub mod FileLaws

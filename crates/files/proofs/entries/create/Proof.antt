@@ -1,36 +1,40 @@
+use Rattle.files.proofs.EnterLaws.{free-low, free-high, entered-fits, create-counts}
+use Rattle.files.proofs.StoreLaws.{kind-most}
+use Rattle.files.specs.Apply.{created}
+use Rattle.files.specs.Inode.{lessFree}
+use Rattle.layout.specs.Inode.{putInode}
+use Rattle.layout.specs.declared.inode.Inode.{Inode}
+use denote.Ref.{now}
+use native.Mathlib.Omega.{arith}
+use mathlib.Core.List.{List}
+use mathlib.Core.Path.{ap, ap₂, _∙_}
+use Prim.Native.Nat.{ℕ}
 use borrow.Author.Needs.{needs}
 use Rattle.files.proofs.entries.create.Statement.{statement}
 use Rattle.files.proofs.entries.create.Tie as tie
-use Rattle.files.proofs.entries.create.Reads as reads
-use Rattle.files.proofs.entries.create.Lts as lts
-use Rattle.files.proofs.content.less_free.Reads as less-free-reads
-use Rattle.files.proofs.entries.enter.Reads as enter-reads
-use Rattle.files.proofs.entries.new_inode.Reads as new-inode-reads
-use Rattle.layout.proofs.inode.Inode.write.Reads as write-reads
 
--- src/entries.rt:82:5
 enter-requires : tie.Need-enter-requires
-enter-requires c κs = ?
+enter-requires c κs = let p = c .before .before .before .pre in (p .0, (free-high _ _ _ (p .1 .0), p .1 .1))
 
--- src/entries.rt:83:5
 new-inode-requires : tie.Need-new-inode-requires
-new-inode-requires c κs = ?
+new-inode-requires c κs = let p = c .before .before .before .before .before .before .pre .0 in let a = kind-most _ _ _ _ (p .3) in let b = p .0 .framed .most-inodes in let e = p .1 in omega arith
 
--- src/entries.rt:83:5
 write-requires : tie.Need-write-requires
-write-requires c κs = ?
+write-requires c κs = let p = c .before .before .before .before .before .before .before .before .pre .0 in let f = c .before .before .before .before .before .before .before .before .pre .1 .0 in entered-fits _ _ _ _ _ (p .0) (p .1) (p .2) (p .3) (p .4) _ _ _ (c .before .before .before .before .enter .ensures) _ (free-low _ _ _ f) (free-high _ _ _ f)
 
--- src/entries.rt:84:5
 less-free-requires : tie.Need-less-free-requires
-less-free-requires c κs = ?
+less-free-requires c κs = let p = c .before .before .before .before .before .before .before .before .before .before .before .before .pre .0 in let z = create-counts _ _ _ _ _ (p .0) (p .1) (p .2) (p .3) (p .4) _ _ _ (c .before .before .before .before .before .before .before .before .enter .ensures) (c .before .before .before .before .before .before .before .before .before .before .before .before .pre .1 .0) (c .before .before .before .before .before .before .before .before .before .before .before .before .args .kind) _ (c .before .before .before .write .ensures ∙ ap (putInode _ _ _) (c .before .before .before .before .before .new-inode .ensures)) in (z .0, z .1, omega arith)
 
--- src/entries.rt:77:1
 same-length : tie.Need-same-length
 same-length c = search needs
 
--- src/entries.rt:77:1
 returns : tie.Need-returns
-returns c = ?
+unfolding created
+returns c = 
+    let a = c .before .before .before .before .before .before .before .before .before .before .before .before .before .before .before .args in
+    c .before .before .less-free .ensures
+    ∙ ap (λ (t : List ℕ). lessFree t 1 0)
+    (c .before .before .before .before .before .before .write .ensures ∙ ap₂ (λ (t : List ℕ) (v : Inode). putInode t (a .n) (a .i) v) (c .before .before .before .before .before .before .before .before .before .before .before .enter .ensures) (c .before .before .before .before .before .before .before .before .new-inode .ensures))
 
 pub create-spec : {M : Type 1} → statement M
 create-spec =

@@ -1,30 +1,34 @@
+use Rattle.files.proofs.EnterLaws.{roomed, roomed-dir}
+use Rattle.files.specs.Apply.{enter}
+use Rattle.directory.specs.Slot.{putEntry}
+use denote.Ref.{now}
+use Prim.Native.Nat.{ℕ}
+use mathlib.Core.List.{List}
+use mathlib.Core.Path.{ap, _∙_}
 use borrow.Author.Needs.{needs}
 use Rattle.files.proofs.entries.enter.Statement.{statement}
 use Rattle.files.proofs.entries.enter.Tie as tie
-use Rattle.files.proofs.entries.enter.Reads as reads
-use Rattle.files.proofs.entries.enter.Lts as lts
-use Rattle.directory.proofs.put_entry.Reads as put-entry-reads
-use Rattle.files.proofs.entries.make_room.Reads as make-room-reads
 
--- src/entries.rt:49:5
 make-room-requires : tie.Need-make-room-requires
 make-room-requires c κs = search needs
 
--- src/entries.rt:50:44
 cast-put-entry : tie.Need-cast-put-entry
 cast-put-entry c = search needs
 
--- src/entries.rt:50:5
 put-entry-requires : tie.Need-put-entry-requires
-put-entry-requires c κs = ?
+put-entry-requires c κs = 
+    let p = c .before .before .before .before .before .before .before .pre .0 in
+    let q = c .before .before .before .make-room .ensures in
+    (roomed-dir _ _ _ _ _ (p .0) (p .1) (p .2) (p .3) (p .4) _ q _ (p .3), roomed _ _ _ _ _ (p .0) (p .1) (p .2) (p .3) (p .4) _ q .slot, c .before .before .before .before .before .before .before .pre .1 .1)
 
--- src/entries.rt:43:1
 same-length : tie.Need-same-length
 same-length c = search needs
 
--- src/entries.rt:43:1
 returns : tie.Need-returns
-returns c = ?
+unfolding enter
+returns c = 
+    let a = c .before .before .before .before .before .before .before .before .before .before .args in
+    c .before .before .put-entry .ensures ∙ ap (λ (t : List ℕ). putEntry t (a .n) (a .d) (a .room .slot) (a .i) (now (a .name))) (c .before .before .before .before .before .before .make-room .ensures)
 
 pub enter-spec : {M : Type 1} → statement M
 enter-spec =

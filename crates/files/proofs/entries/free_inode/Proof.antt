@@ -1,49 +1,47 @@
+use Rattle.files.proofs.EnterLaws.{freed-counts, used-bound}
+use Rattle.files.specs.Inode.{moreFree}
+use Rattle.layout.specs.Block.{blocksUsed}
+use Rattle.layout.specs.Inode.{putInode}
+use denote.Ref.{now}
+use native.Mathlib.Omega.{arith}
+use mathlib.Core.List.{List}
+use mathlib.Core.Path.{ap, ap₂, _∙_}
+use Prim.Native.Nat.{ℕ}
 use borrow.Author.Needs.{needs}
 use Rattle.files.proofs.entries.free_inode.Statement.{statement}
 use Rattle.files.proofs.entries.free_inode.Tie as tie
-use Rattle.files.proofs.entries.free_inode.Reads as reads
-use Rattle.files.proofs.entries.free_inode.Lts as lts
-use Rattle.files.proofs.content.more_free.Reads as more-free-reads
-use Rattle.files.proofs.entries.zero_inode.Reads as zero-inode-reads
-use Rattle.layout.proofs.block.blocks_used.Reads as blocks-used-reads
-use Rattle.layout.proofs.inode.Inode.write.Reads as write-reads
-use Rattle.layout.proofs.inode.size.Reads as size-reads
 
--- src/entries.rt:115:28
 size-requires : tie.Need-size-requires
 size-requires c κs = search needs
 
--- src/entries.rt:115:28
 cast-blocks-used : tie.Need-cast-blocks-used
 cast-blocks-used c = search needs
 
--- src/entries.rt:115:9
 blocks-used-requires : tie.Need-blocks-used-requires
 blocks-used-requires c κs = search needs
 
--- src/entries.rt:116:5
 zero-inode-requires : tie.Need-zero-inode-requires
 zero-inode-requires c κs = search needs
 
--- src/entries.rt:116:5
 write-requires : tie.Need-write-requires
 write-requires c κs = search needs
 
--- src/entries.rt:117:27
 cast-more-free : tie.Need-cast-more-free
-cast-more-free c = ?
+cast-more-free c = let u = used-bound (c .before .before .before .before .before .before .before .size .result) (omega arith) in let e = c .before .before .before .before .before .before .blocks-used .ensures in omega arith
 
--- src/entries.rt:117:5
 more-free-requires : tie.Need-more-free-requires
-more-free-requires c κs = ?
+more-free-requires c κs = let p = c .before .before .before .before .before .before .before .before .before .before .pre in let u = used-bound (c .before .before .before .before .before .before .before .size .result) (omega arith) in let e = c .before .before .before .before .before .before .blocks-used .ensures in freed-counts _ _ _ (p .0) (p .1) (p .2) _ (c .before .before .before .before .before .zero-inode .ensures) _ (c .before .before .before .write .ensures) _ (omega arith)
 
--- src/entries.rt:111:1
 same-length : tie.Need-same-length
 same-length c = search needs
 
--- src/entries.rt:111:1
 returns : tie.Need-returns
-returns c = ?
+returns c = 
+    let a = c .before .before .before .before .before .before .before .before .before .before .before .before .before .args in
+    c .before .before .more-free .ensures
+    ∙ ap₂ (λ (t : List ℕ) (m : ℕ). moreFree t 1 m)
+    (c .before .before .before .before .before .before .write .ensures ∙ ap (putInode (now (a .s)) (a .n) (a .i)) (c .before .before .before .before .before .before .before .before .zero-inode .ensures))
+    (c .before .before .before .before .before .before .before .before .before .blocks-used .ensures ∙ ap blocksUsed (c .before .before .before .before .before .before .before .before .before .before .size .ensures))
 
 pub free-inode-spec : {M : Type 1} → statement M
 free-inode-spec =

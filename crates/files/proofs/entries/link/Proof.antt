@@ -1,35 +1,45 @@
+use Rattle.files.proofs.EnterLaws.{few-links, entered-fits, entered-links}
+use Rattle.files.proofs.StoreLaws.{kind-some, kind-most}
+use Rattle.files.specs.Apply.{linked}
+use Rattle.layout.specs.Inode.{linksOf, putLinks}
+use denote.Ref.{now}
+use native.Mathlib.Omega.{arith}
+use mathlib.Core.List.{List}
+use mathlib.Core.Path.{ap, ap₂, _∙_}
+use Prim.Native.Nat.{ℕ, _+_}
 use borrow.Author.Needs.{needs}
 use Rattle.files.proofs.entries.link.Statement.{statement}
 use Rattle.files.proofs.entries.link.Tie as tie
-use Rattle.files.proofs.entries.link.Reads as reads
-use Rattle.files.proofs.entries.link.Lts as lts
-use Rattle.files.proofs.entries.enter.Reads as enter-reads
-use Rattle.layout.proofs.inode.links.Reads as links-reads
-use Rattle.layout.proofs.inode.put_links.Reads as put-links-reads
 
--- src/entries.rt:93:5
 enter-requires : tie.Need-enter-requires
-enter-requires c κs = ?
+enter-requires c κs = let p = c .before .before .before .pre in (p .0, (kind-most _ _ _ _ (p .1 .0), p .1 .1))
 
--- src/entries.rt:94:9
 links-requires : tie.Need-links-requires
-links-requires c κs = ?
+links-requires c κs = let p = c .before .before .before .before .before .before .before .pre .0 in let f = c .before .before .before .before .before .before .before .pre .1 .0 in entered-fits _ _ _ _ _ (p .0) (p .1) (p .2) (p .3) (p .4) _ _ _ (c .before .before .before .enter .ensures) _ (kind-some _ _ _ _ f) (kind-most _ _ _ _ f)
 
--- src/entries.rt:95:37
 add-put-links : tie.Need-add-put-links
-add-put-links c = ?
+add-put-links c = 
+    let p = c .before .before .before .before .before .before .before .before .before .pre .0 in
+    let f = c .before .before .before .before .before .before .before .before .before .pre .1 .0 in
+    let a = kind-most _ _ _ _ f in
+    let e = p .1 in
+    let l = c .before .links .ensures ∙ entered-links _ _ _ _ _ (p .0) (p .1) (p .2) (p .3) (p .4) _ _ _ (c .before .before .before .before .before .enter .ensures) _ (kind-some _ _ _ _ f) (kind-most _ _ _ _ f) in
+    let m = few-links _ (p .0) _ (kind-some _ _ _ _ f) (omega arith) in
+    omega arith
 
--- src/entries.rt:95:5
 put-links-requires : tie.Need-put-links-requires
-put-links-requires c κs = ?
+put-links-requires c κs = let p = c .before .before .before .before .before .before .before .before .before .pre .0 in let f = c .before .before .before .before .before .before .before .before .before .pre .1 .0 in entered-fits _ _ _ _ _ (p .0) (p .1) (p .2) (p .3) (p .4) _ _ _ (c .before .before .before .before .before .enter .ensures) _ (kind-some _ _ _ _ f) (kind-most _ _ _ _ f)
 
--- src/entries.rt:88:1
 same-length : tie.Need-same-length
 same-length c = search needs
 
--- src/entries.rt:88:1
 returns : tie.Need-returns
-returns c = ?
+unfolding linked
+returns c = 
+    let a = c .before .before .before .before .before .before .before .before .before .before .before .before .args in
+    let e = c .before .before .before .before .before .before .before .before .enter .ensures in
+    c .before .before .put-links .ensures
+    ∙ ap₂ (λ (t : List ℕ) (x : ℕ). putLinks t (a .i) (x + 1)) e (c .before .before .before .before .links .ensures ∙ ap (λ (t : List ℕ). linksOf t (a .i)) e)
 
 pub link-spec : {M : Type 1} → statement M
 link-spec =

@@ -1,25 +1,20 @@
+use Rattle.files.proofs.EnterLaws.{room-none, room-some, room-takes}
+use mathlib.Core.Path.{_∙_}
 use borrow.Author.Needs.{needs}
 use Rattle.files.proofs.entries.make_room.Statement.{statement}
 use Rattle.files.proofs.entries.make_room.Tie as tie
-use Rattle.files.proofs.entries.make_room.Reads as reads
-use Rattle.files.proofs.entries.make_room.Lts as lts
-use Rattle.files.proofs.content.add_block.Reads as add-block-reads
 
--- src/entries.rt:37:9
 returns : tie.Need-returns
-returns c = ?
+returns c = let p = c .before .before .pre in room-none _ _ _ _ _ (p .0) (p .1) (p .2) (p .3) (p .4) (c .if1 .taken)
 
--- src/entries.rt:39:5
 add-block-requires : tie.Need-add-block-requires
-add-block-requires c κs = ?
+add-block-requires c κs = let p = c .before .before .before .pre in let t = room-takes _ _ _ _ _ (p .0) (p .1) (p .2) (p .3) (p .4) (c .before .if1 .left) in (t .inode, t .sized, t .low, t .high, t .few, t .free)
 
--- src/entries.rt:31:1
 same-length : tie.Need-same-length
 same-length c = search needs
 
--- src/entries.rt:31:1
 returns-2 : tie.Need-returns-2
-returns-2 c = ?
+returns-2 c = let p = c .before .before .before .before .before .before .pre in c .before .before .add-block .ensures ∙ room-some _ _ _ _ _ (p .0) (p .1) (p .2) (p .3) (p .4) (c .before .before .before .before .if1 .left)
 
 pub make-room-spec : {M : Type 1} → statement M
 make-room-spec = tie.close (tie.spec returns add-block-requires same-length returns-2)

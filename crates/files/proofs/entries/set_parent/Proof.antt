@@ -1,44 +1,41 @@
+use Rattle.files.proofs.EnterLaws.{parent-file, parent-directory}
+use Rattle.files.specs.Inode.{withParent}
+use Rattle.layout.specs.Inode.{putAttributes}
+use Rattle.layout.specs.declared.inode.Inode.{Inode}
+use denote.Ref.{now}
+use mathlib.Core.Path.{sym, ap, _∙_}
+use Prim.Native.Nat.{ℕ}
 use borrow.Author.Needs.{needs}
 use Rattle.files.proofs.entries.set_parent.Statement.{statement}
 use Rattle.files.proofs.entries.set_parent.Tie as tie
-use Rattle.files.proofs.entries.set_parent.Reads as reads
-use Rattle.files.proofs.entries.set_parent.Lts as lts
-use Rattle.files.proofs.entries.with_parent.Reads as with-parent-reads
-use Rattle.layout.proofs.inode.Inode.read.Reads as read-reads
-use Rattle.layout.proofs.inode.Inode.write_attributes.Reads as write-attributes-reads
-use Rattle.layout.proofs.inode.kind.Reads as kind-reads
 
--- src/entries.rt:169:8
 kind-requires : tie.Need-kind-requires
 kind-requires c κs = search needs
 
--- src/entries.rt:170:9
 same-length : tie.Need-same-length
 same-length c = search needs
 
--- src/entries.rt:170:9
 returns : tie.Need-returns
-returns c = ?
+returns c = parent-file _ _ _ _ (λ e. c .if1 .taken (c .before .kind .ensures ∙ e))
 
--- src/entries.rt:172:17
 read-requires : tie.Need-read-requires
 read-requires c κs = search needs
 
--- src/entries.rt:172:5
 with-parent-requires : tie.Need-with-parent-requires
 with-parent-requires c κs = search needs
 
--- src/entries.rt:172:5
 write-attributes-requires : tie.Need-write-attributes-requires
 write-attributes-requires c κs = search needs
 
--- src/entries.rt:165:1
 same-length-2 : tie.Need-same-length-2
 same-length-2 c = search needs
 
--- src/entries.rt:165:1
 returns-2 : tie.Need-returns-2
-returns-2 c = ?
+returns-2 c = 
+    let a = c .before .before .before .before .before .before .before .before .before .before .before .args in
+    c .before .before .write-attributes .ensures
+    ∙ ap (putAttributes (now (a .s)) (a .i)) (c .before .before .before .before .with-parent .ensures ∙ ap (λ (v : Inode). withParent v (a .e)) (c .before .before .before .before .before .read .ensures))
+    ∙ parent-directory (now (a .s)) (a .n) (a .i) (a .e) (sym (c .before .before .before .before .before .before .before .before .kind .ensures) ∙ c .before .before .before .before .before .before .before .if1 .left)
 
 pub set-parent-spec : {M : Type 1} → statement M
 set-parent-spec =

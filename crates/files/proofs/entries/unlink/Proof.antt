@@ -1,26 +1,25 @@
+use Rattle.files.proofs.EnterLaws.{cleared}
+use Rattle.files.proofs.StoreLaws.{kind-dir}
+use Rattle.files.specs.Apply.{dropLink, unlinked}
+use mathlib.Core.List.{List}
+use mathlib.Core.Path.{ap, _∙_}
+use Prim.Native.Nat.{ℕ}
 use borrow.Author.Needs.{needs}
 use Rattle.files.proofs.entries.unlink.Statement.{statement}
 use Rattle.files.proofs.entries.unlink.Tie as tie
-use Rattle.files.proofs.entries.unlink.Reads as reads
-use Rattle.files.proofs.entries.unlink.Lts as lts
-use Rattle.directory.proofs.clear_entry.Reads as clear-entry-reads
-use Rattle.files.proofs.entries.drop_link.Reads as drop-link-reads
 
--- src/entries.rt:138:5
 clear-entry-requires : tie.Need-clear-entry-requires
-clear-entry-requires c κs = ?
+clear-entry-requires c κs = let p = c .before .before .pre in (kind-dir _ _ (p .0) (p .1) _ _ (p .2), p .3)
 
--- src/entries.rt:139:5
 drop-link-requires : tie.Need-drop-link-requires
-drop-link-requires c κs = ?
+drop-link-requires c κs = let p = c .before .before .before .before .before .before .pre in let z = cleared _ _ (p .0) (p .1) _ _ (p .2) (p .3) _ (c .before .before .before .clear-entry .ensures) _ (p .4) (p .5) in (z .inode, z .inodes, z .blocks)
 
--- src/entries.rt:134:1
 same-length : tie.Need-same-length
 same-length c = search needs
 
--- src/entries.rt:134:1
 returns : tie.Need-returns
-returns c = ?
+unfolding unlinked
+returns c = let a = c .before .before .before .before .before .before .before .before .before .args in c .before .before .drop-link .ensures ∙ ap (λ (t : List ℕ). dropLink t (a .n) (a .i)) (c .before .before .before .before .before .before .clear-entry .ensures)
 
 pub unlink-spec : {M : Type 1} → statement M
 unlink-spec = tie.close (tie.spec clear-entry-requires drop-link-requires same-length returns)
