@@ -25,7 +25,7 @@ use Rattle.files.proofs.SameLaws.{SameFrame, SameInode, SameBlock, NewI
 use Rattle.files.proofs.KeepLaws.{SamePlace, inode-kept}
 use Rattle.files.proofs.AddressLaws.{differ-less, address-kth, unnamed-change}
 use Rattle.files.proofs.TreeLaws.{count-but}
-use Rattle.files.proofs.InodeWriteLaws.{body-of, place-body, each-inode}
+use Rattle.files.proofs.InodeWriteLaws.{same-body, place-body, each-inode}
 use Rattle.files.proofs.StockLaws.{Stock, kth-is}
 
 -- inode i is v, which has no blocks; the other inodes and the bytes of blocks stay
@@ -81,7 +81,7 @@ module _ (s t : List ℕ) (n i : ℕ) (v : Inode) (a : Bared s t n i v) (empty :
   bared-places bare q l = elim (ℕ-discrete (dirOf q) i) as (λ _. SamePlace s t n q) [
     | yes e ↦ place-none s t n q (bare q l e)
         (fails (filled t n q) (λ z. clash (isSlot t q) (filled-is t n q .to z .0) (no-slots t q (ap (sizeOf t) e ∙ size-none))))
-    | no e ↦ place-body s t n q (body-of (a .others (dirOf q) (omega arith) (omega arith) e)) (a .bytes)
+    | no e ↦ place-body s t n q (same-body (a .others (dirOf q) (omega arith) (omega arith) e)) (a .bytes)
   ]
 
   module _ (b : ℕ) (low : 1 ≤ i) (high : i ≤ n) (h : Stock s n b) (kind : v .kind ≤ directoryKind)

@@ -24,7 +24,7 @@ use Rattle.sound.specs.Sound.{Sound, inodesIn}
 use Rattle.sound.proofs.FactLaws.{one-block}
 use Rattle.sound.proofs.PlaceLaws.{slot-is, filled-is, naming-entry}
 use Rattle.sound.proofs.EntryLaws.{place-dir, place-slot as slot-of, entry-place, slot-place}
-use Rattle.files.proofs.SameLaws.{SameFrame, SameInode, SameBlock, InBlock, frame-then, inode-then, inode-stays, put-entry, clear-entry}
+use Rattle.files.proofs.SameLaws.{SameFrame, SameInode, SameBlock, InBlock, frame-stays, frame-then, inode-then, inode-stays, put-entry, clear-entry}
 use Rattle.files.proofs.KeepLaws.{SamePlace, place-slot, slot-kept, same-slots}
 use Rattle.files.specs.Inode.{isDirectory}
 use Rattle.files.proofs.StoreLaws.{dir-of, kind-some, kind-most, kind-is}
@@ -39,7 +39,7 @@ pub record EntriesAlone (s t : List ℕ) (n : ℕ) : Type 0 where
 
 pub entries-stay : (s : List ℕ) (n : ℕ) → EntriesAlone s s n
 entries-stay s n = record {
-  frame = record { long = refl; inodes = refl; blocks = refl; complete = refl; root = refl; reserved = refl };
+  frame = frame-stays s;
   header = refl;
   inodes = λ j l m. inode-stays s n j;
   files = λ j k l m e u. refl;

@@ -23,8 +23,8 @@ pub record SameBody (s t : List ℕ) (n i : ℕ) : Type 0 where
   pub size : sizeOf t i ≡ sizeOf s i
   pub blocks : (k : ℕ) → k < addressCount → kthBlock t n i k ≡ kthBlock s n i k
 
-pub body-of : {s t : List ℕ} {n i : ℕ} → SameInode s t n i → SameBody s t n i
-body-of e = record { kind = e .kind; spare = e .spare; size = e .size; blocks = e .blocks }
+pub same-body : {s t : List ℕ} {n i : ℕ} → SameInode s t n i → SameBody s t n i
+same-body e = record { kind = e .kind; spare = e .spare; size = e .size; blocks = e .blocks }
 
 -- what holds of i and of all others holds of all
 pub each-inode : (P : ℕ → Type 0) (i j : ℕ) → P i → (j ≢ i → P j) → P j
@@ -43,7 +43,7 @@ pub record Relinked (s t : List ℕ) (n i : ℕ) : Type 0 where
   pub body : SameBody s t n i
 
 pub body-all : {s t : List ℕ} {n i : ℕ} → Relinked s t n i → (j : ℕ) → 1 ≤ j → j ≤ n → SameBody s t n j
-body-all {s} {t} {n} {i} a j l m = each-inode (SameBody s t n) i j (a .body) (λ z. body-of (a .inode .others j l m z))
+body-all {s} {t} {n} {i} a j l m = each-inode (SameBody s t n) i j (a .body) (λ z. same-body (a .inode .others j l m z))
 
 pub relinked-places : {s t : List ℕ} {n i : ℕ} → Relinked s t n i → (q : ℕ) → q < mostSlots * n → SamePlace s t n q
 relinked-places {s} {t} {n} a q l = place-body s t n q (body-all a (dirOf q) (omega arith) (omega arith)) (a .inode .bytes)

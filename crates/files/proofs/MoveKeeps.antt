@@ -25,15 +25,15 @@ use Rattle.sound.proofs.EntryLaws.{place-dir}
 use Rattle.files.specs.Inode.{isDirectory, withParent}
 use Rattle.files.specs.Plan.{inodeAt, isBelow}
 use Rattle.files.specs.Apply.{setParent}
-use Rattle.files.proofs.SameLaws.{SameFrame, SameInode, frame-then, inode-stays}
-use Rattle.files.proofs.KeepLaws.{SamePlace}
+use Rattle.files.proofs.SameLaws.{SameFrame, SameInode, frame-stays, frame-then, inode-stays}
+use Rattle.files.proofs.KeepLaws.{SamePlace, tree-stays}
 use Rattle.files.proofs.StoreLaws.{fits}
 use Rattle.files.proofs.ChangeLaws.{Emptied, Filled, NewName, filled-then, names-emptied, names-filled, new-emptied}
 use Rattle.files.proofs.TreeLaws.{Nodes, Tree, Dir, Above, parent-dir, tree-move}
-use Rattle.files.proofs.SoundTreeLaws.{nodesOf, entry-at, names-at, above-at, tree-at}
+use Rattle.files.proofs.SoundTreeLaws.{nodesOf, body-at, names-at, above-at, tree-at}
 use Rattle.files.proofs.EntryWriteLaws.{EntriesAlone, entries-stay, SlotIn, slot-in, place-below, clear-alone, clear-emptied, put-alone, put-filled}
 use Rattle.files.proofs.InodeWriteLaws.{Relinked, relinked-places, parent-relinked, parent-links, parent-put}
-use Rattle.files.proofs.SlotPlaceLaws.{absent-new, place-naming, place-filled, place-bare}
+use Rattle.files.proofs.SlotPlaceLaws.{EntryHere, entry-here, absent-new, place-bare}
 use Rattle.files.proofs.StockLaws.{Stock, entries-stock, relinked-stock, stock-sound}
 
 -- ---- a climb to i: the test with n steps tells all
@@ -81,124 +81,97 @@ module _ (s : List ℕ) (n d t i e u : ℕ) (other : List ℕ) (h : Sound mostSt
     (from : isDirectory s n d ≡ true) (inside : t < slots s d) (full : slotEmpty s n d t ≡ false) (is : i ≡ inodeAt s n d t)
     (into : isDirectory s n e ≡ true) (room : u < slots s e) (empty : slotEmpty s n e u ≡ true)
     (legal : legalName other ≡ true) (absent : findSlot s n e other ≡ Absent) (apart : isBelow s n i e ≡ false) where
-  slot : SlotIn s n d t
-  slot = slot-in s n d t h x from inside
+  old : EntryHere s n d t i
+  old = entry-here s n d t i h x from inside full is
+
+  low : 1 ≤ i
+  low = old .low
+
+  high : i ≤ n
+  high = old .high
 
   target : SlotIn s n e u
   target = slot-in s n e u h x into room
 
-  p : ℕ
+  abbrev p : ℕ
   p = placeOf d t
 
-  q : ℕ
+  abbrev q : ℕ
   q = placeOf e u
 
-  below : p < mostSlots * n
-  unfolding p
-  below = place-below slot
-
-  below-too : q < mostSlots * n
-  unfolding q
-  below-too = place-below target
-
-  named : naming s n p ≡ i
-  unfolding p
-  named = place-naming s n d t slot ∙ sym is
-
   free : naming s n q ≡ 0
-  unfolding q
   free = place-bare s n e u target empty
 
-  old : EntrySound s n p
-  unfolding p
-  old = entry-at s n h x p below (place-filled s n d t slot full)
-
-  some : 1 ≤ i
-  some = let l = old .low in let a = named in omega arith
-
-  most : i ≤ n
-  most = let l = old .high in let a = named in omega arith
-
   other-place : p ≢ q
-  other-place z = let a = ap (naming s n) z in let b = named in let c = free in let o = some in omega arith
+  other-place z = let a = ap (naming s n) z in let b = old .names in let c = free in let o = low in omega arith
 
   -- the old slot is emptied
-  m : List ℕ
+  abbrev m : List ℕ
   m = clearEntry s n d t
 
   alone : EntriesAlone s m n
-  unfolding m
-  alone = clear-alone s s n d t h x (entries-stay s n) slot
+  alone = clear-alone s s n d t h x (entries-stay s n) (old .slot)
 
   emptied : Emptied s m n p
-  unfolding m p
-  emptied = clear-emptied s s n d t h x (entries-stay s n) slot
+  emptied = clear-emptied s s n d t h x (entries-stay s n) (old .slot)
 
   -- and the new one filled
-  g : List ℕ
+  abbrev g : List ℕ
   g = putEntry m n e u i other
 
-  alone-too : EntriesAlone s g n
-  unfolding g
-  alone-too = put-alone s m n e u h x alone target i other some
+  both : EntriesAlone s g n
+  both = put-alone s m n e u h x alone target i other low
 
   entered : Filled m g n q i other
-  unfolding g q
-  entered = put-filled s m n e u h x alone target i other some
+  entered = put-filled s m n e u h x alone target i other low
 
   stock : Stock g n (blocksIn s)
-  stock = entries-stock s g n (blocksIn s) h x refl alone-too
-
-  there : InodeFits g n i
-  there = inode-fits s g n i (alone-too .frame .long) (fits s n h x i some most)
-
-  new : NewName m n q other
-  unfolding q
-  new = new-emptied s m n p q other emptied (absent-new s n e other u (target .low) (target .small) absent)
+  stock = entries-stock s g n (blocksIn s) (body-at s n h x) both
 
   -- e is not below i
   leads-away : kindOf s i ≡ directoryKind → Leads (parentOf s) i e → ⊥
   unfolding isBelow
-  leads-away k l =
-      let z = leads-not n (nodesOf s n) (tree-at s n h x) (above-at s n h x) (parent-none s ∙ h .root-parent) i e some (λ r. old .not-root (named ∙ r)) in
-      z (record { low = target .low; high = target .high; kind = target .dir })
-      (sym (ap (λ (b : Bool). b && leadsB (parentOf s) i n e) (eq-eqb (kindOf s i) directoryKind k)) ∙ apart) l
+  leads-away k =
+      leads-not n (nodesOf s n) (tree-at s n h x) (above-at s n h x) (parent-none s ∙ h .root-parent) i e low (old .not-root)
+      (record { low = target .low; high = target .high; kind = target .dir })
+      (sym (ap (λ (b : Bool). b && leadsB (parentOf s) i n e) (eq-eqb (kindOf s i) directoryKind k)) ∙ apart)
 
   -- ---- then at most the parent of i changes
   module _ (w : List ℕ) (frame : SameFrame g w) (places : (r : ℕ) → r < mostSlots * n → SamePlace g w n r) (inodes : (j : ℕ) → 1 ≤ j → j ≤ n → j ≢ i → SameInode g w n j)
       (kind : kindOf w i ≡ kindOf g i) (links : linksOf w i ≡ linksOf g i) (up : kindOf s i ≡ directoryKind → parentOf w i ≡ e) (after : Stock w n (blocksIn s)) where
     entry : Filled m w n q i other
-    entry = filled-then below-too places entered
+    entry = filled-then (place-below target) places entered
 
     tree : Tree n (nodesOf w n)
-    unfolding q
     tree =
-        let a = alone-too .inodes in
-        tree-move n i (nodesOf s n) (nodesOf w n) (tree-at s n h x) (above-at s n h x) some most
+        let a = both .inodes in
+        tree-move n i (nodesOf s n) (nodesOf w n) (tree-at s n h x) (above-at s n h x) low high
         (λ j l r z. inodes j l r z .kind ∙ a j l r .kind) (λ j l r z. inodes j l r z .links ∙ a j l r .links) (λ j l r z. inodes j l r z .parent ∙ a j l r .parent)
-        p q e below below-too (place-dir e u (target .low) (target .small)) named (entry .others p below other-place .names ∙ emptied .names) free (entry .names)
+        p q e (place-below (old .slot)) (place-below target) (place-dir e u (target .low) (target .small))
+        (old .names) (entry .others p (place-below (old .slot)) other-place .names ∙ emptied .names) free (entry .names)
         (λ r l y z. entry .others r l z .names ∙ emptied .others r l y .names)
-        (target .dir) leads-away (kind ∙ a i some most .kind) (links ∙ a i some most .links) up
+        (target .dir) leads-away (kind ∙ a i low high .kind) (links ∙ a i low high .links) up
 
     moved-sound : Sound mostStoreBlocks false w
     moved-sound =
-        stock-sound s w n (blocksIn s) h x refl (frame-then (alone-too .frame) frame) after
-        (names-filled m w n (names-emptied s m n (names-at s n h x) p emptied) q i other entry some legal new) tree
+        stock-sound s w n h x (frame-then (both .frame) frame) after
+        (names-filled m w n (names-emptied s m n (names-at s n h x) p emptied) q i other entry low legal
+        (new-emptied s m n p q other emptied (absent-new s n e other u (target .low) (target .small) absent)))
+        tree
 
   pub move-sound : Sound mostStoreBlocks false (setParent (putEntry (clearEntry s n d t) n e u i other) n i e)
-  unfolding setParent g m
+  unfolding setParent
   move-sound = go (eqb (kindOf g i) directoryKind) refl
     where
-      kind-old : kindOf g i ≡ kindOf s i
-      kind-old = alone-too .inodes i some most .kind
-
       go : (b : Bool) → eqb (kindOf g i) directoryKind ≡ b → Sound mostStoreBlocks false (pick b (putAttributes g i (withParent (inodeOf g n i) e)) g)
       go true k =
-          let y = stock .inodes i some most .spare in
+          let w = putAttributes g i (withParent (inodeOf g n i) e) in
+          let there = inode-fits s g n i (both .frame .long) (fits s n h x i low high) in
+          let y = stock .inodes i low high .spare in
           let a = eqb-true (kindOf g i) directoryKind k in
           let r = parent-relinked g n i there e y in
-          moved-sound (putAttributes g i (withParent (inodeOf g n i) e)) (r .inode .frame) (relinked-places r) (r .inode .others) (r .body .kind) (parent-links g n i there e y) (λ _. parent-put g n i there e y)
-          (relinked-stock g (putAttributes g i (withParent (inodeOf g n i) e)) n (blocksIn s) i r (λ z. omega arith) (λ z. absurd (omega arith)) some most stock)
+          moved-sound w (r .inode .frame) (relinked-places r) (r .inode .others) (r .body .kind) (parent-links g n i there e y) (λ _. parent-put g n i there e y)
+          (relinked-stock g w n (blocksIn s) i r (λ z. omega arith) (λ z. absurd (omega arith)) low high stock)
       go false k =
-          moved-sound g (entries-stay g n .frame) (λ r l. record { stands = refl; names = refl; entry = λ _. refl }) (λ j l r z. inode-stays g n j) refl refl
-          (λ z. absurd (eqb-false (kindOf g i) directoryKind k (kind-old ∙ z))) stock
+          moved-sound g (frame-stays g) (tree-stays g n .places) (λ j l r z. inode-stays g n j) refl refl
+          (λ z. absurd (eqb-false (kindOf g i) directoryKind k (both .inodes i low high .kind ∙ z))) stock

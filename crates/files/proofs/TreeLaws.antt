@@ -17,6 +17,7 @@ use Rattle.layout.specs.Sizes.{rootInode}
 use Rattle.layout.specs.Inode.{freeKind, fileKind, directoryKind}
 use Rattle.directory.specs.Slot.{mostSlots}
 use Rattle.sound.specs.Place.{dirOf}
+use Rattle.files.proofs.KeepLaws.{leads-kept}
 
 -- what the tree is made of: of each inode its kind, links and parent, and of each place the inode that it names, 0 where there is none
 pub record Nodes : Type 0 where
@@ -99,15 +100,6 @@ tally-filled f g m p i l h e r v y =
 pub tally-same : (f g : ℕ → ℕ) (m : ℕ) → ((q : ℕ) → q < m → g q ≡ f q) → (v : ℕ) → tally g m v ≡ tally f m v
 tally-same f g m h v = count-ext (λ k. eqb (g k) v) (λ k. eqb (f k) v) m (λ k b. ap (λ (x : ℕ). eqb x v) (h k b))
 
--- ---- the way up where D holds on it, by parents that are the same there
-pub leads-carried : (D : ℕ → Type 0) (up up′ : ℕ → ℕ) (a : ℕ) → ((x : ℕ) → D x → (x ≡ a → ⊥) → D (up x)) → ((x : ℕ) → D x → up′ x ≡ up x) → (k x : ℕ) → D x → climb up k x ≡ a → Leads up′ a x
-unfolding climb
-leads-carried D up up′ a closed same zero x d c = (0, c)
-leads-carried D up up′ a closed same (suc k) x d c = elim (ℕ-discrete x a) as (λ _. Leads up′ a x) [
-  | yes e ↦ (0, e)
-  | no e ↦ leads-up up′ a x (subst (Leads up′ a) (sym (same x d)) (leads-carried D up up′ a closed same k (up x) (closed x d e) c))
-]
-
 -- ---- what a tree gives
 module _ (n : ℕ) (v : Nodes) (t : Tree n v) where
   -- what is named is counted
@@ -151,7 +143,7 @@ module _ (n : ℕ) (v : Nodes) (t : Tree n v) where
     pub leads-same : (up : ℕ → ℕ) → ((x : ℕ) → Dir n v x → up x ≡ v .parent x) → (i : ℕ) → Dir n v i → Leads up rootInode i
     leads-same up h i d =
         let r = t .linked i (d .low) (d .high) .leads (d .kind) in
-        leads-carried (Dir n v) (v .parent) up rootInode parent-dir h (r .0) i d (r .1)
+        leads-kept (Dir n v) (v .parent) up rootInode n (record { within = λ x e. (e .low, e .high); parent = parent-dir }) h (r .0) i d (r .1)
 
 -- ---- a change of one inode i and of places
 module _ (n i : ℕ) (v w : Nodes) (t : Tree n v) (a : Above n v) (low : 1 ≤ i) (high : i ≤ n)
@@ -394,7 +386,8 @@ module _ (n i : ℕ) (v w : Nodes) (t : Tree n v) (a : Above n v) (low : 1 ≤ i
       leads-old : (j : ℕ) → Stays j → Leads (w .parent) rootInode j
       leads-old j b =
           let r = t .linked j (b .0 .low) (b .0 .high) .leads (b .0 .kind) in
-          leads-carried Stays (v .parent) (w .parent) rootInode stays (λ x y. parents x (y .0 .low) (y .0 .high) (y .1)) (r .0) j b (r .1)
+          leads-kept Stays (v .parent) (w .parent) rootInode n (record { within = λ x y. (y .0 .low, y .0 .high); parent = stays })
+          (λ x y. parents x (y .0 .low) (y .0 .high) (y .1)) (r .0) j b (r .1)
 
       of : (j : ℕ) → 1 ≤ j → j ≤ n → Dec (j ≡ i) → Linked n w j
       of j y z (no q) =
@@ -469,7 +462,8 @@ module _ (n i : ℕ) (v w : Nodes) (t : Tree n v) (a : Above n v) (low : 1 ≤ i
           let g = t .linked j (b .low) (b .high) .leads (b .kind) in
           let o = t .linked e (above .low) (above .high) .leads dir in
           let r = leads-moved (v .parent) to i e (changed (v .parent) i e) rootInode (apart z) o j g in
-          leads-carried (Dir n v) to (w .parent) rootInode (λ x y q. closed x y q (ℕ-discrete x i)) (λ x y. same x y (ℕ-discrete x i)) (r .0) j b (r .1)
+          leads-kept (Dir n v) to (w .parent) rootInode n (record { within = λ x y. (y .low, y .high); parent = λ x y q. closed x y q (ℕ-discrete x i) })
+          (λ x y. same x y (ℕ-discrete x i)) (r .0) j b (r .1)
         where
           closed : (x : ℕ) → Dir n v x → (x ≡ rootInode → ⊥) → Dec (x ≡ i) → Dir n v (to x)
           closed x y q (yes s) = subst (Dir n v) (sym (ap to s ∙ upd-same (v .parent) i e)) above
