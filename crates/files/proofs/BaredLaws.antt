@@ -1,8 +1,8 @@
 -- An inode is written with no blocks: a new one, or one that is freed. What that keeps. n and b are the counts of inodes and blocks.
 use Prim.Native.Nat.{ℕ, _+_, _-_, _*_, _/_, _%_, _≤_, _<_}
-use mathlib.Core.Path.{_≡_, refl, sym, ap, _∙_, subst}
+use mathlib.Core.Path.{_≡_, sym, ap, _∙_}
 use mathlib.Core.Logic.{_≢_}
-use mathlib.Core.Bool.{Bool, true, false}
+use mathlib.Core.Bool.{false}
 use mathlib.Core.List.{List}
 use native.Mathlib.Decide.{ℕ-discrete}
 use native.Mathlib.Omega.{arith}
@@ -11,17 +11,17 @@ use lib.ListN.{length, getD, replicate, getD-replicate, length-replicate}
 use Rattle.bounded.specs.Count.{one, count, Differ}
 use Rattle.bounded.proofs.BoolLaws.{clash, fails}
 use Rattle.bounded.proofs.ReflectLaws.{r-fails}
-use Rattle.layout.specs.Sizes.{addressCount, blockBytes, headerBytes}
+use Rattle.layout.specs.Sizes.{addressCount, blockBytes}
 use Rattle.layout.specs.Header.{headerOf}
 use Rattle.layout.specs.declared.inode.Inode.{Inode}
-use Rattle.layout.specs.Inode.{InodeFits, kindOf, spareOf, linksOf, sizeOf, parentOf, addressOf, putInode, freeKind, fileKind, directoryKind}
+use Rattle.layout.specs.Inode.{InodeFits, kindOf, sizeOf, addressOf, putInode, freeKind, fileKind, directoryKind}
 use Rattle.layout.specs.Block.{blocksUsed, kthBlock}
 use Rattle.directory.specs.Slot.{mostSlots, slots}
-use Rattle.sound.specs.Place.{dirOf, slotOf, isSlot, filled, naming}
+use Rattle.sound.specs.Place.{dirOf, isSlot, filled, naming}
 use Rattle.sound.specs.Inode.{InodeSound}
 use Rattle.sound.specs.Sound.{freeB, unnamedB}
-use Rattle.sound.proofs.PlaceLaws.{slot-is, filled-is, naming-slot, naming-filled}
-use Rattle.files.proofs.SameLaws.{SameFrame, SameInode, SameBlock, NewInode, InInode, InCounts, frame-then, inode-then, put-inode, inode-new, inode-blocks}
+use Rattle.sound.proofs.PlaceLaws.{slot-is, filled-is, naming-filled}
+use Rattle.files.proofs.SameLaws.{SameFrame, SameInode, SameBlock, NewInode, InCounts, frame-then, inode-then, put-inode, inode-new, inode-blocks}
 use Rattle.files.proofs.KeepLaws.{SamePlace, inode-kept}
 use Rattle.files.proofs.AddressLaws.{differ-less, address-kth, unnamed-change}
 use Rattle.files.proofs.TreeLaws.{count-but}

@@ -1,22 +1,20 @@
 -- A create keeps a store sound. n is the inode count.
-use Prim.Native.Nat.{ℕ, _+_, _-_, _*_, _≤_, _<_}
-use mathlib.Core.Path.{_≡_, refl, sym, ap, _∙_, subst}
+use Prim.Native.Nat.{ℕ, _-_, _*_, _≤_, _<_}
+use mathlib.Core.Path.{_≡_, refl, sym, ap, _∙_}
 use mathlib.Core.Bool.{true, false}
 use mathlib.Core.List.{List}
 use native.Mathlib.Omega.{arith}
 use borrow.Author.Tests.{eqb-true}
-use lib.Dec.{eqb}
 use lib.ListN.{length, replicate}
 use Rattle.bounded.specs.Count.{count, one}
 use Rattle.bounded.specs.declared.Found.the-variants.{At, Absent}
 use Rattle.bounded.proofs.BoolLaws.{fails}
 use Rattle.bounded.proofs.SearchLaws.{Lowest, found-lowest}
-use Rattle.layout.specs.Sizes.{mostStoreBlocks, addressCount, headerBytes}
+use Rattle.layout.specs.Sizes.{mostStoreBlocks, addressCount}
 use Rattle.layout.specs.Header.{headerOf}
 use Rattle.layout.specs.declared.header.Header.{Header}
 use Rattle.layout.specs.declared.inode.Inode.{Inode}
-use Rattle.layout.specs.Inode.{InodeFits, kindOf, linksOf, sizeOf, putInode, freeKind, fileKind, directoryKind}
-use Rattle.layout.specs.Block.{blocksUsed}
+use Rattle.layout.specs.Inode.{InodeFits, kindOf, sizeOf, putInode, freeKind, fileKind, directoryKind}
 use Rattle.layout.specs.Free.{isFree, freeInode}
 use Rattle.layout.proofs.FrameLaws.{length-inode}
 use Rattle.layout.proofs.ViewLaws.{inode-fits}
@@ -24,7 +22,7 @@ use Rattle.names.specs.Name.{legalName}
 use Rattle.directory.specs.Slot.{mostSlots, slots, findSlot, slotEmpty, putEntry}
 use Rattle.sound.specs.Place.{dirOf, filled}
 use Rattle.sound.specs.Pass.{placeOf}
-use Rattle.sound.specs.Sound.{Sound, inodesIn, blocksIn, freeB, unnamedB}
+use Rattle.sound.specs.Sound.{Sound, inodesIn, blocksIn}
 use Rattle.sound.proofs.PlaceLaws.{slot-is, filled-is}
 use Rattle.sound.proofs.EntryLaws.{place-dir}
 use Rattle.files.specs.declared.Kind.{Kind}

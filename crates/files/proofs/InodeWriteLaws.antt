@@ -1,8 +1,7 @@
 -- What the writers of an inode leave of it, of the others and of the places. n is the inode count.
-use Prim.Native.Nat.{ℕ, _+_, _*_, _/_, _%_, _≤_, _<_}
-use mathlib.Core.Path.{_≡_, refl, sym, ap, _∙_, subst}
+use Prim.Native.Nat.{ℕ, _*_, _/_, _≤_, _<_}
+use mathlib.Core.Path.{_≡_, sym, ap, _∙_, subst}
 use mathlib.Core.Logic.{_≢_}
-use mathlib.Core.Bool.{true, false}
 use mathlib.Core.List.{List}
 use native.Mathlib.Decide.{ℕ-discrete}
 use native.Mathlib.Omega.{arith}
@@ -11,7 +10,6 @@ use Rattle.layout.specs.Inode.{InodeFits, kindOf, spareOf, linksOf, sizeOf, par
 use Rattle.layout.specs.Block.{blocksUsed, kthBlock}
 use Rattle.directory.specs.Slot.{mostSlots, slots}
 use Rattle.sound.specs.Place.{dirOf, slotOf, entryAt}
-use Rattle.sound.proofs.PlaceLaws.{slot-is}
 use Rattle.files.specs.Inode.{withParent}
 use Rattle.files.proofs.SameLaws.{SameInode, SameBlock, InInode, put-links, links-new, links-alone, put-attributes, attributes-blocks, attributes-new}
 use Rattle.files.proofs.KeepLaws.{SamePlace, place-slot, slot-kept, entry-kept}

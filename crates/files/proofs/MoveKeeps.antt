@@ -1,5 +1,5 @@
 -- A move to another directory keeps a store sound. n is the inode count.
-use Prim.Native.Nat.{ℕ, zero, suc, _+_, _-_, _*_, _≤_, _<_}
+use Prim.Native.Nat.{ℕ, zero, suc, _-_, _*_, _≤_, _<_}
 use mathlib.Core.Path.{_≡_, refl, sym, ap, _∙_, subst}
 use mathlib.Core.Logic.{_≢_}
 use mathlib.Core.Bool.{Bool, true, false, _&&_}
@@ -10,15 +10,14 @@ use lib.Dec.{eqb}
 use Rattle.bounded.specs.Climb.{climb, Leads, leadsB, Closed}
 use Rattle.bounded.specs.Search.{pick}
 use Rattle.bounded.specs.declared.Found.the-variants.{Absent}
-use Rattle.bounded.proofs.BoolLaws.{clash, and-true}
+use Rattle.bounded.proofs.BoolLaws.{clash}
 use Rattle.bounded.proofs.ClimbLaws.{leads-bool}
 use Rattle.layout.specs.Sizes.{mostStoreBlocks, rootInode}
-use Rattle.layout.specs.Inode.{InodeFits, kindOf, linksOf, parentOf, inodeOf, putAttributes, freeKind, fileKind, directoryKind}
+use Rattle.layout.specs.Inode.{kindOf, linksOf, parentOf, inodeOf, putAttributes, directoryKind}
 use Rattle.layout.proofs.ViewLaws.{inode-fits}
 use Rattle.names.specs.Name.{legalName}
 use Rattle.directory.specs.Slot.{mostSlots, slots, findSlot, slotEmpty, putEntry, clearEntry}
-use Rattle.sound.specs.Place.{dirOf, filled, naming}
-use Rattle.sound.specs.Entry.{EntrySound}
+use Rattle.sound.specs.Place.{filled, naming}
 use Rattle.sound.specs.Pass.{placeOf}
 use Rattle.sound.specs.Sound.{Sound, inodesIn, blocksIn}
 use Rattle.sound.proofs.EntryLaws.{place-dir}
@@ -28,11 +27,11 @@ use Rattle.files.specs.Apply.{setParent}
 use Rattle.files.proofs.SameLaws.{SameFrame, SameInode, frame-stays, frame-then, inode-stays}
 use Rattle.files.proofs.KeepLaws.{SamePlace, tree-stays}
 use Rattle.files.proofs.StoreLaws.{fits}
-use Rattle.files.proofs.ChangeLaws.{Emptied, Filled, NewName, filled-then, names-emptied, names-filled, new-emptied}
+use Rattle.files.proofs.ChangeLaws.{Emptied, Filled, filled-then, names-emptied, names-filled, new-emptied}
 use Rattle.files.proofs.TreeLaws.{Nodes, Tree, Dir, Above, parent-dir, tree-move}
 use Rattle.files.proofs.SoundTreeLaws.{nodesOf, body-at, names-at, above-at, tree-at}
 use Rattle.files.proofs.EntryWriteLaws.{EntriesAlone, entries-stay, SlotIn, slot-in, place-below, clear-alone, clear-emptied, put-alone, put-filled}
-use Rattle.files.proofs.InodeWriteLaws.{Relinked, relinked-places, parent-relinked, parent-links, parent-put}
+use Rattle.files.proofs.InodeWriteLaws.{relinked-places, parent-relinked, parent-links, parent-put}
 use Rattle.files.proofs.SlotPlaceLaws.{EntryHere, entry-here, absent-new, place-bare}
 use Rattle.files.proofs.StockLaws.{Stock, entries-stock, relinked-stock, stock-sound}
 

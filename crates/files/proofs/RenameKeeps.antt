@@ -17,7 +17,7 @@ use Rattle.files.specs.Apply.{renamed}
 use Rattle.files.proofs.ChangeLaws.{Filled, names-filled}
 use Rattle.files.proofs.TreeLaws.{Tree, tree-rename}
 use Rattle.files.proofs.SoundTreeLaws.{nodesOf, body-at, names-at, above-at, tree-at}
-use Rattle.files.proofs.EntryWriteLaws.{EntriesAlone, entries-stay, SlotIn, put-alone, put-filled}
+use Rattle.files.proofs.EntryWriteLaws.{EntriesAlone, entries-stay, put-alone, put-filled}
 use Rattle.files.proofs.SlotPlaceLaws.{EntryHere, entry-here, absent-new}
 use Rattle.files.proofs.StockLaws.{entries-stock, stock-sound}
 

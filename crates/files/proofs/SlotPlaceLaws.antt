@@ -1,9 +1,8 @@
 -- What the searches of a directory say of its places. n is the inode count, d a directory with slot t.
-use Prim.Native.Nat.{ℕ, _+_, _*_, _/_, _%_, _≤_, _<_}
-use mathlib.Core.Path.{_≡_, refl, sym, ap, ap₂, _∙_, subst}
+use Prim.Native.Nat.{ℕ, _≤_, _<_}
+use mathlib.Core.Path.{_≡_, sym, ap, _∙_, subst}
 use mathlib.Core.Bool.{true, false}
 use mathlib.Core.List.{List}
-use native.Mathlib.Omega.{arith}
 use Rattle.bounded.specs.declared.Found.the-variants.{At, Absent}
 use Rattle.bounded.proofs.BoolLaws.{clash, fails}
 use Rattle.layout.specs.Sizes.{mostStoreBlocks, rootInode}
@@ -17,7 +16,7 @@ use Rattle.sound.specs.Place.{dirOf, slotOf, isSlot, entryAt, filled, naming}
 use Rattle.sound.specs.Pass.{placeOf}
 use Rattle.sound.specs.Sound.{Sound, inodesIn}
 use Rattle.sound.proofs.PlaceLaws.{slot-is, filled-is, naming-entry}
-use Rattle.sound.proofs.EntryLaws.{place-dir, place-slot, entry-place, slot-place}
+use Rattle.sound.proofs.EntryLaws.{place-dir, entry-place, slot-place}
 use Rattle.files.specs.Inode.{isDirectory}
 use Rattle.files.specs.Plan.{inodeAt}
 use Rattle.files.proofs.ChangeLaws.{NewName}

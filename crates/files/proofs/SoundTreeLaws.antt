@@ -1,24 +1,20 @@
 -- A sound store as a tree with sound names, and back. n and b are the counts of inodes and blocks.
-use Prim.Native.Nat.{ℕ, _+_, _*_, _/_, _%_, _≤_, _<_}
-use mathlib.Core.Path.{_≡_, refl, sym, ap, _∙_, subst}
-use mathlib.Core.Bool.{Bool, true, false}
+use Prim.Native.Nat.{ℕ, _*_, _≤_, _<_}
+use mathlib.Core.Path.{_≡_, refl}
+use mathlib.Core.Bool.{true, false}
 use mathlib.Core.List.{List}
 use native.Mathlib.Omega.{arith}
-use Rattle.bounded.specs.Count.{count, Differ}
-use Rattle.layout.specs.Sizes.{mostStoreBlocks, addressCount, rootInode}
-use Rattle.layout.specs.Header.{headerOf}
-use Rattle.layout.specs.Inode.{kindOf, linksOf, parentOf, addressOf, directoryKind}
+use Rattle.layout.specs.Sizes.{mostStoreBlocks}
+use Rattle.layout.specs.Inode.{kindOf, linksOf, parentOf}
 use Rattle.directory.specs.Slot.{mostSlots}
-use Rattle.sound.specs.Place.{dirOf, slotOf, filled, naming}
-use Rattle.sound.specs.Inode.{InodeSound}
-use Rattle.sound.specs.Entry.{EntrySound, sibling, sameNames}
+use Rattle.sound.specs.Place.{filled, naming}
+use Rattle.sound.specs.Entry.{EntrySound, sibling}
 use Rattle.sound.specs.Link.{LinkSound}
-use Rattle.sound.specs.Sound.{Sound, inodesIn, blocksIn, freeB, unnamedB}
+use Rattle.sound.specs.Sound.{Sound, inodesIn, blocksIn}
 use Rattle.sound.proofs.PlaceLaws.{slot-is, naming-slot, naming-filled}
 use Rattle.files.proofs.KeepLaws.{Body, body-of}
-use Rattle.files.proofs.SameLaws.{SameFrame}
 use Rattle.files.proofs.ChangeLaws.{NamesSound, names-of}
-use Rattle.files.proofs.TreeLaws.{Nodes, Names, Linked, Tree, Above}
+use Rattle.files.proofs.TreeLaws.{Nodes, Tree, Above}
 
 abbrev pub nodesOf : List ℕ → ℕ → Nodes
 nodesOf s n = record { kind = kindOf s; links = linksOf s; parent = parentOf s; naming = naming s n }

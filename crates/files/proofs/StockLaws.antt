@@ -1,28 +1,25 @@
 -- The inodes, blocks and free counts of a store, and what the changes of entries and of one inode keep of them. n and b are the counts of inodes and blocks.
 use Prim.Native.Nat.{ℕ, _+_, _-_, _*_, _/_, _%_, _≤_, _<_}
-use mathlib.Core.Path.{_≡_, refl, sym, ap, _∙_, subst}
-use mathlib.Core.Logic.{_≢_}
-use mathlib.Core.Bool.{Bool, true, false}
+use mathlib.Core.Path.{_≡_, refl, sym, ap, _∙_}
+use mathlib.Core.Bool.{true, false}
 use mathlib.Core.List.{List}
-use native.Mathlib.Decide.{ℕ-discrete}
 use native.Mathlib.Omega.{arith}
-use borrow.Author.Tests.{eq-eqb, ne-eqb}
 use lib.Dec.{eqb}
 use lib.ListN.{getD}
 use Rattle.bounded.specs.Count.{one, count, Differ}
 use Rattle.bounded.proofs.CountLaws.{count-ext}
-use Rattle.layout.specs.Sizes.{mostStoreBlocks, addressCount, blockBytes, mostFileBytes}
+use Rattle.layout.specs.Sizes.{mostStoreBlocks, addressCount, blockBytes}
 use Rattle.layout.specs.Header.{headerOf}
 use Rattle.layout.specs.declared.header.Header.{Header}
-use Rattle.layout.specs.Inode.{kindOf, spareOf, linksOf, sizeOf, parentOf, addressOf, place, freeKind, fileKind, directoryKind}
+use Rattle.layout.specs.Inode.{kindOf, sizeOf, parentOf, addressOf, place, freeKind, fileKind}
 use Rattle.layout.specs.Block.{blockOf, blocksUsed, kthBlock}
 use Rattle.sound.specs.Inode.{InodeSound}
 use Rattle.sound.specs.Sound.{Sound, inodesIn, blocksIn, freeB, unnamedB}
-use Rattle.files.proofs.SameLaws.{SameFrame, SameInode, SameBlock, InInode}
+use Rattle.files.proofs.SameLaws.{SameFrame, SameBlock}
 use Rattle.files.proofs.KeepLaws.{Body, sound-of, inode-kept}
 use Rattle.files.proofs.AddressLaws.{same-differ, same-unnamed}
 use Rattle.files.proofs.ChangeLaws.{NamesSound}
-use Rattle.files.proofs.TreeLaws.{Tree, count-but}
+use Rattle.files.proofs.TreeLaws.{Tree}
 use Rattle.files.proofs.SoundTreeLaws.{nodesOf, entries-back, links-back}
 use Rattle.files.proofs.EntryWriteLaws.{EntriesAlone}
 use Rattle.files.proofs.InodeWriteLaws.{SameBody, Relinked, each-inode, body-all}

@@ -1,5 +1,5 @@
 -- The tree of inodes over plain functions, and what each change of an entry keeps of it. n is the inode count.
-use Prim.Native.Nat.{ℕ, zero, suc, _+_, _*_, _-_, _≤_, _<_}
+use Prim.Native.Nat.{ℕ, _+_, _*_, _-_, _≤_, _<_}
 use mathlib.Core.Path.{_≡_, refl, sym, ap, _∙_, subst}
 use mathlib.Core.Logic.{_≢_}
 use mathlib.Core.Bool.{Bool}
@@ -8,8 +8,8 @@ use native.Mathlib.Omega.{arith}
 use borrow.Author.Tests.{eq-eqb, ne-eqb}
 use lib.Dec.{eqb}
 use Rattle.bounded.specs.Count.{one, count, tally}
-use Rattle.bounded.specs.Climb.{climb, Leads}
-use Rattle.bounded.specs.Update.{upd, Changed, here, there}
+use Rattle.bounded.specs.Climb.{Leads}
+use Rattle.bounded.specs.Update.{upd, there}
 use Rattle.bounded.proofs.CountLaws.{count-ext, count-at, met, met-at, met-once}
 use Rattle.bounded.proofs.ClimbLaws.{leads-up, leads-moved}
 use Rattle.bounded.proofs.UpdateLaws.{changed, upd-same, upd-other}

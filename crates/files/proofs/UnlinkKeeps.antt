@@ -7,24 +7,22 @@ use native.Mathlib.Decide.{ℕ-discrete}
 use native.Mathlib.Omega.{arith}
 use borrow.Author.Tests.{leb-true, leb-false}
 use lib.Dec.{leb}
-use lib.ListN.{length, replicate}
 use Rattle.bounded.specs.Count.{count, one}
 use Rattle.bounded.specs.Search.{pick}
 use Rattle.bounded.proofs.BoolLaws.{clash, fails}
 use Rattle.bounded.proofs.BelowLaws.{all-at}
-use Rattle.layout.specs.Sizes.{mostStoreBlocks, addressCount}
+use Rattle.layout.specs.Sizes.{mostStoreBlocks}
 use Rattle.layout.specs.Header.{headerOf}
 use Rattle.layout.specs.declared.header.Header.{Header}
-use Rattle.layout.specs.Inode.{InodeFits, kindOf, linksOf, sizeOf, parentOf, putInode, putLinks, freeKind, fileKind, directoryKind}
+use Rattle.layout.specs.Inode.{InodeFits, kindOf, linksOf, sizeOf, parentOf, putInode, putLinks, freeKind, directoryKind}
 use Rattle.layout.specs.Block.{blocksUsed}
 use Rattle.layout.proofs.FrameLaws.{length-inode}
 use Rattle.layout.proofs.ViewLaws.{inode-fits}
 use Rattle.names.specs.Entry.{isEmpty}
 use Rattle.directory.specs.Slot.{mostSlots, slots, entryOf, slotEmpty, clearEntry}
-use Rattle.sound.specs.Place.{dirOf, slotOf, entryAt, filled, naming}
-use Rattle.sound.specs.Entry.{EntrySound}
+use Rattle.sound.specs.Place.{dirOf, slotOf, entryAt, filled}
 use Rattle.sound.specs.Pass.{placeOf}
-use Rattle.sound.specs.Sound.{Sound, inodesIn, blocksIn, freeB, unnamedB}
+use Rattle.sound.specs.Sound.{Sound, inodesIn, blocksIn}
 use Rattle.sound.proofs.PlaceLaws.{slot-is, filled-is}
 use Rattle.files.specs.Inode.{isDirectory, zeroInode, moreFree}
 use Rattle.files.specs.Plan.{inodeAt, holdsNone}
@@ -32,9 +30,9 @@ use Rattle.files.specs.Apply.{dropLink, unlinked}
 use Rattle.files.proofs.SameLaws.{frame-then, InCounts, put-inode, more-free}
 use Rattle.files.proofs.StoreLaws.{fits}
 use Rattle.files.proofs.ChangeLaws.{Emptied, emptied-then, names-emptied}
-use Rattle.files.proofs.TreeLaws.{Tree, tree-less, tree-last, counted-some, one-same, one-other}
+use Rattle.files.proofs.TreeLaws.{Tree, tree-less, tree-last, counted-some, one-other}
 use Rattle.files.proofs.SoundTreeLaws.{nodesOf, body-at, names-at, above-at, tree-at}
-use Rattle.files.proofs.EntryWriteLaws.{EntriesAlone, entries-stay, SlotIn, slot-in, place-below, clear-alone, clear-emptied}
+use Rattle.files.proofs.EntryWriteLaws.{EntriesAlone, entries-stay, place-below, clear-alone, clear-emptied}
 use Rattle.files.proofs.InodeWriteLaws.{Relinked, relinked-places, links-relinked, links-put, links-parent}
 use Rattle.files.proofs.SlotPlaceLaws.{EntryHere, entry-here}
 use Rattle.files.proofs.StockLaws.{Stock, entries-stock, relinked-stock, stock-sound}
