@@ -1,8 +1,8 @@
 -- How many blocks no address names: it changes by the blocks that an inode takes or gives back. n and b are the counts of inodes and blocks.
 use Prim.Native.Nat.{ℕ, zero, suc, _+_, _-_, _*_, _/_, _%_, _≤_, _<_}
-use mathlib.Core.Path.{_≡_, refl, sym, ap, _∙_, subst}
+use mathlib.Core.Path.{_≡_, sym, ap, _∙_, subst}
 use mathlib.Core.Logic.{_≢_}
-use mathlib.Core.Bool.{Bool, true, false, not}
+use mathlib.Core.Bool.{Bool, true, not}
 use mathlib.Core.List.{List}
 use native.Mathlib.Decide.{ℕ-discrete, decLt}
 use native.Mathlib.Numerals.{add-one}
@@ -14,7 +14,7 @@ use Rattle.bounded.specs.Count.{one, count, Differ}
 use Rattle.bounded.specs.Update.{Changed, here, there}
 use Rattle.bounded.proofs.BelowLaws.{none-some, all-ext}
 use Rattle.bounded.proofs.SeenLaws.{some-skip, some-here}
-use Rattle.bounded.proofs.CountLaws.{count-step, count-hit, count-miss, count-none, count-all, count-not, count-ext, count-at, count-split}
+use Rattle.bounded.proofs.CountLaws.{count-hit, count-miss, count-none, count-all, count-not, count-ext, count-at, count-split}
 use Rattle.layout.specs.Sizes.{addressCount}
 use Rattle.layout.specs.Inode.{sizeOf, addressOf, place}
 use Rattle.layout.specs.Block.{blocksUsed, kthBlock}

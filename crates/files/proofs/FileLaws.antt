@@ -1,6 +1,6 @@
 -- The bytes and the size of a file change, and a sound store stays sound. n and b are the counts of inodes and blocks, i is a file.
 use Prim.Native.Nat.{ℕ, _+_, _-_, _*_, _/_, _%_, _≤_, _<_}
-use mathlib.Core.Path.{_≡_, refl, sym, ap, ap₂, _∙_, subst}
+use mathlib.Core.Path.{_≡_, sym, ap, ap₂, _∙_, subst}
 use mathlib.Core.Logic.{_≢_}
 use mathlib.Core.Bool.{false}
 use mathlib.Core.List.{List}
@@ -11,15 +11,28 @@ use Rattle.bounded.specs.Count.{Differ}
 use Rattle.layout.specs.Sizes.{addressCount, blockBytes, mostStoreBlocks}
 use Rattle.layout.specs.declared.header.Header.{Header}
 use Rattle.layout.specs.Header.{headerOf}
-use Rattle.layout.specs.Inode.{kindOf, spareOf, linksOf, sizeOf, parentOf, addressOf, place, fileKind, directoryKind}
+use Rattle.layout.specs.Inode.{kindOf, spareOf, linksOf, sizeOf, parentOf, addressOf, fileKind, directoryKind}
 use Rattle.layout.specs.Block.{blockOf, blocksUsed, kthBlock}
 use Rattle.sound.specs.Inode.{InodeSound}
 use Rattle.sound.specs.Sound.{Sound, inodesIn, blocksIn}
 use Rattle.sound.proofs.FactLaws.{one-block}
 use Rattle.files.specs.Content.{fileByte}
 use Rattle.files.proofs.SameLaws.{SameFrame, SameInode, SameBlock, InBlock}
-use Rattle.files.proofs.KeepLaws.{SameTree, ZeroTail, Body, body-of, inode-like, inode-kept, file-tree, sound-kept}
+use Rattle.files.proofs.KeepLaws.{ZeroTail, Body, body-of, inode-like, inode-kept, file-tree, sound-kept}
 use Rattle.files.proofs.AddressLaws.{differ-less, address-kth, same-differ, same-unnamed, unnamed-change}
+
+-- ---- a sound store with a file i of o bytes or more
+pub record Holds (s : List ℕ) (n b i o : ℕ) : Type 0 where
+  pub sound : Sound mostStoreBlocks false s
+  pub inodes : n ≡ inodesIn s
+  pub blocks : b ≡ blocksIn s
+  pub low : 1 ≤ i
+  pub high : i ≤ n
+  pub kind : kindOf s i ≡ fileKind
+  pub size : o ≤ sizeOf s i
+
+pub holds-less : {s : List ℕ} {n b i o : ℕ} (a : ℕ) → a ≤ o → Holds s n b i o → Holds s n b i a
+holds-less a l h = record { sound = h .sound; inodes = h .inodes; blocks = h .blocks; low = h .low; high = h .high; kind = h .kind; size = let z = h .size in omega arith }
 
 -- ---- the bytes past a size
 -- from z on, up to the end of the blocks in use

@@ -1,6 +1,6 @@
 -- An inode takes a block more: what changes, and that a sound store stays sound. n and b are the counts of inodes and blocks.
 use Prim.Native.Nat.{ℕ, _+_, _-_, _*_, _/_, _%_, _≤_, _<_}
-use mathlib.Core.Path.{_≡_, refl, sym, ap, _∙_, subst}
+use mathlib.Core.Path.{_≡_, sym, ap, _∙_, subst}
 use mathlib.Core.Logic.{_≢_}
 use mathlib.Core.Bool.{Bool, true, false, not}
 use mathlib.Core.List.{List}
@@ -10,13 +10,11 @@ use borrow.Author.Tests.{not-true}
 use lib.ListN.{length, getD, set, replicate, length-set, getD-replicate}
 use lib.Seq.{getD-set-same, getD-set-other}
 use Rattle.bounded.specs.Count.{Differ}
-use Rattle.bounded.specs.Table.{table}
 use Rattle.bounded.specs.declared.Found.the-variants.{At}
 use Rattle.bounded.proofs.CountLaws.{count-some}
 use Rattle.bounded.proofs.SearchLaws.{found-lowest, lowest-of, lowest-found}
 use Rattle.bounded.proofs.TableLaws.{length-table, getD-table}
 use Rattle.bounded.proofs.ReflectLaws.{r-fails}
-use Rattle.octets.specs.Octets.{part}
 use Rattle.octets.proofs.PartLaws.{getD-part}
 use Rattle.layout.specs.Sizes.{addressCount, blockBytes, mostStoreBlocks}
 use Rattle.layout.specs.declared.header.Header.{Header}
@@ -28,16 +26,16 @@ use Rattle.layout.specs.Free.{named, freeBlock}
 use Rattle.layout.proofs.ViewLaws.{inode-fits}
 use Rattle.names.specs.Entry.{isEmpty}
 use Rattle.names.proofs.EntryLaws.{empty}
-use Rattle.directory.specs.Slot.{mostSlots, slots, entryOf, slotEmpty}
-use Rattle.sound.specs.Place.{dirOf, slotOf, isSlot, entryAt}
+use Rattle.directory.specs.Slot.{slots, entryOf}
+use Rattle.sound.specs.Place.{dirOf, slotOf, entryAt}
 use Rattle.sound.specs.Inode.{InodeSound}
 use Rattle.sound.specs.Sound.{Sound, inodesIn, blocksIn, unnamedB}
 use Rattle.sound.proofs.FactLaws.{unnamed}
 use Rattle.sound.proofs.PlaceLaws.{slot-is}
-use Rattle.files.specs.Inode.{withBlocks, lessFree}
+use Rattle.files.specs.Inode.{withBlocks}
 use Rattle.files.specs.Content.{addBlock}
 use Rattle.files.proofs.StoreLaws.{fits}
-use Rattle.files.proofs.SameLaws.{SameFrame, SameInode, SameBlock, InBlock, InInode, InCounts, NewInode, frame-then, inode-then, zero-block, zero-block-is, put-inode, inode-new, inode-blocks, less-free}
+use Rattle.files.proofs.SameLaws.{SameFrame, SameInode, SameBlock, frame-then, inode-then, zero-block, zero-block-is, put-inode, inode-new, inode-blocks, less-free}
 use Rattle.files.proofs.KeepLaws.{SamePlace, SameTree, Body, body-of, inode-kept, entry-in, entry-kept, place-slot, place-new, place-kept, slot-kept, changed, sound-kept}
 use Rattle.files.proofs.AddressLaws.{differ-new, address-kth, unnamed-change}
 

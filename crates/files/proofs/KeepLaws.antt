@@ -1,6 +1,6 @@
 -- What of a sound store stays where inodes and blocks stay: each inode by itself, and the tree of entries and links. n and b are the counts of inodes and blocks.
 use Prim.Native.Nat.{ℕ, zero, suc, _+_, _*_, _/_, _%_, _≤_, _<_}
-use mathlib.Core.Path.{_≡_, refl, sym, ap, ap₂, _∙_, subst}
+use mathlib.Core.Path.{_≡_, refl, sym, ap, _∙_, subst}
 use mathlib.Core.Logic.{_≢_}
 use mathlib.Core.Bool.{Bool, true, false, _&&_, true≢false}
 use mathlib.Core.List.{List}
@@ -8,8 +8,7 @@ use native.Mathlib.Decide.{ℕ-discrete}
 use native.Mathlib.Omega.{arith}
 use borrow.Author.Tests.{ne-eqb}
 use lib.Dec.{eqb, ltb}
-use lib.ListN.{length, getD}
-use Rattle.bounded.specs.Search.{pick}
+use lib.ListN.{getD}
 use Rattle.bounded.specs.Count.{count, tally, Differ}
 use Rattle.bounded.specs.Climb.{climb, Leads, Closed}
 use Rattle.bounded.proofs.BoolLaws.{clash, and-false-l}
@@ -19,10 +18,9 @@ use Rattle.octets.specs.Octets.{part}
 use Rattle.octets.proofs.PartLaws.{part-part}
 use Rattle.layout.specs.Sizes.{addressCount, blockBytes, mostStoreBlocks, rootInode}
 use Rattle.layout.specs.Header.{headerOf}
-use Rattle.layout.specs.Inode.{kindOf, spareOf, linksOf, sizeOf, parentOf, addressOf, place, freeKind, fileKind, directoryKind}
+use Rattle.layout.specs.Inode.{kindOf, linksOf, sizeOf, parentOf, addressOf, freeKind, fileKind, directoryKind}
 use Rattle.layout.specs.Block.{blockAt, blockOf, blocksUsed, kthBlock}
-use Rattle.names.specs.Name.{nameBytes}
-use Rattle.names.specs.Entry.{nameAt, sameName, isEmpty, entryInode, legalEntry}
+use Rattle.names.specs.Entry.{isEmpty, legalEntry}
 use Rattle.names.proofs.EntryLaws.{empty-inode}
 use Rattle.directory.specs.Slot.{mostSlots, slots, slotAt, entryOf}
 use Rattle.sound.specs.Place.{dirOf, slotOf, isSlot, entryAt, filled, naming}
@@ -31,7 +29,7 @@ use Rattle.sound.specs.Entry.{EntrySound, sameNames, sibling}
 use Rattle.sound.specs.Link.{LinkSound}
 use Rattle.sound.specs.Sound.{Framed, Sound, inodesIn, blocksIn, freeB, unnamedB}
 use Rattle.sound.specs.Pass.{IsDir}
-use Rattle.sound.proofs.PlaceLaws.{slot-is, filled-is, naming-entry}
+use Rattle.sound.proofs.PlaceLaws.{slot-is, filled-is}
 use Rattle.sound.proofs.SoundLaws.{climbs}
 use Rattle.files.proofs.SameLaws.{SameFrame, SameInode, SameBlock}
 

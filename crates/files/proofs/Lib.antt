@@ -15,6 +15,7 @@ pub mod PlanLaws
 pub mod RenameKeeps
 pub mod RoomLaws
 pub mod SameLaws
+pub mod ShortenLaws
 pub mod SizePlanLaws
 pub mod SlotPlaceLaws
 pub mod SoundTreeLaws

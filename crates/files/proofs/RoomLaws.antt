@@ -2,17 +2,17 @@
 use Prim.Native.Nat.{ℕ, _+_, _-_, _≤_, _<_}
 use mathlib.Core.Path.{_≡_, refl, sym, ap, _∙_, subst}
 use mathlib.Core.Logic.{_≢_}
-use mathlib.Core.Bool.{Bool, true, false, not, _&&_}
+use mathlib.Core.Bool.{Bool, true, false}
 use mathlib.Core.List.{List}
 use native.Mathlib.Decide.{ℕ-discrete, decLt}
 use native.Mathlib.Omega.{arith}
 use borrow.Author.Tests.{ltb-true, ne-eqb}
-use lib.Dec.{eqb, leb, ltb}
+use lib.Dec.{eqb, ltb}
 use Rattle.bounded.specs.Search.{pick, first, firstFrom, onFound}
 use Rattle.bounded.specs.declared.Found.{Found}
 use Rattle.bounded.specs.declared.Found.the-variants.{At, Absent}
 use Rattle.bounded.proofs.SearchLaws.{first-ext, first-split, absent-of}
-use Rattle.layout.specs.Sizes.{addressCount, mostStoreBlocks, mostDirectoryBlocks}
+use Rattle.layout.specs.Sizes.{mostStoreBlocks, mostDirectoryBlocks}
 use Rattle.layout.specs.Header.{headerOf}
 use Rattle.layout.specs.Inode.{kindOf, sizeOf, freeKind, directoryKind}
 use Rattle.layout.specs.Block.{blocksUsed}
@@ -25,7 +25,6 @@ use Rattle.directory.proofs.SlotLaws.{empty-below, empty-at}
 use Rattle.answers.specs.declared.Refusal.the-variants.{NoBlocks, NoSlot}
 use Rattle.sound.specs.Sound.{Sound, inodesIn, blocksIn}
 use Rattle.files.specs.declared.Room.{Room}
-use Rattle.files.specs.declared.RoomPlan.{RoomPlan}
 use Rattle.files.specs.declared.RoomPlan.the-variants.{Has, NoRoom}
 use Rattle.files.specs.Inode.{isKind, isDirectory}
 use Rattle.files.specs.Content.{addBlock}
@@ -33,7 +32,7 @@ use Rattle.files.specs.Room.{room, roomIn, makeRoom}
 use Rattle.files.proofs.StoreLaws.{kind-read, kind-low, kind-high, kind-some, kind-most, kind-is}
 use Rattle.files.proofs.SameLaws.{SameFrame, SameInode, frame-stays, inode-stays}
 use Rattle.files.proofs.KeepLaws.{SameTree, tree-stays, same-slots}
-use Rattle.files.proofs.GrowLaws.{Grown, FreeBlock, free-block, block-added, add-block-sound, grown-tree, grown-slots, grown-entry, grown-empty}
+use Rattle.files.proofs.GrowLaws.{FreeBlock, free-block, block-added, add-block-sound, grown-tree, grown-slots, grown-entry, grown-empty}
 
 -- ---- the two rooms
 pub data IsRoom (s : List ℕ) (n b d : ℕ) (r : Room) : Type 0 where

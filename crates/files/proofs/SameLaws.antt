@@ -2,28 +2,27 @@
 use Prim.Native.Nat.{ℕ, _+_, _-_, _*_, _/_, _≤_, _<_}
 use mathlib.Core.Path.{_≡_, refl, sym, ap, ap₂, _∙_, subst}
 use mathlib.Core.Logic.{_≢_}
-use mathlib.Core.Bool.{Bool, _&&_}
+use mathlib.Core.Bool.{_&&_}
 use mathlib.Core.List.{List}
-use native.Mathlib.Decide.{ℕ-discrete, decLt}
 use native.Mathlib.Omega.{arith}
 use lib.Dec.{eqb}
 use lib.ListN.{length, getD, replicate, length-replicate}
-use Rattle.octets.specs.Octets.{part, splice, Apart, numAt, putNum, toBytes, wordBytes, zeroed}
+use Rattle.octets.specs.Octets.{splice, Apart, putNum, toBytes, wordBytes, zeroed}
 use Rattle.octets.proofs.PartLaws.{length-splice, getD-part, splice-in, splice-out, part-apart, part-same}
-use Rattle.octets.proofs.NumLaws.{num-apart, num-other, num-same, length-num, length-toBytes, part-other}
+use Rattle.octets.proofs.NumLaws.{num-apart, num-other, num-same, length-toBytes}
 use Rattle.octets.proofs.WordLaws.{length-words}
-use Rattle.layout.specs.Sizes.{headerBytes, inodeBytes, addressCount, blockBytes}
+use Rattle.layout.specs.Sizes.{headerBytes, addressCount, blockBytes}
 use Rattle.layout.specs.declared.header.Header.{Header}
 use Rattle.layout.specs.declared.inode.Inode.{Inode}
 use Rattle.layout.specs.Header.{headerOf, putFree, reservedZero}
 use Rattle.layout.specs.Inode.{InodeFits, attributesAt, addressAt, place, kindOf, spareOf, linksOf, sizeOf, parentOf, addressOf, attributeEntry, putAttributes, putAddresses, putInode, putLinks}
 use Rattle.layout.specs.Block.{blockAt, blockOf, putInBlock, zeroBlock, kthBlock}
-use Rattle.layout.proofs.View.{View, viewOf, overlay, below, freeCounts}
-use Rattle.layout.proofs.FrameLaws.{length-free, length-entry, length-attributes, header-past, kind-apart, spare-apart, links-apart, size-apart, parent-apart, address-apart, kind-put, spare-put, links-put, size-put, parent-put}
+use Rattle.layout.proofs.View.{View, viewOf, below, freeCounts}
+use Rattle.layout.proofs.FrameLaws.{length-free, length-entry, header-past, kind-apart, spare-apart, links-apart, size-apart, parent-apart, address-apart, kind-put, spare-put, links-put, size-put, parent-put}
 use Rattle.layout.proofs.ViewLaws.{header-free, view-inode, overlay-in, below-in}
-use Rattle.names.specs.Entry.{entryFor, entryBytes}
+use Rattle.names.specs.Entry.{entryFor}
 use Rattle.names.proofs.EntryLaws.{length-entry as length-named}
-use Rattle.directory.specs.Slot.{slotAt, slots, entryOf, putEntry, clearEntry}
+use Rattle.directory.specs.Slot.{slotAt, putEntry, clearEntry}
 use Rattle.sound.specs.Sound.{inodesIn, blocksIn}
 use Rattle.files.specs.Inode.{lessFree, moreFree}
 

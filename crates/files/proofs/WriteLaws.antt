@@ -1,11 +1,13 @@
 -- A write keeps a store sound: the file takes its blocks, then its size, then its bytes. n and b are the counts of inodes and blocks, i is a file.
 use Prim.Native.Nat.{ℕ, zero, suc, _+_, _-_, _*_, _/_, _%_, _≤_, _<_, max}
-use mathlib.Core.Path.{_≡_, refl, sym, ap, ap₂, _∙_, subst}
+use mathlib.Core.Path.{_≡_, refl, sym, ap, _∙_, subst}
 use mathlib.Core.Logic.{_≢_}
 use mathlib.Core.Bool.{Bool, true, false, not, _||_}
 use mathlib.Core.List.{List, [], _∷_}
 use native.Mathlib.Decide.{ℕ-discrete, decLt}
 use native.Mathlib.Omega.{arith}
+use borrow.Author.Tests.{ltb-false}
+use lib.Dec.{ltb}
 use lib.ListN.{length, getD, getD-replicate}
 use Rattle.bounded.specs.Search.{pick, onFound}
 use Rattle.bounded.specs.declared.Found.{Found}
@@ -13,19 +15,21 @@ use Rattle.bounded.specs.declared.Found.the-variants.{At}
 use Rattle.layout.specs.Sizes.{addressCount, blockBytes, mostStoreBlocks, mostFileBytes}
 use Rattle.layout.specs.declared.header.Header.{Header}
 use Rattle.layout.specs.Header.{headerOf}
-use Rattle.layout.specs.Inode.{kindOf, linksOf, sizeOf, parentOf, inodeOf, putAttributes, freeKind, fileKind}
+use Rattle.layout.specs.Inode.{kindOf, linksOf, sizeOf, parentOf, inodeOf, freeKind, fileKind}
 use Rattle.layout.specs.Block.{blockOf, blocksUsed, kthBlock, putInBlock}
 use Rattle.layout.specs.Free.{freeBlock}
 use Rattle.sound.specs.Sound.{Sound, inodesIn, blocksIn}
+use Rattle.answers.specs.declared.Refusal.the-variants.{WrongInode, PastEnd, NoBlocks}
+use Rattle.files.specs.declared.SizePlan.the-variants.{To, NoSize}
 use Rattle.files.specs.Inode.{isFile, withSize}
 use Rattle.files.specs.Content.{fileByte, putFile, addBlock, addBlocks, putSize}
 use Rattle.files.specs.Plan.{writePlan}
 use Rattle.files.specs.Apply.{written}
 use Rattle.files.proofs.StoreLaws.{fits, kind-some, kind-most, kind-is, kind-size}
 use Rattle.files.proofs.SameLaws.{SameFrame, SameInode, SameBlock, InBlock, frame-stays, frame-then, inode-stays, inode-then, put-in-block, in-block-out, put-attributes, attributes-new, attributes-blocks}
-use Rattle.files.proofs.KeepLaws.{Body, body-of}
+use Rattle.files.proofs.KeepLaws.{body-of}
 use Rattle.files.proofs.GrowLaws.{Grown, FreeBlock, free-block, some-free, block-added, add-block-sound, grown-used, grown-kth, grown-bytes}
-use Rattle.files.proofs.FileLaws.{ZeroPast, tail-past, used-low, other-byte, content-sound, Resized, resized-byte, resized-sound}
+use Rattle.files.proofs.FileLaws.{Holds, holds-less, ZeroPast, tail-past, used-low, other-byte, content-sound, Resized, resized-sound}
 
 -- ---- m blocks more
 pub record Widened (s t : List ℕ) (n i m : ℕ) : Type 0 where
@@ -201,19 +205,6 @@ module _ (s : List ℕ) (n b i z : ℕ) (h : Sound mostStoreBlocks false s) (x :
   put-size-sound v w = resized-sound s (putSize s n i z) n b i z h x y l q v put-size (omega arith) w
 
 -- ---- one byte of a file
--- a sound store with a file i of more than o bytes
-pub record Holds (s : List ℕ) (n b i o : ℕ) : Type 0 where
-  pub sound : Sound mostStoreBlocks false s
-  pub inodes : n ≡ inodesIn s
-  pub blocks : b ≡ blocksIn s
-  pub low : 1 ≤ i
-  pub high : i ≤ n
-  pub kind : kindOf s i ≡ fileKind
-  pub size : o ≤ sizeOf s i
-
-holds-less : {s : List ℕ} {n b i o : ℕ} (a : ℕ) → a ≤ o → Holds s n b i o → Holds s n b i a
-holds-less a l h = record { sound = h .sound; inodes = h .inodes; blocks = h .blocks; low = h .low; high = h .high; kind = h .kind; size = let z = h .size in omega arith }
-
 abbrev oneByte : List ℕ → ℕ → ℕ → ℕ → ℕ → List ℕ
 oneByte s n i o v = putInBlock s n (kthBlock s n i (o / blockBytes)) (o % blockBytes) (v ∷ [])
 
@@ -278,3 +269,120 @@ pub put-file-sound : (xs : List ℕ) (s : List ℕ) (n b i o : ℕ) → Holds s 
 unfolding putFile
 put-file-sound [] s n b i o h = h .sound
 put-file-sound (v ∷ xs) s n b i o h = put-file-sound xs (oneByte s n i o v) n b i (o + 1) (put-file-next v xs s n b i o h)
+
+-- ---- the call
+-- what an accepted plan says
+pub record Writable (s : List ℕ) (n i o k z : ℕ) : Type 0 where
+  pub file : isFile s n i ≡ true
+  pub start : o ≤ sizeOf s i
+  pub within : o + k ≤ mostFileBytes
+  pub free : blocksUsed z - blocksUsed (sizeOf s i) ≤ headerOf s .«free_blocks»
+  pub size : z ≡ max (sizeOf s i) (o + k)
+
+pub writable : (s : List ℕ) (n i o k z : ℕ) → writePlan s n i o k ≡ To z → Writable s n i o k z
+unfolding writePlan
+writable s n i o k z =
+    go (isFile s n i) refl (ltb (sizeOf s i) o) refl (ltb mostFileBytes (o + k)) refl (ltb (headerOf s .«free_blocks») (blocksUsed w - blocksUsed (sizeOf s i))) refl
+  where
+    w : ℕ
+    w = max (sizeOf s i) (o + k)
+
+    go : (a : Bool) → isFile s n i ≡ a → (b : Bool) → ltb (sizeOf s i) o ≡ b → (c : Bool) → ltb mostFileBytes (o + k) ≡ c
+        → (d : Bool) → ltb (headerOf s .«free_blocks») (blocksUsed w - blocksUsed (sizeOf s i)) ≡ d
+        → pick (not a) (NoSize WrongInode) (pick (b || c) (NoSize PastEnd) (pick d (NoSize NoBlocks) (To w))) ≡ To z → Writable s n i o k z
+    go false p b q c r d t e = let f : _≡_ {A = ℕ} 0 1 = cc in absurd (omega arith)
+    go true p true q c r d t e = let f : _≡_ {A = ℕ} 0 1 = cc in absurd (omega arith)
+    go true p false q true r d t e = let f : _≡_ {A = ℕ} 0 1 = cc in absurd (omega arith)
+    go true p false q false r true t e = let f : _≡_ {A = ℕ} 0 1 = cc in absurd (omega arith)
+    go true p false q false r false t e =
+        let f : w ≡ z = cc in
+        record {
+          file = p;
+          start = ltb-false (sizeOf s i) o q;
+          within = ltb-false mostFileBytes (o + k) r;
+          free = subst (λ (a : ℕ). blocksUsed a - blocksUsed (sizeOf s i) ≤ headerOf s .«free_blocks») f (ltb-false (headerOf s .«free_blocks») (blocksUsed w - blocksUsed (sizeOf s i)) t);
+          size = sym f;
+        }
+
+module _ (s : List ℕ) (n b i o : ℕ) (xs : List ℕ) (z : ℕ) (h : Sound mostStoreBlocks false s) (x : n ≡ inodesIn s) (y : b ≡ blocksIn s) (w : Writable s n i o (length xs) z) where
+  low : 1 ≤ i
+  low = kind-some s n fileKind i (w .file)
+
+  high : i ≤ n
+  high = kind-most s n fileKind i (w .file)
+
+  is-file : kindOf s i ≡ fileKind
+  is-file = kind-is s n fileKind i (w .file)
+
+  abbrev more : ℕ
+  more = blocksUsed z - blocksUsed (sizeOf s i)
+
+  used-up : blocksUsed (sizeOf s i) ≤ blocksUsed z
+  unfolding blocksUsed
+  used-up = let e = w .size in omega arith
+
+  used-few : blocksUsed z ≤ addressCount
+  unfolding blocksUsed
+  used-few = let e = w .size in let a = w .within in let c = kind-size s n h x fileKind i (w .file) in omega arith
+
+  -- with the blocks
+  abbrev wide : List ℕ
+  wide = addBlocks s n b i more
+
+  widened : Widened s wide n i more
+  widened =
+      let a = used-up in
+      let c = used-few in
+      let k = is-file in
+      add-blocks more s n b i (record { sound = h; inodes = x; blocks = y; low = low; high = high; in-use = λ e. omega arith; free = w .free; few = omega arith })
+
+  -- past the new size stand zeros: old ones, and those of new blocks
+  wide-past : ZeroPast wide n i z
+  wide-past a p q = go (decLt a (blockBytes * blocksUsed (sizeOf s i)))
+    where
+      go : Dec (a < blockBytes * blocksUsed (sizeOf s i)) → fileByte wide n i a ≡ 0
+      go (yes c) =
+          let e = w .size in
+          let f = used-few in
+          widened-byte s wide n i more widened low high a (omega arith) c ∙ tail-past s n i (body-of s n b h x y .inodes i low high .tail) is-file a (omega arith) c
+      go (no c) = let f = used-up in widened .fresh a (omega arith) (omega arith)
+
+  -- with the size
+  abbrev sized : List ℕ
+  sized = putSize wide n i z
+
+  wide-inodes : n ≡ inodesIn wide
+  wide-inodes = x ∙ sym (widened .frame .inodes)
+
+  wide-blocks : b ≡ blocksIn wide
+  wide-blocks = y ∙ sym (widened .frame .blocks)
+
+  wide-used : blocksUsed z ≡ blocksUsed (sizeOf wide i)
+  wide-used = let a = used-up in let e = widened .used in omega arith
+
+  sized-is : Resized wide sized n i z
+  sized-is = put-size wide n b i z (widened .sound) wide-inodes wide-blocks low high wide-used
+
+  sized-holds : Holds sized n b i (o + length xs)
+  sized-holds =
+      let g = sized-is in
+      let e = g .size in
+      let f = w .size in
+      record {
+        sound = put-size-sound wide n b i z (widened .sound) wide-inodes wide-blocks low high wide-used (widened .kind ∙ is-file) wide-past;
+        inodes = wide-inodes ∙ sym (g .frame .inodes);
+        blocks = wide-blocks ∙ sym (g .frame .blocks);
+        low = low;
+        high = high;
+        kind = g .kind ∙ widened .kind ∙ is-file;
+        size = omega arith;
+      }
+
+  -- with the bytes
+  pub written-sound : Sound mostStoreBlocks false (written s n b i o xs z)
+  unfolding written
+  written-sound = put-file-sound xs sized n b i o sized-holds
+
+pub write-sound : (s : List ℕ) (n b i o : ℕ) (xs : List ℕ) (z : ℕ) → Sound mostStoreBlocks false s → n ≡ inodesIn s → b ≡ blocksIn s
+    → writePlan s n i o (length xs) ≡ To z → Sound mostStoreBlocks false (written s n b i o xs z)
+write-sound s n b i o xs z h x y e = written-sound s n b i o xs z h x y (writable s n i o (length xs) z e)
