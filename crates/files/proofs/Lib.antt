@@ -11,6 +11,7 @@ pub mod KeepLaws
 pub mod LinkKeeps
 pub mod MoveKeeps
 pub mod PlainLaws
+pub mod PlanKeeps
 pub mod PlanLaws
 pub mod RenameKeeps
 pub mod RoomLaws

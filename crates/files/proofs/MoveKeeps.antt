@@ -10,8 +10,8 @@ use lib.Dec.{eqb}
 use Rattle.bounded.specs.Climb.{climb, Leads, leadsB, Closed}
 use Rattle.bounded.specs.Search.{pick}
 use Rattle.bounded.specs.declared.Found.the-variants.{Absent}
-use Rattle.bounded.proofs.BoolLaws.{clash}
-use Rattle.bounded.proofs.ClimbLaws.{leads-bool}
+use Rattle.bounded.proofs.BoolLaws.{clash, fails, and-left, and-right}
+use Rattle.bounded.proofs.ClimbLaws.{leads-bool, leads-prop}
 use Rattle.layout.specs.Sizes.{mostStoreBlocks, rootInode}
 use Rattle.layout.specs.Inode.{kindOf, linksOf, parentOf, inodeOf, putAttributes, directoryKind}
 use Rattle.layout.proofs.ViewLaws.{inode-fits}
@@ -25,8 +25,8 @@ use Rattle.files.specs.Inode.{isDirectory, withParent}
 use Rattle.files.specs.Plan.{inodeAt, isBelow}
 use Rattle.files.specs.Apply.{setParent}
 use Rattle.files.proofs.SameLaws.{SameFrame, SameInode, frame-stays, frame-then, inode-stays}
-use Rattle.files.proofs.KeepLaws.{SamePlace, tree-stays}
-use Rattle.files.proofs.StoreLaws.{fits}
+use Rattle.files.proofs.KeepLaws.{SamePlace, SameTree, tree-stays, leads-kept}
+use Rattle.files.proofs.StoreLaws.{fits, kind-some, kind-most, kind-is}
 use Rattle.files.proofs.ChangeLaws.{Emptied, Filled, filled-then, names-emptied, names-filled, new-emptied}
 use Rattle.files.proofs.TreeLaws.{Nodes, Tree, Dir, Above, parent-dir, tree-move}
 use Rattle.files.proofs.SoundTreeLaws.{nodesOf, body-at, names-at, above-at, tree-at}
@@ -49,6 +49,7 @@ climb-step up i zero x c h = absurd (h c)
 climb-step up i (suc k) x c h = (k, c)
 
 module _ (n : ℕ) (v : Nodes) (t : Tree n v) (a : Above n v) (none : v .parent 0 ≡ 0) (i e : ℕ) (low : 1 ≤ i) (not-root : i ≢ rootInode) where
+  -- a directory from which the way up comes to i
   abbrev Under : ℕ → Type 0
   Under x = Dir n v x × Leads (v .parent) i x
 
@@ -71,10 +72,39 @@ module _ (n : ℕ) (v : Nodes) (t : Tree n v) (a : Above n v) (none : v .parent 
   pub leads-not : Dir n v e → leadsB (v .parent) i n e ≡ false → Leads (v .parent) i e → ⊥
   leads-not d f l = clash (leadsB (v .parent) i n e) (leads-bool (v .parent) i Under n e under (d, l) l) f
 
+  -- by parents that are the same for all directories, it comes there too
+  pub leads-other : (up : ℕ → ℕ) → ((x : ℕ) → Dir n v x → up x ≡ v .parent x) → Dir n v e → Leads (v .parent) i e → Leads up i e
+  leads-other up h d l = leads-kept Under (v .parent) up i n under (λ x k. h x (k .0)) (l .0) e (d, l) (l .1)
+
 -- the parent of no inode, as the bytes have it, is that of the root
 parent-none : (s : List ℕ) → parentOf s 0 ≡ parentOf s rootInode
 unfolding parentOf
 parent-none s = refl
+
+-- ---- refusal 10 and what it says on a sound store
+module _ (s : List ℕ) (n i e : ℕ) (h : Sound mostStoreBlocks false s) (x : n ≡ inodesIn s) (low : 1 ≤ i) (not-root : i ≢ rootInode) (dir : isDirectory s n e ≡ true) where
+  above : Dir n (nodesOf s n) e
+  above = record { low = kind-some s n directoryKind e dir; high = kind-most s n directoryKind e dir; kind = kind-is s n directoryKind e dir }
+
+  none : parentOf s 0 ≡ 0
+  none = parent-none s ∙ h .root-parent
+
+  pub not-below : isBelow s n i e ≡ false → kindOf s i ≡ directoryKind → Leads (parentOf s) i e → ⊥
+  unfolding isBelow
+  not-below f k =
+      leads-not n (nodesOf s n) (tree-at s n h x) (above-at s n h x) none i e low not-root above
+      (sym (ap (λ (b : Bool). b && leadsB (parentOf s) i n e) (eq-eqb (kindOf s i) directoryKind k)) ∙ f)
+
+  -- it is refused in no store with the tree of one in which it is not
+  pub below-kept : (r : List ℕ) → SameTree r s n → i ≤ n → (kindOf r i ≡ directoryKind → Leads (parentOf r) i e → ⊥) → isBelow s n i e ≡ false
+  unfolding isBelow
+  below-kept r t m f =
+      fails (eqb (kindOf s i) directoryKind && leadsB (parentOf s) i n e)
+      (λ z.
+      let k = eqb-true (kindOf s i) directoryKind (and-left (eqb (kindOf s i) directoryKind) (leadsB (parentOf s) i n e) z) in
+      let c = leads-prop (parentOf s) i n e (and-right (eqb (kindOf s i) directoryKind) (leadsB (parentOf s) i n e) z) in
+      f (sym (t .kinds i low m) ∙ k)
+      (leads-other n (nodesOf s n) (tree-at s n h x) (above-at s n h x) none i e low not-root (parentOf r) (λ y d. sym (t .parents y (d .low) (d .high))) above c))
 
 module _ (s : List ℕ) (n d t i e u : ℕ) (other : List ℕ) (h : Sound mostStoreBlocks false s) (x : n ≡ inodesIn s)
     (from : isDirectory s n d ≡ true) (inside : t < slots s d) (full : slotEmpty s n d t ≡ false) (is : i ≡ inodeAt s n d t)
@@ -127,14 +157,6 @@ module _ (s : List ℕ) (n d t i e u : ℕ) (other : List ℕ) (h : Sound mostSt
   stock : Stock g n (blocksIn s)
   stock = entries-stock s g n (blocksIn s) (body-at s n h x) both
 
-  -- e is not below i
-  leads-away : kindOf s i ≡ directoryKind → Leads (parentOf s) i e → ⊥
-  unfolding isBelow
-  leads-away k =
-      leads-not n (nodesOf s n) (tree-at s n h x) (above-at s n h x) (parent-none s ∙ h .root-parent) i e low (old .not-root)
-      (record { low = target .low; high = target .high; kind = target .dir })
-      (sym (ap (λ (b : Bool). b && leadsB (parentOf s) i n e) (eq-eqb (kindOf s i) directoryKind k)) ∙ apart)
-
   -- ---- then at most the parent of i changes
   module _ (w : List ℕ) (frame : SameFrame g w) (places : (r : ℕ) → r < mostSlots * n → SamePlace g w n r) (inodes : (j : ℕ) → 1 ≤ j → j ≤ n → j ≢ i → SameInode g w n j)
       (kind : kindOf w i ≡ kindOf g i) (links : linksOf w i ≡ linksOf g i) (up : kindOf s i ≡ directoryKind → parentOf w i ≡ e) (after : Stock w n (blocksIn s)) where
@@ -149,10 +171,10 @@ module _ (s : List ℕ) (n d t i e u : ℕ) (other : List ℕ) (h : Sound mostSt
         p q e (place-below (old .slot)) (place-below target) (place-dir e u (target .low) (target .small))
         (old .names) (entry .others p (place-below (old .slot)) other-place .names ∙ emptied .names) free (entry .names)
         (λ r l y z. entry .others r l z .names ∙ emptied .others r l y .names)
-        (target .dir) leads-away (kind ∙ a i low high .kind) (links ∙ a i low high .links) up
+        (target .dir) (not-below s n i e h x low (old .not-root) into apart) (kind ∙ a i low high .kind) (links ∙ a i low high .links) up
 
-    moved-sound : Sound mostStoreBlocks false w
-    moved-sound =
+    after-move : Sound mostStoreBlocks false w
+    after-move =
         stock-sound s w n h x (frame-then (both .frame) frame) after
         (names-filled m w n (names-emptied s m n (names-at s n h x) p emptied) q i other entry low legal
         (new-emptied s m n p q other emptied (absent-new s n e other u (target .low) (target .small) absent)))
@@ -169,8 +191,8 @@ module _ (s : List ℕ) (n d t i e u : ℕ) (other : List ℕ) (h : Sound mostSt
           let y = stock .inodes i low high .spare in
           let a = eqb-true (kindOf g i) directoryKind k in
           let r = parent-relinked g n i there e y in
-          moved-sound w (r .inode .frame) (relinked-places r) (r .inode .others) (r .body .kind) (parent-links g n i there e y) (λ _. parent-put g n i there e y)
+          after-move w (r .inode .frame) (relinked-places r) (r .inode .others) (r .body .kind) (parent-links g n i there e y) (λ _. parent-put g n i there e y)
           (relinked-stock g w n (blocksIn s) i r (λ z. omega arith) (λ z. absurd (omega arith)) low high stock)
       go false k =
-          moved-sound g (frame-stays g) (tree-stays g n .places) (λ j l r z. inode-stays g n j) refl refl
+          after-move g (frame-stays g) (tree-stays g n .places) (λ j l r z. inode-stays g n j) refl refl
           (λ z. absurd (eqb-false (kindOf g i) directoryKind k (both .inodes i low high .kind ∙ z))) stock
