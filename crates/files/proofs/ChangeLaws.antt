@@ -18,12 +18,17 @@ use Rattle.names.proofs.EntryLaws.{named, entry-byte, legal-entry}
 use Rattle.directory.specs.Slot.{mostSlots}
 use Rattle.sound.specs.Place.{dirOf, slotOf, entryAt, filled, naming}
 use Rattle.sound.specs.Entry.{EntrySound, sameNames, sibling}
+use Rattle.files.proofs.SameLaws.{SameInode}
 use Rattle.files.proofs.KeepLaws.{SamePlace, same-names}
 
 -- ---- the two changes
 -- every place but p stays
 abbrev pub OtherPlaces : List ℕ → List ℕ → ℕ → ℕ → Type 0
 OtherPlaces s t n p = (q : ℕ) → q < mostSlots * n → q ≢ p → SamePlace s t n q
+
+-- every inode but i stays
+abbrev pub OtherInodes : List ℕ → List ℕ → ℕ → ℕ → Type 0
+OtherInodes s t n i = (j : ℕ) → 1 ≤ j → j ≤ n → j ≢ i → SameInode s t n j
 
 -- no entry stands at p now
 pub record Emptied (s t : List ℕ) (n p : ℕ) : Type 0 where

@@ -28,9 +28,9 @@ use Rattle.sound.proofs.EntryLaws.{place-dir}
 use Rattle.files.specs.declared.Kind.{Kind}
 use Rattle.files.specs.declared.Kind.the-variants.{File, Directory}
 use Rattle.files.specs.Inode.{isDirectory, newInode, lessFree}
-use Rattle.files.proofs.SameLaws.{frame-then, InCounts, put-inode, less-free}
+use Rattle.files.proofs.SameLaws.{NewInode, frame-then, inode-then, InCounts, put-inode, less-free}
 use Rattle.files.proofs.StoreLaws.{fits}
-use Rattle.files.proofs.ChangeLaws.{Filled, filled-then, names-filled}
+use Rattle.files.proofs.ChangeLaws.{OtherInodes, Filled, filled-then, names-filled}
 use Rattle.files.proofs.TreeLaws.{Tree, tree-create, one-same, one-other}
 use Rattle.files.proofs.SoundTreeLaws.{nodesOf, body-at, names-at, above-at, tree-at}
 use Rattle.files.proofs.EntryWriteLaws.{EntriesAlone, entries-stay, SlotIn, slot-in, place-below, put-alone, put-filled}
@@ -135,8 +135,15 @@ module _ (s : List ℕ) (n d t i : ℕ) (k : Kind) (name : List ℕ) (h : Sound 
   bare : (q : ℕ) → q < mostSlots * n → dirOf q ≡ i → filled m n q ≡ false
   bare q l e = fails (filled m n q) (λ z. let g = slot-is m q .to (filled-is m n q .to z .0) .0 in let f = ap (kindOf m) e ∙ free in omega arith)
 
-  entered : Filled s w n p i name
-  entered = filled-then (place-below slot) (bared-places m w n i v bared (new-size k d) bare) (put-filled s s n d t h x (entries-stay s n) slot i name low)
+  -- what it changes: the entry in slot t, and inode i, which is new
+  pub create-filled : Filled s w n p i name
+  create-filled = filled-then (place-below slot) (bared-places m w n i v bared (new-size k d) bare) (put-filled s s n d t h x (entries-stay s n) slot i name low)
+
+  pub create-others : OtherInodes s w n i
+  create-others j l r z = inode-then (alone .inodes j l r) (bared .others j l r z)
+
+  pub create-new : NewInode w i (newInode k d)
+  create-new = bared .new
 
   after : Stock w n (blocksIn s)
   after =
@@ -154,17 +161,16 @@ module _ (s : List ℕ) (n d t i : ℕ) (k : Kind) (name : List ℕ) (h : Sound 
 
   tree : Tree n (nodesOf w n)
   tree =
-      let a = alone .inodes in
-      let o = bared .others in
-      let r = bared .new in
+      let o = create-others in
+      let r = create-new in
       let f = free-kind s n i new in
       tree-create n i (nodesOf s n) (nodesOf w n) (tree-at s n h x) (above-at s n h x) low high
-      (λ j l g z. o j l g z .kind ∙ a j l g .kind) (λ j l g z. o j l g z .links ∙ a j l g .links) (λ j l g z. o j l g z .parent ∙ a j l g .parent)
-      p d (place-below slot) (place-dir d t (slot .low) (slot .small)) (place-bare s n d t slot empty) (entered .names) (λ q l z. entered .others q l z .names)
+      (λ j l g z. o j l g z .kind) (λ j l g z. o j l g z .links) (λ j l g z. o j l g z .parent)
+      p d (place-below slot) (place-dir d t (slot .low) (slot .small)) (place-bare s n d t slot empty) (create-filled .names) (λ q l z. create-filled .others q l z .names)
       (slot .dir) f (body-at s n h x .inodes i low high .free f .0)
       (λ e. used (sym (r .kind) ∙ e)) (λ e. r .parent ∙ new-parent k d (sym (r .kind) ∙ e)) (r .links ∙ new-links k d)
 
   pub create-sound : Sound mostStoreBlocks false (lessFree (putInode (putEntry s n d t i name) n i (newInode k d)) 1 0)
   create-sound =
       stock-sound s w n h x (frame-then (alone .frame) (bared .frame)) after
-      (names-filled s w n (names-at s n h x) p i name entered low legal (absent-new s n d name t (slot .low) (slot .small) absent)) tree
+      (names-filled s w n (names-at s n h x) p i name create-filled low legal (absent-new s n d name t (slot .low) (slot .small) absent)) tree

@@ -24,6 +24,9 @@ pub record SameBody (s t : List ℕ) (n i : ℕ) : Type 0 where
 pub same-body : {s t : List ℕ} {n i : ℕ} → SameInode s t n i → SameBody s t n i
 same-body e = record { kind = e .kind; spare = e .spare; size = e .size; blocks = e .blocks }
 
+pub body-then : {s t u : List ℕ} {n i : ℕ} → SameBody s t n i → SameBody t u n i → SameBody s u n i
+body-then a b = record { kind = b .kind ∙ a .kind; spare = b .spare ∙ a .spare; size = b .size ∙ a .size; blocks = λ k l. b .blocks k l ∙ a .blocks k l }
+
 -- what holds of i and of all others holds of all
 pub each-inode : (P : ℕ → Type 0) (i j : ℕ) → P i → (j ≢ i → P j) → P j
 each-inode P i j p f = elim (ℕ-discrete j i) as (λ _. P j) [ yes e ↦ subst P (sym e) p | no e ↦ f e ]

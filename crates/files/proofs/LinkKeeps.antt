@@ -13,13 +13,13 @@ use Rattle.directory.specs.Slot.{slots, findSlot, slotEmpty, putEntry}
 use Rattle.sound.specs.Pass.{placeOf}
 use Rattle.sound.specs.Sound.{Sound, inodesIn, blocksIn}
 use Rattle.files.specs.Inode.{isFile, isDirectory}
-use Rattle.files.proofs.SameLaws.{frame-then}
+use Rattle.files.proofs.SameLaws.{frame-then, inode-then}
 use Rattle.files.proofs.StoreLaws.{kind-some, kind-most, kind-is, kind-fits}
-use Rattle.files.proofs.ChangeLaws.{Filled, filled-then, names-filled}
+use Rattle.files.proofs.ChangeLaws.{OtherInodes, Filled, filled-then, names-filled}
 use Rattle.files.proofs.TreeLaws.{Tree, tree-link}
 use Rattle.files.proofs.SoundTreeLaws.{nodesOf, body-at, names-at, above-at, tree-at}
 use Rattle.files.proofs.EntryWriteLaws.{EntriesAlone, entries-stay, SlotIn, slot-in, place-below, put-alone, put-filled}
-use Rattle.files.proofs.InodeWriteLaws.{Relinked, relinked-places, links-relinked, links-put, links-parent}
+use Rattle.files.proofs.InodeWriteLaws.{SameBody, same-body, body-then, Relinked, relinked-places, links-relinked, links-put, links-parent}
 use Rattle.files.proofs.SlotPlaceLaws.{absent-new, place-bare}
 use Rattle.files.proofs.StockLaws.{entries-stock, relinked-stock, stock-sound}
 
@@ -55,8 +55,15 @@ module _ (s : List ℕ) (n d t i : ℕ) (name : List ℕ) (h : Sound mostStoreBl
   relinked : Relinked m w n i
   relinked = links-relinked m n i fits (linksOf m i + 1)
 
-  entered : Filled s w n p i name
-  entered = filled-then (place-below slot) (relinked-places relinked) (put-filled s s n d t h x (entries-stay s n) slot i name low)
+  -- what it changes: the entry in slot t, and of inode i the links
+  pub link-filled : Filled s w n p i name
+  link-filled = filled-then (place-below slot) (relinked-places relinked) (put-filled s s n d t h x (entries-stay s n) slot i name low)
+
+  pub link-others : OtherInodes s w n i
+  link-others j l r z = inode-then (alone .inodes j l r) (relinked .inode .others j l r z)
+
+  pub link-body : SameBody s w n i
+  link-body = body-then (same-body (alone .inodes i low high)) (relinked .body)
 
   parent : parentOf w i ≡ parentOf m i
   parent = links-parent m n i fits (linksOf m i + 1)
@@ -64,21 +71,19 @@ module _ (s : List ℕ) (n d t i : ℕ) (name : List ℕ) (h : Sound mostStoreBl
   kind : kindOf m i ≡ fileKind
   kind = alone .inodes i low high .kind ∙ kind-is s n fileKind i file
 
-  links : linksOf w i ≡ linksOf s i + 1
-  links = links-put m n i fits (linksOf m i + 1) ∙ ap (λ (z : ℕ). z + 1) (alone .inodes i low high .links)
+  pub link-links : linksOf w i ≡ linksOf s i + 1
+  link-links = links-put m n i fits (linksOf m i + 1) ∙ ap (λ (z : ℕ). z + 1) (alone .inodes i low high .links)
 
   tree : Tree n (nodesOf w n)
   tree =
-      let a = alone .inodes in
-      let o = relinked .inode .others in
+      let o = link-others in
       tree-link n i (nodesOf s n) (nodesOf w n) (tree-at s n h x) (above-at s n h x) low high
-      (λ j l r z. o j l r z .kind ∙ a j l r .kind) (λ j l r z. o j l r z .links ∙ a j l r .links) (λ j l r z. o j l r z .parent ∙ a j l r .parent)
-      (relinked .body .kind ∙ a i low high .kind) (parent ∙ a i low high .parent)
-      p (place-below slot) (place-bare s n d t slot empty) (entered .names) (λ q l z. entered .others q l z .names)
-      (kind-is s n fileKind i file) links
+      (λ j l r z. o j l r z .kind) (λ j l r z. o j l r z .links) (λ j l r z. o j l r z .parent) (link-body .kind) (parent ∙ alone .inodes i low high .parent)
+      p (place-below slot) (place-bare s n d t slot empty) (link-filled .names) (λ q l z. link-filled .others q l z .names)
+      (kind-is s n fileKind i file) link-links
 
   pub link-sound : Sound mostStoreBlocks false (putLinks (putEntry s n d t i name) i (linksOf (putEntry s n d t i name) i + 1))
   link-sound =
       stock-sound s w n h x (frame-then (alone .frame) (relinked .inode .frame))
       (relinked-stock m w n (blocksIn s) i relinked (λ z. let k = kind in omega arith) (λ _. parent) low high (entries-stock s m n (blocksIn s) (body-at s n h x) alone))
-      (names-filled s w n (names-at s n h x) p i name entered low legal (absent-new s n d name t (slot .low) (slot .small) absent)) tree
+      (names-filled s w n (names-at s n h x) p i name link-filled low legal (absent-new s n d name t (slot .low) (slot .small) absent)) tree

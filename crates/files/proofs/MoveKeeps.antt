@@ -24,14 +24,14 @@ use Rattle.sound.proofs.EntryLaws.{place-dir}
 use Rattle.files.specs.Inode.{isDirectory, withParent}
 use Rattle.files.specs.Plan.{inodeAt, isBelow}
 use Rattle.files.specs.Apply.{setParent}
-use Rattle.files.proofs.SameLaws.{SameFrame, SameInode, frame-stays, frame-then, inode-stays}
+use Rattle.files.proofs.SameLaws.{SameFrame, frame-stays, frame-then, inode-stays, inode-then}
 use Rattle.files.proofs.KeepLaws.{SamePlace, SameTree, tree-stays, leads-kept}
 use Rattle.files.proofs.StoreLaws.{fits, kind-some, kind-most, kind-is}
-use Rattle.files.proofs.ChangeLaws.{Emptied, Filled, filled-then, names-emptied, names-filled, new-emptied}
+use Rattle.files.proofs.ChangeLaws.{OtherInodes, Emptied, Filled, filled-then, names-emptied, names-filled, new-emptied}
 use Rattle.files.proofs.TreeLaws.{Nodes, Tree, Dir, Above, parent-dir, tree-move}
 use Rattle.files.proofs.SoundTreeLaws.{nodesOf, body-at, names-at, above-at, tree-at}
 use Rattle.files.proofs.EntryWriteLaws.{EntriesAlone, entries-stay, SlotIn, slot-in, place-below, clear-alone, clear-emptied, put-alone, put-filled}
-use Rattle.files.proofs.InodeWriteLaws.{relinked-places, parent-relinked, parent-links, parent-put}
+use Rattle.files.proofs.InodeWriteLaws.{SameBody, same-body, body-then, relinked-places, parent-relinked, parent-links, parent-put}
 use Rattle.files.proofs.SlotPlaceLaws.{EntryHere, entry-here, absent-new, place-bare}
 use Rattle.files.proofs.StockLaws.{Stock, entries-stock, relinked-stock, stock-sound}
 
@@ -157,42 +157,82 @@ module _ (s : List ℕ) (n d t i e u : ℕ) (other : List ℕ) (h : Sound mostSt
   stock : Stock g n (blocksIn s)
   stock = entries-stock s g n (blocksIn s) (body-at s n h x) both
 
-  -- ---- then at most the parent of i changes
-  module _ (w : List ℕ) (frame : SameFrame g w) (places : (r : ℕ) → r < mostSlots * n → SamePlace g w n r) (inodes : (j : ℕ) → 1 ≤ j → j ≤ n → j ≢ i → SameInode g w n j)
-      (kind : kindOf w i ≡ kindOf g i) (links : linksOf w i ≡ linksOf g i) (up : kindOf s i ≡ directoryKind → parentOf w i ≡ e) (after : Stock w n (blocksIn s)) where
-    entry : Filled m w n q i other
-    entry = filled-then (place-below target) places entered
+  -- then at most the parent of i changes
+  record Rehomed (w : List ℕ) : Type 0 where
+    frame : SameFrame g w
+    places : (r : ℕ) → r < mostSlots * n → SamePlace g w n r
+    others : OtherInodes g w n i
+    body : SameBody g w n i
+    links : linksOf w i ≡ linksOf g i
+    up : kindOf s i ≡ directoryKind → parentOf w i ≡ e
+    stock : Stock w n (blocksIn s)
 
-    tree : Tree n (nodesOf w n)
-    tree =
-        let a = both .inodes in
-        tree-move n i (nodesOf s n) (nodesOf w n) (tree-at s n h x) (above-at s n h x) low high
-        (λ j l r z. inodes j l r z .kind ∙ a j l r .kind) (λ j l r z. inodes j l r z .links ∙ a j l r .links) (λ j l r z. inodes j l r z .parent ∙ a j l r .parent)
-        p q e (place-below (old .slot)) (place-below target) (place-dir e u (target .low) (target .small))
-        (old .names) (entry .others p (place-below (old .slot)) other-place .names ∙ emptied .names) free (entry .names)
-        (λ r l y z. entry .others r l z .names ∙ emptied .others r l y .names)
-        (target .dir) (not-below s n i e h x low (old .not-root) into apart) (kind ∙ a i low high .kind) (links ∙ a i low high .links) up
+  abbrev w : List ℕ
+  w = setParent g n i e
 
-    after-move : Sound mostStoreBlocks false w
-    after-move =
-        stock-sound s w n h x (frame-then (both .frame) frame) after
-        (names-filled m w n (names-emptied s m n (names-at s n h x) p emptied) q i other entry low legal
-        (new-emptied s m n p q other emptied (absent-new s n e other u (target .low) (target .small) absent)))
-        tree
-
-  pub move-sound : Sound mostStoreBlocks false (setParent (putEntry (clearEntry s n d t) n e u i other) n i e)
+  rehomed : Rehomed w
   unfolding setParent
-  move-sound = go (eqb (kindOf g i) directoryKind) refl
+  rehomed = go (eqb (kindOf g i) directoryKind) refl
     where
-      go : (b : Bool) → eqb (kindOf g i) directoryKind ≡ b → Sound mostStoreBlocks false (pick b (putAttributes g i (withParent (inodeOf g n i) e)) g)
+      go : (b : Bool) → eqb (kindOf g i) directoryKind ≡ b → Rehomed (pick b (putAttributes g i (withParent (inodeOf g n i) e)) g)
       go true k =
-          let w = putAttributes g i (withParent (inodeOf g n i) e) in
           let there = inode-fits s g n i (both .frame .long) (fits s n h x i low high) in
           let y = stock .inodes i low high .spare in
           let a = eqb-true (kindOf g i) directoryKind k in
           let r = parent-relinked g n i there e y in
-          after-move w (r .inode .frame) (relinked-places r) (r .inode .others) (r .body .kind) (parent-links g n i there e y) (λ _. parent-put g n i there e y)
-          (relinked-stock g w n (blocksIn s) i r (λ z. omega arith) (λ z. absurd (omega arith)) low high stock)
+          record {
+            frame = r .inode .frame;
+            places = relinked-places r;
+            others = r .inode .others;
+            body = r .body;
+            links = parent-links g n i there e y;
+            up = λ _. parent-put g n i there e y;
+            stock = relinked-stock g (putAttributes g i (withParent (inodeOf g n i) e)) n (blocksIn s) i r (λ z. omega arith) (λ z. absurd (omega arith)) low high stock;
+          }
       go false k =
-          after-move g (frame-stays g) (tree-stays g n .places) (λ j l r z. inode-stays g n j) refl refl
-          (λ z. absurd (eqb-false (kindOf g i) directoryKind k (both .inodes i low high .kind ∙ z))) stock
+          record {
+            frame = frame-stays g;
+            places = tree-stays g n .places;
+            others = λ j _ _ _. inode-stays g n j;
+            body = same-body (inode-stays g n i);
+            links = refl;
+            up = λ z. absurd (eqb-false (kindOf g i) directoryKind k (both .inodes i low high .kind ∙ z));
+            stock = stock;
+          }
+
+  -- what it changes: the entry in slot t of d is emptied, that in slot u of e filled, and a directory i has another parent
+  pub move-emptied : Emptied s m n p
+  move-emptied = emptied
+
+  pub move-filled : Filled m w n q i other
+  move-filled = filled-then (place-below target) (rehomed .places) entered
+
+  pub move-others : OtherInodes s w n i
+  move-others j l r z = inode-then (both .inodes j l r) (rehomed .others j l r z)
+
+  pub move-body : SameBody s w n i
+  move-body = body-then (same-body (both .inodes i low high)) (rehomed .body)
+
+  pub move-links : linksOf w i ≡ linksOf s i
+  move-links = rehomed .links ∙ both .inodes i low high .links
+
+  pub move-parent : kindOf s i ≡ directoryKind → parentOf w i ≡ e
+  move-parent = rehomed .up
+
+  tree : Tree n (nodesOf w n)
+  tree =
+      let o = move-others in
+      let f = move-filled in
+      let l = place-below (old .slot) in
+      tree-move n i (nodesOf s n) (nodesOf w n) (tree-at s n h x) (above-at s n h x) low high
+      (λ j l r z. o j l r z .kind) (λ j l r z. o j l r z .links) (λ j l r z. o j l r z .parent)
+      p q e l (place-below target) (place-dir e u (target .low) (target .small))
+      (old .names) (f .others p l other-place .names ∙ emptied .names) free (f .names) (λ r l y z. f .others r l z .names ∙ emptied .others r l y .names)
+      (target .dir) (not-below s n i e h x low (old .not-root) into apart) (move-body .kind) move-links move-parent
+
+  pub move-sound : Sound mostStoreBlocks false (setParent (putEntry (clearEntry s n d t) n e u i other) n i e)
+  move-sound =
+      stock-sound s w n h x (frame-then (both .frame) (rehomed .frame)) (rehomed .stock)
+      (names-filled m w n (names-emptied s m n (names-at s n h x) p emptied) q i other move-filled low legal
+      (new-emptied s m n p q other emptied (absent-new s n e other u (target .low) (target .small) absent)))
+      tree

@@ -33,25 +33,26 @@ module _ (s : List ℕ) (n d t i : ℕ) (other : List ℕ) (h : Sound mostStoreB
   abbrev w : List ℕ
   w = putEntry s n d t i other
 
-  alone : EntriesAlone s w n
-  alone = put-alone s s n d t h x (entries-stay s n) (old .slot) i other (old .low)
+  -- what it changes: entries rename-alone, and of them the one in slot t
+  pub rename-alone : EntriesAlone s w n
+  rename-alone = put-alone s s n d t h x (entries-stay s n) (old .slot) i other (old .low)
 
-  entered : Filled s w n p i other
-  entered = put-filled s s n d t h x (entries-stay s n) (old .slot) i other (old .low)
+  pub rename-filled : Filled s w n p i other
+  rename-filled = put-filled s s n d t h x (entries-stay s n) (old .slot) i other (old .low)
 
   tree : Tree n (nodesOf w n)
   tree =
-      let a = alone .inodes in
+      let a = rename-alone .inodes in
       let o = a i (old .low) (old .high) in
       tree-rename n i (nodesOf s n) (nodesOf w n) (tree-at s n h x) (above-at s n h x) (old .low) (old .high)
       (λ j l m _. a j l m .kind) (λ j l m _. a j l m .links) (λ j l m _. a j l m .parent) (o .kind) (o .parent)
       (λ q l. elim (ℕ-discrete q p) as (λ _. naming w n q ≡ naming s n q) [
-        | yes e ↦ ap (naming w n) e ∙ entered .names ∙ sym (old .names) ∙ ap (naming s n) (sym e)
-        | no e ↦ entered .others q l e .names
+        | yes e ↦ ap (naming w n) e ∙ rename-filled .names ∙ sym (old .names) ∙ ap (naming s n) (sym e)
+        | no e ↦ rename-filled .others q l e .names
       ])
       (old .not-root) (o .links)
 
   pub rename-sound : Sound mostStoreBlocks false (renamed s n d other t i)
   rename-sound =
-      stock-sound s w n h x (alone .frame) (entries-stock s w n (blocksIn s) (body-at s n h x) alone)
-      (names-filled s w n (names-at s n h x) p i other entered (old .low) legal (absent-new s n d other t (old .slot .low) (old .slot .small) absent)) tree
+      stock-sound s w n h x (rename-alone .frame) (entries-stock s w n (blocksIn s) (body-at s n h x) rename-alone)
+      (names-filled s w n (names-at s n h x) p i other rename-filled (old .low) legal (absent-new s n d other t (old .slot .low) (old .slot .small) absent)) tree

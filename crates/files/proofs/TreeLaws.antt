@@ -190,8 +190,8 @@ module _ (n i : ℕ) (v w : Nodes) (t : Tree n v) (a : Above n v) (low : 1 ≤ i
     parent-all : SameTo n (v .parent) (w .parent)
     parent-all j l m = elim (ℕ-discrete j i) as (λ _. w .parent j ≡ v .parent j) [ yes e ↦ ap (w .parent) e ∙ u ∙ ap (v .parent) (sym e) | no e ↦ parents j l m e ]
 
-    names-all : (q d x : ℕ) → 1 ≤ x → Names n v x d → Names n w x d
-    names-all q d x o r =
+    names-all : (d x : ℕ) → 1 ≤ x → Names n v x d → Names n w x d
+    names-all d x o r =
         let b = kind-all x o (r .high) in
         record {
           high = r .high;
@@ -223,7 +223,7 @@ module _ (n i : ℕ) (v w : Nodes) (t : Tree n v) (a : Above n v) (low : 1 ≤ i
             (record { high = high; used = λ y. let b = sym k ∙ y in omega arith; not-root = not-root; parent = λ y. let b = sym k ∙ y in absurd (omega arith) })
         at q m o (no z) =
             let b = h q m z in
-            subst (λ (x : ℕ). Names n w x (dirOf q)) (sym b) (names-all q (dirOf q) (v .naming q) (omega arith) (t .names q m (omega arith)))
+            subst (λ (x : ℕ). Names n w x (dirOf q)) (sym b) (names-all (dirOf q) (v .naming q) (omega arith) (t .names q m (omega arith)))
 
         tallied : (j : ℕ) → 1 ≤ j → tally (w .naming) (mostSlots * n) j ≡ tally (v .naming) (mostSlots * n) j + one (eqb i j)
         tallied j y = tally-filled (v .naming) (w .naming) (mostSlots * n) p i l h e f j y
@@ -232,13 +232,13 @@ module _ (n i : ℕ) (v w : Nodes) (t : Tree n v) (a : Above n v) (low : 1 ≤ i
         of j y z (no q) = linked-else j y z q (let b = tallied j y in let d = one-other i j (λ x. q (sym x)) in omega arith) (leads-all j y z)
         of j y z (yes q) =
             subst (Linked n w) (sym q) (
-              let r = t .linked i low high in
-              record {
-                counted = let b = tallied i low in let d = one-same i i refl in let g = r .counted in omega arith;
-                named = λ _ _. omega arith;
-                one = λ x _. let b = sym k ∙ x in absurd (omega arith);
-                leads = λ x. let b = sym k ∙ x in absurd (omega arith);
-              })
+            let r = t .linked i low high in
+            record {
+              counted = let b = tallied i low in let d = one-same i i refl in let g = r .counted in omega arith;
+              named = λ _ _. omega arith;
+              one = λ x _. let b = sym k ∙ x in absurd (omega arith);
+              leads = λ x. let b = sym k ∙ x in absurd (omega arith);
+            })
 
     -- "rename" within a directory: every place names what it did
     pub tree-rename : ((q : ℕ) → q < mostSlots * n → w .naming q ≡ v .naming q) → i ≢ rootInode → w .links i ≡ v .links i → Tree n w
@@ -246,7 +246,7 @@ module _ (n i : ℕ) (v w : Nodes) (t : Tree n v) (a : Above n v) (low : 1 ≤ i
         record {
           root = root-else not-root .0;
           root-parent = root-else not-root .1;
-          names = λ q m o. let b = h q m in subst (λ (x : ℕ). Names n w x (dirOf q)) (sym b) (names-all q (dirOf q) (v .naming q) (omega arith) (t .names q m (omega arith)));
+          names = λ q m o. let b = h q m in subst (λ (x : ℕ). Names n w x (dirOf q)) (sym b) (names-all (dirOf q) (v .naming q) (omega arith) (t .names q m (omega arith)));
           linked = λ j y z. of j y z (ℕ-discrete j i);
         }
       where
@@ -254,13 +254,13 @@ module _ (n i : ℕ) (v w : Nodes) (t : Tree n v) (a : Above n v) (low : 1 ≤ i
         of j y z (no q) = linked-else j y z q (tally-same (v .naming) (w .naming) (mostSlots * n) h j) (leads-all j y z)
         of j y z (yes q) =
             subst (Linked n w) (sym q) (
-              let r = t .linked i low high in
-              record {
-                counted = c ∙ r .counted ∙ sym (tally-same (v .naming) (w .naming) (mostSlots * n) h i);
-                named = λ x g. subst (λ (o : ℕ). 1 ≤ o) (sym c) (r .named (λ b. x (k ∙ b)) g);
-                one = λ x g. c ∙ r .one (sym k ∙ x) g;
-                leads = λ x. leads-all i low high (sym k ∙ x);
-              })
+            let r = t .linked i low high in
+            record {
+              counted = c ∙ r .counted ∙ sym (tally-same (v .naming) (w .naming) (mostSlots * n) h i);
+              named = λ x g. subst (λ (o : ℕ). 1 ≤ o) (sym c) (r .named (λ b. x (k ∙ b)) g);
+              one = λ x g. c ∙ r .one (sym k ∙ x) g;
+              leads = λ x. leads-all i low high (sym k ∙ x);
+            })
 
     -- "unlink" of one of several links: the place names nothing, and i has one link less
     pub tree-less : (p : ℕ) → p < mostSlots * n → v .naming p ≡ i → w .naming p ≡ 0 → ElseBelow (mostSlots * n) p (v .naming) (w .naming)
@@ -283,7 +283,7 @@ module _ (n i : ℕ) (v w : Nodes) (t : Tree n v) (a : Above n v) (low : 1 ≤ i
         at q m o (yes z) = let b : w .naming q ≡ 0 = ap (w .naming) z ∙ f in absurd (omega arith)
         at q m o (no z) =
             let b = h q m z in
-            subst (λ (x : ℕ). Names n w x (dirOf q)) (sym b) (names-all q (dirOf q) (v .naming q) (omega arith) (t .names q m (omega arith)))
+            subst (λ (x : ℕ). Names n w x (dirOf q)) (sym b) (names-all (dirOf q) (v .naming q) (omega arith) (t .names q m (omega arith)))
 
         tallied : (j : ℕ) → 1 ≤ j → tally (v .naming) (mostSlots * n) j ≡ tally (w .naming) (mostSlots * n) j + one (eqb i j)
         tallied j y = tally-filled (w .naming) (v .naming) (mostSlots * n) p i l (λ q m z. sym (h q m z)) f e j y
@@ -292,13 +292,13 @@ module _ (n i : ℕ) (v w : Nodes) (t : Tree n v) (a : Above n v) (low : 1 ≤ i
         of j y z (no q) = linked-else j y z q (let b = tallied j y in let d = one-other i j (λ x. q (sym x)) in omega arith) (leads-all j y z)
         of j y z (yes q) =
             subst (Linked n w) (sym q) (
-              let r = t .linked i low high in
-              record {
-                counted = let b = tallied i low in let d = one-same i i refl in let g = r .counted in omega arith;
-                named = λ _ _. omega arith;
-                one = λ x _. absurd (not-dir x);
-                leads = λ x. absurd (not-dir x);
-              })
+            let r = t .linked i low high in
+            record {
+              counted = let b = tallied i low in let d = one-same i i refl in let g = r .counted in omega arith;
+              named = λ _ _. omega arith;
+              one = λ x _. absurd (not-dir x);
+              leads = λ x. absurd (not-dir x);
+            })
 
   -- "create": an empty place of directory d names i, which was free, and now is a file or a directory with one link
   pub tree-create : (p d : ℕ) → p < mostSlots * n → dirOf p ≡ d → v .naming p ≡ 0 → w .naming p ≡ i → ElseBelow (mostSlots * n) p (v .naming) (w .naming)
@@ -337,13 +337,13 @@ module _ (n i : ℕ) (v w : Nodes) (t : Tree n v) (a : Above n v) (low : 1 ≤ i
           (λ b. leads-old j (record { low = y; high = z; kind = b }))
       of j y z (yes q) =
           subst (Linked n w) (sym q) (
-            let r = t .linked i low high in
-            record {
-              counted = let b = tallied i low in let g = one-same i i refl in let o = r .counted in omega arith;
-              named = λ _ _. omega arith;
-              one = λ _ _. c;
-              leads = λ x. leads-up (w .parent) rootInode i (subst (Leads (w .parent) rootInode) (sym (up x)) (leads-old d (record { low = omega arith; high = omega arith; kind = dir })));
-            })
+          let r = t .linked i low high in
+          record {
+            counted = let b = tallied i low in let g = one-same i i refl in let o = r .counted in omega arith;
+            named = λ _ _. omega arith;
+            one = λ _ _. c;
+            leads = λ x. leads-up (w .parent) rootInode i (subst (Leads (w .parent) rootInode) (sym (up x)) (leads-old d (record { low = omega arith; high = omega arith; kind = dir })));
+          })
 
   -- "unlink" of the last link: the place names nothing, and i, in which no entry stands, is free
   pub tree-last : (p : ℕ) → p < mostSlots * n → v .naming p ≡ i → w .naming p ≡ 0 → ElseBelow (mostSlots * n) p (v .naming) (w .naming)
@@ -483,10 +483,10 @@ module _ (n i : ℕ) (v w : Nodes) (t : Tree n v) (a : Above n v) (low : 1 ≤ i
       of j y z (no q) = linked-else j y z q (tallied j y) (λ b. leads-old j (record { low = y; high = z; kind = b }))
       of j y z (yes q) =
           subst (Linked n w) (sym q) (
-            let r = t .linked i low high in
-            record {
-              counted = c ∙ r .counted ∙ sym (tallied i low);
-              named = λ x g. subst (λ (o : ℕ). 1 ≤ o) (sym c) (r .named (λ b. x (k ∙ b)) g);
-              one = λ x g. c ∙ r .one (sym k ∙ x) g;
-              leads = λ x. leads-old i (record { low = low; high = high; kind = sym k ∙ x });
-            })
+          let r = t .linked i low high in
+          record {
+            counted = c ∙ r .counted ∙ sym (tallied i low);
+            named = λ x g. subst (λ (o : ℕ). 1 ≤ o) (sym c) (r .named (λ b. x (k ∙ b)) g);
+            one = λ x g. c ∙ r .one (sym k ∙ x) g;
+            leads = λ x. leads-old i (record { low = low; high = high; kind = sym k ∙ x });
+          })

@@ -27,13 +27,13 @@ use Rattle.sound.proofs.PlaceLaws.{slot-is, filled-is}
 use Rattle.files.specs.Inode.{isDirectory, zeroInode, moreFree}
 use Rattle.files.specs.Plan.{inodeAt, holdsNone}
 use Rattle.files.specs.Apply.{dropLink, unlinked}
-use Rattle.files.proofs.SameLaws.{frame-then, InCounts, put-inode, more-free}
+use Rattle.files.proofs.SameLaws.{NewInode, frame-then, inode-then, InCounts, put-inode, more-free}
 use Rattle.files.proofs.StoreLaws.{fits}
-use Rattle.files.proofs.ChangeLaws.{Emptied, emptied-then, names-emptied}
+use Rattle.files.proofs.ChangeLaws.{OtherInodes, Emptied, emptied-then, names-emptied}
 use Rattle.files.proofs.TreeLaws.{Tree, tree-less, tree-last, counted-some, one-other}
 use Rattle.files.proofs.SoundTreeLaws.{nodesOf, body-at, names-at, above-at, tree-at}
 use Rattle.files.proofs.EntryWriteLaws.{EntriesAlone, entries-stay, place-below, clear-alone, clear-emptied}
-use Rattle.files.proofs.InodeWriteLaws.{Relinked, relinked-places, links-relinked, links-put, links-parent}
+use Rattle.files.proofs.InodeWriteLaws.{SameBody, same-body, body-then, Relinked, relinked-places, links-relinked, links-put, links-parent}
 use Rattle.files.proofs.SlotPlaceLaws.{EntryHere, entry-here}
 use Rattle.files.proofs.StockLaws.{Stock, entries-stock, relinked-stock, stock-sound}
 use Rattle.files.proofs.BaredLaws.{Bared, put-bared, bared-places, bared-unnamed, bared-free, bared-stock, naming-none}
@@ -97,28 +97,33 @@ module _ (s : List ℕ) (n d t i : ℕ) (h : Sound mostStoreBlocks false s) (x :
     relinked : Relinked m w n i
     relinked = links-relinked m n i there (linksOf m i - 1)
 
-    gone : Emptied s w n p
-    gone = emptied-then below (relinked-places relinked) emptied
+    less-others : OtherInodes s w n i
+    less-others j l r y = inode-then (alone .inodes j l r) (relinked .inode .others j l r y)
+
+    less-emptied : Emptied s w n p
+    less-emptied = emptied-then below (relinked-places relinked) emptied
+
+    less-links : linksOf w i ≡ linksOf s i - 1
+    less-links = links-put m n i there (linksOf m i - 1) ∙ ap (λ (y : ℕ). y - 1) links
 
     parent : parentOf w i ≡ parentOf m i
     parent = links-parent m n i there (linksOf m i - 1)
 
     tree : Tree n (nodesOf w n)
     tree =
-        let a = alone .inodes in
-        let o = relinked .inode .others in
+        let a = alone .inodes i low high in
+        let o = less-others in
         let e = links in
         tree-less n i (nodesOf s n) (nodesOf w n) (tree-at s n h x) (above-at s n h x) low high
-        (λ j l r z. o j l r z .kind ∙ a j l r .kind) (λ j l r z. o j l r z .links ∙ a j l r .links) (λ j l r z. o j l r z .parent ∙ a j l r .parent)
-        (relinked .body .kind ∙ a i low high .kind) (parent ∙ a i low high .parent)
-        p below (old .names) (gone .names) (λ q l z. gone .others q l z .names) (omega arith)
-        (links-put m n i there (linksOf m i - 1) ∙ ap (λ (z : ℕ). z - 1) e)
+        (λ j l r z. o j l r z .kind) (λ j l r z. o j l r z .links) (λ j l r z. o j l r z .parent) (relinked .body .kind ∙ a .kind) (parent ∙ a .parent)
+        p below (old .names) (less-emptied .names) (λ q l z. less-emptied .others q l z .names) (omega arith)
+        less-links
 
     less-sound : Sound mostStoreBlocks false w
     less-sound =
         stock-sound s w n h x (frame-then (alone .frame) (relinked .inode .frame))
         (relinked-stock m w n (blocksIn s) i relinked used (λ _. parent) low high stock)
-        (names-emptied s w n (names-at s n h x) p gone) tree
+        (names-emptied s w n (names-at s n h x) p less-emptied) tree
 
   -- ---- the last link
   module _ (last : linksOf m i ≤ 1) where
@@ -150,9 +155,12 @@ module _ (s : List ℕ) (n d t i : ℕ) (h : Sound mostStoreBlocks false s) (x :
           clash (filled s n q) (sym (emptied .others q l o .stands) ∙ f) (unfilled s n i (holds g) q e))
     ]
 
-    lost : Emptied s z n p
+    last-others : OtherInodes s z n i
+    last-others j l r y = inode-then (alone .inodes j l r) (bared .others j l r y)
+
+    last-emptied : Emptied s z n p
     unfolding zeroInode
-    lost = emptied-then below (bared-places m z n i zeroInode bared refl bare) emptied
+    last-emptied = emptied-then below (bared-places m z n i zeroInode bared refl bare) emptied
 
     after : Stock z n (blocksIn s)
     unfolding zeroInode
@@ -170,22 +178,41 @@ module _ (s : List ℕ) (n d t i : ℕ) (h : Sound mostStoreBlocks false s) (x :
     cut : Tree n (nodesOf z n)
     unfolding zeroInode
     cut =
-        let a = alone .inodes in
-        let o = bared .others in
+        let o = last-others in
         let c = counted-some n (nodesOf s n) (tree-at s n h x) p i below low (old .names) in
         let e = links in
         tree-last n i (nodesOf s n) (nodesOf z n) (tree-at s n h x) (above-at s n h x) low high
-        (λ j l r y. o j l r y .kind ∙ a j l r .kind) (λ j l r y. o j l r y .links ∙ a j l r .links) (λ j l r y. o j l r y .parent ∙ a j l r .parent)
-        p below (old .names) (lost .names) (λ q l y. lost .others q l y .names) (omega arith)
+        (λ j l r y. o j l r y .kind) (λ j l r y. o j l r y .links) (λ j l r y. o j l r y .parent)
+        p below (old .names) (last-emptied .names) (λ q l y. last-emptied .others q l y .names) (omega arith)
         (λ k q l e. naming-none s n q (unfilled s n i (holds k) q e)) (bared .new .kind) (bared .new .links)
 
     last-sound : Sound mostStoreBlocks false z
-    last-sound = stock-sound s z n h x (frame-then (alone .frame) (bared .frame)) after (names-emptied s z n (names-at s n h x) p lost) cut
+    last-sound = stock-sound s z n h x (frame-then (alone .frame) (bared .frame)) after (names-emptied s z n (names-at s n h x) p last-emptied) cut
+
+  -- ---- both
+  by-links : (P : List ℕ → Type 0) → (2 ≤ linksOf m i → P (putLinks m i (linksOf m i - 1))) → (linksOf m i ≤ 1 → P (moreFree (putInode m n i zeroInode) 1 (blocksUsed (sizeOf m i)))) → P (unlinked s n d t i)
+  unfolding unlinked dropLink
+  by-links P f g = go (leb (linksOf m i) 1) refl
+    where
+      go : (b : Bool) → leb (linksOf m i) 1 ≡ b → P (pick b (moreFree (putInode m n i zeroInode) 1 (blocksUsed (sizeOf m i))) (putLinks m i (linksOf m i - 1)))
+      go true e = g (leb-true (linksOf m i) 1 e)
+      go false e = f (leb-false (linksOf m i) 1 e)
+
+  -- what it changes: the entry in slot t, and inode i
+  pub unlink-emptied : Emptied s (unlinked s n d t i) n p
+  unlink-emptied = by-links (λ (w : List ℕ). Emptied s w n p) less-emptied last-emptied
+
+  pub unlink-others : OtherInodes s (unlinked s n d t i) n i
+  unlink-others = by-links (λ (w : List ℕ). OtherInodes s w n i) less-others last-others
+
+  -- which has a link less, or is freed
+  pub unlink-less : 2 ≤ linksOf s i → SameBody s (unlinked s n d t i) n i × (linksOf (unlinked s n d t i) i ≡ linksOf s i - 1)
+  unlink-less more =
+      by-links (λ (w : List ℕ). SameBody s w n i × (linksOf w i ≡ linksOf s i - 1))
+      (λ o. (body-then (same-body (alone .inodes i low high)) (relinked o .body), less-links o)) (λ o. let e = links in absurd (omega arith))
+
+  pub unlink-last : linksOf s i ≤ 1 → NewInode (unlinked s n d t i) i zeroInode
+  unlink-last last = by-links (λ (w : List ℕ). NewInode w i zeroInode) (λ o. let e = links in absurd (omega arith)) (λ o. bared o .new)
 
   pub unlink-sound : Sound mostStoreBlocks false (unlinked s n d t i)
-  unfolding unlinked dropLink
-  unlink-sound = go (leb (linksOf m i) 1) refl
-    where
-      go : (b : Bool) → leb (linksOf m i) 1 ≡ b → Sound mostStoreBlocks false (pick b (moreFree (putInode m n i zeroInode) 1 (blocksUsed (sizeOf m i))) (putLinks m i (linksOf m i - 1)))
-      go true e = last-sound (leb-true (linksOf m i) 1 e)
-      go false e = less-sound (leb-false (linksOf m i) 1 e)
+  unlink-sound = by-links (Sound mostStoreBlocks false) less-sound last-sound
