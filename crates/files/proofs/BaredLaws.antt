@@ -1,8 +1,8 @@
 -- An inode is written with no blocks: a new one, or one that is freed. What that keeps. n and b are the counts of inodes and blocks.
 use Prim.Native.Nat.{ℕ, _+_, _-_, _*_, _/_, _%_, _≤_, _<_}
-use mathlib.Core.Path.{_≡_, refl, sym, ap, _∙_, subst}
+use mathlib.Core.Path.{_≡_, sym, ap, _∙_}
 use mathlib.Core.Logic.{_≢_}
-use mathlib.Core.Bool.{Bool, true, false}
+use mathlib.Core.Bool.{false}
 use mathlib.Core.List.{List}
 use native.Mathlib.Decide.{ℕ-discrete}
 use native.Mathlib.Omega.{arith}
@@ -11,21 +11,21 @@ use lib.ListN.{length, getD, replicate, getD-replicate, length-replicate}
 use Rattle.bounded.specs.Count.{one, count, Differ}
 use Rattle.bounded.proofs.BoolLaws.{clash, fails}
 use Rattle.bounded.proofs.ReflectLaws.{r-fails}
-use Rattle.layout.specs.Sizes.{addressCount, blockBytes, headerBytes}
+use Rattle.layout.specs.Sizes.{addressCount, blockBytes}
 use Rattle.layout.specs.Header.{headerOf}
 use Rattle.layout.specs.declared.inode.Inode.{Inode}
-use Rattle.layout.specs.Inode.{InodeFits, kindOf, spareOf, linksOf, sizeOf, parentOf, addressOf, putInode, freeKind, fileKind, directoryKind}
+use Rattle.layout.specs.Inode.{InodeFits, kindOf, sizeOf, addressOf, putInode, freeKind, fileKind, directoryKind}
 use Rattle.layout.specs.Block.{blocksUsed, kthBlock}
 use Rattle.directory.specs.Slot.{mostSlots, slots}
-use Rattle.sound.specs.Place.{dirOf, slotOf, isSlot, filled, naming}
+use Rattle.sound.specs.Place.{dirOf, isSlot, filled, naming}
 use Rattle.sound.specs.Inode.{InodeSound}
 use Rattle.sound.specs.Sound.{freeB, unnamedB}
-use Rattle.sound.proofs.PlaceLaws.{slot-is, filled-is, naming-slot, naming-filled}
-use Rattle.files.proofs.SameLaws.{SameFrame, SameInode, SameBlock, NewInode, InInode, InCounts, frame-then, inode-then, put-inode, inode-new, inode-blocks}
+use Rattle.sound.proofs.PlaceLaws.{slot-is, filled-is, naming-filled}
+use Rattle.files.proofs.SameLaws.{SameFrame, SameInode, SameBlock, NewInode, InCounts, frame-then, inode-then, put-inode, inode-new, inode-blocks}
 use Rattle.files.proofs.KeepLaws.{SamePlace, inode-kept}
 use Rattle.files.proofs.AddressLaws.{differ-less, address-kth, unnamed-change}
 use Rattle.files.proofs.TreeLaws.{count-but}
-use Rattle.files.proofs.InodeWriteLaws.{body-of, place-body, each-inode}
+use Rattle.files.proofs.InodeWriteLaws.{same-body, place-body, each-inode}
 use Rattle.files.proofs.StockLaws.{Stock, kth-is}
 
 -- inode i is v, which has no blocks; the other inodes and the bytes of blocks stay
@@ -81,7 +81,7 @@ module _ (s t : List ℕ) (n i : ℕ) (v : Inode) (a : Bared s t n i v) (empty :
   bared-places bare q l = elim (ℕ-discrete (dirOf q) i) as (λ _. SamePlace s t n q) [
     | yes e ↦ place-none s t n q (bare q l e)
         (fails (filled t n q) (λ z. clash (isSlot t q) (filled-is t n q .to z .0) (no-slots t q (ap (sizeOf t) e ∙ size-none))))
-    | no e ↦ place-body s t n q (body-of (a .others (dirOf q) (omega arith) (omega arith) e)) (a .bytes)
+    | no e ↦ place-body s t n q (same-body (a .others (dirOf q) (omega arith) (omega arith) e)) (a .bytes)
   ]
 
   module _ (b : ℕ) (low : 1 ≤ i) (high : i ≤ n) (h : Stock s n b) (kind : v .kind ≤ directoryKind)

@@ -1,14 +1,14 @@
 -- What a change of an entry does to the places of a store: one is emptied or filled, all others stay. And what it keeps of their names. n is the inode count.
-use Prim.Native.Nat.{ℕ, _+_, _*_, _/_, _%_, _≤_, _<_}
-use mathlib.Core.Path.{_≡_, refl, sym, ap, ap₂, _∙_, subst}
+use Prim.Native.Nat.{ℕ, _+_, _*_, _≤_, _<_}
+use mathlib.Core.Path.{_≡_, sym, ap, _∙_, subst}
 use mathlib.Core.Logic.{_≢_}
-use mathlib.Core.Bool.{Bool, true, false}
+use mathlib.Core.Bool.{true, false}
 use mathlib.Core.List.{List}
-use native.Mathlib.Decide.{ℕ-discrete, decLt}
+use native.Mathlib.Decide.{ℕ-discrete}
 use native.Mathlib.Omega.{arith}
 use lib.ListN.{getD}
 use Rattle.bounded.specs.Reflect.{Reflects}
-use Rattle.bounded.proofs.BoolLaws.{clash, fails}
+use Rattle.bounded.proofs.BoolLaws.{clash}
 use Rattle.bounded.proofs.ReflectLaws.{r-says, r-no, r-fails}
 use Rattle.octets.specs.Octets.{part}
 use Rattle.octets.proofs.PartLaws.{getD-part}
@@ -18,12 +18,17 @@ use Rattle.names.proofs.EntryLaws.{named, entry-byte, legal-entry}
 use Rattle.directory.specs.Slot.{mostSlots}
 use Rattle.sound.specs.Place.{dirOf, slotOf, entryAt, filled, naming}
 use Rattle.sound.specs.Entry.{EntrySound, sameNames, sibling}
+use Rattle.files.proofs.SameLaws.{SameInode}
 use Rattle.files.proofs.KeepLaws.{SamePlace, same-names}
 
 -- ---- the two changes
 -- every place but p stays
 abbrev pub OtherPlaces : List ℕ → List ℕ → ℕ → ℕ → Type 0
 OtherPlaces s t n p = (q : ℕ) → q < mostSlots * n → q ≢ p → SamePlace s t n q
+
+-- every inode but i stays
+abbrev pub OtherInodes : List ℕ → List ℕ → ℕ → ℕ → Type 0
+OtherInodes s t n i = (j : ℕ) → 1 ≤ j → j ≤ n → j ≢ i → SameInode s t n j
 
 -- no entry stands at p now
 pub record Emptied (s t : List ℕ) (n p : ℕ) : Type 0 where

@@ -1,22 +1,20 @@
 -- A create keeps a store sound. n is the inode count.
-use Prim.Native.Nat.{ℕ, _+_, _-_, _*_, _≤_, _<_}
-use mathlib.Core.Path.{_≡_, refl, sym, ap, _∙_, subst}
+use Prim.Native.Nat.{ℕ, _-_, _*_, _≤_, _<_}
+use mathlib.Core.Path.{_≡_, refl, sym, ap, _∙_}
 use mathlib.Core.Bool.{true, false}
 use mathlib.Core.List.{List}
 use native.Mathlib.Omega.{arith}
 use borrow.Author.Tests.{eqb-true}
-use lib.Dec.{eqb}
 use lib.ListN.{length, replicate}
 use Rattle.bounded.specs.Count.{count, one}
 use Rattle.bounded.specs.declared.Found.the-variants.{At, Absent}
 use Rattle.bounded.proofs.BoolLaws.{fails}
 use Rattle.bounded.proofs.SearchLaws.{Lowest, found-lowest}
-use Rattle.layout.specs.Sizes.{mostStoreBlocks, addressCount, headerBytes}
+use Rattle.layout.specs.Sizes.{mostStoreBlocks, addressCount}
 use Rattle.layout.specs.Header.{headerOf}
 use Rattle.layout.specs.declared.header.Header.{Header}
 use Rattle.layout.specs.declared.inode.Inode.{Inode}
-use Rattle.layout.specs.Inode.{InodeFits, kindOf, linksOf, sizeOf, putInode, freeKind, fileKind, directoryKind}
-use Rattle.layout.specs.Block.{blocksUsed}
+use Rattle.layout.specs.Inode.{InodeFits, kindOf, sizeOf, putInode, freeKind, fileKind, directoryKind}
 use Rattle.layout.specs.Free.{isFree, freeInode}
 use Rattle.layout.proofs.FrameLaws.{length-inode}
 use Rattle.layout.proofs.ViewLaws.{inode-fits}
@@ -24,17 +22,17 @@ use Rattle.names.specs.Name.{legalName}
 use Rattle.directory.specs.Slot.{mostSlots, slots, findSlot, slotEmpty, putEntry}
 use Rattle.sound.specs.Place.{dirOf, filled}
 use Rattle.sound.specs.Pass.{placeOf}
-use Rattle.sound.specs.Sound.{Sound, inodesIn, blocksIn, freeB, unnamedB}
+use Rattle.sound.specs.Sound.{Sound, inodesIn, blocksIn}
 use Rattle.sound.proofs.PlaceLaws.{slot-is, filled-is}
 use Rattle.sound.proofs.EntryLaws.{place-dir}
 use Rattle.files.specs.declared.Kind.{Kind}
 use Rattle.files.specs.declared.Kind.the-variants.{File, Directory}
 use Rattle.files.specs.Inode.{isDirectory, newInode, lessFree}
-use Rattle.files.proofs.SameLaws.{frame-then, InCounts, put-inode, less-free}
+use Rattle.files.proofs.SameLaws.{NewInode, frame-then, inode-then, InCounts, put-inode, less-free}
 use Rattle.files.proofs.StoreLaws.{fits}
-use Rattle.files.proofs.ChangeLaws.{Filled, filled-then, names-filled}
+use Rattle.files.proofs.ChangeLaws.{OtherInodes, Filled, filled-then, names-filled}
 use Rattle.files.proofs.TreeLaws.{Tree, tree-create, one-same, one-other}
-use Rattle.files.proofs.SoundTreeLaws.{nodesOf, inode-at, names-at, above-at, tree-at}
+use Rattle.files.proofs.SoundTreeLaws.{nodesOf, body-at, names-at, above-at, tree-at}
 use Rattle.files.proofs.EntryWriteLaws.{EntriesAlone, entries-stay, SlotIn, slot-in, place-below, put-alone, put-filled}
 use Rattle.files.proofs.SlotPlaceLaws.{absent-new, place-bare}
 use Rattle.files.proofs.StockLaws.{Stock, entries-stock, stock-sound}
@@ -83,114 +81,96 @@ module _ (s : List ℕ) (n i : ℕ) (e : freeInode s n ≡ At i) where
 module _ (s : List ℕ) (n d t i : ℕ) (k : Kind) (name : List ℕ) (h : Sound mostStoreBlocks false s) (x : n ≡ inodesIn s)
     (dir : isDirectory s n d ≡ true) (new : freeInode s n ≡ At i) (inside : t < slots s d) (empty : slotEmpty s n d t ≡ true)
     (legal : legalName name ≡ true) (absent : findSlot s n d name ≡ Absent) where
-  some : 1 ≤ i
-  some = free-found s n i new .from
+  low : 1 ≤ i
+  low = free-found s n i new .from
 
-  most : i ≤ n
-  most = let l = free-found s n i new .below in omega arith
+  high : i ≤ n
+  high = let l = free-found s n i new .below in omega arith
 
   slot : SlotIn s n d t
   slot = slot-in s n d t h x dir inside
 
+  abbrev p : ℕ
+  p = placeOf d t
+
   -- with the entry
-  m : List ℕ
+  abbrev m : List ℕ
   m = putEntry s n d t i name
 
   alone : EntriesAlone s m n
-  unfolding m
-  alone = put-alone s s n d t h x (entries-stay s n) slot i name some
+  alone = put-alone s s n d t h x (entries-stay s n) slot i name low
 
   stock : Stock m n (blocksIn s)
-  stock = entries-stock s m n (blocksIn s) h x refl alone
+  stock = entries-stock s m n (blocksIn s) (body-at s n h x) alone
 
   there : InodeFits m n i
-  there = inode-fits s m n i (alone .frame .long) (fits s n h x i some most)
+  there = inode-fits s m n i (alone .frame .long) (fits s n h x i low high)
 
   free : kindOf m i ≡ freeKind
-  free = alone .inodes i some most .kind ∙ free-kind s n i new
-
-  v : Inode
-  v = newInode k d
+  free = alone .inodes i low high .kind ∙ free-kind s n i new
 
   -- with the inode, and with the free counts
-  u : List ℕ
+  abbrev v : Inode
+  v = newInode k d
+
+  abbrev u : List ℕ
   u = putInode m n i v
 
-  w : List ℕ
+  abbrev w : List ℕ
   w = lessFree u 1 0
 
   counts : InCounts u w n (headerOf u .«free_inodes» - 1) (headerOf u .«free_blocks» - 0)
-  unfolding u w
   counts = let l = there .area in let e = length-inode m n i v in less-free u n (omega arith) 1 0
 
   header : headerOf u ≡ headerOf m
-  unfolding u v
   header = put-inode m n i there v (ap length (new-addresses k d)) .header
 
   bared : Bared m w n i v
-  unfolding u v
   bared = put-bared m w n i (headerOf u .«free_inodes» - 1) (headerOf u .«free_blocks» - 0) v there (new-addresses k d) counts
 
-  size : v .size ≡ 0
-  unfolding v
-  size = new-size k d
-
   used : v .kind ≡ freeKind → ⊥
-  unfolding v
   used e = let l = new-some k d in omega arith
 
-  kinds : v .kind ≤ directoryKind
-  unfolding v
-  kinds = new-most k d
+  -- no entry stood in i
+  bare : (q : ℕ) → q < mostSlots * n → dirOf q ≡ i → filled m n q ≡ false
+  bare q l e = fails (filled m n q) (λ z. let g = slot-is m q .to (filled-is m n q .to z .0) .0 in let f = ap (kindOf m) e ∙ free in omega arith)
 
-  file : v .kind ≡ fileKind → v .parent ≡ 0
-  unfolding v
-  file = new-file k d
+  -- what it changes: the entry in slot t, and inode i, which is new
+  pub create-filled : Filled s w n p i name
+  create-filled = filled-then (place-below slot) (bared-places m w n i v bared (new-size k d) bare) (put-filled s s n d t h x (entries-stay s n) slot i name low)
 
-  entered : Filled s w n (placeOf d t) i name
-  unfolding m
-  entered =
-      filled-then (place-below slot)
-      (bared-places m w n i v bared size (λ q l e.
-      fails (filled m n q) (λ z. let g = slot-is m q .to (filled-is m n q .to z .0) .0 in let f = ap (kindOf m) e ∙ free in omega arith)))
-      (put-filled s s n d t h x (entries-stay s n) slot i name some)
+  pub create-others : OtherInodes s w n i
+  create-others j l r z = inode-then (alone .inodes j l r) (bared .others j l r z)
+
+  pub create-new : NewInode w i (newInode k d)
+  create-new = bared .new
 
   after : Stock w n (blocksIn s)
   after =
-      let f = bared-free m w n i v bared size (blocksIn s) some most stock kinds (λ e. absurd (used e)) file in
-      let g = bared-unnamed m w n i v bared size (blocksIn s) some most stock kinds (λ e. absurd (used e)) file in
+      let f = bared-free m w n i v bared (new-size k d) (blocksIn s) low high stock (new-most k d) (λ e. absurd (used e)) (new-file k d) in
+      let g = bared-unnamed m w n i v bared (new-size k d) (blocksIn s) low high stock (new-most k d) (λ e. absurd (used e)) (new-file k d) in
       let a = one-same (kindOf m i) freeKind free in
       let b = one-other (v .kind) freeKind used in
-      let z = stock .inodes i some most .free free .1 .0 in
-      let y = no-blocks (sizeOf m i) z in
+      let y = no-blocks (sizeOf m i) (stock .inodes i low high .free free .1 .0) in
       let c = ap (λ (o : Header). o .«free_inodes») header in
       let e = ap (λ (o : Header). o .«free_blocks») header in
       let p = stock .free-inodes in
       let q = stock .free-blocks in
-      bared-stock m w n i v bared size (blocksIn s) some most stock kinds (λ e. absurd (used e)) file
+      bared-stock m w n i v bared (new-size k d) (blocksIn s) low high stock (new-most k d) (λ e. absurd (used e)) (new-file k d)
       (counts .free-inodes ∙ omega arith) (counts .free-blocks ∙ omega arith)
-
-  parent : v .kind ≡ directoryKind → v .parent ≡ d
-  unfolding v
-  parent = new-parent k d
-
-  one-link : v .links ≡ 1
-  unfolding v
-  one-link = new-links k d
 
   tree : Tree n (nodesOf w n)
   tree =
-      let a = alone .inodes in
-      let o = bared .others in
-      let r = bared .new in
-      tree-create n i (nodesOf s n) (nodesOf w n) (tree-at s n h x) (above-at s n h x) some most
-      (λ j l g z. o j l g z .kind ∙ a j l g .kind) (λ j l g z. o j l g z .links ∙ a j l g .links) (λ j l g z. o j l g z .parent ∙ a j l g .parent)
-      (placeOf d t) d (place-below slot) (place-dir d t (slot .low) (slot .small)) (place-bare s n d t slot empty) (entered .names) (λ q l z. entered .others q l z .names)
-      (slot .dir) (free-kind s n i new) (inode-at s n (blocksIn s) h x refl i some most .free (free-kind s n i new) .0)
-      (λ e. used (sym (r .kind) ∙ e)) (λ e. r .parent ∙ parent (sym (r .kind) ∙ e)) (r .links ∙ one-link)
+      let o = create-others in
+      let r = create-new in
+      let f = free-kind s n i new in
+      tree-create n i (nodesOf s n) (nodesOf w n) (tree-at s n h x) (above-at s n h x) low high
+      (λ j l g z. o j l g z .kind) (λ j l g z. o j l g z .links) (λ j l g z. o j l g z .parent)
+      p d (place-below slot) (place-dir d t (slot .low) (slot .small)) (place-bare s n d t slot empty) (create-filled .names) (λ q l z. create-filled .others q l z .names)
+      (slot .dir) f (body-at s n h x .inodes i low high .free f .0)
+      (λ e. used (sym (r .kind) ∙ e)) (λ e. r .parent ∙ new-parent k d (sym (r .kind) ∙ e)) (r .links ∙ new-links k d)
 
   pub create-sound : Sound mostStoreBlocks false (lessFree (putInode (putEntry s n d t i name) n i (newInode k d)) 1 0)
-  unfolding w u v m
   create-sound =
-      stock-sound s w n (blocksIn s) h x refl (frame-then (alone .frame) (bared .frame)) after
-      (names-filled s w n (names-at s n h x) (placeOf d t) i name entered some legal (absent-new s n d name t (slot .low) (slot .small) absent)) tree
+      stock-sound s w n h x (frame-then (alone .frame) (bared .frame)) after
+      (names-filled s w n (names-at s n h x) p i name create-filled low legal (absent-new s n d name t (slot .low) (slot .small) absent)) tree

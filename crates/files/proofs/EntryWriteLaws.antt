@@ -1,8 +1,8 @@
 -- What the writers of entries do on a sound store: one place is emptied or filled, the inodes and the bytes of files stay. n and b are the counts of inodes and blocks.
-use Prim.Native.Nat.{ℕ, _+_, _-_, _*_, _/_, _%_, _≤_, _<_}
+use Prim.Native.Nat.{ℕ, _+_, _-_, _*_, _/_, _≤_, _<_}
 use mathlib.Core.Path.{_≡_, refl, sym, ap, _∙_, subst}
 use mathlib.Core.Logic.{_≢_}
-use mathlib.Core.Bool.{Bool, true, false}
+use mathlib.Core.Bool.{true, false}
 use mathlib.Core.List.{List}
 use native.Mathlib.Decide.{ℕ-discrete}
 use native.Mathlib.Omega.{arith}
@@ -17,15 +17,15 @@ use Rattle.layout.proofs.ViewLaws.{inode-fits}
 use Rattle.names.specs.Entry.{entryInode, entryFor, isEmpty}
 use Rattle.names.proofs.EntryLaws.{entry-inode, empty-inode, empty-zeros, filled-not-empty}
 use Rattle.directory.specs.Slot.{mostSlots, slots, slotAt, entryOf, putEntry, clearEntry, DirFits}
-use Rattle.directory.proofs.SlotLaws.{few-slots, slot-fits, block-fits, apart-blocks, apart-slots, entry-put, entry-put-other, entry-clear, entry-clear-other}
-use Rattle.sound.specs.Place.{dirOf, slotOf, isSlot, entryAt, filled, naming}
+use Rattle.directory.proofs.SlotLaws.{few-slots, slot-fits, apart-blocks, apart-slots, entry-put, entry-put-other, entry-clear, entry-clear-other}
+use Rattle.sound.specs.Place.{dirOf, slotOf, isSlot, entryAt, filled}
 use Rattle.sound.specs.Pass.{placeOf}
 use Rattle.sound.specs.Sound.{Sound, inodesIn}
 use Rattle.sound.proofs.FactLaws.{one-block}
 use Rattle.sound.proofs.PlaceLaws.{slot-is, filled-is, naming-entry}
-use Rattle.sound.proofs.EntryLaws.{place-dir, place-slot as slot-of, entry-place, slot-place}
-use Rattle.files.proofs.SameLaws.{SameFrame, SameInode, SameBlock, InBlock, frame-then, inode-then, inode-stays, put-entry, clear-entry}
-use Rattle.files.proofs.KeepLaws.{SamePlace, place-slot, slot-kept, same-slots}
+use Rattle.sound.proofs.EntryLaws.{entry-place, slot-place}
+use Rattle.files.proofs.SameLaws.{SameFrame, SameInode, SameBlock, InBlock, frame-stays, frame-then, inode-then, inode-stays, put-entry, clear-entry}
+use Rattle.files.proofs.KeepLaws.{place-slot, slot-kept, same-slots}
 use Rattle.files.specs.Inode.{isDirectory}
 use Rattle.files.proofs.StoreLaws.{dir-of, kind-some, kind-most, kind-is}
 use Rattle.files.proofs.ChangeLaws.{OtherPlaces, Emptied, Filled}
@@ -39,7 +39,7 @@ pub record EntriesAlone (s t : List ℕ) (n : ℕ) : Type 0 where
 
 pub entries-stay : (s : List ℕ) (n : ℕ) → EntriesAlone s s n
 entries-stay s n = record {
-  frame = record { long = refl; inodes = refl; blocks = refl; complete = refl; root = refl; reserved = refl };
+  frame = frame-stays s;
   header = refl;
   inodes = λ j l m. inode-stays s n j;
   files = λ j k l m e u. refl;

@@ -1,8 +1,7 @@
 -- What the writers of an inode leave of it, of the others and of the places. n is the inode count.
-use Prim.Native.Nat.{ℕ, _+_, _*_, _/_, _%_, _≤_, _<_}
-use mathlib.Core.Path.{_≡_, refl, sym, ap, _∙_, subst}
+use Prim.Native.Nat.{ℕ, _*_, _/_, _≤_, _<_}
+use mathlib.Core.Path.{_≡_, sym, ap, _∙_, subst}
 use mathlib.Core.Logic.{_≢_}
-use mathlib.Core.Bool.{true, false}
 use mathlib.Core.List.{List}
 use native.Mathlib.Decide.{ℕ-discrete}
 use native.Mathlib.Omega.{arith}
@@ -11,7 +10,6 @@ use Rattle.layout.specs.Inode.{InodeFits, kindOf, spareOf, linksOf, sizeOf, par
 use Rattle.layout.specs.Block.{blocksUsed, kthBlock}
 use Rattle.directory.specs.Slot.{mostSlots, slots}
 use Rattle.sound.specs.Place.{dirOf, slotOf, entryAt}
-use Rattle.sound.proofs.PlaceLaws.{slot-is}
 use Rattle.files.specs.Inode.{withParent}
 use Rattle.files.proofs.SameLaws.{SameInode, SameBlock, InInode, put-links, links-new, links-alone, put-attributes, attributes-blocks, attributes-new}
 use Rattle.files.proofs.KeepLaws.{SamePlace, place-slot, slot-kept, entry-kept}
@@ -23,8 +21,11 @@ pub record SameBody (s t : List ℕ) (n i : ℕ) : Type 0 where
   pub size : sizeOf t i ≡ sizeOf s i
   pub blocks : (k : ℕ) → k < addressCount → kthBlock t n i k ≡ kthBlock s n i k
 
-pub body-of : {s t : List ℕ} {n i : ℕ} → SameInode s t n i → SameBody s t n i
-body-of e = record { kind = e .kind; spare = e .spare; size = e .size; blocks = e .blocks }
+pub same-body : {s t : List ℕ} {n i : ℕ} → SameInode s t n i → SameBody s t n i
+same-body e = record { kind = e .kind; spare = e .spare; size = e .size; blocks = e .blocks }
+
+pub body-then : {s t u : List ℕ} {n i : ℕ} → SameBody s t n i → SameBody t u n i → SameBody s u n i
+body-then a b = record { kind = b .kind ∙ a .kind; spare = b .spare ∙ a .spare; size = b .size ∙ a .size; blocks = λ k l. b .blocks k l ∙ a .blocks k l }
 
 -- what holds of i and of all others holds of all
 pub each-inode : (P : ℕ → Type 0) (i j : ℕ) → P i → (j ≢ i → P j) → P j
@@ -43,7 +44,7 @@ pub record Relinked (s t : List ℕ) (n i : ℕ) : Type 0 where
   pub body : SameBody s t n i
 
 pub body-all : {s t : List ℕ} {n i : ℕ} → Relinked s t n i → (j : ℕ) → 1 ≤ j → j ≤ n → SameBody s t n j
-body-all {s} {t} {n} {i} a j l m = each-inode (SameBody s t n) i j (a .body) (λ z. body-of (a .inode .others j l m z))
+body-all {s} {t} {n} {i} a j l m = each-inode (SameBody s t n) i j (a .body) (λ z. same-body (a .inode .others j l m z))
 
 pub relinked-places : {s t : List ℕ} {n i : ℕ} → Relinked s t n i → (q : ℕ) → q < mostSlots * n → SamePlace s t n q
 relinked-places {s} {t} {n} a q l = place-body s t n q (body-all a (dirOf q) (omega arith) (omega arith)) (a .inode .bytes)

@@ -17,6 +17,7 @@ pub mod MoveKeeps
 pub mod ParentLaws
 pub mod PlainLaws
 pub mod PlanFacts
+pub mod PlanKeeps
 pub mod PlanLaws
 pub mod PutLaws
 pub mod ReadLaws

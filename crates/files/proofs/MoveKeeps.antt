@@ -1,5 +1,5 @@
 -- A move to another directory keeps a store sound. n is the inode count.
-use Prim.Native.Nat.{ℕ, zero, suc, _+_, _-_, _*_, _≤_, _<_}
+use Prim.Native.Nat.{ℕ, zero, suc, _-_, _*_, _≤_, _<_}
 use mathlib.Core.Path.{_≡_, refl, sym, ap, _∙_, subst}
 use mathlib.Core.Logic.{_≢_}
 use mathlib.Core.Bool.{Bool, true, false, _&&_}
@@ -10,30 +10,29 @@ use lib.Dec.{eqb}
 use Rattle.bounded.specs.Climb.{climb, Leads, leadsB, Closed}
 use Rattle.bounded.specs.Search.{pick}
 use Rattle.bounded.specs.declared.Found.the-variants.{Absent}
-use Rattle.bounded.proofs.BoolLaws.{clash, and-true}
-use Rattle.bounded.proofs.ClimbLaws.{leads-bool}
+use Rattle.bounded.proofs.BoolLaws.{clash, fails, and-left, and-right}
+use Rattle.bounded.proofs.ClimbLaws.{leads-bool, leads-prop}
 use Rattle.layout.specs.Sizes.{mostStoreBlocks, rootInode}
-use Rattle.layout.specs.Inode.{InodeFits, kindOf, linksOf, parentOf, inodeOf, putAttributes, freeKind, fileKind, directoryKind}
+use Rattle.layout.specs.Inode.{kindOf, linksOf, parentOf, inodeOf, putAttributes, directoryKind}
 use Rattle.layout.proofs.ViewLaws.{inode-fits}
 use Rattle.names.specs.Name.{legalName}
 use Rattle.directory.specs.Slot.{mostSlots, slots, findSlot, slotEmpty, putEntry, clearEntry}
-use Rattle.sound.specs.Place.{dirOf, filled, naming}
-use Rattle.sound.specs.Entry.{EntrySound}
+use Rattle.sound.specs.Place.{filled, naming}
 use Rattle.sound.specs.Pass.{placeOf}
 use Rattle.sound.specs.Sound.{Sound, inodesIn, blocksIn}
 use Rattle.sound.proofs.EntryLaws.{place-dir}
 use Rattle.files.specs.Inode.{isDirectory, withParent}
 use Rattle.files.specs.Plan.{inodeAt, isBelow}
 use Rattle.files.specs.Apply.{setParent}
-use Rattle.files.proofs.SameLaws.{SameFrame, SameInode, frame-then, inode-stays}
-use Rattle.files.proofs.KeepLaws.{SamePlace}
-use Rattle.files.proofs.StoreLaws.{fits}
-use Rattle.files.proofs.ChangeLaws.{Emptied, Filled, NewName, filled-then, names-emptied, names-filled, new-emptied}
+use Rattle.files.proofs.SameLaws.{SameFrame, frame-stays, frame-then, inode-stays, inode-then}
+use Rattle.files.proofs.KeepLaws.{SamePlace, SameTree, tree-stays, leads-kept}
+use Rattle.files.proofs.StoreLaws.{fits, kind-some, kind-most, kind-is}
+use Rattle.files.proofs.ChangeLaws.{OtherInodes, Emptied, Filled, filled-then, names-emptied, names-filled, new-emptied}
 use Rattle.files.proofs.TreeLaws.{Nodes, Tree, Dir, Above, parent-dir, tree-move}
-use Rattle.files.proofs.SoundTreeLaws.{nodesOf, entry-at, names-at, above-at, tree-at}
+use Rattle.files.proofs.SoundTreeLaws.{nodesOf, body-at, names-at, above-at, tree-at}
 use Rattle.files.proofs.EntryWriteLaws.{EntriesAlone, entries-stay, SlotIn, slot-in, place-below, clear-alone, clear-emptied, put-alone, put-filled}
-use Rattle.files.proofs.InodeWriteLaws.{Relinked, relinked-places, parent-relinked, parent-links, parent-put}
-use Rattle.files.proofs.SlotPlaceLaws.{absent-new, place-naming, place-filled, place-bare}
+use Rattle.files.proofs.InodeWriteLaws.{SameBody, same-body, body-then, relinked-places, parent-relinked, parent-links, parent-put}
+use Rattle.files.proofs.SlotPlaceLaws.{EntryHere, entry-here, absent-new, place-bare}
 use Rattle.files.proofs.StockLaws.{Stock, entries-stock, relinked-stock, stock-sound}
 
 -- ---- a climb to i: the test with n steps tells all
@@ -50,6 +49,7 @@ climb-step up i zero x c h = absurd (h c)
 climb-step up i (suc k) x c h = (k, c)
 
 module _ (n : ℕ) (v : Nodes) (t : Tree n v) (a : Above n v) (none : v .parent 0 ≡ 0) (i e : ℕ) (low : 1 ≤ i) (not-root : i ≢ rootInode) where
+  -- a directory from which the way up comes to i
   abbrev Under : ℕ → Type 0
   Under x = Dir n v x × Leads (v .parent) i x
 
@@ -72,133 +72,167 @@ module _ (n : ℕ) (v : Nodes) (t : Tree n v) (a : Above n v) (none : v .parent 
   pub leads-not : Dir n v e → leadsB (v .parent) i n e ≡ false → Leads (v .parent) i e → ⊥
   leads-not d f l = clash (leadsB (v .parent) i n e) (leads-bool (v .parent) i Under n e under (d, l) l) f
 
+  -- by parents that are the same for all directories, it comes there too
+  pub leads-other : (up : ℕ → ℕ) → ((x : ℕ) → Dir n v x → up x ≡ v .parent x) → Dir n v e → Leads (v .parent) i e → Leads up i e
+  leads-other up h d l = leads-kept Under (v .parent) up i n under (λ x k. h x (k .0)) (l .0) e (d, l) (l .1)
+
 -- the parent of no inode, as the bytes have it, is that of the root
 parent-none : (s : List ℕ) → parentOf s 0 ≡ parentOf s rootInode
 unfolding parentOf
 parent-none s = refl
 
+-- ---- refusal 10 and what it says on a sound store
+module _ (s : List ℕ) (n i e : ℕ) (h : Sound mostStoreBlocks false s) (x : n ≡ inodesIn s) (low : 1 ≤ i) (not-root : i ≢ rootInode) (dir : isDirectory s n e ≡ true) where
+  above : Dir n (nodesOf s n) e
+  above = record { low = kind-some s n directoryKind e dir; high = kind-most s n directoryKind e dir; kind = kind-is s n directoryKind e dir }
+
+  none : parentOf s 0 ≡ 0
+  none = parent-none s ∙ h .root-parent
+
+  pub not-below : isBelow s n i e ≡ false → kindOf s i ≡ directoryKind → Leads (parentOf s) i e → ⊥
+  unfolding isBelow
+  not-below f k =
+      leads-not n (nodesOf s n) (tree-at s n h x) (above-at s n h x) none i e low not-root above
+      (sym (ap (λ (b : Bool). b && leadsB (parentOf s) i n e) (eq-eqb (kindOf s i) directoryKind k)) ∙ f)
+
+  -- it is refused in no store with the tree of one in which it is not
+  pub below-kept : (r : List ℕ) → SameTree r s n → i ≤ n → (kindOf r i ≡ directoryKind → Leads (parentOf r) i e → ⊥) → isBelow s n i e ≡ false
+  unfolding isBelow
+  below-kept r t m f =
+      fails (eqb (kindOf s i) directoryKind && leadsB (parentOf s) i n e)
+      (λ z.
+      let k = eqb-true (kindOf s i) directoryKind (and-left (eqb (kindOf s i) directoryKind) (leadsB (parentOf s) i n e) z) in
+      let c = leads-prop (parentOf s) i n e (and-right (eqb (kindOf s i) directoryKind) (leadsB (parentOf s) i n e) z) in
+      f (sym (t .kinds i low m) ∙ k)
+      (leads-other n (nodesOf s n) (tree-at s n h x) (above-at s n h x) none i e low not-root (parentOf r) (λ y d. sym (t .parents y (d .low) (d .high))) above c))
+
 module _ (s : List ℕ) (n d t i e u : ℕ) (other : List ℕ) (h : Sound mostStoreBlocks false s) (x : n ≡ inodesIn s)
     (from : isDirectory s n d ≡ true) (inside : t < slots s d) (full : slotEmpty s n d t ≡ false) (is : i ≡ inodeAt s n d t)
     (into : isDirectory s n e ≡ true) (room : u < slots s e) (empty : slotEmpty s n e u ≡ true)
     (legal : legalName other ≡ true) (absent : findSlot s n e other ≡ Absent) (apart : isBelow s n i e ≡ false) where
-  slot : SlotIn s n d t
-  slot = slot-in s n d t h x from inside
+  old : EntryHere s n d t i
+  old = entry-here s n d t i h x from inside full is
+
+  low : 1 ≤ i
+  low = old .low
+
+  high : i ≤ n
+  high = old .high
 
   target : SlotIn s n e u
   target = slot-in s n e u h x into room
 
-  p : ℕ
+  abbrev p : ℕ
   p = placeOf d t
 
-  q : ℕ
+  abbrev q : ℕ
   q = placeOf e u
 
-  below : p < mostSlots * n
-  unfolding p
-  below = place-below slot
-
-  below-too : q < mostSlots * n
-  unfolding q
-  below-too = place-below target
-
-  named : naming s n p ≡ i
-  unfolding p
-  named = place-naming s n d t slot ∙ sym is
-
   free : naming s n q ≡ 0
-  unfolding q
   free = place-bare s n e u target empty
 
-  old : EntrySound s n p
-  unfolding p
-  old = entry-at s n h x p below (place-filled s n d t slot full)
-
-  some : 1 ≤ i
-  some = let l = old .low in let a = named in omega arith
-
-  most : i ≤ n
-  most = let l = old .high in let a = named in omega arith
-
   other-place : p ≢ q
-  other-place z = let a = ap (naming s n) z in let b = named in let c = free in let o = some in omega arith
+  other-place z = let a = ap (naming s n) z in let b = old .names in let c = free in let o = low in omega arith
 
   -- the old slot is emptied
-  m : List ℕ
+  abbrev m : List ℕ
   m = clearEntry s n d t
 
   alone : EntriesAlone s m n
-  unfolding m
-  alone = clear-alone s s n d t h x (entries-stay s n) slot
+  alone = clear-alone s s n d t h x (entries-stay s n) (old .slot)
 
   emptied : Emptied s m n p
-  unfolding m p
-  emptied = clear-emptied s s n d t h x (entries-stay s n) slot
+  emptied = clear-emptied s s n d t h x (entries-stay s n) (old .slot)
 
   -- and the new one filled
-  g : List ℕ
+  abbrev g : List ℕ
   g = putEntry m n e u i other
 
-  alone-too : EntriesAlone s g n
-  unfolding g
-  alone-too = put-alone s m n e u h x alone target i other some
+  both : EntriesAlone s g n
+  both = put-alone s m n e u h x alone target i other low
 
   entered : Filled m g n q i other
-  unfolding g q
-  entered = put-filled s m n e u h x alone target i other some
+  entered = put-filled s m n e u h x alone target i other low
 
   stock : Stock g n (blocksIn s)
-  stock = entries-stock s g n (blocksIn s) h x refl alone-too
+  stock = entries-stock s g n (blocksIn s) (body-at s n h x) both
 
-  there : InodeFits g n i
-  there = inode-fits s g n i (alone-too .frame .long) (fits s n h x i some most)
+  -- then at most the parent of i changes
+  record Rehomed (w : List ℕ) : Type 0 where
+    frame : SameFrame g w
+    places : (r : ℕ) → r < mostSlots * n → SamePlace g w n r
+    others : OtherInodes g w n i
+    body : SameBody g w n i
+    links : linksOf w i ≡ linksOf g i
+    up : kindOf s i ≡ directoryKind → parentOf w i ≡ e
+    stock : Stock w n (blocksIn s)
 
-  new : NewName m n q other
-  unfolding q
-  new = new-emptied s m n p q other emptied (absent-new s n e other u (target .low) (target .small) absent)
+  abbrev w : List ℕ
+  w = setParent g n i e
 
-  -- e is not below i
-  leads-away : kindOf s i ≡ directoryKind → Leads (parentOf s) i e → ⊥
-  unfolding isBelow
-  leads-away k l =
-      let z = leads-not n (nodesOf s n) (tree-at s n h x) (above-at s n h x) (parent-none s ∙ h .root-parent) i e some (λ r. old .not-root (named ∙ r)) in
-      z (record { low = target .low; high = target .high; kind = target .dir })
-      (sym (ap (λ (b : Bool). b && leadsB (parentOf s) i n e) (eq-eqb (kindOf s i) directoryKind k)) ∙ apart) l
-
-  -- ---- then at most the parent of i changes
-  module _ (w : List ℕ) (frame : SameFrame g w) (places : (r : ℕ) → r < mostSlots * n → SamePlace g w n r) (inodes : (j : ℕ) → 1 ≤ j → j ≤ n → j ≢ i → SameInode g w n j)
-      (kind : kindOf w i ≡ kindOf g i) (links : linksOf w i ≡ linksOf g i) (up : kindOf s i ≡ directoryKind → parentOf w i ≡ e) (after : Stock w n (blocksIn s)) where
-    entry : Filled m w n q i other
-    entry = filled-then below-too places entered
-
-    tree : Tree n (nodesOf w n)
-    unfolding q
-    tree =
-        let a = alone-too .inodes in
-        tree-move n i (nodesOf s n) (nodesOf w n) (tree-at s n h x) (above-at s n h x) some most
-        (λ j l r z. inodes j l r z .kind ∙ a j l r .kind) (λ j l r z. inodes j l r z .links ∙ a j l r .links) (λ j l r z. inodes j l r z .parent ∙ a j l r .parent)
-        p q e below below-too (place-dir e u (target .low) (target .small)) named (entry .others p below other-place .names ∙ emptied .names) free (entry .names)
-        (λ r l y z. entry .others r l z .names ∙ emptied .others r l y .names)
-        (target .dir) leads-away (kind ∙ a i some most .kind) (links ∙ a i some most .links) up
-
-    moved-sound : Sound mostStoreBlocks false w
-    moved-sound =
-        stock-sound s w n (blocksIn s) h x refl (frame-then (alone-too .frame) frame) after
-        (names-filled m w n (names-emptied s m n (names-at s n h x) p emptied) q i other entry some legal new) tree
-
-  pub move-sound : Sound mostStoreBlocks false (setParent (putEntry (clearEntry s n d t) n e u i other) n i e)
-  unfolding setParent g m
-  move-sound = go (eqb (kindOf g i) directoryKind) refl
+  rehomed : Rehomed w
+  unfolding setParent
+  rehomed = go (eqb (kindOf g i) directoryKind) refl
     where
-      kind-old : kindOf g i ≡ kindOf s i
-      kind-old = alone-too .inodes i some most .kind
-
-      go : (b : Bool) → eqb (kindOf g i) directoryKind ≡ b → Sound mostStoreBlocks false (pick b (putAttributes g i (withParent (inodeOf g n i) e)) g)
+      go : (b : Bool) → eqb (kindOf g i) directoryKind ≡ b → Rehomed (pick b (putAttributes g i (withParent (inodeOf g n i) e)) g)
       go true k =
-          let y = stock .inodes i some most .spare in
+          let there = inode-fits s g n i (both .frame .long) (fits s n h x i low high) in
+          let y = stock .inodes i low high .spare in
           let a = eqb-true (kindOf g i) directoryKind k in
           let r = parent-relinked g n i there e y in
-          moved-sound (putAttributes g i (withParent (inodeOf g n i) e)) (r .inode .frame) (relinked-places r) (r .inode .others) (r .body .kind) (parent-links g n i there e y) (λ _. parent-put g n i there e y)
-          (relinked-stock g (putAttributes g i (withParent (inodeOf g n i) e)) n (blocksIn s) i r (λ z. omega arith) (λ z. absurd (omega arith)) some most stock)
+          record {
+            frame = r .inode .frame;
+            places = relinked-places r;
+            others = r .inode .others;
+            body = r .body;
+            links = parent-links g n i there e y;
+            up = λ _. parent-put g n i there e y;
+            stock = relinked-stock g (putAttributes g i (withParent (inodeOf g n i) e)) n (blocksIn s) i r (λ z. omega arith) (λ z. absurd (omega arith)) low high stock;
+          }
       go false k =
-          moved-sound g (entries-stay g n .frame) (λ r l. record { stands = refl; names = refl; entry = λ _. refl }) (λ j l r z. inode-stays g n j) refl refl
-          (λ z. absurd (eqb-false (kindOf g i) directoryKind k (kind-old ∙ z))) stock
+          record {
+            frame = frame-stays g;
+            places = tree-stays g n .places;
+            others = λ j _ _ _. inode-stays g n j;
+            body = same-body (inode-stays g n i);
+            links = refl;
+            up = λ z. absurd (eqb-false (kindOf g i) directoryKind k (both .inodes i low high .kind ∙ z));
+            stock = stock;
+          }
+
+  -- what it changes: the entry in slot t of d is emptied, that in slot u of e filled, and a directory i has another parent
+  pub move-emptied : Emptied s m n p
+  move-emptied = emptied
+
+  pub move-filled : Filled m w n q i other
+  move-filled = filled-then (place-below target) (rehomed .places) entered
+
+  pub move-others : OtherInodes s w n i
+  move-others j l r z = inode-then (both .inodes j l r) (rehomed .others j l r z)
+
+  pub move-body : SameBody s w n i
+  move-body = body-then (same-body (both .inodes i low high)) (rehomed .body)
+
+  pub move-links : linksOf w i ≡ linksOf s i
+  move-links = rehomed .links ∙ both .inodes i low high .links
+
+  pub move-parent : kindOf s i ≡ directoryKind → parentOf w i ≡ e
+  move-parent = rehomed .up
+
+  tree : Tree n (nodesOf w n)
+  tree =
+      let o = move-others in
+      let f = move-filled in
+      let l = place-below (old .slot) in
+      tree-move n i (nodesOf s n) (nodesOf w n) (tree-at s n h x) (above-at s n h x) low high
+      (λ j l r z. o j l r z .kind) (λ j l r z. o j l r z .links) (λ j l r z. o j l r z .parent)
+      p q e l (place-below target) (place-dir e u (target .low) (target .small))
+      (old .names) (f .others p l other-place .names ∙ emptied .names) free (f .names) (λ r l y z. f .others r l z .names ∙ emptied .others r l y .names)
+      (target .dir) (not-below s n i e h x low (old .not-root) into apart) (move-body .kind) move-links move-parent
+
+  pub move-sound : Sound mostStoreBlocks false (setParent (putEntry (clearEntry s n d t) n e u i other) n i e)
+  move-sound =
+      stock-sound s w n h x (frame-then (both .frame) (rehomed .frame)) (rehomed .stock)
+      (names-filled m w n (names-emptied s m n (names-at s n h x) p emptied) q i other move-filled low legal
+      (new-emptied s m n p q other emptied (absent-new s n e other u (target .low) (target .small) absent)))
+      tree

@@ -1,29 +1,26 @@
 -- The inodes, blocks and free counts of a store, and what the changes of entries and of one inode keep of them. n and b are the counts of inodes and blocks.
 use Prim.Native.Nat.{ℕ, _+_, _-_, _*_, _/_, _%_, _≤_, _<_}
-use mathlib.Core.Path.{_≡_, refl, sym, ap, _∙_, subst}
-use mathlib.Core.Logic.{_≢_}
-use mathlib.Core.Bool.{Bool, true, false}
+use mathlib.Core.Path.{_≡_, refl, sym, ap, _∙_}
+use mathlib.Core.Bool.{true, false}
 use mathlib.Core.List.{List}
-use native.Mathlib.Decide.{ℕ-discrete}
 use native.Mathlib.Omega.{arith}
-use borrow.Author.Tests.{eq-eqb, ne-eqb}
 use lib.Dec.{eqb}
 use lib.ListN.{getD}
 use Rattle.bounded.specs.Count.{one, count, Differ}
 use Rattle.bounded.proofs.CountLaws.{count-ext}
-use Rattle.layout.specs.Sizes.{mostStoreBlocks, addressCount, blockBytes, mostFileBytes}
+use Rattle.layout.specs.Sizes.{mostStoreBlocks, addressCount, blockBytes}
 use Rattle.layout.specs.Header.{headerOf}
 use Rattle.layout.specs.declared.header.Header.{Header}
-use Rattle.layout.specs.Inode.{kindOf, spareOf, linksOf, sizeOf, parentOf, addressOf, place, freeKind, fileKind, directoryKind}
+use Rattle.layout.specs.Inode.{kindOf, sizeOf, parentOf, addressOf, place, freeKind, fileKind}
 use Rattle.layout.specs.Block.{blockOf, blocksUsed, kthBlock}
 use Rattle.sound.specs.Inode.{InodeSound}
 use Rattle.sound.specs.Sound.{Sound, inodesIn, blocksIn, freeB, unnamedB}
-use Rattle.files.proofs.SameLaws.{SameFrame, SameInode, SameBlock, InInode}
-use Rattle.files.proofs.KeepLaws.{inode-kept}
+use Rattle.files.proofs.SameLaws.{SameFrame, SameBlock}
+use Rattle.files.proofs.KeepLaws.{Body, sound-of, inode-kept}
 use Rattle.files.proofs.AddressLaws.{same-differ, same-unnamed}
 use Rattle.files.proofs.ChangeLaws.{NamesSound}
-use Rattle.files.proofs.TreeLaws.{Tree, count-but}
-use Rattle.files.proofs.SoundTreeLaws.{nodesOf, inode-at, once-at, free-inodes-at, free-blocks-at, tree-sound}
+use Rattle.files.proofs.TreeLaws.{Tree}
+use Rattle.files.proofs.SoundTreeLaws.{nodesOf, entries-back, links-back}
 use Rattle.files.proofs.EntryWriteLaws.{EntriesAlone}
 use Rattle.files.proofs.InodeWriteLaws.{SameBody, Relinked, each-inode, body-all}
 
@@ -48,17 +45,28 @@ pub same-free : (s t : List ℕ) (n : ℕ) → ((j : ℕ) → 1 ≤ j → j ≤ 
 same-free s t n h = count-ext (freeB t) (freeB s) n (λ k l. ap (λ (x : ℕ). eqb x freeKind) (h (k + 1) (omega arith) (omega arith)))
 
 -- ---- entries alone change
-module _ (s t : List ℕ) (n b : ℕ) (h : Sound mostStoreBlocks false s) (x : n ≡ inodesIn s) (y : b ≡ blocksIn s) (a : EntriesAlone s t n) where
-  pub entries-stock : Stock t n b
-  entries-stock = record {
-    inodes = λ i l m. inode-kept s t n b i (a .inodes i l m) (λ k z. a .files i (sizeOf s i / blockBytes) l m k (last-used (sizeOf s i) z)) (inode-at s n b h x y i l m);
-    once = same-differ s t n (λ j l m. a .inodes j l m .blocks) (once-at s n h x);
-    free-inodes = ap (λ (v : Header). v .«free_inodes») (a .header) ∙ free-inodes-at s n h x ∙ sym (same-free s t n (λ j l m. a .inodes j l m .kind));
-    free-blocks = ap (λ (v : Header). v .«free_blocks») (a .header) ∙ free-blocks-at s n b h x y ∙ sym (same-unnamed s t n (λ j l m. a .inodes j l m .blocks) b);
-  }
+pub entries-stock : (s t : List ℕ) (n b : ℕ) → Body s n b → EntriesAlone s t n → Stock t n b
+entries-stock s t n b h a = record {
+  inodes = λ i l m. inode-kept s t n b i (a .inodes i l m) (λ k z. a .files i (sizeOf s i / blockBytes) l m k (last-used (sizeOf s i) z)) (h .inodes i l m);
+  once = same-differ s t n (λ j l m. a .inodes j l m .blocks) (h .once);
+  free-inodes = ap (λ (v : Header). v .«free_inodes») (a .header) ∙ h .free-inodes ∙ sym (same-free s t n (λ j l m. a .inodes j l m .kind));
+  free-blocks = ap (λ (v : Header). v .«free_blocks») (a .header) ∙ h .free-blocks ∙ sym (same-unnamed s t n (λ j l m. a .inodes j l m .blocks) b);
+}
 
-pub stock-sound : (s t : List ℕ) (n b : ℕ) → Sound mostStoreBlocks false s → n ≡ inodesIn s → b ≡ blocksIn s → SameFrame s t → Stock t n b → NamesSound t n → Tree n (nodesOf t n) → Sound mostStoreBlocks false t
-stock-sound s t n b h x y f k a r = tree-sound s t n b h x y f (k .inodes) (k .once) a r (k .free-inodes) (k .free-blocks)
+-- ---- a store with the frame of a sound one that has its stock, sound names and a tree is sound
+pub stock-sound : (s t : List ℕ) (n : ℕ) → Sound mostStoreBlocks false s → n ≡ inodesIn s → SameFrame s t → Stock t n (blocksIn s) → NamesSound t n → Tree n (nodesOf t n) → Sound mostStoreBlocks false t
+stock-sound s t n h x f k a r =
+    sound-of s t h f n (blocksIn s) x refl
+    (record {
+      inodes = k .inodes;
+      once = k .once;
+      root = r .root;
+      root-parent = r .root-parent;
+      entries = entries-back t n a r;
+      links = links-back t n a r;
+      free-inodes = k .free-inodes;
+      free-blocks = k .free-blocks;
+    })
 
 -- ---- an inode in use has other links, or a directory another parent
 module _ (s t : List ℕ) (n b i : ℕ) (e : SameBody s t n i) (g : (c : ℕ) → SameBlock s t n c)

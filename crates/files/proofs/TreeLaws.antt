@@ -1,5 +1,5 @@
 -- The tree of inodes over plain functions, and what each change of an entry keeps of it. n is the inode count.
-use Prim.Native.Nat.{ℕ, zero, suc, _+_, _*_, _-_, _≤_, _<_}
+use Prim.Native.Nat.{ℕ, _+_, _*_, _-_, _≤_, _<_}
 use mathlib.Core.Path.{_≡_, refl, sym, ap, _∙_, subst}
 use mathlib.Core.Logic.{_≢_}
 use mathlib.Core.Bool.{Bool}
@@ -8,8 +8,8 @@ use native.Mathlib.Omega.{arith}
 use borrow.Author.Tests.{eq-eqb, ne-eqb}
 use lib.Dec.{eqb}
 use Rattle.bounded.specs.Count.{one, count, tally}
-use Rattle.bounded.specs.Climb.{climb, Leads}
-use Rattle.bounded.specs.Update.{upd, Changed, here, there}
+use Rattle.bounded.specs.Climb.{Leads}
+use Rattle.bounded.specs.Update.{upd, there}
 use Rattle.bounded.proofs.CountLaws.{count-ext, count-at, met, met-at, met-once}
 use Rattle.bounded.proofs.ClimbLaws.{leads-up, leads-moved}
 use Rattle.bounded.proofs.UpdateLaws.{changed, upd-same, upd-other}
@@ -17,6 +17,7 @@ use Rattle.layout.specs.Sizes.{rootInode}
 use Rattle.layout.specs.Inode.{freeKind, fileKind, directoryKind}
 use Rattle.directory.specs.Slot.{mostSlots}
 use Rattle.sound.specs.Place.{dirOf}
+use Rattle.files.proofs.KeepLaws.{leads-kept}
 
 -- what the tree is made of: of each inode its kind, links and parent, and of each place the inode that it names, 0 where there is none
 pub record Nodes : Type 0 where
@@ -99,15 +100,6 @@ tally-filled f g m p i l h e r v y =
 pub tally-same : (f g : ℕ → ℕ) (m : ℕ) → ((q : ℕ) → q < m → g q ≡ f q) → (v : ℕ) → tally g m v ≡ tally f m v
 tally-same f g m h v = count-ext (λ k. eqb (g k) v) (λ k. eqb (f k) v) m (λ k b. ap (λ (x : ℕ). eqb x v) (h k b))
 
--- ---- the way up where D holds on it, by parents that are the same there
-pub leads-carried : (D : ℕ → Type 0) (up up′ : ℕ → ℕ) (a : ℕ) → ((x : ℕ) → D x → (x ≡ a → ⊥) → D (up x)) → ((x : ℕ) → D x → up′ x ≡ up x) → (k x : ℕ) → D x → climb up k x ≡ a → Leads up′ a x
-unfolding climb
-leads-carried D up up′ a closed same zero x d c = (0, c)
-leads-carried D up up′ a closed same (suc k) x d c = elim (ℕ-discrete x a) as (λ _. Leads up′ a x) [
-  | yes e ↦ (0, e)
-  | no e ↦ leads-up up′ a x (subst (Leads up′ a) (sym (same x d)) (leads-carried D up up′ a closed same k (up x) (closed x d e) c))
-]
-
 -- ---- what a tree gives
 module _ (n : ℕ) (v : Nodes) (t : Tree n v) where
   -- what is named is counted
@@ -151,7 +143,7 @@ module _ (n : ℕ) (v : Nodes) (t : Tree n v) where
     pub leads-same : (up : ℕ → ℕ) → ((x : ℕ) → Dir n v x → up x ≡ v .parent x) → (i : ℕ) → Dir n v i → Leads up rootInode i
     leads-same up h i d =
         let r = t .linked i (d .low) (d .high) .leads (d .kind) in
-        leads-carried (Dir n v) (v .parent) up rootInode parent-dir h (r .0) i d (r .1)
+        leads-kept (Dir n v) (v .parent) up rootInode n (record { within = λ x e. (e .low, e .high); parent = parent-dir }) h (r .0) i d (r .1)
 
 -- ---- a change of one inode i and of places
 module _ (n i : ℕ) (v w : Nodes) (t : Tree n v) (a : Above n v) (low : 1 ≤ i) (high : i ≤ n)
@@ -198,8 +190,8 @@ module _ (n i : ℕ) (v w : Nodes) (t : Tree n v) (a : Above n v) (low : 1 ≤ i
     parent-all : SameTo n (v .parent) (w .parent)
     parent-all j l m = elim (ℕ-discrete j i) as (λ _. w .parent j ≡ v .parent j) [ yes e ↦ ap (w .parent) e ∙ u ∙ ap (v .parent) (sym e) | no e ↦ parents j l m e ]
 
-    names-all : (q d x : ℕ) → 1 ≤ x → Names n v x d → Names n w x d
-    names-all q d x o r =
+    names-all : (d x : ℕ) → 1 ≤ x → Names n v x d → Names n w x d
+    names-all d x o r =
         let b = kind-all x o (r .high) in
         record {
           high = r .high;
@@ -231,7 +223,7 @@ module _ (n i : ℕ) (v w : Nodes) (t : Tree n v) (a : Above n v) (low : 1 ≤ i
             (record { high = high; used = λ y. let b = sym k ∙ y in omega arith; not-root = not-root; parent = λ y. let b = sym k ∙ y in absurd (omega arith) })
         at q m o (no z) =
             let b = h q m z in
-            subst (λ (x : ℕ). Names n w x (dirOf q)) (sym b) (names-all q (dirOf q) (v .naming q) (omega arith) (t .names q m (omega arith)))
+            subst (λ (x : ℕ). Names n w x (dirOf q)) (sym b) (names-all (dirOf q) (v .naming q) (omega arith) (t .names q m (omega arith)))
 
         tallied : (j : ℕ) → 1 ≤ j → tally (w .naming) (mostSlots * n) j ≡ tally (v .naming) (mostSlots * n) j + one (eqb i j)
         tallied j y = tally-filled (v .naming) (w .naming) (mostSlots * n) p i l h e f j y
@@ -240,13 +232,13 @@ module _ (n i : ℕ) (v w : Nodes) (t : Tree n v) (a : Above n v) (low : 1 ≤ i
         of j y z (no q) = linked-else j y z q (let b = tallied j y in let d = one-other i j (λ x. q (sym x)) in omega arith) (leads-all j y z)
         of j y z (yes q) =
             subst (Linked n w) (sym q) (
-              let r = t .linked i low high in
-              record {
-                counted = let b = tallied i low in let d = one-same i i refl in let g = r .counted in omega arith;
-                named = λ _ _. omega arith;
-                one = λ x _. let b = sym k ∙ x in absurd (omega arith);
-                leads = λ x. let b = sym k ∙ x in absurd (omega arith);
-              })
+            let r = t .linked i low high in
+            record {
+              counted = let b = tallied i low in let d = one-same i i refl in let g = r .counted in omega arith;
+              named = λ _ _. omega arith;
+              one = λ x _. let b = sym k ∙ x in absurd (omega arith);
+              leads = λ x. let b = sym k ∙ x in absurd (omega arith);
+            })
 
     -- "rename" within a directory: every place names what it did
     pub tree-rename : ((q : ℕ) → q < mostSlots * n → w .naming q ≡ v .naming q) → i ≢ rootInode → w .links i ≡ v .links i → Tree n w
@@ -254,7 +246,7 @@ module _ (n i : ℕ) (v w : Nodes) (t : Tree n v) (a : Above n v) (low : 1 ≤ i
         record {
           root = root-else not-root .0;
           root-parent = root-else not-root .1;
-          names = λ q m o. let b = h q m in subst (λ (x : ℕ). Names n w x (dirOf q)) (sym b) (names-all q (dirOf q) (v .naming q) (omega arith) (t .names q m (omega arith)));
+          names = λ q m o. let b = h q m in subst (λ (x : ℕ). Names n w x (dirOf q)) (sym b) (names-all (dirOf q) (v .naming q) (omega arith) (t .names q m (omega arith)));
           linked = λ j y z. of j y z (ℕ-discrete j i);
         }
       where
@@ -262,13 +254,13 @@ module _ (n i : ℕ) (v w : Nodes) (t : Tree n v) (a : Above n v) (low : 1 ≤ i
         of j y z (no q) = linked-else j y z q (tally-same (v .naming) (w .naming) (mostSlots * n) h j) (leads-all j y z)
         of j y z (yes q) =
             subst (Linked n w) (sym q) (
-              let r = t .linked i low high in
-              record {
-                counted = c ∙ r .counted ∙ sym (tally-same (v .naming) (w .naming) (mostSlots * n) h i);
-                named = λ x g. subst (λ (o : ℕ). 1 ≤ o) (sym c) (r .named (λ b. x (k ∙ b)) g);
-                one = λ x g. c ∙ r .one (sym k ∙ x) g;
-                leads = λ x. leads-all i low high (sym k ∙ x);
-              })
+            let r = t .linked i low high in
+            record {
+              counted = c ∙ r .counted ∙ sym (tally-same (v .naming) (w .naming) (mostSlots * n) h i);
+              named = λ x g. subst (λ (o : ℕ). 1 ≤ o) (sym c) (r .named (λ b. x (k ∙ b)) g);
+              one = λ x g. c ∙ r .one (sym k ∙ x) g;
+              leads = λ x. leads-all i low high (sym k ∙ x);
+            })
 
     -- "unlink" of one of several links: the place names nothing, and i has one link less
     pub tree-less : (p : ℕ) → p < mostSlots * n → v .naming p ≡ i → w .naming p ≡ 0 → ElseBelow (mostSlots * n) p (v .naming) (w .naming)
@@ -291,7 +283,7 @@ module _ (n i : ℕ) (v w : Nodes) (t : Tree n v) (a : Above n v) (low : 1 ≤ i
         at q m o (yes z) = let b : w .naming q ≡ 0 = ap (w .naming) z ∙ f in absurd (omega arith)
         at q m o (no z) =
             let b = h q m z in
-            subst (λ (x : ℕ). Names n w x (dirOf q)) (sym b) (names-all q (dirOf q) (v .naming q) (omega arith) (t .names q m (omega arith)))
+            subst (λ (x : ℕ). Names n w x (dirOf q)) (sym b) (names-all (dirOf q) (v .naming q) (omega arith) (t .names q m (omega arith)))
 
         tallied : (j : ℕ) → 1 ≤ j → tally (v .naming) (mostSlots * n) j ≡ tally (w .naming) (mostSlots * n) j + one (eqb i j)
         tallied j y = tally-filled (w .naming) (v .naming) (mostSlots * n) p i l (λ q m z. sym (h q m z)) f e j y
@@ -300,13 +292,13 @@ module _ (n i : ℕ) (v w : Nodes) (t : Tree n v) (a : Above n v) (low : 1 ≤ i
         of j y z (no q) = linked-else j y z q (let b = tallied j y in let d = one-other i j (λ x. q (sym x)) in omega arith) (leads-all j y z)
         of j y z (yes q) =
             subst (Linked n w) (sym q) (
-              let r = t .linked i low high in
-              record {
-                counted = let b = tallied i low in let d = one-same i i refl in let g = r .counted in omega arith;
-                named = λ _ _. omega arith;
-                one = λ x _. absurd (not-dir x);
-                leads = λ x. absurd (not-dir x);
-              })
+            let r = t .linked i low high in
+            record {
+              counted = let b = tallied i low in let d = one-same i i refl in let g = r .counted in omega arith;
+              named = λ _ _. omega arith;
+              one = λ x _. absurd (not-dir x);
+              leads = λ x. absurd (not-dir x);
+            })
 
   -- "create": an empty place of directory d names i, which was free, and now is a file or a directory with one link
   pub tree-create : (p d : ℕ) → p < mostSlots * n → dirOf p ≡ d → v .naming p ≡ 0 → w .naming p ≡ i → ElseBelow (mostSlots * n) p (v .naming) (w .naming)
@@ -345,13 +337,13 @@ module _ (n i : ℕ) (v w : Nodes) (t : Tree n v) (a : Above n v) (low : 1 ≤ i
           (λ b. leads-old j (record { low = y; high = z; kind = b }))
       of j y z (yes q) =
           subst (Linked n w) (sym q) (
-            let r = t .linked i low high in
-            record {
-              counted = let b = tallied i low in let g = one-same i i refl in let o = r .counted in omega arith;
-              named = λ _ _. omega arith;
-              one = λ _ _. c;
-              leads = λ x. leads-up (w .parent) rootInode i (subst (Leads (w .parent) rootInode) (sym (up x)) (leads-old d (record { low = omega arith; high = omega arith; kind = dir })));
-            })
+          let r = t .linked i low high in
+          record {
+            counted = let b = tallied i low in let g = one-same i i refl in let o = r .counted in omega arith;
+            named = λ _ _. omega arith;
+            one = λ _ _. c;
+            leads = λ x. leads-up (w .parent) rootInode i (subst (Leads (w .parent) rootInode) (sym (up x)) (leads-old d (record { low = omega arith; high = omega arith; kind = dir })));
+          })
 
   -- "unlink" of the last link: the place names nothing, and i, in which no entry stands, is free
   pub tree-last : (p : ℕ) → p < mostSlots * n → v .naming p ≡ i → w .naming p ≡ 0 → ElseBelow (mostSlots * n) p (v .naming) (w .naming)
@@ -394,7 +386,8 @@ module _ (n i : ℕ) (v w : Nodes) (t : Tree n v) (a : Above n v) (low : 1 ≤ i
       leads-old : (j : ℕ) → Stays j → Leads (w .parent) rootInode j
       leads-old j b =
           let r = t .linked j (b .0 .low) (b .0 .high) .leads (b .0 .kind) in
-          leads-carried Stays (v .parent) (w .parent) rootInode stays (λ x y. parents x (y .0 .low) (y .0 .high) (y .1)) (r .0) j b (r .1)
+          leads-kept Stays (v .parent) (w .parent) rootInode n (record { within = λ x y. (y .0 .low, y .0 .high); parent = stays })
+          (λ x y. parents x (y .0 .low) (y .0 .high) (y .1)) (r .0) j b (r .1)
 
       of : (j : ℕ) → 1 ≤ j → j ≤ n → Dec (j ≡ i) → Linked n w j
       of j y z (no q) =
@@ -469,7 +462,8 @@ module _ (n i : ℕ) (v w : Nodes) (t : Tree n v) (a : Above n v) (low : 1 ≤ i
           let g = t .linked j (b .low) (b .high) .leads (b .kind) in
           let o = t .linked e (above .low) (above .high) .leads dir in
           let r = leads-moved (v .parent) to i e (changed (v .parent) i e) rootInode (apart z) o j g in
-          leads-carried (Dir n v) to (w .parent) rootInode (λ x y q. closed x y q (ℕ-discrete x i)) (λ x y. same x y (ℕ-discrete x i)) (r .0) j b (r .1)
+          leads-kept (Dir n v) to (w .parent) rootInode n (record { within = λ x y. (y .low, y .high); parent = λ x y q. closed x y q (ℕ-discrete x i) })
+          (λ x y. same x y (ℕ-discrete x i)) (r .0) j b (r .1)
         where
           closed : (x : ℕ) → Dir n v x → (x ≡ rootInode → ⊥) → Dec (x ≡ i) → Dir n v (to x)
           closed x y q (yes s) = subst (Dir n v) (sym (ap to s ∙ upd-same (v .parent) i e)) above
@@ -489,10 +483,10 @@ module _ (n i : ℕ) (v w : Nodes) (t : Tree n v) (a : Above n v) (low : 1 ≤ i
       of j y z (no q) = linked-else j y z q (tallied j y) (λ b. leads-old j (record { low = y; high = z; kind = b }))
       of j y z (yes q) =
           subst (Linked n w) (sym q) (
-            let r = t .linked i low high in
-            record {
-              counted = c ∙ r .counted ∙ sym (tallied i low);
-              named = λ x g. subst (λ (o : ℕ). 1 ≤ o) (sym c) (r .named (λ b. x (k ∙ b)) g);
-              one = λ x g. c ∙ r .one (sym k ∙ x) g;
-              leads = λ x. leads-old i (record { low = low; high = high; kind = sym k ∙ x });
-            })
+          let r = t .linked i low high in
+          record {
+            counted = c ∙ r .counted ∙ sym (tallied i low);
+            named = λ x g. subst (λ (o : ℕ). 1 ≤ o) (sym c) (r .named (λ b. x (k ∙ b)) g);
+            one = λ x g. c ∙ r .one (sym k ∙ x) g;
+            leads = λ x. leads-old i (record { low = low; high = high; kind = sym k ∙ x });
+          })
