@@ -19,13 +19,14 @@ use Rattle.layout.specs.Sizes.{mostStoreBlocks}
 use Rattle.layout.specs.declared.header.Header.{Header}
 use Rattle.layout.specs.declared.inode.Inode.{Inode}
 use Rattle.layout.specs.Header.{headerOf}
-use Rattle.layout.specs.Inode.{inodeOf, putInode}
-use Rattle.layout.specs.Block.{blockAt, putInBlock, kthBlock}
+use Rattle.layout.specs.Inode.{sizeOf, inodeOf, putInode}
+use Rattle.layout.specs.Block.{blockAt, putInBlock, blocksUsed, kthBlock}
 use Rattle.layout.proofs.FrameLaws.{header-past}
-use Rattle.sound.specs.Sound.{Sound, unnamedB, inodesIn, blocksIn}
+use Rattle.sound.specs.Sound.{Sound, freeB, unnamedB, inodesIn, blocksIn}
+use Rattle.files.specs.Inode.{withBlocks, moreFree}
 use Rattle.files.specs.Fits.{byteAt}
-use Rattle.files.specs.Content.{zeroRest, keepFirst}
-use Rattle.files.proofs.RecordLaws.{header-inode}
+use Rattle.files.specs.Content.{zeroRest, keepFirst, cutTo}
+use Rattle.files.proofs.RecordLaws.{header-inode, size-is}
 
 -- ---- the rest of the last block
 module _ (s : List ℕ) (n i z : ℕ) where
@@ -87,10 +88,33 @@ module _ (a : List ℕ) where
           getD-set-other (keepFirst a k) k j (getD a k 0) 0 e
           ∙ keep-at k j m ∙ rw (le-ltb j k (omega arith)) (sym (keep-at (k + 1) j m ∙ rw (le-ltb j (k + 1) (omega arith))))
 
--- ---- the count of free blocks of a sound store
-pub free-few : (s : List ℕ) → Sound mostStoreBlocks false s → headerOf s .«free_blocks» ≤ 1024
-free-few s h =
-    let m = h .framed .most-blocks in
-    let c = count-le (unnamedB s (inodesIn s)) (blocksIn s) in
-    let e = h .free-blocks in
-    omega arith
+-- ---- the free counts of a sound store
+module _ (s : List ℕ) (h : Sound mostStoreBlocks false s) where
+  pub free-few : headerOf s .«free_blocks» ≤ 1024
+  free-few =
+      let m = h .framed .most-blocks in
+      let c = count-le (unnamedB s (inodesIn s)) (blocksIn s) in
+      let e = h .free-blocks in
+      omega arith
+
+  pub inodes-few : headerOf s .«free_inodes» ≤ 256
+  inodes-few =
+      let m = h .framed .most-inodes in
+      let c = count-le (freeB s) (inodesIn s) in
+      let e = h .free-inodes in
+      omega arith
+
+-- the blocks k of z bytes, and u of all
+pub cut-few : (s : List ℕ) (n i z k u : ℕ) (v : Inode) → v ≡ inodeOf s n i → u ≡ blocksUsed (v .size) → k ≡ blocksUsed z → z ≤ sizeOf s i → sizeOf s i ≤ 768 → (k ≤ u) × (u ≤ 12)
+unfolding blocksUsed
+cut-few s n i z k u v e a b l m = let q = size-is s n i v e in (omega arith, omega arith)
+
+-- ---- what the code makes: v was read, q has the rest zeroed, p the record w
+module _ (s : List ℕ) (n i z : ℕ) (q p : List ℕ) (w : Inode) (d : q ≡ zeroRest s n i z) (e : p ≡ putInode q n i w) where
+  pub cut-header : 1 ≤ i → i ≤ n → headerOf p ≡ headerOf s
+  cut-header l m = ap headerOf e ∙ header-inode q n i l m w ∙ ap headerOf d ∙ header-rest s n i z
+
+  pub cut-done : (v : Inode) (a : List ℕ) (k u : ℕ) (r : List ℕ) → v ≡ inodeOf s n i → u ≡ blocksUsed (v .size) → k ≡ blocksUsed z → a ≡ keepFirst (v .addresses) k
+      → w ≡ withBlocks v z a → r ≡ moreFree p 0 (u - k) → r ≡ cutTo s n i z
+  unfolding cutTo
+  cut-done v a k u r ev eu ek ea ew er = rw (er, e, d, ew, ea, eu, ek, ev)

@@ -5,7 +5,7 @@ use mathlib.Core.List.{List}
 use native.Mathlib.Omega.{arith}
 use lib.ListN.{length, getD}
 use Rattle.bounded.specs.Table.{table}
-use Rattle.bounded.proofs.TableLaws.{table-ext, filled-all}
+use Rattle.bounded.proofs.TableLaws.{length-table, table-ext, filled-all}
 use Rattle.bounded.proofs.UpdateLaws.{upd-same}
 use Rattle.octets.specs.Octets.{splice, Apart, toBytes, putNum, wordBytes}
 use Rattle.octets.proofs.PartLaws.{splice-comm, splice-twice}
@@ -57,7 +57,18 @@ less-less s j m f =
     rw (header-free s f (a - 0) (b - j)) (free-twice s (a - 0) (b - j) (a - 0 - 0) (b - j - m) ∙ ap₂ (putFree s) x y)
 
 -- ---- an inode's record
-module _ (s : List ℕ) (n i : ℕ) (l : 1 ≤ i) (m : i ≤ n) (v : Inode) (e : length (v .addresses) ≡ 12) where
+-- as it was read
+module _ (s : List ℕ) (n i : ℕ) (v : Inode) (e : v ≡ inodeOf s n i) where
+  pub size-is : v .size ≡ sizeOf s i
+  unfolding inodeOf
+  size-is = ap (λ (w : Inode). w .size) e
+
+  pub twelve : length (v .addresses) ≡ 12
+  unfolding inodeOf addressesOf
+  twelve = ap (λ (w : Inode). length (w .addresses)) e ∙ length-table (λ k. addressOf s n (place i k)) 12
+
+-- as it is written
+module _ (s : List ℕ) (n i : ℕ) (l : 1 ≤ i) (m : i ≤ n) (v : Inode) where
   -- the header is not touched
   pub header-inode : headerOf (putInode s n i v) ≡ headerOf s
   unfolding putInode putAttributes putAddresses
@@ -73,18 +84,18 @@ module _ (s : List ℕ) (n i : ℕ) (l : 1 ≤ i) (m : i ≤ n) (v : Inode) (e :
       ∙ ap (λ (t : List ℕ). splice t (addressAt n (place i 0)) (wordBytes (v .addresses))) (less-past s (attributesAt i) (attributeEntry v) (omega arith) x y))
 
   -- after a write past the inodes
-  pub inode-past : (p : ℕ) (xs : List ℕ) → 16 + 32 * n ≤ p → putInode (splice s p xs) n i v ≡ splice (putInode s n i v) p xs
+  pub inode-past : length (v .addresses) ≡ 12 → (p : ℕ) (xs : List ℕ) → 16 + 32 * n ≤ p → putInode (splice s p xs) n i v ≡ splice (putInode s n i v) p xs
   unfolding putInode putAttributes putAddresses
-  inode-past p xs h =
+  inode-past e p xs h =
       let a = length-entry v in
       let b = length-words (v .addresses) in
       ap (λ (t : List ℕ). splice t (addressAt n (place i 0)) (wordBytes (v .addresses))) (splice-comm s p xs (attributesAt i) (attributeEntry v) (omega arith))
       ∙ splice-comm (splice s (attributesAt i) (attributeEntry v)) p xs (addressAt n (place i 0)) (wordBytes (v .addresses)) (omega arith)
 
   -- with other attributes then
-  pub attributes-twice : (w : Inode) → v .addresses ≡ w .addresses → putAttributes (putInode s n i v) i w ≡ putInode s n i w
+  pub attributes-twice : length (v .addresses) ≡ 12 → (w : Inode) → v .addresses ≡ w .addresses → putAttributes (putInode s n i v) i w ≡ putInode s n i w
   unfolding putInode putAttributes putAddresses
-  attributes-twice w q =
+  attributes-twice e w q =
       let a = length-entry v in
       let b = length-words (v .addresses) in
       let c = length-entry w in

@@ -1,3 +1,5 @@
+use Rattle.files.specs.Content.{putSize}
+use mathlib.Core.Path.{_∙_}
 use borrow.Author.Needs.{needs}
 use Rattle.files.proofs.content.put_size.Statement.{statement}
 use Rattle.files.proofs.content.put_size.Tie as tie
@@ -25,7 +27,8 @@ same-length c = search needs
 
 -- src/content.rt:191:1
 returns : tie.Need-returns
-returns c = ?
+unfolding putSize
+returns c = c .before .before .write-attributes .ensures ∙ rw (c .before .before .before .before .with-blocks .ensures, c .before .before .before .before .before .before .read .ensures)
 
 pub put-size-spec : {M : Type 1} → statement M
 put-size-spec =
