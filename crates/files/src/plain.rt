@@ -8,9 +8,15 @@ ghost use Rattle.sound.specs.Sound.{Sound, inodesIn, blocksIn};
 ghost use Rattle.files.specs.Guard.{guardOf};
 ghost use Rattle.files.specs.Plan.{lookUpPlan, readPlan, createPlan, writePlan, shortenPlan, linkPlan, unlinkPlan, renamePlan};
 ghost use Rattle.files.specs.Plain.{left, shown, doLookUp, doRead, doCreate, doWrite, doShorten, doLink, doUnlink, doRename, plainLookUp, plainRead, plainCreate, plainWrite, plainShorten, plainLink, plainUnlink, plainRename};
+use crate::CreatePlan;
 use crate::Guard;
+use crate::Kind;
+use crate::LinkPlan;
+use crate::RenamePlan;
 use crate::SizePlan;
+use crate::UnlinkPlan;
 use crate::content;
+use crate::entries;
 use crate::plan;
 use answers::Answer;
 use answers::Refusal;
@@ -71,6 +77,149 @@ pub fn read(store: &[u8], inode: usize, offset: usize, out: &mut [u8]) -> Answer
 {
     match guard(store) {
         Guard::Pass(n, _) => read_out(store, n, inode, offset, &mut *out),
+        Guard::Stop(why) => Answer::Refused(why),
+    }
+}
+
+// ---- create
+fn made(s: &mut [u8], n: usize, b: usize, d: usize, name: &[u8], kind: Kind) -> Answer
+    requires { ⌜ Sound mostStoreBlocks false (now s) × (n ≡ inodesIn (now s)) × (b ≡ blocksIn (now s)) ⌝ }
+    ensures { λ r. ⌜ left r (now (s .exit)) [] ≡ doCreate (now (s .entry)) n d (now (name .entry)) kind (createPlan (now (s .entry)) n b d (now (name .entry))) ⌝ }
+{
+    match plan::create_plan(s, n, b, d, name) {
+        CreatePlan::Make(i, room) => {
+            entries::create(&mut *s, n, b, d, name, kind, i, room);
+            Answer::Done(i)
+        }
+        CreatePlan::NoCreate(why) => Answer::Refused(why),
+    }
+}
+
+pub fn create(store: &mut [u8], dir: usize, name: &[u8], kind: Kind) -> Answer
+    ensures { λ r. ⌜ shown (left r (now (store .exit)) []) ≡ shown (plainCreate (now (store .entry)) dir (now (name .entry)) kind) ⌝ }
+{
+    match guard(store) {
+        Guard::Pass(n, b) => made(&mut *store, n, b, dir, name, kind),
+        Guard::Stop(why) => Answer::Refused(why),
+    }
+}
+
+// ---- write
+fn wrote(s: &mut [u8], n: usize, b: usize, i: usize, o: usize, xs: &[u8]) -> Answer
+    requires { ⌜ Sound mostStoreBlocks false (now s) × (n ≡ inodesIn (now s)) × (b ≡ blocksIn (now s)) ⌝ }
+    ensures { λ r. ⌜ left r (now (s .exit)) [] ≡ doWrite (now (s .entry)) n b i o (now (xs .entry)) (writePlan (now (s .entry)) n i o (length (now (xs .entry)))) ⌝ }
+{
+    match plan::write_plan(s, n, i, o, xs.len()) {
+        SizePlan::To(z) => {
+            content::write_file(&mut *s, n, b, i, o, xs, z);
+            Answer::Done(z)
+        }
+        SizePlan::NoSize(why) => Answer::Refused(why),
+    }
+}
+
+pub fn write(store: &mut [u8], inode: usize, offset: usize, bytes: &[u8]) -> Answer
+    ensures { λ r. ⌜ shown (left r (now (store .exit)) []) ≡ shown (plainWrite (now (store .entry)) inode offset (now (bytes .entry))) ⌝ }
+{
+    match guard(store) {
+        Guard::Pass(n, b) => wrote(&mut *store, n, b, inode, offset, bytes),
+        Guard::Stop(why) => Answer::Refused(why),
+    }
+}
+
+// ---- shorten
+fn shortened(s: &mut [u8], n: usize, i: usize, z: usize) -> Answer
+    requires { ⌜ Sound mostStoreBlocks false (now s) × (n ≡ inodesIn (now s)) ⌝ }
+    ensures { λ r. ⌜ left r (now (s .exit)) [] ≡ doShorten (now (s .entry)) n i (shortenPlan (now (s .entry)) n i z) ⌝ }
+{
+    match plan::shorten_plan(s, n, i, z) {
+        SizePlan::To(y) => {
+            content::shorten_file(&mut *s, n, i, y);
+            Answer::Done(y)
+        }
+        SizePlan::NoSize(why) => Answer::Refused(why),
+    }
+}
+
+pub fn shorten(store: &mut [u8], inode: usize, length: usize) -> Answer
+    ensures { λ r. ⌜ shown (left r (now (store .exit)) []) ≡ shown (plainShorten (now (store .entry)) inode length) ⌝ }
+{
+    match guard(store) {
+        Guard::Pass(n, _) => shortened(&mut *store, n, inode, length),
+        Guard::Stop(why) => Answer::Refused(why),
+    }
+}
+
+// ---- link
+fn linked(s: &mut [u8], n: usize, b: usize, d: usize, name: &[u8], i: usize) -> Answer
+    requires { ⌜ Sound mostStoreBlocks false (now s) × (n ≡ inodesIn (now s)) × (b ≡ blocksIn (now s)) ⌝ }
+    ensures { λ r. ⌜ left r (now (s .exit)) [] ≡ doLink (now (s .entry)) n d (now (name .entry)) i (linkPlan (now (s .entry)) n b d (now (name .entry)) i) ⌝ }
+{
+    match plan::link_plan(s, n, b, d, name, i) {
+        LinkPlan::Add(room) => {
+            entries::link(&mut *s, n, b, d, name, i, room);
+            Answer::Done(0)
+        }
+        LinkPlan::NoLink(why) => Answer::Refused(why),
+    }
+}
+
+pub fn link(store: &mut [u8], dir: usize, name: &[u8], inode: usize) -> Answer
+    ensures { λ r. ⌜ shown (left r (now (store .exit)) []) ≡ shown (plainLink (now (store .entry)) dir (now (name .entry)) inode) ⌝ }
+{
+    match guard(store) {
+        Guard::Pass(n, b) => linked(&mut *store, n, b, dir, name, inode),
+        Guard::Stop(why) => Answer::Refused(why),
+    }
+}
+
+// ---- unlink
+fn unlinked(s: &mut [u8], n: usize, d: usize, name: &[u8]) -> Answer
+    requires { ⌜ Sound mostStoreBlocks false (now s) × (n ≡ inodesIn (now s)) ⌝ }
+    ensures { λ r. ⌜ left r (now (s .exit)) [] ≡ doUnlink (now (s .entry)) n d (unlinkPlan (now (s .entry)) n d (now (name .entry))) ⌝ }
+{
+    match plan::unlink_plan(s, n, d, name) {
+        UnlinkPlan::Take(t, i) => {
+            entries::unlink(&mut *s, n, d, t, i);
+            Answer::Done(0)
+        }
+        UnlinkPlan::NoUnlink(why) => Answer::Refused(why),
+    }
+}
+
+pub fn unlink(store: &mut [u8], dir: usize, name: &[u8]) -> Answer
+    ensures { λ r. ⌜ shown (left r (now (store .exit)) []) ≡ shown (plainUnlink (now (store .entry)) dir (now (name .entry))) ⌝ }
+{
+    match guard(store) {
+        Guard::Pass(n, _) => unlinked(&mut *store, n, dir, name),
+        Guard::Stop(why) => Answer::Refused(why),
+    }
+}
+
+// ---- rename
+fn renamed(s: &mut [u8], n: usize, b: usize, d: usize, name: &[u8], e: usize, other: &[u8]) -> Answer
+    requires { ⌜ Sound mostStoreBlocks false (now s) × (n ≡ inodesIn (now s)) × (b ≡ blocksIn (now s)) ⌝ }
+    ensures { λ r. ⌜ left r (now (s .exit)) [] ≡ doRename (now (s .entry)) n d e (now (other .entry)) (renamePlan (now (s .entry)) n b d (now (name .entry)) e (now (other .entry))) ⌝ }
+{
+    match plan::rename_plan(s, n, b, d, name, e, other) {
+        RenamePlan::Same => Answer::Done(0),
+        RenamePlan::Rename(t, i) => {
+            entries::rename(&mut *s, n, d, other, t, i);
+            Answer::Done(0)
+        }
+        RenamePlan::Move(t, i, room) => {
+            entries::move_entry(&mut *s, n, b, d, e, other, t, i, room);
+            Answer::Done(0)
+        }
+        RenamePlan::NoRename(why) => Answer::Refused(why),
+    }
+}
+
+pub fn rename(store: &mut [u8], dir: usize, name: &[u8], to_dir: usize, to_name: &[u8]) -> Answer
+    ensures { λ r. ⌜ shown (left r (now (store .exit)) []) ≡ shown (plainRename (now (store .entry)) dir (now (name .entry)) to_dir (now (to_name .entry))) ⌝ }
+{
+    match guard(store) {
+        Guard::Pass(n, b) => renamed(&mut *store, n, b, dir, name, to_dir, to_name),
         Guard::Stop(why) => Answer::Refused(why),
     }
 }

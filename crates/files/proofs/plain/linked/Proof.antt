@@ -1,0 +1,56 @@
+use Rattle.files.proofs.PlanFacts.{links}
+use Rattle.files.specs.Plain.{left, doLink}
+use Rattle.names.proofs.NameLaws.{legal-bounds}
+use Rattle.answers.specs.declared.Answer.the-variants.{Done}
+use denote.Ref.{now}
+use Prim.Native.Nat.{ℕ}
+use mathlib.Core.List.{List, []}
+use mathlib.Core.Path.{sym, ap, _∙_}
+use borrow.Author.Needs.{needs}
+use Rattle.files.proofs.plain.linked.Statement.{statement}
+use Rattle.files.proofs.plain.linked.Tie as tie
+
+link-plan-requires : tie.Need-link-plan-requires
+link-plan-requires c κs = search needs
+
+enum-known-room : tie.Need-enum-known-room
+enum-known-room c = search needs
+
+link-requires : tie.Need-link-requires
+link-requires c κs = 
+    let p = c .before .before .before .before .before .before .before .before .pre in
+    let f = links _ _ _ _ _ _ _ (sym (c .before .before .before .before .link-plan .ensures) ∙ c .before .before .room .given .1) in
+    ((p .0, p .1, p .2, f .directory, f .room), (f .file, legal-bounds _ (f .legal) .1))
+
+enum-known-why : tie.Need-enum-known-why
+enum-known-why c = search needs
+
+same-length : tie.Need-same-length
+same-length c = search needs
+
+returns : tie.Need-returns
+returns c = 
+    let a = c .before .before .before .before .before .before .before .before .before .before .before .args in
+    ap (λ (t : List ℕ). left (Done 0) t []) (c .before .before .link .ensures)
+    ∙ ap (doLink (now (a .s)) (a .n) (a .d) (now (a .name)) (a .i)) (sym (c .before .before .before .before .before .room .given .1) ∙ c .before .before .before .before .before .before .before .link-plan .ensures)
+
+same-length-2 : tie.Need-same-length-2
+same-length-2 c = search needs
+
+returns-2 : tie.Need-returns-2
+returns-2 c = 
+    let a = c .before .before .before .before .before .before .before .args in
+    ap (doLink (now (a .s)) (a .n) (a .d) (now (a .name)) (a .i)) (sym (c .before .why .given .1) ∙ c .before .before .before .link-plan .ensures)
+
+pub linked-spec : {M : Type 1} → statement M
+linked-spec =
+    tie.close
+    (tie.spec
+    link-plan-requires
+    enum-known-room
+    link-requires
+    enum-known-why
+    same-length
+    returns
+    same-length-2
+    returns-2)

@@ -1,0 +1,49 @@
+use lib.ListN.{length}
+use Rattle.files.proofs.CallLaws.{passed, call-through, call-stopped}
+use Rattle.files.specs.Plain.{doShorten, plainShorten}
+use Rattle.files.specs.Plan.{shortenPlan}
+use denote.Ref.{now}
+use mathlib.Core.Path.{sym, _∙_}
+use Prim.Native.Nat.{ℕ}
+use borrow.Author.Needs.{needs}
+use Rattle.files.proofs.plain.shorten.Statement.{statement}
+use Rattle.files.proofs.plain.shorten.Tie as tie
+
+guard-requires : tie.Need-guard-requires
+guard-requires c κs = search needs
+
+enum-known-n : tie.Need-enum-known-n
+enum-known-n c = search needs
+
+shortened-requires : tie.Need-shortened-requires
+shortened-requires c κs = let p = passed _ _ _ (sym (c .before .before .before .before .guard .ensures) ∙ c .before .before .n .given .1) in (p .sound, p .inodes)
+
+enum-known-why : tie.Need-enum-known-why
+enum-known-why c = search needs
+
+same-length : tie.Need-same-length
+same-length c = search needs
+
+returns : tie.Need-returns
+unfolding plainShorten
+returns c = let a = c .before .before .before .before .before .before .before .before .before .before .args in call-through _ _ _ (c .before .before .before .before .before .before .before .guard .ensures) _ _ (λ (n b : ℕ). doShorten (now (a .store)) n (a .inode) (shortenPlan (now (a .store)) n (a .inode) (a .length))) _ (c .before .before .before .before .before .n .given .1) (c .before .before .shortened .ensures)
+
+same-length-2 : tie.Need-same-length-2
+same-length-2 c = search needs
+
+returns-2 : tie.Need-returns-2
+unfolding plainShorten
+returns-2 c = call-stopped _ _ _ (c .before .before .before .guard .ensures) _ _ (c .before .why .given .1)
+
+pub shorten-spec : {M : Type 1} → statement M
+shorten-spec =
+    tie.close
+    (tie.spec
+    guard-requires
+    enum-known-n
+    shortened-requires
+    enum-known-why
+    same-length
+    returns
+    same-length-2
+    returns-2)

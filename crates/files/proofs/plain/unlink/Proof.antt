@@ -1,0 +1,48 @@
+use Rattle.files.proofs.CallLaws.{passed, call-through, call-stopped}
+use Rattle.files.specs.Plain.{doUnlink, plainUnlink}
+use Rattle.files.specs.Plan.{unlinkPlan}
+use denote.Ref.{now}
+use mathlib.Core.Path.{sym, _∙_}
+use Prim.Native.Nat.{ℕ}
+use borrow.Author.Needs.{needs}
+use Rattle.files.proofs.plain.unlink.Statement.{statement}
+use Rattle.files.proofs.plain.unlink.Tie as tie
+
+guard-requires : tie.Need-guard-requires
+guard-requires c κs = search needs
+
+enum-known-n : tie.Need-enum-known-n
+enum-known-n c = search needs
+
+unlinked-requires : tie.Need-unlinked-requires
+unlinked-requires c κs = let p = passed _ _ _ (sym (c .before .before .before .before .guard .ensures) ∙ c .before .before .n .given .1) in (p .sound, p .inodes)
+
+enum-known-why : tie.Need-enum-known-why
+enum-known-why c = search needs
+
+same-length : tie.Need-same-length
+same-length c = search needs
+
+returns : tie.Need-returns
+unfolding plainUnlink
+returns c = let a = c .before .before .before .before .before .before .before .before .before .before .before .args in call-through _ _ _ (c .before .before .before .before .before .before .before .guard .ensures) _ _ (λ (n b : ℕ). doUnlink (now (a .store)) n (a .dir) (unlinkPlan (now (a .store)) n (a .dir) (now (a .name)))) _ (c .before .before .before .before .before .n .given .1) (c .before .before .unlinked .ensures)
+
+same-length-2 : tie.Need-same-length-2
+same-length-2 c = search needs
+
+returns-2 : tie.Need-returns-2
+unfolding plainUnlink
+returns-2 c = call-stopped _ _ _ (c .before .before .before .guard .ensures) _ _ (c .before .why .given .1)
+
+pub unlink-spec : {M : Type 1} → statement M
+unlink-spec =
+    tie.close
+    (tie.spec
+    guard-requires
+    enum-known-n
+    unlinked-requires
+    enum-known-why
+    same-length
+    returns
+    same-length-2
+    returns-2)
