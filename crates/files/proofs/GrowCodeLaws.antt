@@ -38,7 +38,7 @@ use Rattle.files.specs.Inode.{isKind, withBlocks, withSize, lessFree}
 use Rattle.files.specs.Fits.{FileFits}
 use Rattle.files.specs.Content.{addBlock, addBlocks, putSize}
 use Rattle.files.proofs.StoreLaws.{kind-some, kind-most, kind-fits}
-use Rattle.files.proofs.RecordLaws.{length-less, less-past, less-less, inode-less, inode-past, inode-twice, attributes-twice, inode-read, address-read, address-else, size-is, twelve}
+use Rattle.files.proofs.RecordLaws.{length-less, less-past, less-less, inode-less, inode-past, inode-twice, attributes-twice, inode-read, address-read, address-else, used-is, twelve}
 
 -- ---- a search that finds something ends at its last number at most
 pub search-left : (f : ℕ → Bool) (c last : ℕ) → (firstFrom f c (last + 1 - c) ≡ Absent → ⊥) → c ≤ last
@@ -63,6 +63,13 @@ fits-zero-block s n i c f = inode-fits s (zeroBlock s n c) n i (length-zero-bloc
 pub length-added : (s : List ℕ) (n i c : ℕ) → length (addBlock s n i c) ≡ length s
 unfolding addBlock
 length-added s n i c = length-less _ 0 1 ∙ length-inode _ n i _ ∙ length-zero-block s n c
+
+pub sized-same : (s t : List ℕ) (n b : ℕ) → length t ≡ length s → Sized s n b → Sized t n b
+sized-same s t n b e z = record { inodes = z .inodes; blocks = z .blocks; long = e ∙ z .long }
+
+pub free-range : (t : List ℕ) (n b d : ℕ) → freeBlock t n b ≡ At d → (1 ≤ d) × (d ≤ b)
+unfolding freeBlock
+free-range t n b d e = let r = found-lowest (λ x. not (named t n x)) 1 b d e in (r .from, (let l = r .below in omega arith))
 
 used-edge : (u : ℕ) → blocksUsed (64 * u) ≡ u
 unfolding blocksUsed
@@ -241,7 +248,7 @@ module _ (t : List ℕ) (n b i f c : ℕ) (g : Growing t n b i (blocksUsed (size
   grow-one : Growing (addBlock t n i c) n b i (blocksUsed (sizeOf t i) + 1) (f - 1)
   grow-one = record {
     inode = inode-fits t (addBlock t n i c) n i (length-added t n i c) (g .inode);
-    long = record { inodes = g .long .inodes; blocks = g .long .blocks; long = length-added t n i c ∙ g .long .long };
+    long = sized-same t (addBlock t n i c) n b (length-added t n i c) (g .long);
     uses = ap blocksUsed (added-size t n i c (g .inode) l) ∙ used-edge (blocksUsed (sizeOf t i) + 1);
     used = λ k m. used k m (ℕ-discrete k (blocksUsed (sizeOf t i)));
     rest = λ k m w. added-else t n i c (g .inode) l (place i k) (inside k w) (λ q. omega arith) ∙ g .rest k (omega arith) w;
@@ -330,7 +337,7 @@ pub turn-begin : (s : List ℕ) (n b i m : ℕ) (v : Inode) (u : ℕ) → v ≡ 
 unfolding addBlock
 turn-begin s n b i m v u e q g =
     let p : u + 0 ≡ blocksUsed (inodeOf s n i .size) = omega (arith, q ∙ ap (λ (w : Inode). blocksUsed (w .size)) e) in
-    let x : blocksUsed (sizeOf s i) ≡ u + 0 = omega (arith, q ∙ ap blocksUsed (size-is s n i v e)) in
+    let x : blocksUsed (sizeOf s i) ≡ u + 0 = omega (arith, used-is s n i v e u q) in
     let y : headerOf s .«free_blocks» ≡ headerOf s .«free_blocks» - 0 = omega arith in
     let z : m ≡ m - 0 = omega arith in
     record {

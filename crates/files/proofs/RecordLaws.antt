@@ -15,6 +15,7 @@ use Rattle.layout.specs.declared.header.Header.{Header}
 use Rattle.layout.specs.declared.inode.Inode.{Inode}
 use Rattle.layout.specs.Header.{headerOf, putFree}
 use Rattle.layout.specs.Inode.{InodeFits, attributesAt, addressAt, place, kindOf, linksOf, sizeOf, parentOf, addressOf, addressesOf, attributeEntry, inodeOf, putAttributes, putAddresses, putInode}
+use Rattle.layout.specs.Block.{blocksUsed}
 use Rattle.layout.proofs.View.{View, viewOf, below, overlay, withHeader, withAttributes, withAddress, freeCounts}
 use Rattle.layout.proofs.FrameLaws.{length-entry, length-free, length-inode, header-past}
 use Rattle.layout.proofs.ViewLaws.{within-in, below-in, overlay-in, overlay-out, header-free, view-free, view-inode}
@@ -62,6 +63,9 @@ module _ (s : List ℕ) (n i : ℕ) (v : Inode) (e : v ≡ inodeOf s n i) where
   pub size-is : v .size ≡ sizeOf s i
   unfolding inodeOf
   size-is = ap (λ (w : Inode). w .size) e
+
+  pub used-is : (u : ℕ) → u ≡ blocksUsed (v .size) → u ≡ blocksUsed (sizeOf s i)
+  used-is u q = q ∙ ap blocksUsed size-is
 
   pub twelve : length (v .addresses) ≡ 12
   unfolding inodeOf addressesOf
