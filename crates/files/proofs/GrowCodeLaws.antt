@@ -433,3 +433,26 @@ module _ (s₀ : List ℕ) (n b i m : ℕ) (v : Inode) (u : ℕ) (s a : List ℕ
       let x : m - j ≡ 0 = omega arith in
       let t : addBlocks s₀ n b i m ≡ grown n i v s a (u + j) j = h .left ∙ ap (addBlocks (h .store) n b i) x ∙ h .is (omega arith) in
       rw (er, ep, ew, t, ← q) (sym (grown-size n i v s (inode-fits s₀ s n i (h .same) f) a (h .long) (u + j) j z))
+
+-- ---- the size z with the blocks that it needs
+pub none-more : (s : List ℕ) (n b i z d : ℕ) → d ≡ 0 → putSize s n i z ≡ putSize (addBlocks s n b i d) n i z
+unfolding addBlocks
+none-more s n b i z d e = rw e
+
+module _ (x z : ℕ) (h : x ≤ z) (m : z ≤ 768) where
+  pub more-few : blocksUsed x + (blocksUsed z - blocksUsed x) ≤ 12
+  unfolding blocksUsed
+  more-few = omega arith
+
+  more-hold : z ≤ 64 * (blocksUsed x + (blocksUsed z - blocksUsed x))
+  unfolding blocksUsed
+  more-hold = omega arith
+
+-- its bytes lie inside
+pub fits-more : (s : List ℕ) (n b i z y f : ℕ) → Growing s n b i (blocksUsed (sizeOf s i)) f → sizeOf s i ≤ z → z ≤ 768 → blocksUsed z - blocksUsed (sizeOf s i) ≤ f → y ≤ z
+    → FileFits (putSize (addBlocks s n b i (blocksUsed z - blocksUsed (sizeOf s i))) n i z) n i y
+fits-more s n b i z y f g h m l k =
+    let u : ℕ = blocksUsed (sizeOf s i) in
+    let a = more-few (sizeOf s i) z h m in
+    let b = more-hold (sizeOf s i) z h m in
+    fits-size _ n i y z (grow-fits _ n _ i _ _ (grow-all (blocksUsed z - u) s n _ i u f g a l) y a (omega arith))

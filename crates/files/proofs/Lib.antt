@@ -3,6 +3,7 @@ pub mod EntryPlanLaws
 pub mod GrowCodeLaws
 pub mod PlainLaws
 pub mod PlanLaws
+pub mod PlannedLaws
 pub mod PutLaws
 pub mod ReadLaws
 pub mod RecordLaws
