@@ -21,10 +21,9 @@ use Rattle.bounded.proofs.CountLaws.{count-some, count-at}
 use Rattle.bounded.proofs.SearchLaws.{Lowest, found-lowest, lowest-of, lowest-found, absent-of, first-end, first-ext, first-skip}
 use Rattle.bounded.proofs.SeenLaws.{seen-test}
 use Rattle.bounded.proofs.TableLaws.{getD-table, length-table}
-use Rattle.octets.specs.Octets.{Apart, splice, zeroed}
+use Rattle.octets.specs.Octets.{Apart, zeroed}
 use Rattle.octets.proofs.PartLaws.{length-zeroed}
 use Rattle.layout.specs.Sizes.{mostStoreBlocks}
-use Rattle.layout.specs.declared.header.Header.{Header}
 use Rattle.layout.specs.declared.inode.Inode.{Inode}
 use Rattle.layout.specs.Header.{headerOf}
 use Rattle.layout.specs.Inode.{InodeFits, attributesAt, attributeEntry, place, sizeOf, addressOf, addressesOf, inodeOf, putAttributes, putInode}
@@ -38,7 +37,7 @@ use Rattle.files.specs.Inode.{isKind, withBlocks, withSize, lessFree}
 use Rattle.files.specs.Fits.{FileFits}
 use Rattle.files.specs.Content.{addBlock, addBlocks, putSize}
 use Rattle.files.proofs.StoreLaws.{kind-some, kind-most, kind-fits}
-use Rattle.files.proofs.RecordLaws.{length-less, less-past, less-less, inode-less, inode-past, inode-twice, attributes-twice, inode-read, address-read, address-else, used-is, twelve}
+use Rattle.files.proofs.RecordLaws.{length-less, less-past, less-less, header-inode, inode-less, inode-past, inode-twice, attributes-twice, inode-read, address-read, address-else, used-is, twelve}
 
 -- ---- a search that finds something ends at its last number at most
 pub search-left : (f : ℕ → Bool) (c last : ℕ) → (firstFrom f c (last + 1 - c) ≡ Absent → ⊥) → c ≤ last
@@ -115,7 +114,17 @@ module _ (n i : ℕ) (v : Inode) (s : List ℕ) (f : InodeFits s n i) (a : List 
       rw q (sym (less-past (putInode s n i w) (attributesAt i) (attributeEntry x) (omega arith) 0 j)
       ∙ ap (λ (t : List ℕ). lessFree t 0 j) (attributes-twice s n i (f .low) (f .high) w e x refl))
 
--- ---- block c added to inode i, which uses u blocks
+-- ---- block c added to inode i
+-- by the code: v was read, q has the block zeroed, p the record w
+module _ (s : List ℕ) (n i c : ℕ) (w : Inode) (q p : List ℕ) (eq : q ≡ zeroBlock s n c) (ep : p ≡ putInode q n i w) where
+  pub add-header : 1 ≤ i → i ≤ n → headerOf p ≡ headerOf s
+  add-header l m = ap headerOf ep ∙ header-inode q n i l m w ∙ ap headerOf eq ∙ header-zero-block s n c
+
+  pub add-done : (v : Inode) (k : ℕ) (r : List ℕ) → v ≡ inodeOf s n i → k ≡ blocksUsed (v .size) → w ≡ withBlocks v (64 * (k + 1)) (set (v .addresses) k c) → r ≡ lessFree p 0 1 → r ≡ addBlock s n i c
+  unfolding addBlock
+  add-done v k r ev ek ew er = rw (er, ep, eq, ew, ek, ev)
+
+-- how it changes the store
 module _ (t : List ℕ) (n i c : ℕ) (f : InodeFits t n i) where
   -- how many it uses
   abbrev uses : ℕ
