@@ -1,6 +1,6 @@
 -- A file cut to its first z bytes. n is the inode count, i the file.
 use Prim.Native.Nat.{ℕ, _+_, _-_, _/_, _%_, _≤_, _<_}
-use mathlib.Core.Path.{_≡_, refl, sym, ap, _∙_, subst}
+use mathlib.Core.Path.{_≡_, refl, sym, ap, _∙_}
 use mathlib.Core.Bool.{Bool, true, false}
 use mathlib.Core.List.{List}
 use native.Mathlib.Decide.{ℕ-discrete, decLt}
@@ -16,7 +16,6 @@ use Rattle.bounded.proofs.CountLaws.{count-le}
 use Rattle.octets.specs.Octets.{splice, zeroed}
 use Rattle.octets.proofs.PartLaws.{length-splice}
 use Rattle.layout.specs.Sizes.{mostStoreBlocks}
-use Rattle.layout.specs.declared.header.Header.{Header}
 use Rattle.layout.specs.declared.inode.Inode.{Inode}
 use Rattle.layout.specs.Header.{headerOf}
 use Rattle.layout.specs.Inode.{sizeOf, inodeOf, putInode}

@@ -21,10 +21,9 @@ use Rattle.bounded.proofs.CountLaws.{count-some, count-at}
 use Rattle.bounded.proofs.SearchLaws.{Lowest, found-lowest, lowest-of, lowest-found, absent-of, first-end, first-ext, first-skip}
 use Rattle.bounded.proofs.SeenLaws.{seen-test}
 use Rattle.bounded.proofs.TableLaws.{getD-table, length-table}
-use Rattle.octets.specs.Octets.{Apart, splice, zeroed}
+use Rattle.octets.specs.Octets.{Apart, zeroed}
 use Rattle.octets.proofs.PartLaws.{length-zeroed}
 use Rattle.layout.specs.Sizes.{mostStoreBlocks}
-use Rattle.layout.specs.declared.header.Header.{Header}
 use Rattle.layout.specs.declared.inode.Inode.{Inode}
 use Rattle.layout.specs.Header.{headerOf}
 use Rattle.layout.specs.Inode.{InodeFits, attributesAt, attributeEntry, place, sizeOf, addressOf, addressesOf, inodeOf, putAttributes, putInode}
@@ -38,7 +37,7 @@ use Rattle.files.specs.Inode.{isKind, withBlocks, withSize, lessFree}
 use Rattle.files.specs.Fits.{FileFits}
 use Rattle.files.specs.Content.{addBlock, addBlocks, putSize}
 use Rattle.files.proofs.StoreLaws.{kind-some, kind-most, kind-fits}
-use Rattle.files.proofs.RecordLaws.{length-less, less-past, less-less, inode-less, inode-past, inode-twice, attributes-twice, inode-read, address-read, address-else, size-is, twelve}
+use Rattle.files.proofs.RecordLaws.{length-less, less-past, less-less, header-inode, inode-less, inode-past, inode-twice, attributes-twice, inode-read, address-read, address-else, used-is, twelve}
 
 -- ---- a search that finds something ends at its last number at most
 pub search-left : (f : ℕ → Bool) (c last : ℕ) → (firstFrom f c (last + 1 - c) ≡ Absent → ⊥) → c ≤ last
@@ -63,6 +62,13 @@ fits-zero-block s n i c f = inode-fits s (zeroBlock s n c) n i (length-zero-bloc
 pub length-added : (s : List ℕ) (n i c : ℕ) → length (addBlock s n i c) ≡ length s
 unfolding addBlock
 length-added s n i c = length-less _ 0 1 ∙ length-inode _ n i _ ∙ length-zero-block s n c
+
+pub sized-same : (s t : List ℕ) (n b : ℕ) → length t ≡ length s → Sized s n b → Sized t n b
+sized-same s t n b e z = record { inodes = z .inodes; blocks = z .blocks; long = e ∙ z .long }
+
+pub free-range : (t : List ℕ) (n b d : ℕ) → freeBlock t n b ≡ At d → (1 ≤ d) × (d ≤ b)
+unfolding freeBlock
+free-range t n b d e = let r = found-lowest (λ x. not (named t n x)) 1 b d e in (r .from, (let l = r .below in omega arith))
 
 used-edge : (u : ℕ) → blocksUsed (64 * u) ≡ u
 unfolding blocksUsed
@@ -108,7 +114,17 @@ module _ (n i : ℕ) (v : Inode) (s : List ℕ) (f : InodeFits s n i) (a : List 
       rw q (sym (less-past (putInode s n i w) (attributesAt i) (attributeEntry x) (omega arith) 0 j)
       ∙ ap (λ (t : List ℕ). lessFree t 0 j) (attributes-twice s n i (f .low) (f .high) w e x refl))
 
--- ---- block c added to inode i, which uses u blocks
+-- ---- block c added to inode i
+-- by the code: v was read, q has the block zeroed, p the record w
+module _ (s : List ℕ) (n i c : ℕ) (w : Inode) (q p : List ℕ) (eq : q ≡ zeroBlock s n c) (ep : p ≡ putInode q n i w) where
+  pub add-header : 1 ≤ i → i ≤ n → headerOf p ≡ headerOf s
+  add-header l m = ap headerOf ep ∙ header-inode q n i l m w ∙ ap headerOf eq ∙ header-zero-block s n c
+
+  pub add-done : (v : Inode) (k : ℕ) (r : List ℕ) → v ≡ inodeOf s n i → k ≡ blocksUsed (v .size) → w ≡ withBlocks v (64 * (k + 1)) (set (v .addresses) k c) → r ≡ lessFree p 0 1 → r ≡ addBlock s n i c
+  unfolding addBlock
+  add-done v k r ev ek ew er = rw (er, ep, eq, ew, ek, ev)
+
+-- how it changes the store
 module _ (t : List ℕ) (n i c : ℕ) (f : InodeFits t n i) where
   -- how many it uses
   abbrev uses : ℕ
@@ -241,7 +257,7 @@ module _ (t : List ℕ) (n b i f c : ℕ) (g : Growing t n b i (blocksUsed (size
   grow-one : Growing (addBlock t n i c) n b i (blocksUsed (sizeOf t i) + 1) (f - 1)
   grow-one = record {
     inode = inode-fits t (addBlock t n i c) n i (length-added t n i c) (g .inode);
-    long = record { inodes = g .long .inodes; blocks = g .long .blocks; long = length-added t n i c ∙ g .long .long };
+    long = sized-same t (addBlock t n i c) n b (length-added t n i c) (g .long);
     uses = ap blocksUsed (added-size t n i c (g .inode) l) ∙ used-edge (blocksUsed (sizeOf t i) + 1);
     used = λ k m. used k m (ℕ-discrete k (blocksUsed (sizeOf t i)));
     rest = λ k m w. added-else t n i c (g .inode) l (place i k) (inside k w) (λ q. omega arith) ∙ g .rest k (omega arith) w;
@@ -330,7 +346,7 @@ pub turn-begin : (s : List ℕ) (n b i m : ℕ) (v : Inode) (u : ℕ) → v ≡ 
 unfolding addBlock
 turn-begin s n b i m v u e q g =
     let p : u + 0 ≡ blocksUsed (inodeOf s n i .size) = omega (arith, q ∙ ap (λ (w : Inode). blocksUsed (w .size)) e) in
-    let x : blocksUsed (sizeOf s i) ≡ u + 0 = omega (arith, q ∙ ap blocksUsed (size-is s n i v e)) in
+    let x : blocksUsed (sizeOf s i) ≡ u + 0 = omega (arith, used-is s n i v e u q) in
     let y : headerOf s .«free_blocks» ≡ headerOf s .«free_blocks» - 0 = omega arith in
     let z : m ≡ m - 0 = omega arith in
     record {
@@ -426,3 +442,26 @@ module _ (s₀ : List ℕ) (n b i m : ℕ) (v : Inode) (u : ℕ) (s a : List ℕ
       let x : m - j ≡ 0 = omega arith in
       let t : addBlocks s₀ n b i m ≡ grown n i v s a (u + j) j = h .left ∙ ap (addBlocks (h .store) n b i) x ∙ h .is (omega arith) in
       rw (er, ep, ew, t, ← q) (sym (grown-size n i v s (inode-fits s₀ s n i (h .same) f) a (h .long) (u + j) j z))
+
+-- ---- the size z with the blocks that it needs
+pub none-more : (s : List ℕ) (n b i z d : ℕ) → d ≡ 0 → putSize s n i z ≡ putSize (addBlocks s n b i d) n i z
+unfolding addBlocks
+none-more s n b i z d e = rw e
+
+module _ (x z : ℕ) (h : x ≤ z) (m : z ≤ 768) where
+  pub more-few : blocksUsed x + (blocksUsed z - blocksUsed x) ≤ 12
+  unfolding blocksUsed
+  more-few = omega arith
+
+  more-hold : z ≤ 64 * (blocksUsed x + (blocksUsed z - blocksUsed x))
+  unfolding blocksUsed
+  more-hold = omega arith
+
+-- its bytes lie inside
+pub fits-more : (s : List ℕ) (n b i z y f : ℕ) → Growing s n b i (blocksUsed (sizeOf s i)) f → sizeOf s i ≤ z → z ≤ 768 → blocksUsed z - blocksUsed (sizeOf s i) ≤ f → y ≤ z
+    → FileFits (putSize (addBlocks s n b i (blocksUsed z - blocksUsed (sizeOf s i))) n i z) n i y
+fits-more s n b i z y f g h m l k =
+    let u : ℕ = blocksUsed (sizeOf s i) in
+    let a = more-few (sizeOf s i) z h m in
+    let b = more-hold (sizeOf s i) z h m in
+    fits-size _ n i y z (grow-fits _ n _ i _ _ (grow-all (blocksUsed z - u) s n _ i u f g a l) y a (omega arith))

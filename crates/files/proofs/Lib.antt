@@ -19,6 +19,7 @@ pub mod PlainLaws
 pub mod PlanFacts
 pub mod PlanKeeps
 pub mod PlanLaws
+pub mod PlannedLaws
 pub mod PutLaws
 pub mod ReadLaws
 pub mod RecordLaws

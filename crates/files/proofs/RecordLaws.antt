@@ -11,15 +11,14 @@ use Rattle.octets.specs.Octets.{splice, Apart, toBytes, putNum, wordBytes}
 use Rattle.octets.proofs.PartLaws.{splice-comm, splice-twice}
 use Rattle.octets.proofs.NumLaws.{length-toBytes, num-comm, num-twice}
 use Rattle.octets.proofs.WordLaws.{length-words}
-use Rattle.layout.specs.declared.header.Header.{Header}
 use Rattle.layout.specs.declared.inode.Inode.{Inode}
 use Rattle.layout.specs.Header.{headerOf, putFree}
 use Rattle.layout.specs.Inode.{InodeFits, attributesAt, addressAt, place, kindOf, linksOf, sizeOf, parentOf, addressOf, addressesOf, attributeEntry, inodeOf, putAttributes, putAddresses, putInode}
-use Rattle.layout.proofs.View.{View, viewOf, below, overlay, withHeader, withAttributes, withAddress, freeCounts}
-use Rattle.layout.proofs.FrameLaws.{length-entry, length-free, length-inode, header-past}
+use Rattle.layout.specs.Block.{blocksUsed}
+use Rattle.layout.proofs.View.{View, viewOf, below, overlay, withHeader, withAttributes, withAddress}
+use Rattle.layout.proofs.FrameLaws.{length-entry, length-free, header-past}
 use Rattle.layout.proofs.ViewLaws.{within-in, below-in, overlay-in, overlay-out, header-free, view-free, view-inode}
-use Rattle.files.specs.Inode.{withSize, lessFree, moreFree}
-use Rattle.files.specs.Content.{putSize}
+use Rattle.files.specs.Inode.{lessFree}
 
 -- ---- the free counts
 pub length-less : (s : List ℕ) (x y : ℕ) → length (lessFree s x y) ≡ length s
@@ -62,6 +61,9 @@ module _ (s : List ℕ) (n i : ℕ) (v : Inode) (e : v ≡ inodeOf s n i) where
   pub size-is : v .size ≡ sizeOf s i
   unfolding inodeOf
   size-is = ap (λ (w : Inode). w .size) e
+
+  pub used-is : (u : ℕ) → u ≡ blocksUsed (v .size) → u ≡ blocksUsed (sizeOf s i)
+  used-is u q = q ∙ ap blocksUsed size-is
 
   pub twelve : length (v .addresses) ≡ 12
   unfolding inodeOf addressesOf

@@ -1,70 +1,60 @@
+use Prim.Native.Nat.{_<_}
+use native.Mathlib.Omega.{arith}
+use Rattle.files.proofs.RecordLaws.{used-is}
+use Rattle.files.proofs.GrowCodeLaws.{add-header, add-done}
 use borrow.Author.Needs.{needs}
 use Rattle.files.proofs.content.add_block.Statement.{statement}
 use Rattle.files.proofs.content.add_block.Tie as tie
-use Rattle.files.proofs.content.add_block.Reads as reads
-use Rattle.files.proofs.content.add_block.Lts as lts
-use Rattle.files.proofs.content.less_free.Reads as less-free-reads
-use Rattle.files.proofs.content.with_blocks.Reads as with-blocks-reads
-use Rattle.layout.proofs.block.blocks_used.Reads as blocks-used-reads
-use Rattle.layout.proofs.block.zero_block.Reads as zero-block-reads
-use Rattle.layout.proofs.inode.Inode.read.Reads as read-reads
-use Rattle.layout.proofs.inode.Inode.write.Reads as write-reads
 
--- src/content.rt:150:9
+-- the inode has an address left
+few : (c : tie.After-blocks-used) → c .blocks-used .result < 12
+few c = let e = used-is _ _ _ _ (c .before .before .read .ensures) _ (c .blocks-used .ensures) in let p = c .before .before .before .before .before .pre .4 in omega arith
+
 read-requires : tie.Need-read-requires
 read-requires c κs = search needs
 
--- src/content.rt:151:25
 cast-blocks-used : tie.Need-cast-blocks-used
 cast-blocks-used c = search needs
 
--- src/content.rt:151:9
 blocks-used-requires : tie.Need-blocks-used-requires
 blocks-used-requires c κs = search needs
 
--- src/content.rt:153:12
 cast-a : tie.Need-cast-a
 cast-a c = search needs
 
--- src/content.rt:153:5
 mul-a : tie.Need-mul-a
-mul-a c = ?
+mul-a c = let f = few (c .before) in search needs
 
--- src/content.rt:153:5
 array-write-a : tie.Need-array-write-a
-array-write-a c = ?
+array-write-a c = few (c .before)
 
--- src/content.rt:154:5
 zero-block-requires : tie.Need-zero-block-requires
 zero-block-requires c κs = search needs
 
--- src/content.rt:155:37
 add-with-blocks : tie.Need-add-with-blocks
-add-with-blocks c = ?
+add-with-blocks c = let f = few (c .before .before .before .before .before) in search needs
 
--- src/content.rt:155:22
 mul-with-blocks : tie.Need-mul-with-blocks
-mul-with-blocks c = ?
+mul-with-blocks c = let f = few (c .before .before .before .before .before) in search needs
 
--- src/content.rt:155:5
 with-blocks-requires : tie.Need-with-blocks-requires
-with-blocks-requires c κs = ?
+with-blocks-requires c κs = let f = few (c .before .before .before .before .before) in omega arith
 
--- src/content.rt:155:5
 write-requires : tie.Need-write-requires
 write-requires c κs = search needs
 
--- src/content.rt:156:5
 less-free-requires : tie.Need-less-free-requires
-less-free-requires c κs = ?
+less-free-requires c κs =
+    let f = c .before .before .before .before .before .before .before .before .before .before .before .before .before .before .before .before .pre .0 in
+    let h = add-header _ _ _ _ _ _ _ (c .before .before .before .before .before .before .before .before .zero-block .ensures) (c .before .before .before .write .ensures) (f .low) (f .high) in
+    let a = f .area in
+    (search needs, omega arith, rw h (c .before .before .before .before .before .before .before .before .before .before .before .before .before .before .before .before .pre .5))
 
--- src/content.rt:146:1
 same-length : tie.Need-same-length
 same-length c = search needs
 
--- src/content.rt:146:1
 returns : tie.Need-returns
-returns c = ?
+returns c = add-done _ _ _ _ _ _ _ (c .before .before .before .before .before .before .before .before .before .before .before .zero-block .ensures) (c .before .before .before .before .before .before .write .ensures) _ _ _ (c .before .before .before .before .before .before .before .before .before .before .before .before .before .before .before .before .read .ensures) (c .before .before .before .before .before .before .before .before .before .before .before .before .before .before .blocks-used .ensures) (c .before .before .before .before .before .before .before .before .with-blocks .ensures) (c .before .before .less-free .ensures)
 
 pub add-block-spec : {M : Type 1} → statement M
 add-block-spec =

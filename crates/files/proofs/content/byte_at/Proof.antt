@@ -1,5 +1,5 @@
-use Rattle.files.specs.Fits.{byteAt}
 use native.Mathlib.Omega.{arith}
+use Rattle.files.specs.Fits.{byteAt}
 use borrow.Author.Needs.{needs}
 use Rattle.files.proofs.content.byte_at.Statement.{statement}
 use Rattle.files.proofs.content.byte_at.Tie as tie

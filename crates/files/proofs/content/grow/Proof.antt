@@ -1,105 +1,113 @@
+use Prim.Native.Nat.{_-_, _≤_, _+_}
+use mathlib.Core.Path.{_≡_, sym, ap, _∙_}
+use native.Mathlib.Omega.{arith}
+use denote.Ref.{now}
+use Rattle.bounded.specs.declared.Found.the-variants.{At}
+use Rattle.layout.proofs.ViewLaws.{inode-fits}
+use Rattle.layout.specs.Header.{headerOf}
+use Rattle.layout.specs.Inode.{InodeFits, sizeOf}
+use Rattle.layout.specs.Block.{blocksUsed}
+use Rattle.layout.specs.Free.{freeBlock}
+use Rattle.files.proofs.StoreLaws.{kind-fits, addresses-most}
+use Rattle.files.proofs.RecordLaws.{header-inode, used-is}
+use Rattle.files.proofs.GrowCodeLaws.{Turn, Growing, sized-same, free-range, sound-growing, turn-begin, turn-search, turn-some, turn-more, turn-end}
+use borrow.Author.Needs.{needs}
 use Rattle.files.proofs.content.grow.Statement.{statement}
 use Rattle.files.proofs.content.grow.Tie as tie
-use Rattle.files.proofs.content.grow.Reads as reads
-use Rattle.files.proofs.content.grow.Lts as lts
-use Rattle.files.proofs.content.less_free.Reads as less-free-reads
-use Rattle.files.proofs.content.next_unnamed.Reads as next-unnamed-reads
-use Rattle.files.proofs.content.with_blocks.Reads as with-blocks-reads
-use Rattle.layout.proofs.block.blocks_used.Reads as blocks-used-reads
-use Rattle.layout.proofs.block.zero_block.Reads as zero-block-reads
-use Rattle.layout.proofs.free.named_blocks.Reads as named-blocks-reads
-use Rattle.layout.proofs.inode.Inode.read.Reads as read-reads
-use Rattle.layout.proofs.inode.Inode.write.Reads as write-reads
 
 abbrev Inv-loop : tie.InvT-loop
-Inv-loop s₀ n b i m z old used map a₀ c₀ j₀ s a c j = ?
+Inv-loop s₀ n b i m z old used map a₀ c₀ j₀ s a c j = Turn s₀ n b i m old used s a c j
 
 abbrev μ-loop : tie.MeasureT-loop
-μ-loop s₀ n b i m z old used map a₀ c₀ j₀ s a c j = ?
+μ-loop s₀ n b i m z old used map a₀ c₀ j₀ s a c j = m - j
 
--- src/content.rt:177:9
+-- the inode, and the blocks that it uses then
+fits : (c : tie.Start Inv-loop μ-loop) → InodeFits (now (c .args .s)) (c .args .n) (c .args .i)
+fits c = let p = c .pre .0 in kind-fits _ _ (p .0) (p .1) _ _ (p .3)
+
+grows : (c : tie.Start Inv-loop μ-loop) → let a = c .args in Growing (now (a .s)) (a .n) (a .b) (a .i) (blocksUsed (sizeOf (now (a .s)) (a .i))) (headerOf (now (a .s)) .«free_blocks»)
+grows c = let p = c .pre .0 in sound-growing _ _ _ _ _ (p .0) (p .1) (p .2) (p .3)
+
+few : (c : tie.After-blocks-used Inv-loop μ-loop) → c .blocks-used .result + c .before .before .before .before .before .args .m ≤ 12
+few c = let e = used-is _ _ _ _ (c .before .before .read .ensures) _ (c .blocks-used .ensures) in let p = c .before .before .before .before .before .pre .1 .1 in omega arith
+
+-- the block that a turn takes
+takes : (c : tie.After-next-unnamed Inv-loop μ-loop) → let a = c .before .before .before .before .before .before .before .before .before .before .before .before .args in freeBlock (c .before .before .before .loop .inv .store) (a .n) (a .b) ≡ At (c .next-unnamed .result)
+takes c = sym (turn-search _ _ _ _ _ _ _ _ _ _ _ (c .before .before .before .loop .inv) _ (c .before .before .before .before .before .named-blocks .ensures) (grows (c .before .before .before .before .before .before .before .before .before .before .before .before) .long .blocks)) ∙ c .next-unnamed .ensures
+
+bound : (c : tie.After-next-unnamed Inv-loop μ-loop) → (1 ≤ c .next-unnamed .result) × (c .next-unnamed .result ≤ c .before .before .before .before .before .before .before .before .before .before .before .before .args .b)
+bound c = free-range _ _ _ _ (takes c)
+
 read-requires : tie.Need-read-requires Inv-loop μ-loop
-read-requires c κs = ?
+read-requires c κs = fits (c .before .before)
 
--- src/content.rt:178:28
 cast-blocks-used : tie.Need-cast-blocks-used Inv-loop μ-loop
-cast-blocks-used c = ?
+cast-blocks-used c = search needs
 
--- src/content.rt:178:9
 blocks-used-requires : tie.Need-blocks-used-requires Inv-loop μ-loop
-blocks-used-requires c κs = ?
+blocks-used-requires c κs = search needs
 
--- src/content.rt:179:15
 named-blocks-requires : tie.Need-named-blocks-requires Inv-loop μ-loop
-named-blocks-requires c κs = ?
+named-blocks-requires c κs = let p = c .before .before .before .before .before .before .pre .0 in let f = fits (c .before .before .before .before .before .before) in ((f .few, f .area), addresses-most _ _ (p .0) (p .1))
 
--- src/content.rt:182:5
 loop-holds : tie.Need-loop-holds Inv-loop μ-loop
-loop-holds c = ?
+loop-holds c = turn-begin _ _ _ _ _ _ _ (c .before .before .before .before .before .read .ensures) (c .before .before .before .blocks-used .ensures) (grows (c .before .before .before .before .before .before .before .before))
 
--- src/content.rt:183:32
 add-next-unnamed : tie.Need-add-next-unnamed Inv-loop μ-loop
-add-next-unnamed c = ?
+add-next-unnamed c = let l = c .before .before .loop .inv .last in search needs
 
--- src/content.rt:183:9
 next-unnamed-requires : tie.Need-next-unnamed-requires Inv-loop μ-loop
-next-unnamed-requires c κs = ?
+next-unnamed-requires c κs =
+    let g = grows (c .before .before .before .before .before .before .before .before .before .before .before) .long .blocks in
+    let h = c .before .before .loop .inv in
+    (g, λ e. turn-some _ _ _ _ _ _ _ _ _ _ _ h (omega arith) (c .before .before .before .before .before .before .before .before .before .before .before .pre .1 .2) (sym (turn-search _ _ _ _ _ _ _ _ _ _ _ h _ (c .before .before .before .before .named-blocks .ensures) g) ∙ e))
 
--- src/content.rt:184:9
 zero-block-requires : tie.Need-zero-block-requires Inv-loop μ-loop
-zero-block-requires c κs = ?
+zero-block-requires c κs = let r = bound (c .before) in (sized-same _ _ _ _ (c .before .before .before .before .loop .inv .same) (grows (c .before .before .before .before .before .before .before .before .before .before .before .before .before) .long), r .0, r .1)
 
--- src/content.rt:185:23
 cast-a : tie.Need-cast-a Inv-loop μ-loop
-cast-a c = ?
+cast-a c = let r = bound (c .before .before .before .before) .1 in let g = grows (c .before .before .before .before .before .before .before .before .before .before .before .before .before .before .before .before) .long .blocks in search needs
 
--- src/content.rt:185:11
 add-a : tie.Need-add-a Inv-loop μ-loop
-add-a c = ?
+add-a c = let f = few (c .before .before .before .before .before .before .before .before .before .before .before) in search needs
 
--- src/content.rt:185:9
 mul-a : tie.Need-mul-a Inv-loop μ-loop
-mul-a c = ?
+mul-a c = let f = few (c .before .before .before .before .before .before .before .before .before .before .before) in search needs
 
--- src/content.rt:185:9
 array-write-a : tie.Need-array-write-a Inv-loop μ-loop
-array-write-a c = ?
+array-write-a c = let f = few (c .before .before .before .before .before .before .before .before .before .before .before) in omega arith
 
--- src/content.rt:182:9
 add-j : tie.Need-add-j Inv-loop μ-loop
-add-j c = ?
+add-j c = search needs
 
--- src/content.rt:182:5
 loop-less : tie.Need-loop-less Inv-loop μ-loop
-loop-less c = ?
+loop-less c = search needs
 
--- src/content.rt:182:5
 loop-again : tie.Need-loop-again Inv-loop μ-loop
-loop-again c = ?
+loop-again c = rw (c .before .before .zero-block .ensures) (turn-more _ _ _ _ _ _ _ _ _ _ _ (c .before .before .before .before .before .before .before .loop .inv) _ (takes (c .before .before .before .before)) (fits (c .before .before .before .before .before .before .before .before .before .before .before .before .before .before .before .before)) (omega arith) (few (c .before .before .before .before .before .before .before .before .before .before .before)))
 
--- src/content.rt:187:5
 with-blocks-requires : tie.Need-with-blocks-requires Inv-loop μ-loop
-with-blocks-requires c κs = ?
+with-blocks-requires c κs = c .before .before .before .before .before .before .before .before .before .before .pre .1 .3
 
--- src/content.rt:187:5
 write-requires : tie.Need-write-requires Inv-loop μ-loop
-write-requires c κs = ?
+write-requires c κs = inode-fits _ _ _ _ (c .before .before .before .loop .inv .same) (fits (c .before .before .before .before .before .before .before .before .before .before .before .before))
 
--- src/content.rt:188:27
 cast-less-free : tie.Need-cast-less-free Inv-loop μ-loop
-cast-less-free c = ?
+cast-less-free c = let f = few (c .before .before .before .before .before .before .before .before .before .before .before) in search needs
 
--- src/content.rt:188:5
 less-free-requires : tie.Need-less-free-requires Inv-loop μ-loop
-less-free-requires c κs = ?
+less-free-requires c κs =
+    let f = fits (c .before .before .before .before .before .before .before .before .before .before .before .before .before .before .before .before) in
+    let h = ap headerOf (c .before .before .before .write .ensures) ∙ header-inode _ _ _ (f .low) (f .high) _ ∙ c .before .before .before .before .before .before .before .loop .inv .header in
+    let l = c .before .before .before .before .before .before .before .loop .inv .same in
+    let a = f .area in
+    (search needs, omega arith, rw h (c .before .before .before .before .before .before .before .before .before .before .before .before .before .before .before .before .pre .1 .2))
 
--- src/content.rt:172:1
 same-length : tie.Need-same-length Inv-loop μ-loop
-same-length c = ?
+same-length c = search needs
 
--- src/content.rt:172:1
 returns : tie.Need-returns Inv-loop μ-loop
-returns c = ?
+returns c = turn-end _ _ _ _ _ _ _ _ _ _ _ (c .before .before .before .before .before .before .before .before .before .before .loop .inv) _ _ _ _ (fits (c .before .before .before .before .before .before .before .before .before .before .before .before .before .before .before .before .before .before .before)) (c .before .before .before .before .before .before .before .before .before .before .before .before .before .before .before .before .before .before .before .pre .1 .0) (let q = c .before .before .before .before .before .before .before .before .before .before .loop .inv .count in omega arith) (c .before .before .before .before .before .before .before .before .with-blocks .ensures) (c .before .before .before .before .before .before .write .ensures) (c .before .before .less-free .ensures)
 
 pub grow-spec : {M : Type 1} → statement M
 grow-spec =

@@ -1,34 +1,24 @@
-use Rattle.files.specs.Inode.{moreFree}
 use mathlib.Core.Path.{_∙_}
+use Rattle.files.specs.Inode.{moreFree}
 use borrow.Author.Needs.{needs}
 use Rattle.files.proofs.content.more_free.Statement.{statement}
 use Rattle.files.proofs.content.more_free.Tie as tie
-use Rattle.files.proofs.content.more_free.Reads as reads
-use Rattle.files.proofs.content.more_free.Lts as lts
-use Rattle.layout.proofs.header.Header.read.Reads as read-reads
-use Rattle.layout.proofs.header.put_free.Reads as put-free-reads
 
--- src/content.rt:80:9
 read-requires : tie.Need-read-requires
 read-requires c κs = search needs
 
--- src/content.rt:81:23
 add-put-free : tie.Need-add-put-free
 add-put-free c = let l = c .before .before .before .before .before .pre .1 in rw (c .before .before .read .ensures) (search needs)
 
--- src/content.rt:81:47
 add-put-free-2 : tie.Need-add-put-free-2
 add-put-free-2 c = let l = c .before .before .before .before .before .before .pre .2 in rw (c .before .before .before .read .ensures) (search needs)
 
--- src/content.rt:81:5
 put-free-requires : tie.Need-put-free-requires
 put-free-requires c κs = search needs
 
--- src/content.rt:76:1
 same-length : tie.Need-same-length
 same-length c = search needs
 
--- src/content.rt:76:1
 returns : tie.Need-returns
 unfolding moreFree
 returns c = c .before .before .put-free .ensures ∙ rw (c .before .before .before .before .before .before .read .ensures)

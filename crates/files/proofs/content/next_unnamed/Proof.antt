@@ -1,17 +1,15 @@
-use Rattle.files.proofs.GrowCodeLaws.{search-left}
-use Rattle.bounded.proofs.SearchLaws.{first-turn, first-found}
-use Rattle.bounded.specs.Search.{firstFrom}
+use Prim.Native.Nat.{_-_, _+_, _≤_}
+use mathlib.Core.Path.{_≡_, refl, _∙_}
+use native.Mathlib.Omega.{arith}
+use borrow.Author.Tests.{eq-eqb, ne-eqb}
 use lib.ListN.{getD}
 use lib.Dec.{eqb}
-use borrow.Author.Tests.{eq-eqb, ne-eqb}
-use mathlib.Core.Path.{_≡_, refl, sym, _∙_}
+use Rattle.bounded.proofs.SearchLaws.{first-turn, first-found}
+use Rattle.bounded.specs.Search.{firstFrom}
+use Rattle.files.proofs.GrowCodeLaws.{search-left}
 use borrow.Author.Needs.{needs}
-use native.Mathlib.Omega.{arith}
-use Prim.Native.Nat.{_-_, _+_, _≤_}
 use Rattle.files.proofs.content.next_unnamed.Statement.{statement}
 use Rattle.files.proofs.content.next_unnamed.Tie as tie
-use Rattle.files.proofs.content.next_unnamed.Reads as reads
-use Rattle.files.proofs.content.next_unnamed.Lts as lts
 
 abbrev Inv-loop : tie.InvT-loop
 Inv-loop map first last c₀ c = (c ≤ last) × (firstFrom (λ d. eqb (getD map d 0) 0) first (last + 1 - first) ≡ firstFrom (λ d. eqb (getD map d 0) 0) c (last + 1 - c))
@@ -19,30 +17,24 @@ Inv-loop map first last c₀ c = (c ≤ last) × (firstFrom (λ d. eqb (getD map
 abbrev μ-loop : tie.MeasureT-loop
 μ-loop map first last c₀ c = last + 1 - c
 
--- src/content.rt:165:5
 loop-holds : tie.Need-loop-holds Inv-loop μ-loop
 loop-holds c = (search-left _ _ _ (c .pre .1), refl)
 
--- src/content.rt:165:11
 element-copy-out-if1 : tie.Need-element-copy-out-if1 Inv-loop μ-loop
 element-copy-out-if1 c = omega arith
 
--- src/content.rt:166:13
 add-c : tie.Need-add-c Inv-loop μ-loop
 add-c c = search needs
 
--- src/content.rt:165:5
 loop-less : tie.Need-loop-less Inv-loop μ-loop
 loop-less c = search needs
 
--- src/content.rt:165:5
 loop-again : tie.Need-loop-again Inv-loop μ-loop
-loop-again c = 
+loop-again c =
     let i = c .before .before .loop in
     let e = i .inv .1 ∙ first-turn _ (i .c) _ (omega arith) (ne-eqb _ 0 (c .if1 .taken)) in
     (search-left _ _ _ (λ z. c .before .before .before .pre .1 (e ∙ z)), e)
 
--- src/content.rt:160:1
 returns : tie.Need-returns Inv-loop μ-loop
 returns c = let i = c .before .before .loop in i .inv .1 ∙ first-found _ (i .c) _ (omega arith) (eq-eqb _ 0 (c .if1 .left))
 

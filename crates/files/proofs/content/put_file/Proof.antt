@@ -1,15 +1,15 @@
+use Prim.Native.Nat.{_+_, _-_, _≤_}
+use mathlib.Core.Path.{_≡_, refl, ap, _∙_}
+use native.Mathlib.Omega.{arith}
+use denote.Ref.{now}
+use lib.ListN.{length}
 use Rattle.octets.proofs.PartLaws.{length-copied}
-use Rattle.files.proofs.ReadLaws.{byte-block, byte-inside}
-use Rattle.files.proofs.PutLaws.{put-begin, put-turn, put-end, fits-copied}
+use Rattle.octets.specs.Octets.{part}
 use Rattle.files.specs.Content.{putFile}
 use Rattle.files.specs.Fits.{FileFits}
-use Rattle.octets.specs.Octets.{part}
-use denote.Ref.{now}
+use Rattle.files.proofs.ReadLaws.{byte-block, byte-inside}
+use Rattle.files.proofs.PutLaws.{put-begin, put-turn, put-end, fits-copied}
 use borrow.Author.Needs.{needs}
-use lib.ListN.{length}
-use native.Mathlib.Omega.{arith}
-use mathlib.Core.Path.{_≡_, refl, ap, _∙_}
-use Prim.Native.Nat.{_+_, _-_, _≤_}
 use Rattle.files.proofs.content.put_file.Statement.{statement}
 use Rattle.files.proofs.content.put_file.Tie as tie
 
@@ -38,7 +38,7 @@ byte-at-requires : tie.Need-byte-at-requires Inv-loop μ-loop
 byte-at-requires c κs = let j = c .before .before .before .loop in let f = j .inv .3 in let m = f .most in (f .inode, omega arith, byte-block _ _ _ _ f _ (omega arith))
 
 copy-range-requires : tie.Need-copy-range-requires Inv-loop μ-loop
-copy-range-requires c κs = 
+copy-range-requires c κs =
     let a = c .before .before .before .before .before .before .before .before .args in
     let e = c .before .byte-at .ensures in
     let r = c .before .before .before .run .ensures in
@@ -52,7 +52,7 @@ loop-less : tie.Need-loop-less Inv-loop μ-loop
 loop-less c = let r = c .before .before .before .before .before .before .run .ensures in search needs
 
 loop-again : tie.Need-loop-again Inv-loop μ-loop
-loop-again c = 
+loop-again c =
     let a = c .before .before .before .before .before .before .before .before .before .before .before .args in
     let j = c .before .before .before .before .before .before .before .before .loop in
     let r = c .before .before .before .before .before .before .run .ensures in
@@ -60,10 +60,12 @@ loop-again c =
     let p = c .before .before .before .before .before .before .before .before .before .before .before .pre in
     let m = p .most in
     let q = c .before .before .copy-range .ensures in
-    let w = fits-copied (j .s) (a .n) (a .i) (a .o + length (now (a .xs))) (a .o + j .j) (now (a .xs)) (j .j) (c .before .before .before .before .before .before .run .result) (j .inv .3) in
-    (omega arith, q ∙ rw (e, j .inv .1) (put-turn _ _ (p .inode .low) (p .inode .high) _ _ _ _ _ (omega arith) (omega arith) (omega arith)),
-    ap length q ∙ length-copied _ _ _ _ _ ∙ j .inv .2,
-    rw (q, e) w)
+    let w = fits-copied (j .s) (a .n) (a .i) (a .o + length (now (a .xs))) (a .o + j .j) (now (a .xs)) (j .j) (c .before .before .before .before .before .before .run .result) (j .inv .3) in (
+      omega arith,
+      q ∙ rw (e, j .inv .1) (put-turn _ _ (p .inode .low) (p .inode .high) _ _ _ _ _ (omega arith) (omega arith) (omega arith)),
+      ap length q ∙ length-copied _ _ _ _ _ ∙ j .inv .2,
+      rw (q, e) w,
+    )
 
 same-length : tie.Need-same-length Inv-loop μ-loop
 same-length c = c .before .loop .inv .2

@@ -1,15 +1,14 @@
-use Rattle.octets.proofs.PartLaws.{length-copied}
-use Prim.Native.Nat.{ℕ, _+_}
-use denote.Ref.{now}
-use Rattle.files.specs.Fits.{FileFits}
-use Rattle.files.proofs.ReadLaws.{file-fits, byte-block, byte-inside, read-begin, read-turn}
-use Rattle.files.specs.Content.{fileBytes}
-use Rattle.octets.specs.Octets.{splice}
-use borrow.Author.Needs.{needs}
-use lib.ListN.{length}
-use native.Mathlib.Omega.{arith}
+use Prim.Native.Nat.{ℕ, _+_, _≤_, _-_}
 use mathlib.Core.Path.{_≡_, refl, ap, _∙_}
-use Prim.Native.Nat.{_≤_, _-_}
+use native.Mathlib.Omega.{arith}
+use denote.Ref.{now}
+use lib.ListN.{length}
+use Rattle.octets.proofs.PartLaws.{length-copied}
+use Rattle.octets.specs.Octets.{splice}
+use Rattle.files.specs.Fits.{FileFits}
+use Rattle.files.specs.Content.{fileBytes}
+use Rattle.files.proofs.ReadLaws.{file-fits, byte-block, byte-inside, read-begin, read-turn}
+use borrow.Author.Needs.{needs}
 use Rattle.files.proofs.content.read_file.Statement.{statement}
 use Rattle.files.proofs.content.read_file.Tie as tie
 
@@ -42,7 +41,7 @@ byte-at-requires : tie.Need-byte-at-requires Inv-loop μ-loop
 byte-at-requires c κs = let f = fits (c .before .before .before .before .before .before) in let j = c .before .before .before .loop in let m = f .most in (f .inode, omega arith, byte-block _ _ _ _ f _ (omega arith))
 
 copy-range-requires : tie.Need-copy-range-requires Inv-loop μ-loop
-copy-range-requires c κs = 
+copy-range-requires c κs =
     let a = c .before .before .before .before .before .before .before .args in
     let e = c .byte-at .ensures in
     let r = c .before .before .run .ensures in
@@ -57,7 +56,7 @@ loop-less : tie.Need-loop-less Inv-loop μ-loop
 loop-less c = let r = c .before .before .before .before .before .run .ensures in search needs
 
 loop-again : tie.Need-loop-again Inv-loop μ-loop
-loop-again c = 
+loop-again c =
     let a = c .before .before .before .before .before .before .before .before .before .before .args in
     let j = c .before .before .before .before .before .before .before .loop in
     let m = c .before .before .before .before .before .run .result in
@@ -70,7 +69,7 @@ same-length : tie.Need-same-length Inv-loop μ-loop
 same-length c = c .before .loop .inv .2
 
 returns : tie.Need-returns Inv-loop μ-loop
-returns c = 
+returns c =
     let a = c .before .before .before .before .args in
     let e : c .before .loop .j ≡ a .k = omega arith in
     c .before .loop .inv .1 ∙ ap (λ (k : ℕ). splice (now (a .out)) 0 (fileBytes (now (a .s)) (a .n) (a .i) (a .o) k)) e

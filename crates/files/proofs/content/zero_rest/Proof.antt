@@ -1,36 +1,26 @@
-use Rattle.files.proofs.CutLaws.{rest-none, rest-some}
-use Rattle.files.proofs.ReadLaws.{edge-block, edge-inside}
-use native.Mathlib.Omega.{arith}
 use mathlib.Core.Path.{_∙_}
+use native.Mathlib.Omega.{arith}
+use Rattle.files.proofs.ReadLaws.{edge-block, edge-inside}
+use Rattle.files.proofs.CutLaws.{rest-none, rest-some}
 use borrow.Author.Needs.{needs}
 use Rattle.files.proofs.content.zero_rest.Statement.{statement}
 use Rattle.files.proofs.content.zero_rest.Tie as tie
-use Rattle.files.proofs.content.zero_rest.Reads as reads
-use Rattle.files.proofs.content.zero_rest.Lts as lts
-use Rattle.files.proofs.content.byte_at.Reads as byte-at-reads
-use Rattle.octets.proofs.zero_range.Reads as zero-range-reads
 
--- src/content.rt:113:9
 returns : tie.Need-returns
 returns c = rest-none _ _ _ _ (c .if1 .taken)
 
--- src/content.rt:115:9
 byte-at-requires : tie.Need-byte-at-requires
 byte-at-requires c κs = let f = c .before .before .before .pre in let m = f .most in let h = c .before .if1 .left in (f .inode, omega arith, edge-block _ _ _ _ f h)
 
--- src/content.rt:116:36
 sub-zero-range : tie.Need-sub-zero-range
 sub-zero-range c = search needs
 
--- src/content.rt:116:5
 zero-range-requires : tie.Need-zero-range-requires
 zero-range-requires c κs = rw (c .before .byte-at .ensures) (edge-inside _ _ _ _ (c .before .before .before .before .before .pre) (c .before .before .before .if1 .left))
 
--- src/content.rt:107:1
 same-length : tie.Need-same-length
 same-length c = search needs
 
--- src/content.rt:107:1
 returns-2 : tie.Need-returns-2
 returns-2 c = c .before .before .zero-range .ensures ∙ rw (c .before .before .before .before .byte-at .ensures) (rest-some _ _ _ _ (c .before .before .before .before .before .before .if1 .left))
 
