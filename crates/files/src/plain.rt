@@ -216,7 +216,7 @@ fn renamed(s: &mut [u8], n: usize, b: usize, d: usize, name: &[u8], e: usize, ot
 }
 
 pub fn rename(store: &mut [u8], dir: usize, name: &[u8], to_dir: usize, to_name: &[u8]) -> Answer
-    ensures { λ r. ⌜ shown (left r (now (store .exit)) []) ≡ shown (plainRename (now (store .entry)) dir (now (name .entry)) to_dir (now (to_name .entry))) ⌝ }
+    ensures { λ r. ⌜ shown (left r (now (store .exit)) []) ≡ shown (plainRename (now (store .entry)) dir (now (name .entry)) «to_dir» (now («to_name» .entry))) ⌝ }
 {
     match guard(store) {
         Guard::Pass(n, b) => renamed(&mut *store, n, b, dir, name, to_dir, to_name),

@@ -1,0 +1,48 @@
+use Rattle.files.proofs.CallLaws.{passed, call-through, call-stopped}
+use Rattle.files.specs.Plain.{doRename, plainRename}
+use Rattle.files.specs.Plan.{renamePlan}
+use denote.Ref.{now}
+use mathlib.Core.Path.{sym, _∙_}
+use Prim.Native.Nat.{ℕ}
+use borrow.Author.Needs.{needs}
+use Rattle.files.proofs.plain.rename.Statement.{statement}
+use Rattle.files.proofs.plain.rename.Tie as tie
+
+guard-requires : tie.Need-guard-requires
+guard-requires c κs = search needs
+
+enum-known-n : tie.Need-enum-known-n
+enum-known-n c = search needs
+
+renamed-requires : tie.Need-renamed-requires
+renamed-requires c κs = let p = passed _ _ _ (sym (c .before .before .before .before .guard .ensures) ∙ c .before .before .n .given .1) in (p .sound, p .inodes, p .blocks)
+
+enum-known-why : tie.Need-enum-known-why
+enum-known-why c = search needs
+
+same-length : tie.Need-same-length
+same-length c = search needs
+
+returns : tie.Need-returns
+unfolding plainRename
+returns c = let a = c .before .before .before .before .before .before .before .before .before .before .before .before .args in call-through _ _ _ (c .before .before .before .before .before .before .before .guard .ensures) _ _ (λ (n b : ℕ). doRename (now (a .store)) n (a .dir) (a .to-dir) (now (a .to-name)) (renamePlan (now (a .store)) n b (a .dir) (now (a .name)) (a .to-dir) (now (a .to-name)))) _ (c .before .before .before .before .before .n .given .1) (c .before .before .renamed .ensures)
+
+same-length-2 : tie.Need-same-length-2
+same-length-2 c = search needs
+
+returns-2 : tie.Need-returns-2
+unfolding plainRename
+returns-2 c = call-stopped _ _ _ (c .before .before .before .guard .ensures) _ _ (c .before .why .given .1)
+
+pub rename-spec : {M : Type 1} → statement M
+rename-spec =
+    tie.close
+    (tie.spec
+    guard-requires
+    enum-known-n
+    renamed-requires
+    enum-known-why
+    same-length
+    returns
+    same-length-2
+    returns-2)
