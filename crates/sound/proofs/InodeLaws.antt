@@ -16,6 +16,8 @@ use Rattle.bounded.proofs.BelowLaws.{all-at, all-of, all-ext, all-split, all-ch
 use Rattle.bounded.proofs.CountLaws.{count-none, count-pos, new-zero}
 use Rattle.bounded.proofs.SeenLaws.{seen-more, seen-not, seen-some}
 use Rattle.bounded.proofs.ReflectLaws.{r-eq, r-le, r-lt, r-and, r-imp, r-fails, r-says, reflects-ext}
+use Rattle.octets.specs.Octets.{numAt}
+use Rattle.octets.proofs.NumLaws.{num-zero, zero-num}
 use Rattle.octets.proofs.PartLaws.{getD-part}
 use Rattle.layout.specs.Sizes.{addressCount, blockBytes, mostFileBytes, mostImageBlocks}
 use Rattle.layout.specs.Inode.{kindOf, spareOf, linksOf, sizeOf, parentOf, addressOf, place, freeKind, fileKind, directoryKind}
@@ -198,6 +200,34 @@ inodes-are s n b =
     ∙ sym (all-chunk (newAt (addressOf s n)) addressCount n))
 
 -- ---- zero bytes
+abbrev zeroAt : List ℕ → ℕ → ℕ → Bool
+zeroAt s o j = eqb (getD s (o + j) 0) 0
+
+from-start : (s : List ℕ) (o a j : ℕ) → zeroAt s (o + a) j ≡ zeroAt s o (a + j)
+from-start s o a j = let e : o + a + j ≡ o + (a + j) = omega arith in ap (λ (x : ℕ). eqb (getD s x 0) 0) e
+
+-- a word of eight bytes, and m of them
+word-zero : (s : List ℕ) (o : ℕ) → eqb (numAt 8 s o) 0 ≡ allBelow (zeroAt s o) 8
+word-zero s o =
+    same-test (eqb (numAt 8 s o) 0) (allBelow (zeroAt s o) 8)
+    (λ t. all-of (zeroAt s o) 8 (λ j l. eq-eqb (getD s (o + j) 0) 0 (num-zero 8 s o (eqb-true (numAt 8 s o) 0 t) j l)))
+    (λ t. eq-eqb (numAt 8 s o) 0 (zero-num 8 s o (λ j l. eqb-true (getD s (o + j) 0) 0 (all-at (zeroAt s o) 8 t j l))))
+
+pub words-are : (s : List ℕ) (o m : ℕ) → allBelow (λ j. eqb (numAt 8 s (o + 8 * j)) 0) m ≡ allBelow (λ j. eqb (getD s (o + j) 0) 0) (8 * m)
+words-are s o m =
+    all-ext (λ j. eqb (numAt 8 s (o + 8 * j)) 0) (λ j. allBelow (λ k. zeroAt s o (8 * j + k)) 8) m
+    (λ j l. word-zero s (o + 8 * j) ∙ all-ext (zeroAt s (o + 8 * j)) (λ k. zeroAt s o (8 * j + k)) 8 (λ k h. from-start s o (8 * j) k))
+    ∙ sym (all-chunk (zeroAt s o) 8 m)
+
+-- k bytes are the words and what is left
+pub bytes-are : (s : List ℕ) (o k : ℕ) →
+    allBelow (λ j. eqb (getD s (o + j) 0) 0) k ≡ allBelow (λ j. eqb (getD s (o + j) 0) 0) (8 * (k / 8)) && allBelow (λ j. eqb (getD s (o + 8 * (k / 8) + j) 0) 0) (k % 8)
+bytes-are s o k =
+    let e : k ≡ 8 * (k / 8) + k % 8 = omega arith in
+    ap (allBelow (zeroAt s o)) e ∙ all-split (zeroAt s o) (8 * (k / 8)) (k % 8)
+    ∙ ap (λ (x : Bool). allBelow (zeroAt s o) (8 * (k / 8)) && x)
+    (all-ext (λ j. zeroAt s o (8 * (k / 8) + j)) (zeroAt s (o + 8 * (k / 8))) (k % 8) (λ j h. sym (from-start s o (8 * (k / 8)) j)))
+
 -- a range inside of a block, from byte o of it on
 block-byte : (s : List ℕ) (n c o : ℕ) → o < 64 → getD (blockOf s n c) o 0 ≡ getD s (blockAt n c + o) 0
 unfolding blockOf

@@ -99,8 +99,21 @@ fn addresses_right(s: &[u8], n: usize, b: usize, i: usize, map: &mut [u8]) -> bo
     true
 }
 
+// The m words of eight bytes from o on are 0.
+fn words_zero(s: &[u8], o: usize, m: usize) -> bool
+    requires { ⌜ o + 8 * m ≤ length (now s) ⌝ }
+    ensures { λ r. ⌜ r ≡ allBelow (λ j. eqb (getD (now (s .entry)) (o + j) 0) 0) (8 * m) ⌝ }
+{
+    for j in 0..m {
+        if octets::get_64(s, o + 8 * j) != 0 {
+            return false;
+        }
+    }
+    true
+}
+
 // The k bytes from o on are 0.
-pub fn all_zero(s: &[u8], o: usize, k: usize) -> bool
+fn bytes_zero(s: &[u8], o: usize, k: usize) -> bool
     requires { ⌜ o + k ≤ length (now s) ⌝ }
     ensures { λ r. ⌜ r ≡ allBelow (λ j. eqb (getD (now (s .entry)) (o + j) 0) 0) k ⌝ }
 {
@@ -110,6 +123,17 @@ pub fn all_zero(s: &[u8], o: usize, k: usize) -> bool
         }
     }
     true
+}
+
+// The same by words, and the bytes that are left by themselves.
+pub fn all_zero(s: &[u8], o: usize, k: usize) -> bool
+    requires { ⌜ o + k ≤ length (now s) ⌝ }
+    ensures { λ r. ⌜ r ≡ allBelow (λ j. eqb (getD (now (s .entry)) (o + j) 0) 0) k ⌝ }
+{
+    if !words_zero(s, o, k / 8) {
+        return false;
+    }
+    bytes_zero(s, o + 8 * (k / 8), k % 8)
 }
 
 // The bytes of a file past its size in its last block.

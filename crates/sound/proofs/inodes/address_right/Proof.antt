@@ -41,7 +41,7 @@ slice-read-if4 c = omega (arith, c .before .before .before .before .before .befo
 returns-4 : tie.Need-returns-4
 returns-4 c =
     let p = c .before .before .before .before .before .before .before .before .pre in (
-      address-again _ _ _ _ _ _ _ (p .0 .2) (c .before .before .before .before .before .kth-block .ensures) _ (p .1) (omega arith) (omega arith) (c .if4 .taken),
+      address-again _ _ _ _ _ _ _ (p .0 .2) (c .before .before .before .before .before .kth-block .ensures) _ (p .1) (omega arith) (omega arith) (λ z. omega (arith, z, c .if4 .taken)),
       never,
     )
 
@@ -55,7 +55,7 @@ returns-5 : tie.Need-returns-5
 returns-5 c =
     let p = c .before .before .before .before .before .before .before .before .pre in
     let e = c .before .before .before .before .before .kth-block .ensures in (
-      address-new _ _ _ _ _ _ _ (p .0 .2) e _ (p .1) (omega arith) (omega arith) (omega arith) (omega arith) (c .if4 .left),
+      address-new _ _ _ _ _ _ _ (p .0 .2) e _ (p .1) (omega arith) (omega arith) (omega arith) (omega arith) (omega (arith, c .if4 .left)),
       λ q. address-noted _ _ _ _ _ _ e (omega arith) (p .1),
     )
 
