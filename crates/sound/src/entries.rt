@@ -125,7 +125,7 @@ fn block_right(
     true
 }
 
-// All places of inode d, which may be no directory. What low and high hold comes from the directory before it.
+// All places of inode d, which may be no directory. In low and high may stand what another directory left.
 fn directory_right(
     s: &[u8],
     n: usize,

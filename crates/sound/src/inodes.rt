@@ -53,7 +53,7 @@ fn attributes_right(s: &[u8], n: usize, i: usize) -> bool
     size % BLOCK_BYTES == 0
 }
 
-// Address k of inode i, of which the first `used` count: one of b blocks, which no address before it names; the others are 0. Noted in the map.
+// Address k of inode i: one of b blocks, which no address before it names, or 0 from `used` on. It is noted in the map, 0 as well.
 fn address_right(
     s: &[u8],
     n: usize,
@@ -112,7 +112,7 @@ fn words_zero(s: &[u8], o: usize, m: usize) -> bool
     true
 }
 
-// The k bytes from o on are 0.
+// The k bytes from o on are 0, one by one.
 fn bytes_zero(s: &[u8], o: usize, k: usize) -> bool
     requires { ⌜ o + k ≤ length (now s) ⌝ }
     ensures { λ r. ⌜ r ≡ allBelow (λ j. eqb (getD (now (s .entry)) (o + j) 0) 0) k ⌝ }
@@ -125,7 +125,7 @@ fn bytes_zero(s: &[u8], o: usize, k: usize) -> bool
     true
 }
 
-// The same by words, and the bytes that are left by themselves.
+// The k bytes from o on are 0: as words, then those that are left.
 pub fn all_zero(s: &[u8], o: usize, k: usize) -> bool
     requires { ⌜ o + k ≤ length (now s) ⌝ }
     ensures { λ r. ⌜ r ≡ allBelow (λ j. eqb (getD (now (s .entry)) (o + j) 0) 0) k ⌝ }
