@@ -1,28 +1,31 @@
 -- What the check of the inodes finds at each step, said of the definitions. n and b are the counts of inodes and blocks.
 use Prim.Native.Nat.{ℕ, _+_, _*_, _-_, _/_, _%_, _≤_, _<_}
 use mathlib.Core.Path.{_≡_, refl, sym, ap, ap₂, _∙_, subst}
-use mathlib.Core.Bool.{Bool, true, false, not, _&&_, _||_}
+use mathlib.Core.Bool.{Bool, true, false, not, _&&_, _||_, and-true as and-unit}
 use mathlib.Core.List.{List}
 use native.Mathlib.Omega.{arith}
-use borrow.Author.Tests.{eq-eqb, ne-eqb, le-leb, lt-leb}
+use borrow.Author.Tests.{eq-eqb, ne-eqb, eqb-true, le-leb, lt-leb}
 use lib.Dec.{eqb, leb}
-use lib.ListN.{getD}
+use lib.ListN.{getD, set}
 use Rattle.bounded.specs.Below.{allBelow}
-use Rattle.bounded.specs.Count.{count, newAt, tally}
+use Rattle.bounded.specs.Count.{count, newAt, tally, differB}
 use Rattle.bounded.specs.Seen.{Seen}
 use Rattle.bounded.specs.Reflect.{Reflects}
-use Rattle.bounded.proofs.BoolLaws.{or-l, or-r}
-use Rattle.bounded.proofs.BelowLaws.{all-at, all-of, all-ext, all-split, some-at, some-none}
-use Rattle.bounded.proofs.CountLaws.{count-none, count-pos}
-use Rattle.bounded.proofs.SeenLaws.{seen-not, seen-some}
+use Rattle.bounded.proofs.BoolLaws.{clash, fails, same-test, chain-stop, chain-on, chain-off, and-true, and-left, and-right, and-false-l, and-false-r, or-l, or-r}
+use Rattle.bounded.proofs.BelowLaws.{all-at, all-of, all-ext, all-split, all-chunk, some-at, some-none}
+use Rattle.bounded.proofs.CountLaws.{count-none, count-pos, new-zero}
+use Rattle.bounded.proofs.SeenLaws.{seen-more, seen-not, seen-some}
 use Rattle.bounded.proofs.ReflectLaws.{r-eq, r-le, r-lt, r-and, r-imp, r-fails, r-says, reflects-ext}
+use Rattle.octets.specs.Octets.{numAt}
+use Rattle.octets.proofs.NumLaws.{num-zero, zero-num}
 use Rattle.octets.proofs.PartLaws.{getD-part}
 use Rattle.layout.specs.Sizes.{addressCount, blockBytes, mostFileBytes, mostImageBlocks}
-use Rattle.layout.specs.Inode.{kindOf, spareOf, linksOf, sizeOf, parentOf, addressOf, freeKind, fileKind, directoryKind}
+use Rattle.layout.specs.Inode.{kindOf, spareOf, linksOf, sizeOf, parentOf, addressOf, place, freeKind, fileKind, directoryKind}
 use Rattle.layout.specs.Block.{blockAt, blockOf, blocksUsed, kthBlock}
 use Rattle.layout.specs.Free.{named}
 use Rattle.sound.proofs.SoundLaws.{attributes}
-use Rattle.sound.specs.Inode.{tailByte, usedB, restB, tailB, attributesB, addressesB, zeroTailB}
+use Rattle.sound.specs.Inode.{tailByte, usedB, restB, tailB, attributesB, addressesB, zeroTailB, inodeB}
+use Rattle.sound.specs.Pass.{newBlockB, newBlocksB, addressB}
 use Rattle.sound.specs.Sound.{unnamedB, zeroBlockB}
 
 -- a count that begins
@@ -73,6 +76,20 @@ module _ (s : List ℕ) (i : ℕ) where
   attr-small : attributesB s i ≡ true → sizeOf s i ≤ mostFileBytes
   attr-small h = (attributes s i) .to h .1 .1 .1 .0
 
+-- ---- values noted in a list: is the value a of f at m new
+module _ (f : ℕ → ℕ) (n m a : ℕ) (l : List ℕ) (e : a ≡ f m) (h : a < n) (s : Seen f n m l) where
+  new-noted : getD l a 0 ≡ 0 → newAt f m ≡ true
+  new-noted z =
+      or-r (eqb (f m) 0) (eqb (tally f m (f m)) 0)
+      (eq-eqb (tally f m (f m)) 0 (ap (tally f m) (sym e) ∙ count-none (λ k. eqb (f k) a) m (some-none (λ k. eqb (f k) a) m (seen-not f n m a l s h z))))
+
+  again-noted : (getD l a 0 ≡ 0 → ⊥) → (a ≡ 0 → ⊥) → newAt f m ≡ false
+  again-noted z g =
+      let r = some-at (λ k. eqb (f k) a) m (seen-some f n m a l s h z) in
+      let u : 0 < tally f m a = count-pos (λ k. eqb (f k) a) m (r .0) (r .1) (r .2) in
+      let v : 0 < tally f m (f m) = subst (λ (x : ℕ). 0 < tally f m x) e u in
+      ap₂ _||_ (ne-eqb (f m) 0 (λ q. g (e ∙ q))) (ne-eqb (tally f m (f m)) 0 (omega arith))
+
 -- ---- address k of inode i, of which the size uses u
 module _ (s : List ℕ) (n b i k u a : ℕ) (eu : u ≡ blocksUsed (sizeOf s i)) (ea : a ≡ kthBlock s n i k) where
   address-is : Reflects (usedB s n b i k && restB s n i k) ((k < u → (1 ≤ a) × (a ≤ b)) × (u ≤ k → a ≡ 0))
@@ -82,36 +99,135 @@ module _ (s : List ℕ) (n b i k u a : ℕ) (eu : u ≡ blocksUsed (sizeOf s i))
       (r-and (r-imp (r-lt k (blocksUsed (sizeOf s i))) (r-and (r-le 1 (kthBlock s n i k)) (r-le (kthBlock s n i k) b)))
       (r-imp (r-le (blocksUsed (sizeOf s i)) k) (r-eq (kthBlock s n i k) 0)))
 
-  pub address-used : k < u → 1 ≤ a → a ≤ b → usedB s n b i k && restB s n i k ≡ true
-  address-used l h m = address-is .from ((λ x. (h, m)), λ x. absurd (omega arith))
+  -- one that is refused
+  stop-used : k < u → ((1 ≤ a) × (a ≤ b) → ⊥) → false ≡ addressB s n b i k
+  unfolding addressB
+  stop-used l h = sym (and-false-l (usedB s n b i k && restB s n i k) (newBlockB s n i k) (r-fails address-is (λ p. h (p .0 l))))
 
-  pub address-rest : u ≤ k → a ≡ 0 → usedB s n b i k && restB s n i k ≡ true
-  address-rest l h = address-is .from ((λ x. absurd (omega arith)), λ x. h)
+  pub address-none : k < u → a < 1 → false ≡ addressB s n b i k
+  address-none l h = stop-used l (λ p. let q : 1 ≤ a = p .0 in omega arith)
 
-  pub address-zero : k < u → a < 1 → usedB s n b i k && restB s n i k ≡ false
-  address-zero l h = r-fails address-is (λ p. let q : 1 ≤ a = p .0 l .0 in omega arith)
+  pub address-past : k < u → b < a → false ≡ addressB s n b i k
+  address-past l h = stop-used l (λ p. let q : a ≤ b = p .1 in omega arith)
 
-  pub address-past : k < u → b < a → usedB s n b i k && restB s n i k ≡ false
-  address-past l h = r-fails address-is (λ p. let q : a ≤ b = p .0 l .1 in omega arith)
+  -- what is not used is right if it is 0
+  pub address-rest : u ≤ k → eqb a 0 ≡ addressB s n b i k
+  unfolding addressB kthBlock
+  address-rest l =
+      same-test (eqb a 0) (addressB s n b i k)
+      (λ t.
+      let z : a ≡ 0 = eqb-true a 0 t in
+      and-true (usedB s n b i k && restB s n i k) (newBlockB s n i k) (address-is .from ((λ x. absurd (omega arith)), λ x. z))
+      (new-zero (addressOf s n) (place i k) a ea z))
+      (λ t. eq-eqb a 0 (address-is .to (and-left (usedB s n b i k && restB s n i k) (newBlockB s n i k) t) .1 l))
 
-  pub address-extra : u ≤ k → (a ≡ 0 → ⊥) → usedB s n b i k && restB s n i k ≡ false
-  address-extra l h = r-fails address-is (λ p. h (p .1 l))
+  -- the blocks named before it are noted in m
+  module _ (m : List ℕ) (h : Seen (addressOf s n) 4097 (place i k) m) (l : a < 4097) where
+    pub address-again : 1 ≤ a → (getD m a 0 ≡ 0 → ⊥) → false ≡ addressB s n b i k
+    unfolding addressB kthBlock
+    address-again p z =
+        sym (and-false-r (usedB s n b i k && restB s n i k) (newBlockB s n i k) (again-noted (addressOf s n) 4097 (place i k) a m ea l h z (omega arith)))
 
--- ---- values noted in a list: is the value a of f at m new
-module _ (f : ℕ → ℕ) (n m a : ℕ) (l : List ℕ) (e : a ≡ f m) (h : a < n) (s : Seen f n m l) where
-  pub new-noted : getD l a 0 ≡ 0 → newAt f m ≡ true
-  new-noted z =
-      or-r (eqb (f m) 0) (eqb (tally f m (f m)) 0)
-      (eq-eqb (tally f m (f m)) 0 (ap (tally f m) (sym e) ∙ count-none (λ k. eqb (f k) a) m (some-none (λ k. eqb (f k) a) m (seen-not f n m a l s h z))))
+    pub address-new : k < u → 1 ≤ a → a ≤ b → getD m a 0 ≡ 0 → true ≡ addressB s n b i k
+    unfolding addressB kthBlock
+    address-new j p q z =
+        sym
+        (and-true (usedB s n b i k && restB s n i k) (newBlockB s n i k) (address-is .from ((λ x. (p, q)), λ x. absurd (omega arith)))
+        (new-noted (addressOf s n) 4097 (place i k) a m ea l h z))
 
-  pub again-noted : (getD l a 0 ≡ 0 → ⊥) → (a ≡ 0 → ⊥) → newAt f m ≡ false
-  again-noted z g =
-      let r = some-at (λ k. eqb (f k) a) m (seen-some f n m a l s h z) in
-      let u : 0 < tally f m a = count-pos (λ k. eqb (f k) a) m (r .0) (r .1) (r .2) in
-      let v : 0 < tally f m (f m) = subst (λ (x : ℕ). 0 < tally f m x) e u in
-      ap₂ _||_ (ne-eqb (f m) 0 (λ q. g (e ∙ q))) (ne-eqb (tally f m (f m)) 0 (omega arith))
+pub address-noted : (s : List ℕ) (n i k a : ℕ) (m : List ℕ) → a ≡ kthBlock s n i k → a < 4097 → Seen (addressOf s n) 4097 (place i k) m →
+    Seen (addressOf s n) 4097 (place i k + 1) (set m a 1)
+unfolding kthBlock
+address-noted s n i k a m e l h = seen-more (addressOf s n) 4097 (place i k) a m e l h
+
+-- ---- all addresses of inode i
+pub seen-as : (f : ℕ → ℕ) (l : List ℕ) {m k : ℕ} → m ≡ k → Seen f 4097 m l → Seen f 4097 k l
+seen-as f l e h = subst (λ (x : ℕ). Seen f 4097 x l) e h
+
+all-both : (p q : ℕ → Bool) (n : ℕ) → allBelow (λ k. p k && q k) n ≡ allBelow p n && allBelow q n
+all-both p q n =
+    same-test (allBelow (λ k. p k && q k) n) (allBelow p n && allBelow q n)
+    (λ t.
+    and-true (allBelow p n) (allBelow q n) (all-of p n (λ k l. and-left (p k) (q k) (all-at (λ j. p j && q j) n t k l)))
+    (all-of q n (λ k l. and-right (p k) (q k) (all-at (λ j. p j && q j) n t k l))))
+    (λ t.
+    all-of (λ k. p k && q k) n (λ k l.
+    and-true (p k) (q k) (all-at p n (and-left (allBelow p n) (allBelow q n) t) k l) (all-at q n (and-right (allBelow p n) (allBelow q n) t) k l)))
+
+pub addresses-are : (s : List ℕ) (n b i : ℕ) → allBelow (addressB s n b i) addressCount ≡ addressesB s n b i && newBlocksB s n i
+unfolding addressB addressesB newBlocksB
+addresses-are s n b i = all-both (λ k. usedB s n b i k && restB s n i k) (newBlockB s n i) addressCount
+
+-- ---- inode i
+module _ (s : List ℕ) (n b i : ℕ) where
+  pub inode-stop : (r : Bool) → r ≡ attributesB s i → not r ≡ true → false ≡ inodeB s n b i && newBlocksB s n i
+  unfolding inodeB
+  inode-stop r e h = sym (and-false-l (inodeB s n b i) (newBlocksB s n i) (sym (chain-stop r (attributesB s i) (addressesB s n b i && zeroTailB s n i) e h)))
+
+  module _ (r : Bool) (a : attributesB s i ≡ true) (e : r ≡ addressesB s n b i && newBlocksB s n i) where
+    pub inode-named : not r ≡ true → false ≡ inodeB s n b i && newBlocksB s n i
+    unfolding inodeB
+    inode-named h =
+        sym
+        (fails (inodeB s n b i && newBlocksB s n i) (λ t.
+        let x = and-right (attributesB s i) (addressesB s n b i && zeroTailB s n i) (and-left (inodeB s n b i) (newBlocksB s n i) t) in
+        clash (addressesB s n b i && newBlocksB s n i)
+        (and-true (addressesB s n b i) (newBlocksB s n i) (and-left (addressesB s n b i) (zeroTailB s n i) x) (and-right (inodeB s n b i) (newBlocksB s n i) t))
+        (chain-off r (addressesB s n b i && newBlocksB s n i) e h)))
+
+    module _ (h : not r ≡ false) where
+      pub inode-addresses : addressesB s n b i ≡ true
+      inode-addresses = and-left (addressesB s n b i) (newBlocksB s n i) (chain-on r (addressesB s n b i && newBlocksB s n i) e h)
+
+      pub inode-end : (z : Bool) → z ≡ zeroTailB s n i → z ≡ inodeB s n b i && newBlocksB s n i
+      unfolding inodeB
+      inode-end z q =
+          q
+          ∙ sym
+          (ap₂ _&&_ (ap₂ _&&_ a (ap (λ (x : Bool). x && zeroTailB s n i) inode-addresses))
+          (and-right (addressesB s n b i) (newBlocksB s n i) (chain-on r (addressesB s n b i && newBlocksB s n i) e h))
+          ∙ and-unit (zeroTailB s n i))
+
+-- all inodes: no block is named twice
+pub inodes-are : (s : List ℕ) (n b : ℕ) →
+    allBelow (λ k. inodeB s n b (k + 1) && newBlocksB s n (k + 1)) n ≡ allBelow (λ k. inodeB s n b (k + 1)) n && differB (addressOf s n) (addressCount * n)
+unfolding newBlocksB
+inodes-are s n b =
+    all-both (λ k. inodeB s n b (k + 1)) (λ k. newBlocksB s n (k + 1)) n
+    ∙ ap (λ (x : Bool). allBelow (λ k. inodeB s n b (k + 1)) n && x)
+    (all-ext (λ k. newBlocksB s n (k + 1)) (λ k. allBelow (λ j. newAt (addressOf s n) (addressCount * k + j)) addressCount) n
+    (λ k l. let e : k + 1 - 1 ≡ k = omega arith in ap (λ (x : ℕ). allBelow (λ j. newAt (addressOf s n) (addressCount * x + j)) addressCount) e)
+    ∙ sym (all-chunk (newAt (addressOf s n)) addressCount n))
 
 -- ---- zero bytes
+abbrev zeroAt : List ℕ → ℕ → ℕ → Bool
+zeroAt s o j = eqb (getD s (o + j) 0) 0
+
+from-start : (s : List ℕ) (o a j : ℕ) → zeroAt s (o + a) j ≡ zeroAt s o (a + j)
+from-start s o a j = let e : o + a + j ≡ o + (a + j) = omega arith in ap (λ (x : ℕ). eqb (getD s x 0) 0) e
+
+-- a word of eight bytes, and m of them
+word-zero : (s : List ℕ) (o : ℕ) → eqb (numAt 8 s o) 0 ≡ allBelow (zeroAt s o) 8
+word-zero s o =
+    same-test (eqb (numAt 8 s o) 0) (allBelow (zeroAt s o) 8)
+    (λ t. all-of (zeroAt s o) 8 (λ j l. eq-eqb (getD s (o + j) 0) 0 (num-zero 8 s o (eqb-true (numAt 8 s o) 0 t) j l)))
+    (λ t. eq-eqb (numAt 8 s o) 0 (zero-num 8 s o (λ j l. eqb-true (getD s (o + j) 0) 0 (all-at (zeroAt s o) 8 t j l))))
+
+pub words-are : (s : List ℕ) (o m : ℕ) → allBelow (λ j. eqb (numAt 8 s (o + 8 * j)) 0) m ≡ allBelow (λ j. eqb (getD s (o + j) 0) 0) (8 * m)
+words-are s o m =
+    all-ext (λ j. eqb (numAt 8 s (o + 8 * j)) 0) (λ j. allBelow (λ k. zeroAt s o (8 * j + k)) 8) m
+    (λ j l. word-zero s (o + 8 * j) ∙ all-ext (zeroAt s (o + 8 * j)) (λ k. zeroAt s o (8 * j + k)) 8 (λ k h. from-start s o (8 * j) k))
+    ∙ sym (all-chunk (zeroAt s o) 8 m)
+
+-- k bytes are the words and what is left
+pub bytes-are : (s : List ℕ) (o k : ℕ) →
+    allBelow (λ j. eqb (getD s (o + j) 0) 0) k ≡ allBelow (λ j. eqb (getD s (o + j) 0) 0) (8 * (k / 8)) && allBelow (λ j. eqb (getD s (o + 8 * (k / 8) + j) 0) 0) (k % 8)
+bytes-are s o k =
+    let e : k ≡ 8 * (k / 8) + k % 8 = omega arith in
+    ap (allBelow (zeroAt s o)) e ∙ all-split (zeroAt s o) (8 * (k / 8)) (k % 8)
+    ∙ ap (λ (x : Bool). allBelow (zeroAt s o) (8 * (k / 8)) && x)
+    (all-ext (λ j. zeroAt s o (8 * (k / 8) + j)) (zeroAt s (o + 8 * (k / 8))) (k % 8) (λ j h. sym (from-start s o (8 * (k / 8)) j)))
+
 -- a range inside of a block, from byte o of it on
 block-byte : (s : List ℕ) (n c o : ℕ) → o < 64 → getD (blockOf s n c) o 0 ≡ getD s (blockAt n c + o) 0
 unfolding blockOf

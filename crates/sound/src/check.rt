@@ -88,17 +88,14 @@ pub fn body_right(s: &[u8], n: usize, b: usize, blank: bool) -> bool
     requires { ⌜ Framed mostImageBlocks (now s) × (n ≡ inodesIn (now s)) × (b ≡ blocksIn (now s)) ⌝ }
     ensures { λ r. ⌜ r ≡ bodyB blank (now (s .entry)) ⌝ }
 {
-    let mut map = [0u8; 4097];
-    let mut counts = [0u16; 257];
     if !header_right(s, n) {
         return false;
     }
-    if !inodes::inodes_right(s, n, b) {
+    let mut map = [0u8; 4097];
+    if !inodes::inodes_right(s, n, b, &mut map) {
         return false;
     }
-    if !inodes::addresses_differ(s, n, &mut map) {
-        return false;
-    }
+    let mut counts = [0u16; 257];
     if !entries::entries_right(s, n, &mut counts) {
         return false;
     }

@@ -125,19 +125,24 @@ fn block_right(
     true
 }
 
-// All places of inode d, which may be no directory.
-fn directory_right(s: &[u8], n: usize, d: usize, counts: &mut [u16]) -> bool
-    requires { ⌜ DirFits (now s) n d × Tallied (naming (now s) n) 1 257 (mostSlots * (d - 1)) (now counts) ⌝ }
+// All places of inode d, which may be no directory. In low and high may stand what another directory left.
+fn directory_right(
+    s: &[u8],
+    n: usize,
+    d: usize,
+    low: &mut [u64],
+    high: &mut [u64],
+    counts: &mut [u16],
+) -> bool
+    requires { ⌜ DirFits (now s) n d × (length (now low) ≡ 48) × (length (now high) ≡ 48) × Tallied (naming (now s) n) 1 257 (mostSlots * (d - 1)) (now counts) ⌝ }
     ensures { λ r. ⌜ (r ≡ allBelow (λ t. entryB (now (s .entry)) n (placeOf d t)) mostSlots) × (r ≡ true → Tallied (naming (now (s .entry)) n) 1 257 (mostSlots * d) (now (counts .exit))) ⌝ }
 {
     if inode::kind(s, n, d) != DIRECTORY {
         return true;
     }
     let blocks = directory::slot_count(s, n, d) / 4;
-    let mut low = [0u64; 48];
-    let mut high = [0u64; 48];
     for k in 0..blocks {
-        if !block_right(s, n, d, k, &mut low, &mut high, &mut *counts) {
+        if !block_right(s, n, d, k, &mut *low, &mut *high, &mut *counts) {
             return false;
         }
     }
@@ -149,8 +154,10 @@ pub fn entries_right(s: &[u8], n: usize, counts: &mut [u16]) -> bool
     requires { ⌜ (n ≤ 256) × ((d : ℕ) → 1 ≤ d → d ≤ n → DirFits (now s) n d) × (now counts ≡ replicate 257 0) ⌝ }
     ensures { λ r. ⌜ (r ≡ allBelow (entryB (now (s .entry)) n) (mostSlots * n)) × (r ≡ true → Tallied (naming (now (s .entry)) n) 1 257 (mostSlots * n) (now (counts .exit))) ⌝ }
 {
+    let mut low = [0u64; 48];
+    let mut high = [0u64; 48];
     for k in 0..n {
-        if !directory_right(s, n, k + 1, &mut *counts) {
+        if !directory_right(s, n, k + 1, &mut low, &mut high, &mut *counts) {
             return false;
         }
     }

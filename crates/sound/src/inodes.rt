@@ -1,6 +1,6 @@
-// Each inode by itself: attributes, addresses, the zero bytes after a file's end; then all addresses, and the blocks that none of them names.
+// The inodes: one pass over attributes, addresses and the zero bytes after a file's end, in which every named block is noted; then the blocks that none of them names.
 ghost use mathlib.Core.Path.{_≡_};
-ghost use mathlib.Core.Bool.{true, not, _||_};
+ghost use mathlib.Core.Bool.{true, not, _&&_, _||_};
 ghost use Prim.Native.Nat.{ℕ, _+_, _*_, _<_, _≤_};
 ghost use lib.Dec.{eqb};
 ghost use lib.ListN.{length, getD, replicate};
@@ -8,9 +8,10 @@ ghost use Rattle.bounded.specs.Below.{allBelow};
 ghost use Rattle.bounded.specs.Count.{count, differB};
 ghost use Rattle.bounded.specs.Seen.{Seen};
 ghost use Rattle.layout.specs.Sizes.{addressCount, mostImageBlocks};
-ghost use Rattle.layout.specs.Inode.{InodeFits, addressOf};
-ghost use Rattle.layout.specs.Block.{Sized};
+ghost use Rattle.layout.specs.Inode.{InodeFits, sizeOf, addressOf, place};
+ghost use Rattle.layout.specs.Block.{Sized, blocksUsed};
 ghost use Rattle.sound.specs.Inode.{attributesB, addressesB, zeroTailB, inodeB};
+ghost use Rattle.sound.specs.Pass.{addressB, newBlocksB};
 ghost use Rattle.sound.specs.Sound.{freeB, unnamedB, zeroBlockB};
 use layout::block;
 use layout::inode;
@@ -52,32 +53,67 @@ fn attributes_right(s: &[u8], n: usize, i: usize) -> bool
     size % BLOCK_BYTES == 0
 }
 
-// The first addresses of inode i, as many as its size uses, name blocks; the others are 0.
-fn addresses_right(s: &[u8], n: usize, b: usize, i: usize) -> bool
-    requires { ⌜ InodeFits (now s) n i ⌝ }
-    ensures { λ r. ⌜ r ≡ addressesB (now (s .entry)) n b i ⌝ }
+// Address k of inode i: one of b blocks, which no address before it names, or 0 from `used` on. It is noted in the map, 0 as well.
+fn address_right(
+    s: &[u8],
+    n: usize,
+    b: usize,
+    i: usize,
+    k: usize,
+    used: usize,
+    map: &mut [u8],
+) -> bool
+    requires { ⌜ InodeFits (now s) n i × (k < addressCount) × (used ≡ blocksUsed (sizeOf (now s) i)) × (b ≤ mostImageBlocks) ⌝ }
+    requires { ⌜ Seen (addressOf (now s) n) 4097 (place i k) (now map) ⌝ }
+    ensures { λ r. ⌜ (r ≡ addressB (now (s .entry)) n b i k) × (r ≡ true → Seen (addressOf (now (s .entry)) n) 4097 (place i k + 1) (now (map .exit))) ⌝ }
+{
+    let a = block::kth_block(s, n, i, k) as usize;
+    if used <= k {
+        map[0] = 1;
+        return a == 0;
+    }
+    if a < 1 {
+        return false;
+    }
+    if b < a {
+        return false;
+    }
+    if map[a] != 0 {
+        return false;
+    }
+    map[a] = 1;
+    true
+}
+
+// The twelve addresses of inode i.
+fn addresses_right(s: &[u8], n: usize, b: usize, i: usize, map: &mut [u8]) -> bool
+    requires { ⌜ InodeFits (now s) n i × (b ≤ mostImageBlocks) × Seen (addressOf (now s) n) 4097 (place i 0) (now map) ⌝ }
+    ensures { λ r. ⌜ (r ≡ addressesB (now (s .entry)) n b i && newBlocksB (now (s .entry)) n i) × (r ≡ true → Seen (addressOf (now (s .entry)) n) 4097 (addressCount * i) (now (map .exit))) ⌝ }
 {
     let used = block::blocks_used(inode::size(s, n, i) as usize);
     for k in 0..ADDRESS_COUNT {
-        let a = block::kth_block(s, n, i, k) as usize;
-        if k < used {
-            if a < 1 {
-                return false;
-            }
-            if b < a {
-                return false;
-            }
-        } else {
-            if a != 0 {
-                return false;
-            }
+        if !address_right(s, n, b, i, k, used, &mut *map) {
+            return false;
         }
     }
     true
 }
 
-// The k bytes from o on are 0.
-pub fn all_zero(s: &[u8], o: usize, k: usize) -> bool
+// The m words of eight bytes from o on are 0.
+fn words_zero(s: &[u8], o: usize, m: usize) -> bool
+    requires { ⌜ o + 8 * m ≤ length (now s) ⌝ }
+    ensures { λ r. ⌜ r ≡ allBelow (λ j. eqb (getD (now (s .entry)) (o + j) 0) 0) (8 * m) ⌝ }
+{
+    for j in 0..m {
+        if octets::get_64(s, o + 8 * j) != 0 {
+            return false;
+        }
+    }
+    true
+}
+
+// The k bytes from o on are 0, one by one.
+fn bytes_zero(s: &[u8], o: usize, k: usize) -> bool
     requires { ⌜ o + k ≤ length (now s) ⌝ }
     ensures { λ r. ⌜ r ≡ allBelow (λ j. eqb (getD (now (s .entry)) (o + j) 0) 0) k ⌝ }
 {
@@ -87,6 +123,17 @@ pub fn all_zero(s: &[u8], o: usize, k: usize) -> bool
         }
     }
     true
+}
+
+// The k bytes from o on are 0: as words, then those that are left.
+pub fn all_zero(s: &[u8], o: usize, k: usize) -> bool
+    requires { ⌜ o + k ≤ length (now s) ⌝ }
+    ensures { λ r. ⌜ r ≡ allBelow (λ j. eqb (getD (now (s .entry)) (o + j) 0) 0) k ⌝ }
+{
+    if !words_zero(s, o, k / 8) {
+        return false;
+    }
+    bytes_zero(s, o + 8 * (k / 8), k % 8)
 }
 
 // The bytes of a file past its size in its last block.
@@ -106,45 +153,28 @@ fn zero_tail(s: &[u8], n: usize, b: usize, i: usize) -> bool
     all_zero(s, block::block_at(n, last) + past, BLOCK_BYTES - past)
 }
 
-fn inode_right(s: &[u8], n: usize, b: usize, i: usize) -> bool
-    requires { ⌜ Sized (now s) n b × InodeFits (now s) n i ⌝ }
-    ensures { λ r. ⌜ r ≡ inodeB (now (s .entry)) n b i ⌝ }
+fn inode_right(s: &[u8], n: usize, b: usize, i: usize, map: &mut [u8]) -> bool
+    requires { ⌜ Sized (now s) n b × InodeFits (now s) n i × Seen (addressOf (now s) n) 4097 (place i 0) (now map) ⌝ }
+    ensures { λ r. ⌜ (r ≡ inodeB (now (s .entry)) n b i && newBlocksB (now (s .entry)) n i) × (r ≡ true → Seen (addressOf (now (s .entry)) n) 4097 (addressCount * i) (now (map .exit))) ⌝ }
 {
     if !attributes_right(s, n, i) {
         return false;
     }
-    if !addresses_right(s, n, b, i) {
+    if !addresses_right(s, n, b, i, &mut *map) {
         return false;
     }
     zero_tail(s, n, b, i)
 }
 
-pub fn inodes_right(s: &[u8], n: usize, b: usize) -> bool
-    requires { ⌜ Sized (now s) n b ⌝ }
-    ensures { λ r. ⌜ r ≡ allBelow (λ k. inodeB (now (s .entry)) n b (k + 1)) n ⌝ }
+// Every inode is right, and no block is named twice; the map, which comes in zero, then has the blocks that are named.
+pub fn inodes_right(s: &[u8], n: usize, b: usize, map: &mut [u8]) -> bool
+    requires { ⌜ Sized (now s) n b × (now map ≡ replicate 4097 0) ⌝ }
+    ensures { λ r. ⌜ (r ≡ allBelow (λ k. inodeB (now (s .entry)) n b (k + 1)) n && differB (addressOf (now (s .entry)) n) (addressCount * n)) × (r ≡ true → Seen (addressOf (now (s .entry)) n) 4097 (addressCount * n) (now (map .exit))) ⌝ }
 {
     for k in 0..n {
-        if !inode_right(s, n, b, k + 1) {
+        if !inode_right(s, n, b, k + 1, &mut *map) {
             return false;
         }
-    }
-    true
-}
-
-// No block is named twice. Notes each address in the map, which comes in zero.
-pub fn addresses_differ(s: &[u8], n: usize, map: &mut [u8]) -> bool
-    requires { ⌜ (n ≤ 256) × (16 + 32 * n ≤ length (now s)) × (now map ≡ replicate 4097 0) ⌝ }
-    requires { ⌜ ((x : ℕ) → x < addressCount * n → addressOf (now s) n x ≤ mostImageBlocks) ⌝ }
-    ensures { λ r. ⌜ (r ≡ differB (addressOf (now (s .entry)) n) (addressCount * n)) × (r ≡ true → Seen (addressOf (now (s .entry)) n) 4097 (addressCount * n) (now (map .exit))) ⌝ }
-{
-    for x in 0..ADDRESS_COUNT * n {
-        let a = inode::address(s, n, x) as usize;
-        if map[a] != 0 {
-            if a != 0 {
-                return false;
-            }
-        }
-        map[a] = 1;
     }
     true
 }

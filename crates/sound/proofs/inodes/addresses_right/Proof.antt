@@ -1,23 +1,26 @@
 use Prim.Native.Nat.{_-_, _≤_}
-use mathlib.Core.Path.{_≡_, ap, _∙_}
-use mathlib.Core.Bool.{true, _&&_}
-use mathlib.Core.Logic.{⊎-elim}
+use mathlib.Core.Path.{_≡_, sym, ap, _∙_}
+use mathlib.Core.Bool.{true}
 use native.Mathlib.Omega.{arith}
+use borrow.Author.Tests.{not-false}
 use borrow.Author.Needs.{needs}
 use Rattle.bounded.specs.Below.{allBelow}
-use Rattle.bounded.proofs.BelowLaws.{all-none, all-more, all-stopped, all-done}
-use Rattle.layout.specs.Inode.{sizeOf}
+use Rattle.bounded.specs.Seen.{Seen}
+use Rattle.bounded.proofs.BelowLaws.{all-stopped, all-done, all-none, all-more}
+use Rattle.bounded.proofs.BoolLaws.{chain-on, chain-off}
 use Rattle.layout.specs.Block.{blocksUsed}
-use Rattle.sound.specs.Inode.{usedB, restB, addressesB}
-use Rattle.sound.proofs.InodeLaws.{address-used, address-rest, address-zero, address-past, address-extra}
+use Rattle.layout.specs.Inode.{sizeOf, addressOf, place}
+use Rattle.sound.specs.Pass.{addressB}
+use Rattle.sound.proofs.EntryLaws.{never}
+use Rattle.sound.proofs.InodeLaws.{seen-as, addresses-are}
 use Rattle.sound.proofs.inodes.addresses_right.Statement.{statement}
 use Rattle.sound.proofs.inodes.addresses_right.Tie as tie
 
 abbrev Inv-loop : tie.InvT-loop
-Inv-loop s n b i used k₀ k = (k ≤ 12) × (used ≡ blocksUsed (sizeOf s i)) × (allBelow (λ j. usedB s n b i j && restB s n i j) k ≡ true)
+Inv-loop s n b i map₀ used k₀ map k = (k ≤ 12) × (used ≡ blocksUsed (sizeOf s i)) × (allBelow (addressB s n b i) k ≡ true) × Seen (addressOf s n) 4097 (place i k) map
 
 abbrev μ-loop : tie.MeasureT-loop
-μ-loop s n b i used k₀ k = 12 - k
+μ-loop s n b i map₀ used k₀ map k = 12 - k
 
 size-requires : tie.Need-size-requires Inv-loop μ-loop
 size-requires c κs = search needs
@@ -29,34 +32,17 @@ blocks-used-requires : tie.Need-blocks-used-requires Inv-loop μ-loop
 blocks-used-requires c κs = search needs
 
 loop-holds : tie.Need-loop-holds Inv-loop μ-loop
-loop-holds c = (omega arith, c .blocks-used .ensures ∙ ap blocksUsed (c .before .size .ensures), all-none _)
+loop-holds c = (omega arith, c .blocks-used .ensures ∙ ap blocksUsed (c .before .size .ensures), all-none _, c .before .before .before .before .pre .2)
 
-kth-block-requires : tie.Need-kth-block-requires Inv-loop μ-loop
-kth-block-requires c κs = search needs
+address-right-requires : tie.Need-address-right-requires Inv-loop μ-loop
+address-right-requires c κs = let p = c .before .before .before .before .before .before .before .pre in ((p .0, omega arith, c .before .before .loop .inv .1, p .1), c .before .before .loop .inv .3)
 
-cast-a : tie.Need-cast-a Inv-loop μ-loop
-cast-a c = search needs
+same-length : tie.Need-same-length Inv-loop μ-loop
+same-length c = omega (arith, c .before .before .before .address-right .kept .1 .1 .1 .1 .1 .1 .0, c .before .before .before .before .before .before .loop .inv .3 .long, c .before .before .before .before .before .before .before .before .before .before .before .pre .2 .long)
 
 returns : tie.Need-returns Inv-loop μ-loop
-unfolding addressesB
 returns c =
-    let i = c .before .before .before .before .loop in
-    all-stopped _ _ (i .k) (omega arith)
-    (address-zero _ _ _ _ (i .k) _ _ (i .inv .1) (c .before .before .kth-block .ensures) (c .before .if1 .taken) (c .if2 .taken))
-
-returns-2 : tie.Need-returns-2 Inv-loop μ-loop
-unfolding addressesB
-returns-2 c =
-    let i = c .before .before .before .before .before .loop in
-    all-stopped _ _ (i .k) (omega arith)
-    (address-past _ _ _ _ (i .k) _ _ (i .inv .1) (c .before .before .before .kth-block .ensures) (c .before .before .if1 .taken) (c .if3 .taken))
-
-returns-3 : tie.Need-returns-3 Inv-loop μ-loop
-unfolding addressesB
-returns-3 c =
-    let i = c .before .before .before .before .loop in
-    all-stopped _ _ (i .k) (omega arith)
-    (address-extra _ _ _ _ (i .k) _ _ (i .inv .1) (c .before .before .kth-block .ensures) (c .before .if1 .left) (c .if4 .taken))
+    (all-stopped _ _ (c .before .before .before .before .before .before .loop .k) (omega arith) (chain-off _ _ (c .before .before .before .address-right .ensures .0) (c .if1 .taken)) ∙ addresses-are _ _ _ _, never)
 
 add-k : tie.Need-add-k Inv-loop μ-loop
 add-k c = search needs
@@ -66,18 +52,22 @@ loop-less c = search needs
 
 loop-again : tie.Need-loop-again Inv-loop μ-loop
 loop-again c =
-    let i = c .before .before .before .loop in
-    let e = c .before .kth-block .ensures in (
+    let i = c .before .before .before .before .before .before .loop in
+    let y = c .before .before .before .address-right in (
       omega arith,
       i .inv .1,
-      all-more _ _ (i .inv .2)
-          (⊎-elim (λ w. address-used _ _ _ _ (i .k) _ _ (i .inv .1) e (w .0 .taken) (w .1 .left) (w .2 .left))
-          (λ w. address-rest _ _ _ _ (i .k) _ _ (i .inv .1) e (w .0 .left) (w .1 .left)) (c .if1 .came)),
+      all-more _ _ (i .inv .2) (chain-on _ _ (y .ensures .0) (c .if1 .left)),
+      seen-as _ _ (omega arith) (y .ensures .1 (not-false _ (c .if1 .left))),
     )
 
-returns-4 : tie.Need-returns-4 Inv-loop μ-loop
-unfolding addressesB
-returns-4 c = all-done _ _ (c .before .loop .k) (omega arith) (omega arith) (c .before .loop .inv .2)
+same-length-2 : tie.Need-same-length-2 Inv-loop μ-loop
+same-length-2 c = c .before .loop .inv .3 .long ∙ sym (c .before .before .before .before .before .before .pre .2 .long)
+
+returns-2 : tie.Need-returns-2 Inv-loop μ-loop
+returns-2 c =
+    let i = c .before .loop in
+    let p = c .before .before .before .before .before .before .pre .0 .low in
+    (all-done _ _ (i .k) (omega arith) (omega arith) (i .inv .2) ∙ addresses-are _ _ _ _, λ q. seen-as _ _ (omega arith) (i .inv .3))
 
 pub addresses-right-spec : {M : Type 1} → statement M
 addresses-right-spec =
@@ -89,12 +79,11 @@ addresses-right-spec =
     cast-blocks-used
     blocks-used-requires
     loop-holds
-    kth-block-requires
-    cast-a
+    address-right-requires
+    same-length
     returns
-    returns-2
-    returns-3
     add-k
     loop-less
     loop-again
-    returns-4)
+    same-length-2
+    returns-2)

@@ -1,56 +1,41 @@
-use Prim.Native.Nat.{_+_, _-_, _≤_}
-use mathlib.Core.Path.{_≡_}
-use mathlib.Core.Bool.{true}
-use native.Mathlib.Omega.{arith}
-use borrow.Author.Tests.{eq-eqb, ne-eqb}
-use lib.Dec.{eqb}
-use lib.ListN.{getD}
-use Rattle.bounded.specs.Below.{allBelow}
-use Rattle.bounded.proofs.BelowLaws.{all-none, all-more, all-stopped, all-done}
+use mathlib.Core.Path.{sym, _∙_}
+use denote.Ref.{now}
+use borrow.Author.Needs.{needs}
+use Rattle.bounded.proofs.BoolLaws.{chain-stop, chain-on, chain-end}
+use Rattle.sound.proofs.InodeLaws.{bytes-are}
 use Rattle.sound.proofs.inodes.all_zero.Statement.{statement}
 use Rattle.sound.proofs.inodes.all_zero.Tie as tie
 
-abbrev Inv-loop : tie.InvT-loop
-Inv-loop s o k j₀ j = (j ≤ k) × (allBelow (λ x. eqb (getD s (o + x) 0) 0) j ≡ true)
+words-zero-requires : tie.Need-words-zero-requires
+words-zero-requires c κs = search needs
 
-abbrev μ-loop : tie.MeasureT-loop
-μ-loop s o k j₀ j = k - j
+returns : tie.Need-returns
+returns c =
+    let a = c .before .before .before .args in
+    chain-stop _ _ _ (c .before .words-zero .ensures) (c .if1 .taken) ∙ sym (bytes-are (now (a .s)) (a .o) (a .k))
 
-loop-holds : tie.Need-loop-holds Inv-loop μ-loop
-loop-holds c = (omega arith, all-none _)
+mul-bytes-zero : tie.Need-mul-bytes-zero
+mul-bytes-zero c = search needs
 
-add-if1 : tie.Need-add-if1 Inv-loop μ-loop
-add-if1 c = omega arith
+add-bytes-zero : tie.Need-add-bytes-zero
+add-bytes-zero c = search needs
 
-shared-slice-read-if1 : tie.Need-shared-slice-read-if1 Inv-loop μ-loop
-shared-slice-read-if1 c = omega arith
+bytes-zero-requires : tie.Need-bytes-zero-requires
+bytes-zero-requires c κs = search needs
 
-returns : tie.Need-returns Inv-loop μ-loop
-returns c = all-stopped _ _ (c .before .before .before .loop .j) (omega arith) (ne-eqb _ 0 (c .if1 .taken))
-
-add-j : tie.Need-add-j Inv-loop μ-loop
-add-j c = omega arith
-
-loop-less : tie.Need-loop-less Inv-loop μ-loop
-loop-less c = omega arith
-
-loop-again : tie.Need-loop-again Inv-loop μ-loop
-loop-again c = (omega arith, all-more _ _ (c .before .before .before .loop .inv .1) (eq-eqb _ 0 (c .if1 .left)))
-
-returns-2 : tie.Need-returns-2 Inv-loop μ-loop
-returns-2 c = all-done _ _ (c .before .loop .j) (omega arith) (omega arith) (c .before .loop .inv .1)
+returns-2 : tie.Need-returns-2
+returns-2 c =
+    let a = c .before .before .before .before .args in
+    chain-end _ _ _ (chain-on _ _ (c .before .before .words-zero .ensures) (c .before .if1 .left)) (c .bytes-zero .ensures)
+    ∙ sym (bytes-are (now (a .s)) (a .o) (a .k))
 
 pub all-zero-spec : {M : Type 1} → statement M
 all-zero-spec =
     tie.close
     (tie.spec
-    Inv-loop
-    μ-loop
-    loop-holds
-    add-if1
-    shared-slice-read-if1
+    words-zero-requires
     returns
-    add-j
-    loop-less
-    loop-again
+    mul-bytes-zero
+    add-bytes-zero
+    bytes-zero-requires
     returns-2)

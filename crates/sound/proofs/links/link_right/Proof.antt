@@ -1,3 +1,4 @@
+use native.Mathlib.Omega.{arith}
 use borrow.Author.Needs.{needs}
 use Rattle.sound.proofs.LinkLaws.{count-wrong, count-free, count-root, count-dir, count-file}
 use Rattle.sound.proofs.links.link_right.Statement.{statement}
@@ -7,7 +8,7 @@ links-requires : tie.Need-links-requires
 links-requires c κs = search needs
 
 returns : tie.Need-returns
-returns c = count-wrong _ _ _ _ _ (c .before .before .before .pre .1) (c .before .links .ensures) (c .if1 .taken)
+returns c = count-wrong _ _ _ _ _ (c .before .before .before .pre .1) (c .before .links .ensures) (λ z. omega (arith, z, c .if1 .taken))
 
 kind-requires : tie.Need-kind-requires
 kind-requires c κs = search needs
