@@ -15,6 +15,7 @@ pub mod KeepLaws
 pub mod LinkKeeps
 pub mod MoveKeeps
 pub mod ParentLaws
+pub mod PlainKeeps
 pub mod PlainLaws
 pub mod PlanFacts
 pub mod PlanKeeps
