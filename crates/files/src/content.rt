@@ -178,11 +178,11 @@ fn grow(s: &mut [u8], n: usize, b: usize, i: usize, m: usize, z: usize)
     let used = blocks_used(old.size as usize);
     let map = named_blocks(s, n);
     let mut a = old.addresses;
-    let mut c = 0;
+    let mut taken = 0;
     for j in 0..m {
-        c = next_unnamed(&map, c + 1, b);
-        zero_block(&mut *s, n, b, c);
-        a[used + j] = c as u16;
+        taken = next_unnamed(&map, taken + 1, b);
+        zero_block(&mut *s, n, b, taken);
+        a[used + j] = taken as u16;
     }
     with_blocks(old, z, a).write(&mut *s, n, i);
     less_free(&mut *s, 0, m as u16);
