@@ -1,7 +1,7 @@
 // The bytes of a file: read and written block by block, made more and fewer. n and b are the store's counts.
 ghost use mathlib.Core.Path.{_≡_};
 ghost use mathlib.Core.Bool.{true, false};
-ghost use Prim.Native.Nat.{ℕ, _+_, _*_, _-_, _/_, _%_, _<_, _≤_, min};
+ghost use Prim.Native.Nat.{_+_, _-_, _/_, _%_, _<_, _≤_, min};
 ghost use lib.Dec.{eqb};
 ghost use lib.ListN.{length, getD};
 ghost use Rattle.bounded.specs.Search.{firstFrom};
@@ -13,7 +13,7 @@ ghost use Rattle.layout.specs.Inode.{InodeFits, sizeOf};
 ghost use Rattle.layout.specs.Block.{Sized, blocksUsed, kthBlock};
 ghost use Rattle.sound.specs.Sound.{Sound, inodesIn, blocksIn};
 ghost use Rattle.files.specs.declared.SizePlan.the-variants.{To};
-ghost use Rattle.files.specs.Inode.{isFile, withSize, withBlocks, lessFree, moreFree};
+ghost use Rattle.files.specs.Inode.{isFile, withBlocks, lessFree, moreFree};
 ghost use Rattle.files.specs.Fits.{byteAt, FileFits};
 ghost use Rattle.files.specs.Content.{fileBytes, putFile, addBlock, addBlocks, putSize, zeroRest, keepFirst, cutTo};
 ghost use Rattle.files.specs.Plan.{writePlan, shortenPlan};
