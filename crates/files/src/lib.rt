@@ -1,4 +1,5 @@
 // The plain store's file calls: what a call is to do, decided before any byte changes.
+pub mod plain;
 pub mod plan;
 
 use answers::Refusal;
