@@ -1,0 +1,4 @@
+pub mod FieldLaws
+pub mod NumberLaws
+pub mod HexLaws
+pub mod ChecksumLaws

@@ -1,0 +1,5 @@
+pub mod Fields
+pub mod Number
+pub mod Hex
+pub mod Words
+pub mod Checksum
