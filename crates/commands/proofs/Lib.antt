@@ -2,3 +2,5 @@ pub mod FieldLaws
 pub mod NumberLaws
 pub mod HexLaws
 pub mod ChecksumLaws
+pub mod TextLaws
+pub mod LineLaws

@@ -3,3 +3,5 @@ pub mod Number
 pub mod Hex
 pub mod Words
 pub mod Checksum
+pub mod Text
+pub mod Line

@@ -1,3 +1,8 @@
+use Rattle.commands.proofs.HexLaws.{digit-at}
+use Rattle.commands.specs.Hex.{hexByte}
+use native.Mathlib.Omega.{arith}
+use Prim.Native.Nat.{ℕ, _+_, _*_}
+use mathlib.Core.Path.{ap₂}
 use borrow.Author.Needs.{needs}
 use Rattle.commands.proofs.bytes.hex_byte.Statement.{statement}
 use Rattle.commands.proofs.bytes.hex_byte.Tie as tie
@@ -15,7 +20,7 @@ shared-slice-read-hex-value c = search needs
 
 -- src/bytes.rt:62:10
 hex-value-requires : tie.Need-hex-value-requires
-hex-value-requires c κs = ?
+hex-value-requires c κs = digit-at _ _ (c .before .before .pre .0) (omega arith)
 
 -- src/bytes.rt:62:5
 mul-result : tie.Need-mul-result
@@ -35,7 +40,7 @@ shared-slice-read-hex-value-2 c = search needs
 
 -- src/bytes.rt:62:32
 hex-value-requires-2 : tie.Need-hex-value-requires-2
-hex-value-requires-2 c κs = ?
+hex-value-requires-2 c κs = digit-at _ _ (c .before .before .before .before .pre .0) (omega arith)
 
 -- src/bytes.rt:62:5
 add-result : tie.Need-add-result
@@ -43,7 +48,8 @@ add-result c = search needs
 
 -- src/bytes.rt:58:1
 returns : tie.Need-returns
-returns c = ?
+unfolding hexByte
+returns c = ap₂ (λ (x y : ℕ). 16 * x + y) (c .before .before .hex-value .ensures .0) (c .hex-value2 .ensures .0)
 
 pub hex-byte-spec : {M : Type 1} → statement M
 hex-byte-spec =
