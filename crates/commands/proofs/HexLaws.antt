@@ -8,7 +8,7 @@ use native.Mathlib.Omega.{arith}
 use native.Mathlib.Numerals.{add-one}
 use borrow.Author.Tests.{le-leb, lt-leb, eq-eqb}
 use lib.Dec.{leb, eqb}
-use lib.ListN.{length, getD, set}
+use lib.ListN.{length, getD, set, replicate, length-replicate, replicate-append-replicate}
 use Rattle.bounded.specs.Reflect.{Reflects}
 use Rattle.bounded.specs.Search.{pick}
 use Rattle.bounded.specs.Below.{allBelow}
@@ -101,3 +101,13 @@ module _ (s b : List ℕ) where
   pub taken-all : (r : List ℕ) → isDash s ≡ false → isHex s ≡ true → length s / 2 ≤ length b → r ≡ splice b 0 (hexBytes s) → taken (Bytes (length s / 2)) r ≡ takeHex s b
   unfolding takeHex
   taken-all r d h l e = rw (d, h, le-leb (length s / 2) (length b) l) (ap (taken (Bytes (length s / 2))) e)
+
+-- ---- bytes of one value
+pub fill-none : (s : List ℕ) (v : ℕ) → s ≡ splice s 0 (replicate 0 v)
+unfolding splice
+fill-none s v = refl
+
+pub fill-more : (s : List ℕ) (k v : ℕ) → set (splice s 0 (replicate k v)) k v ≡ splice s 0 (replicate (k + 1) v)
+fill-more s k v =
+    let z : k ≡ 0 + k = omega arith in
+    ap (λ (j : ℕ). set (splice s 0 (replicate k v)) j v) z ∙ splice-snoc s 0 (replicate k v) k v (length-replicate k v) ∙ ap (splice s 0) (replicate-append-replicate k 1 v)

@@ -119,6 +119,7 @@ fn put_reply(out: &mut [u8], o: usize, reply: Reply, page: &[u8]) -> usize
 fn put_sums(out: &mut [u8], o: usize, sums: Sums) -> usize
     requires { ⌜ o + 54 ≤ length (now out) ⌝ }
     ensures { λ r. ⌜ Put (now (out .entry)) o (sumsText sums) r (now (out .exit)) ⌝ }
+    ensures { λ r. ⌜ r ≤ o + 54 ⌝ }
 {
     let a = put(&mut *out, o, b" |");
     let b = put_sum(&mut *out, a, sums.store);
@@ -144,6 +145,7 @@ fn is_error(reply: Reply) -> bool
 fn put_ending(out: &mut [u8], o: usize, reply: Reply, sums: Sums) -> usize
     requires { ⌜ o + 54 ≤ length (now out) ⌝ }
     ensures { λ r. ⌜ Put (now (out .entry)) o (ending reply sums) r (now (out .exit)) ⌝ }
+    ensures { λ r. ⌜ r ≤ o + 54 ⌝ }
 {
     if is_error(reply) {
         return put(out, o, b"\n");
@@ -155,6 +157,7 @@ fn put_ending(out: &mut [u8], o: usize, reply: Reply, sums: Sums) -> usize
 pub fn put_line(out: &mut [u8], o: usize, reply: Reply, page: &[u8], sums: Sums) -> usize
     requires { ⌜ o + 98 + 2 * length (now page) ≤ length (now out) ⌝ }
     ensures { λ r. ⌜ Put (now (out .entry)) o (lineText reply (now (page .entry)) sums) r (now (out .exit)) ⌝ }
+    ensures { λ r. ⌜ r ≤ o + 98 + 2 * length (now (page .entry)) ⌝ }
 {
     let e = put_reply(&mut *out, o, reply, page);
     put_ending(out, e, reply, sums)

@@ -2,7 +2,7 @@
 ghost use mathlib.Core.Path.{_≡_};
 ghost use mathlib.Core.Bool.{true};
 ghost use Prim.Native.Nat.{_+_, _*_, _/_, _<_, _≤_};
-ghost use lib.ListN.{length};
+ghost use lib.ListN.{length, replicate};
 ghost use Rattle.octets.specs.Octets.{splice};
 ghost use Rattle.commands.specs.Hex.{isHexDigit, hexValue, hexByte, isHex, isDash, hexBytes, taken, takeHex, hexCount};
 use crate::Hex;
@@ -88,4 +88,14 @@ pub fn take_hex(s: &[u8], out: &mut [u8]) -> Hex
     }
     put_bytes(s, &mut *out);
     Hex::Bytes(n)
+}
+
+// The first k bytes become v.
+pub fn fill(s: &mut [u8], k: usize, v: u8)
+    requires { ⌜ k ≤ length (now s) ⌝ }
+    ensures { λ _. ⌜ now (s .exit) ≡ splice (now (s .entry)) 0 (replicate k v) ⌝ }
+{
+    for j in 0..k {
+        s[j] = v;
+    }
 }

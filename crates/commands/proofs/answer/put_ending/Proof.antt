@@ -1,3 +1,4 @@
+use native.Mathlib.Omega.{arith}
 use Rattle.commands.proofs.LineLaws.{error-ending, sums-ending}
 use Rattle.commands.proofs.TextLaws.{put-same}
 use mathlib.Core.Path.{sym, _∙_}
@@ -28,7 +29,7 @@ same-length c = search needs
 
 -- src/answer.rt:149:9
 returns : tie.Need-returns
-returns c = put-same _ _ _ _ _ _ (error-ending _ _ (sym (c .before .before .before .before .before .before .is-error .ensures) ∙ c .before .before .before .before .before .if1 .taken)) (c .before .before .put .ensures)
+returns c = (put-same _ _ _ _ _ _ (error-ending _ _ (sym (c .before .before .before .before .before .before .is-error .ensures) ∙ c .before .before .before .before .before .if1 .taken)) (c .before .before .put .ensures), omega (arith, c .before .before .put .ensures .ends))
 
 -- src/answer.rt:151:5
 put-sums-requires : tie.Need-put-sums-requires
@@ -40,7 +41,7 @@ same-length-2 c = search needs
 
 -- src/answer.rt:144:1
 returns-2 : tie.Need-returns-2
-returns-2 c = put-same _ _ _ _ _ _ (sums-ending _ _ (sym (c .before .before .before .before .before .is-error .ensures) ∙ c .before .before .before .before .if1 .left)) (c .before .before .put-sums .ensures)
+returns-2 c = (put-same _ _ _ _ _ _ (sums-ending _ _ (sym (c .before .before .before .before .before .is-error .ensures) ∙ c .before .before .before .before .if1 .left)) (c .before .before .put-sums .ensures .0), c .before .before .put-sums .ensures .1)
 
 pub put-ending-spec : {M : Type 1} → statement M
 put-ending-spec =

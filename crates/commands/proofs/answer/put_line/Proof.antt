@@ -1,3 +1,4 @@
+use native.Mathlib.Omega.{arith}
 use Rattle.commands.proofs.TextLaws.{put-on}
 use Rattle.commands.specs.Line.{lineText}
 use borrow.Author.Needs.{needs}
@@ -23,7 +24,7 @@ same-length c = search needs
 -- src/answer.rt:141:1
 returns : tie.Need-returns
 unfolding lineText
-returns c = put-on _ _ _ _ _ _ _ _ (c .before .before .before .before .before .before .put-reply .ensures .0) (c .before .before .put-ending .ensures)
+returns c = (put-on _ _ _ _ _ _ _ _ (c .before .before .before .before .before .before .put-reply .ensures .0) (c .before .before .put-ending .ensures .0), omega (arith, c .before .before .before .before .before .before .put-reply .ensures .1, c .before .before .put-ending .ensures .1))
 
 pub put-line-spec : {M : Type 1} → statement M
 put-line-spec = tie.close (tie.spec put-reply-requires put-ending-requires same-length returns)

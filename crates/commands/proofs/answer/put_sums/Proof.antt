@@ -1,3 +1,4 @@
+use native.Mathlib.Omega.{arith}
 use Rattle.commands.proofs.TextLaws.{put-on}
 use Rattle.commands.specs.Line.{sumsText}
 use borrow.Author.Needs.{needs}
@@ -43,7 +44,9 @@ same-length c = search needs
 -- src/answer.rt:119:1
 returns : tie.Need-returns
 unfolding sumsText
-returns c = put-on _ _ _ _ _ _ _ _ (c .before .before .before .before .before .before .before .before .before .before .before .before .before .before .before .before .before .before .before .put .ensures) (put-on _ _ _ _ _ _ _ _ (put-on _ _ _ _ _ _ _ _ (c .before .before .before .before .before .before .before .before .before .before .before .before .before .before .before .put-sum .ensures .0) (put-on _ _ _ _ _ _ _ _ (c .before .before .before .before .before .before .before .before .before .before .before .put-sum2 .ensures .0) (c .before .before .before .before .before .before .before .put-sum3 .ensures .0))) (c .before .before .put2 .ensures))
+returns c = (
+    put-on _ _ _ _ _ _ _ _ (c .before .before .before .before .before .before .before .before .before .before .before .before .before .before .before .before .before .before .before .put .ensures) (put-on _ _ _ _ _ _ _ _ (put-on _ _ _ _ _ _ _ _ (c .before .before .before .before .before .before .before .before .before .before .before .before .before .before .before .put-sum .ensures .0) (put-on _ _ _ _ _ _ _ _ (c .before .before .before .before .before .before .before .before .before .before .before .put-sum2 .ensures .0) (c .before .before .before .before .before .before .before .put-sum3 .ensures .0))) (c .before .before .put2 .ensures)),
+    omega (arith, c .before .before .before .before .before .before .before .before .before .before .before .before .before .before .before .before .before .before .before .put .ensures .ends, c .before .before .before .before .before .before .before .before .before .before .before .before .before .before .before .put-sum .ensures .1, c .before .before .before .before .before .before .before .before .before .before .before .put-sum2 .ensures .1, c .before .before .before .before .before .before .before .put-sum3 .ensures .1, c .before .before .put2 .ensures .ends))
 
 pub put-sums-spec : {M : Type 1} → statement M
 put-sums-spec =
