@@ -2,7 +2,7 @@
 ghost use mathlib.Core.Path.{_≡_};
 ghost use Prim.Native.Nat.{_+_, _*_, _≤_};
 ghost use lib.ListN.{length};
-ghost use Rattle.replay.specs.Fit.{Fit};
+ghost use Rattle.replay.specs.Fit.{Fit, FitIf};
 use answers::Answer;
 use commands::Number;
 use commands::Place;
@@ -35,7 +35,9 @@ enum Wanted {
 const MOST: usize = 65536;
 
 // The lengths of the buffers for n inodes, b blocks and i blocks in the image, where they fit.
-fn wanted(n: usize, b: usize, i: usize, store: &[u8], image: &[u8], desk: &[u8]) -> Wanted {
+fn lengths_for(n: usize, b: usize, i: usize, store: &[u8], image: &[u8], desk: &[u8]) -> Wanted
+    ensures { λ r. ⌜ FitIf r (length (now (store .entry))) (length (now (image .entry))) (length (now (desk .entry))) ⌝ }
+{
     if MOST < n {
         return Wanted::TooLong;
     }
@@ -60,6 +62,58 @@ fn wanted(n: usize, b: usize, i: usize, store: &[u8], image: &[u8], desk: &[u8])
         return Wanted::TooLong;
     }
     Wanted::Fits(lengths)
+}
+
+fn fresh_store(store: &mut [u8], n: usize, b: usize) -> Answer {
+    let k = store.len();
+    octets::zero_range(&mut *store, 0, k);
+    format::lay_out_store(store, n, b)
+}
+
+fn fresh_desk(desk: &mut [u8], n: usize) -> Answer {
+    let k = desk.len();
+    octets::zero_range(&mut *desk, 0, k);
+    format::lay_out_desk(desk, n)
+}
+
+// Zeroed buffers, and the two layout calls.
+fn fresh(store: &mut [u8], image: &mut [u8], desk: &mut [u8], n: usize, b: usize, lengths: Lengths) -> Reply
+    requires { ⌜ Fit lengths (length (now store)) (length (now image)) (length (now desk)) ⌝ }
+{
+    let s = lengths.store;
+    let i = lengths.image;
+    let d = lengths.desk;
+    let laid = fresh_store(&mut store[..s], n, b);
+    octets::zero_range(&mut *image, 0, i);
+    Reply::Laid(laid, fresh_desk(&mut desk[..d], n))
+}
+
+// `new`: buffers that don't fit are refused, and the old ones stay.
+pub fn renew(cmd: &[u8], store: &mut [u8], image: &mut [u8], desk: &mut [u8], old: Lengths) -> Step
+    requires { ⌜ Fit old (length (now store)) (length (now image)) (length (now desk)) ⌝ }
+    ensures { λ r. ⌜ Fit (r .lengths) (length (now (store .entry))) (length (now (image .entry))) (length (now (desk .entry))) ⌝ }
+{
+    let kept = Step {
+        reply: Reply::Error,
+        lengths: old,
+    };
+    if !no_more(cmd, 4) {
+        return kept;
+    }
+    let Number::Value(n) = number(field(cmd, 1)) else {
+        return kept;
+    };
+    let Number::Value(b) = number(field(cmd, 2)) else {
+        return kept;
+    };
+    let Number::Value(i) = number(field(cmd, 3)) else {
+        return kept;
+    };
+    let Wanted::Fits(lengths) = lengths_for(n, b, i, &*store, &*image, &*desk) else {
+        return kept;
+    };
+    let reply = fresh(store, image, desk, n, b, lengths);
+    Step { reply, lengths }
 }
 
 fn poke_in(buffer: &mut [u8], offset: usize, byte: usize) -> Reply {

@@ -18,7 +18,7 @@ abbrev μ-loop : tie.MeasureT-loop
 
 -- src/bytes.rt:98:5
 loop-holds : tie.Need-loop-holds Inv-loop μ-loop
-loop-holds c = (omega arith, refl, fill-none _ _)
+loop-holds c = (omega arith, refl, fill-none _ (c .args .v))
 
 -- src/bytes.rt:99:9
 slice-write-s : tie.Need-slice-write-s Inv-loop μ-loop
@@ -34,7 +34,7 @@ loop-less c = omega arith
 
 -- src/bytes.rt:98:5
 loop-again : tie.Need-loop-again Inv-loop μ-loop
-loop-again c = let i = c .before .before .loop in let a = c .before .before .before .args in (omega arith, rw length-set (i .inv .1), rw (i .inv .2) (fill-more (now (a .s)) (i .j) (a .v)))
+loop-again c = let i = c .before .loop in let a = c .before .before .args in (omega arith, rw length-set (i .inv .1), rw (i .inv .2) (fill-more (now (a .s)) (i .j) (a .v)))
 
 -- src/bytes.rt:94:1
 same-length : tie.Need-same-length Inv-loop μ-loop
