@@ -1,5 +1,6 @@
 -- The lengths of the three buffers stay within the program's arrays, and what is to be printed within its own.
 use Prim.Native.Nat.{ℕ, _+_, _*_, _≤_}
+use mathlib.Core.Path.{_≡_}
 use Rattle.replay.specs.declared.buffers.Lengths.{Lengths}
 use Rattle.replay.specs.declared.buffers.Wanted.{Wanted}
 use Rattle.replay.specs.declared.buffers.Wanted.the-variants.{Fits, TooLong}
@@ -19,3 +20,7 @@ lineRoom p = 98 + 2 * p
 -- between two lines: f bytes hold what is printed
 abbrev pub Ready : State → ℕ → ℕ → ℕ → ℕ → ℕ → Type 0
 Ready t s i d p f = Fit (t .lengths) s i d × (t .filled ≤ f) × (lineRoom p ≤ f)
+
+-- the same buffers, and the same to print
+abbrev pub Kept : State → State → Type 0
+Kept r t = (r .lengths .store ≡ t .lengths .store) × (r .lengths .image ≡ t .lengths .image) × (r .lengths .desk ≡ t .lengths .desk) × (r .filled ≡ t .filled)

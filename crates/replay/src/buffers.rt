@@ -83,9 +83,9 @@ fn fresh(store: &mut [u8], image: &mut [u8], desk: &mut [u8], n: usize, b: usize
     let s = lengths.store;
     let i = lengths.image;
     let d = lengths.desk;
-    let laid = fresh_store(&mut store[..s], n, b);
+    let laid = fresh_store(&mut store[0..s], n, b);
     octets::zero_range(&mut *image, 0, i);
-    Reply::Laid(laid, fresh_desk(&mut desk[..d], n))
+    Reply::Laid(laid, fresh_desk(&mut desk[0..d], n))
 }
 
 // `new`: buffers that don't fit are refused, and the old ones stay.

@@ -27,7 +27,7 @@ fn look_up(cmd: &[u8], store: &[u8]) -> Reply {
     let Hex::Bytes(n) = take_hex(field(cmd, 2), &mut name) else {
         return Reply::Error;
     };
-    Reply::Told(plain::look_up(store, dir, &name[..n]))
+    Reply::Told(plain::look_up(store, dir, &name[0..n]))
 }
 
 fn create(cmd: &[u8], store: &mut [u8]) -> Reply {
@@ -43,10 +43,10 @@ fn create(cmd: &[u8], store: &mut [u8]) -> Reply {
     };
     let kind = field(cmd, 3);
     if is_word(kind, b"f") {
-        return Reply::Told(plain::create(store, dir, &name[..n], Kind::File));
+        return Reply::Told(plain::create(store, dir, &name[0..n], Kind::File));
     }
     if is_word(kind, b"d") {
-        return Reply::Told(plain::create(store, dir, &name[..n], Kind::Directory));
+        return Reply::Told(plain::create(store, dir, &name[0..n], Kind::Directory));
     }
     Reply::Error
 }
@@ -69,7 +69,7 @@ fn read(cmd: &[u8], store: &[u8], page: &mut [u8]) -> Reply {
         return Reply::Error;
     }
     fill(&mut *page, length, FILLER);
-    match plain::read(store, inode, offset, &mut page[..length]) {
+    match plain::read(store, inode, offset, &mut page[0..length]) {
         Answer::Done(n) => Reply::Shown(n, length),
         Answer::Refused(e) => Reply::Told(Answer::Refused(e)),
     }
@@ -89,7 +89,7 @@ fn write(cmd: &[u8], store: &mut [u8]) -> Reply {
     let Hex::Bytes(n) = take_hex(field(cmd, 3), &mut bytes) else {
         return Reply::Error;
     };
-    Reply::Told(plain::write(store, inode, offset, &bytes[..n]))
+    Reply::Told(plain::write(store, inode, offset, &bytes[0..n]))
 }
 
 fn shorten(cmd: &[u8], store: &mut [u8]) -> Reply {
@@ -119,7 +119,7 @@ fn link(cmd: &[u8], store: &mut [u8]) -> Reply {
     let Number::Value(inode) = number(field(cmd, 3)) else {
         return Reply::Error;
     };
-    Reply::Told(plain::link(store, dir, &name[..n], inode))
+    Reply::Told(plain::link(store, dir, &name[0..n], inode))
 }
 
 fn unlink(cmd: &[u8], store: &mut [u8]) -> Reply {
@@ -133,7 +133,7 @@ fn unlink(cmd: &[u8], store: &mut [u8]) -> Reply {
     let Hex::Bytes(n) = take_hex(field(cmd, 2), &mut name) else {
         return Reply::Error;
     };
-    Reply::Told(plain::unlink(store, dir, &name[..n]))
+    Reply::Told(plain::unlink(store, dir, &name[0..n]))
 }
 
 fn rename(cmd: &[u8], store: &mut [u8]) -> Reply {
@@ -154,7 +154,7 @@ fn rename(cmd: &[u8], store: &mut [u8]) -> Reply {
     let Hex::Bytes(m) = take_hex(field(cmd, 4), &mut to_name) else {
         return Reply::Error;
     };
-    Reply::Told(plain::rename(store, dir, &name[..n], to_dir, &to_name[..m]))
+    Reply::Told(plain::rename(store, dir, &name[0..n], to_dir, &to_name[0..m]))
 }
 
 pub fn call(verb: Verb, cmd: &[u8], store: &mut [u8], page: &mut [u8]) -> Reply {

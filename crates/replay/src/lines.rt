@@ -2,7 +2,7 @@
 ghost use mathlib.Core.Path.{_≡_};
 ghost use Prim.Native.Nat.{_+_, _*_, _≤_};
 ghost use lib.ListN.{length};
-ghost use Rattle.replay.specs.Fit.{Fit, lineRoom, Ready};
+ghost use Rattle.replay.specs.Fit.{Fit, lineRoom, Ready, Kept};
 use commands::Reply;
 use commands::Sums;
 use commands::Verb;
@@ -32,7 +32,7 @@ pub struct State {
 
 impl State {
     fn new() -> State
-        ensures { λ r. ⌜ (r .lengths .store ≡ 0) × (r .lengths .image ≡ 0) × (r .lengths .desk ≡ 0) × (r .used ≡ 0) × (r .filled ≡ 0) ⌝ }
+        ensures { λ r. ⌜ Fit (r .lengths) 0 0 0 × (r .used ≡ 0) × (r .filled ≡ 0) ⌝ }
     {
         State {
             lengths: Lengths {
@@ -48,21 +48,21 @@ impl State {
     }
 
     fn with_used(mut self, used: usize) -> State
-        ensures { λ r. ⌜ (r .lengths ≡ self .lengths) × (r .used ≡ used) × (r .filled ≡ self .filled) ⌝ }
+        ensures { λ r. ⌜ Kept r self × (r .used ≡ used) ⌝ }
     {
         self.used = used;
         self
     }
 
     fn too_long(mut self) -> State
-        ensures { λ r. ⌜ (r .lengths ≡ self .lengths) × (r .used ≡ self .used) × (r .filled ≡ self .filled) ⌝ }
+        ensures { λ r. ⌜ Kept r self × (r .used ≡ self .used) ⌝ }
     {
         self.long = true;
         self
     }
 
     fn closed(mut self) -> State
-        ensures { λ r. ⌜ (r .lengths ≡ self .lengths) × (r .used ≡ self .used) × (r .filled ≡ self .filled) ⌝ }
+        ensures { λ r. ⌜ Kept r self × (r .used ≡ self .used) ⌝ }
     {
         self.open = false;
         self
@@ -91,7 +91,7 @@ fn step(cmd: &[u8], store: &mut [u8], image: &mut [u8], desk: &mut [u8], page: &
     let s = lengths.store;
     let i = lengths.image;
     let d = lengths.desk;
-    let reply = dispatch(cmd, &mut store[..s], &mut image[..i], &mut desk[..d], page);
+    let reply = dispatch(cmd, &mut store[0..s], &mut image[0..i], &mut desk[0..d], page);
     Step { reply, lengths }
 }
 
@@ -101,7 +101,7 @@ fn with_room(out: &[u8], filled: usize, room: usize) -> usize
     ensures { λ r. ⌜ r + room ≤ length (now (out .entry)) ⌝ }
 {
     if out.len() - filled < room {
-        io::write_all(STDOUT_FILENO, &out[..filled]);
+        io::write_all(STDOUT_FILENO, &out[0..filled]);
         return 0;
     }
     filled
@@ -114,9 +114,9 @@ fn sums(store: &[u8], image: &[u8], desk: &[u8], lengths: Lengths) -> Sums
     let i = lengths.image;
     let d = lengths.desk;
     Sums {
-        store: checksum(&store[..s]),
-        image: checksum(&image[..i]),
-        desk: checksum(&desk[..d]),
+        store: checksum(&store[0..s]),
+        image: checksum(&image[0..i]),
+        desk: checksum(&desk[0..d]),
     }
 }
 
@@ -126,11 +126,12 @@ fn answer(line: &[u8], store: &mut [u8], image: &mut [u8], desk: &mut [u8], page
     ensures { λ r. ⌜ r .used ≡ 0 ⌝ }
 {
     let old = state.lengths;
+    let room = 98 + 2 * page.len();
     let step = step(command(line), &mut *store, &mut *image, &mut *desk, &mut *page, old);
     let lengths = step.lengths;
     let reply = step.reply;
     let sums = sums(&*store, &*image, &*desk, lengths);
-    let at = with_room(&*out, state.filled, 98 + 2 * page.len());
+    let at = with_room(&*out, state.filled, room);
     let filled = put_line(out, at, reply, &*page, sums);
     State {
         lengths,
@@ -150,9 +151,9 @@ fn end_line(store: &mut [u8], image: &mut [u8], desk: &mut [u8], page: &mut [u8]
 {
     let used = state.used;
     if state.long {
-        return answer(&line[..0], store, image, desk, page, out, state);
+        return answer(&line[0..0], store, image, desk, page, out, state);
     }
-    answer(&line[..used], store, image, desk, page, out, state)
+    answer(&line[0..used], store, image, desk, page, out, state)
 }
 
 // One byte of the input.
@@ -199,7 +200,7 @@ fn take_some(store: &mut [u8], image: &mut [u8], desk: &mut [u8], page: &mut [u8
     if n == 0 {
         return state.closed();
     }
-    take_piece(&piece[..n], store, image, desk, page, line, out, state)
+    take_piece(&piece[0..n], store, image, desk, page, line, out, state)
 }
 
 // The whole input. Nothing says that an input ends, so the turns are counted down from a number that no run uses up.
@@ -236,5 +237,5 @@ pub fn replay(store: &mut [u8], image: &mut [u8], desk: &mut [u8], page: &mut [u
     let s = take_all(&mut *store, &mut *image, &mut *desk, &mut *page, &mut *line, &mut *out, State::new());
     let s = end_input(store, image, desk, page, &*line, &mut *out, s);
     let filled = s.filled;
-    io::write_all(STDOUT_FILENO, &out[..filled]);
+    io::write_all(STDOUT_FILENO, &out[0..filled]);
 }

@@ -1,3 +1,4 @@
+use Rattle.replay.proofs.ReplayLaws.{lengths-fit}
 use borrow.Author.Needs.{needs}
 use Rattle.replay.proofs.buffers.renew.Statement.{statement}
 use Rattle.replay.proofs.buffers.renew.Tie as tie
@@ -107,7 +108,7 @@ returns-5 c = search needs
 
 -- src/buffers.rt:115:9
 fresh-requires : tie.Need-fresh-requires
-fresh-requires c κs = ?
+fresh-requires c κs = let e = c .before .before .before .before .lengths in lengths-fit _ _ _ _ _ (e .given .1) (c .before .before .before .before .before .before .lengths-for .ensures)
 
 -- src/buffers.rt:92:1
 same-length-4 : tie.Need-same-length-4
@@ -123,7 +124,7 @@ same-length-6 c = search needs
 
 -- src/buffers.rt:92:1
 returns-6 : tie.Need-returns-6
-returns-6 c = ?
+returns-6 c = let e = c .before .before .before .before .before .before .before .before .before .before .before .lengths in lengths-fit _ _ _ _ _ (e .given .1) (c .before .before .before .before .before .before .before .before .before .before .before .before .before .lengths-for .ensures)
 
 pub renew-spec : {M : Type 1} → statement M
 renew-spec =

@@ -1,3 +1,4 @@
+use Rattle.replay.proofs.ReplayLaws.{bytes-fit}
 use borrow.Author.Needs.{needs}
 use Rattle.replay.proofs.calls.create.Statement.{statement}
 use Rattle.replay.proofs.calls.create.Tie as tie
@@ -75,12 +76,16 @@ is-word-requires : tie.Need-is-word-requires
 is-word-requires c κs = search needs
 
 -- src/calls.rt:46:54
-array-share-prefix-name : tie.Need-array-share-prefix-name
-array-share-prefix-name c = ?
+sub-create : tie.Need-sub-create
+sub-create c = search needs
 
 -- src/calls.rt:46:54
-slice-aggregate-create : tie.Need-slice-aggregate-create
-slice-aggregate-create c = ?
+part-create-start : tie.Need-part-create-start
+part-create-start c = search needs
+
+-- src/calls.rt:46:54
+part-create-end : tie.Need-part-create-end
+part-create-end c = bytes-fit _ _ _ (c .before .before .before .before .before .before .before .n .given .1) (c .before .before .before .before .before .before .before .before .before .before .take-hex .ensures .1)
 
 -- src/calls.rt:46:28
 create-requires : tie.Need-create-requires
@@ -103,12 +108,16 @@ is-word-requires-2 : tie.Need-is-word-requires-2
 is-word-requires-2 c κs = search needs
 
 -- src/calls.rt:49:54
-array-share-prefix-name-2 : tie.Need-array-share-prefix-name-2
-array-share-prefix-name-2 c = ?
+sub-create-2 : tie.Need-sub-create-2
+sub-create-2 c = search needs
 
 -- src/calls.rt:49:54
-slice-aggregate-create-2 : tie.Need-slice-aggregate-create-2
-slice-aggregate-create-2 c = ?
+part-create-start-2 : tie.Need-part-create-start-2
+part-create-start-2 c = search needs
+
+-- src/calls.rt:49:54
+part-create-end-2 : tie.Need-part-create-end-2
+part-create-end-2 c = bytes-fit _ _ _ (c .before .before .before .before .before .before .before .before .before .before .n .given .1) (c .before .before .before .before .before .before .before .before .before .before .before .before .before .take-hex .ensures .1)
 
 -- src/calls.rt:49:28
 create-requires-2 : tie.Need-create-requires-2
@@ -146,15 +155,17 @@ create-spec =
     field-requires-3
     slice-aggregate-is-word
     is-word-requires
-    array-share-prefix-name
-    slice-aggregate-create
+    sub-create
+    part-create-start
+    part-create-end
     create-requires
     same-length
     returns-4
     slice-aggregate-is-word-2
     is-word-requires-2
-    array-share-prefix-name-2
-    slice-aggregate-create-2
+    sub-create-2
+    part-create-start-2
+    part-create-end-2
     create-requires-2
     same-length-2
     returns-5

@@ -1,3 +1,4 @@
+use Rattle.replay.proofs.ReplayLaws.{bytes-fit}
 use borrow.Author.Needs.{needs}
 use Rattle.replay.proofs.calls.link.Statement.{statement}
 use Rattle.replay.proofs.calls.link.Tie as tie
@@ -82,12 +83,16 @@ returns-4 : tie.Need-returns-4
 returns-4 c = search needs
 
 -- src/calls.rt:122:41
-array-share-prefix-name : tie.Need-array-share-prefix-name
-array-share-prefix-name c = ?
+sub-link : tie.Need-sub-link
+sub-link c = search needs
 
 -- src/calls.rt:122:41
-slice-aggregate-link : tie.Need-slice-aggregate-link
-slice-aggregate-link c = ?
+part-link-start : tie.Need-part-link-start
+part-link-start c = search needs
+
+-- src/calls.rt:122:41
+part-link-end : tie.Need-part-link-end
+part-link-end c = bytes-fit _ _ _ (c .before .before .before .before .before .before .before .before .n .given .1) (c .before .before .before .before .before .before .before .before .before .before .before .take-hex .ensures .1)
 
 -- src/calls.rt:122:17
 link-requires : tie.Need-link-requires
@@ -123,8 +128,9 @@ link-spec =
     enum-known-inode
     enum-told-3
     returns-4
-    array-share-prefix-name
-    slice-aggregate-link
+    sub-link
+    part-link-start
+    part-link-end
     link-requires
     same-length
     returns-5)

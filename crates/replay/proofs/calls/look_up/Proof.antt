@@ -1,3 +1,4 @@
+use Rattle.replay.proofs.ReplayLaws.{bytes-fit}
 use borrow.Author.Needs.{needs}
 use Rattle.replay.proofs.calls.look_up.Statement.{statement}
 use Rattle.replay.proofs.calls.look_up.Tie as tie
@@ -62,12 +63,16 @@ returns-3 : tie.Need-returns-3
 returns-3 c = search needs
 
 -- src/calls.rt:30:44
-array-share-prefix-name : tie.Need-array-share-prefix-name
-array-share-prefix-name c = ?
+sub-look-up : tie.Need-sub-look-up
+sub-look-up c = search needs
 
 -- src/calls.rt:30:44
-slice-aggregate-look-up : tie.Need-slice-aggregate-look-up
-slice-aggregate-look-up c = ?
+part-look-up-start : tie.Need-part-look-up-start
+part-look-up-start c = search needs
+
+-- src/calls.rt:30:44
+part-look-up-end : tie.Need-part-look-up-end
+part-look-up-end c = bytes-fit _ _ _ (c .before .before .n .given .1) (c .before .before .before .before .before .take-hex .ensures .1)
 
 -- src/calls.rt:30:17
 look-up-requires : tie.Need-look-up-requires
@@ -94,7 +99,8 @@ look-up-spec =
     enum-known-n
     enum-told-2
     returns-3
-    array-share-prefix-name
-    slice-aggregate-look-up
+    sub-look-up
+    part-look-up-start
+    part-look-up-end
     look-up-requires
     returns-4)

@@ -1,3 +1,4 @@
+use Rattle.replay.proofs.ReplayLaws.{bytes-fit}
 use borrow.Author.Needs.{needs}
 use Rattle.replay.proofs.calls.rename.Statement.{statement}
 use Rattle.replay.proofs.calls.rename.Tie as tie
@@ -106,20 +107,28 @@ returns-5 : tie.Need-returns-5
 returns-5 c = search needs
 
 -- src/calls.rt:157:43
-array-share-prefix-name : tie.Need-array-share-prefix-name
-array-share-prefix-name c = ?
+sub-rename : tie.Need-sub-rename
+sub-rename c = search needs
 
 -- src/calls.rt:157:43
-slice-aggregate-rename : tie.Need-slice-aggregate-rename
-slice-aggregate-rename c = ?
+part-rename-start : tie.Need-part-rename-start
+part-rename-start c = search needs
 
--- src/calls.rt:157:63
-array-share-prefix-to-name : tie.Need-array-share-prefix-to-name
-array-share-prefix-to-name c = ?
+-- src/calls.rt:157:43
+part-rename-end : tie.Need-part-rename-end
+part-rename-end c = bytes-fit _ _ _ (c .before .before .before .before .before .before .before .before .before .before .n .given .1) (c .before .before .before .before .before .before .before .before .before .before .before .before .before .take-hex .ensures .1)
 
--- src/calls.rt:157:63
-slice-aggregate-rename-2 : tie.Need-slice-aggregate-rename-2
-slice-aggregate-rename-2 c = ?
+-- src/calls.rt:157:64
+sub-rename-2 : tie.Need-sub-rename-2
+sub-rename-2 c = search needs
+
+-- src/calls.rt:157:64
+part-rename-start-2 : tie.Need-part-rename-start-2
+part-rename-start-2 c = search needs
+
+-- src/calls.rt:157:64
+part-rename-end-2 : tie.Need-part-rename-end-2
+part-rename-end-2 c = bytes-fit _ _ _ (c .before .before .before .before .before .m .given .1) (c .before .before .before .before .before .before .before .before .take-hex2 .ensures .1)
 
 -- src/calls.rt:157:17
 rename-requires : tie.Need-rename-requires
@@ -161,10 +170,12 @@ rename-spec =
     enum-known-m
     enum-told-4
     returns-5
-    array-share-prefix-name
-    slice-aggregate-rename
-    array-share-prefix-to-name
-    slice-aggregate-rename-2
+    sub-rename
+    part-rename-start
+    part-rename-end
+    sub-rename-2
+    part-rename-start-2
+    part-rename-end-2
     rename-requires
     same-length
     returns-6)

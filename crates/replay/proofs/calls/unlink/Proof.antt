@@ -1,3 +1,4 @@
+use Rattle.replay.proofs.ReplayLaws.{bytes-fit}
 use borrow.Author.Needs.{needs}
 use Rattle.replay.proofs.calls.unlink.Statement.{statement}
 use Rattle.replay.proofs.calls.unlink.Tie as tie
@@ -62,12 +63,16 @@ returns-3 : tie.Need-returns-3
 returns-3 c = search needs
 
 -- src/calls.rt:136:43
-array-share-prefix-name : tie.Need-array-share-prefix-name
-array-share-prefix-name c = ?
+sub-unlink : tie.Need-sub-unlink
+sub-unlink c = search needs
 
 -- src/calls.rt:136:43
-slice-aggregate-unlink : tie.Need-slice-aggregate-unlink
-slice-aggregate-unlink c = ?
+part-unlink-start : tie.Need-part-unlink-start
+part-unlink-start c = search needs
+
+-- src/calls.rt:136:43
+part-unlink-end : tie.Need-part-unlink-end
+part-unlink-end c = bytes-fit _ _ _ (c .before .before .before .n .given .1) (c .before .before .before .before .before .before .take-hex .ensures .1)
 
 -- src/calls.rt:136:17
 unlink-requires : tie.Need-unlink-requires
@@ -98,8 +103,9 @@ unlink-spec =
     enum-known-n
     enum-told-2
     returns-3
-    array-share-prefix-name
-    slice-aggregate-unlink
+    sub-unlink
+    part-unlink-start
+    part-unlink-end
     unlink-requires
     same-length
     returns-4)

@@ -1,3 +1,4 @@
+use Rattle.replay.proofs.ReplayLaws.{bytes-fit}
 use borrow.Author.Needs.{needs}
 use Rattle.replay.proofs.calls.write.Statement.{statement}
 use Rattle.replay.proofs.calls.write.Tie as tie
@@ -82,12 +83,16 @@ returns-4 : tie.Need-returns-4
 returns-4 c = search needs
 
 -- src/calls.rt:92:52
-array-share-prefix-bytes : tie.Need-array-share-prefix-bytes
-array-share-prefix-bytes c = ?
+sub-write : tie.Need-sub-write
+sub-write c = search needs
 
 -- src/calls.rt:92:52
-slice-aggregate-write : tie.Need-slice-aggregate-write
-slice-aggregate-write c = ?
+part-write-start : tie.Need-part-write-start
+part-write-start c = search needs
+
+-- src/calls.rt:92:52
+part-write-end : tie.Need-part-write-end
+part-write-end c = bytes-fit _ _ _ (c .before .before .before .n .given .1) (c .before .before .before .before .before .before .take-hex .ensures .1)
 
 -- src/calls.rt:92:17
 write-requires : tie.Need-write-requires
@@ -123,8 +128,9 @@ write-spec =
     enum-known-n
     enum-told-3
     returns-4
-    array-share-prefix-bytes
-    slice-aggregate-write
+    sub-write
+    part-write-start
+    part-write-end
     write-requires
     same-length
     returns-5)
