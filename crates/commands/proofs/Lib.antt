@@ -1,0 +1,6 @@
+pub mod FieldLaws
+pub mod NumberLaws
+pub mod HexLaws
+pub mod ChecksumLaws
+pub mod TextLaws
+pub mod LineLaws

@@ -1,0 +1,7 @@
+pub mod Fields
+pub mod Number
+pub mod Hex
+pub mod Words
+pub mod Checksum
+pub mod Text
+pub mod Line

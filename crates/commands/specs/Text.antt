@@ -1,0 +1,37 @@
+-- Text put into a buffer, and numbers and bytes as text.
+use Prim.Native.Nat.{ℕ, zero, suc, _+_, _/_, _%_}
+use mathlib.Core.Path.{_≡_}
+use mathlib.Core.List.{List, [], _∷_}
+use lib.Dec.{ltb}
+use lib.ListN.{length}
+use Rattle.io.specs.Digits.{glyph, digits}
+use Rattle.bounded.specs.Search.{pick}
+use Rattle.octets.specs.Octets.{splice}
+
+-- xs was put into s at o: where it ends, and the buffer that is left
+pub record Put (s : List ℕ) (o : ℕ) (xs : List ℕ) (e : ℕ) (t : List ℕ) : Type 0 where
+  pub ends : e ≡ o + length xs
+  pub holds : t ≡ splice s o xs
+
+-- how many decimal digits n has, at most suc f
+unfoldable pub places : ℕ → ℕ → ℕ
+places zero n = 1
+places (suc f) n = pick (ltb n 10) 1 (suc (places f (n / 10)))
+
+-- a number of 64 bits in decimal, without leading zeros
+unfoldable pub decimalText : ℕ → List ℕ
+decimalText n = digits 10 (places 19 n) n
+
+-- a number of 64 bits as 16 hex digits
+unfoldable pub hexText : ℕ → List ℕ
+hexText n = digits 16 16 n
+
+-- two hex digits a byte
+unfoldable pub pairs : List ℕ → List ℕ
+pairs [] = []
+pairs (x ∷ xs) = glyph (x / 16) ∷ (glyph (x % 16) ∷ pairs xs)
+
+-- `-` for no bytes
+unfoldable pub bytesText : List ℕ → List ℕ
+bytesText [] = 45 ∷ []
+bytesText (x ∷ xs) = pairs (x ∷ xs)

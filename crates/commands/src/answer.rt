@@ -1,0 +1,164 @@
+// The line that answers a command.
+ghost use mathlib.Core.Path.{_≡_};
+ghost use mathlib.Core.List.{_∷_, _++_};
+ghost use Prim.Native.Nat.{_+_, _*_, _≤_};
+ghost use lib.ListN.{length, take};
+ghost use Rattle.answers.specs.Refusal.{refusalNumber};
+ghost use Rattle.answers.specs.Told.{told};
+ghost use Rattle.commands.specs.Text.{Put, decimalText, bytesText};
+ghost use Rattle.commands.specs.Line.{okText, toldText, replyText, sumsText, isError, ending, lineText};
+use answers::Answer;
+use answers::Refusal;
+use crate::Reply;
+use crate::Sums;
+use crate::text::put;
+use crate::text::put_bytes;
+use crate::text::put_decimal;
+use crate::text::put_sum;
+
+pub fn refusal_number(e: Refusal) -> usize
+    ensures { λ r. ⌜ r ≡ refusalNumber e ⌝ }
+{
+    match e {
+        Refusal::BadBuffer => 1,
+        Refusal::UnsoundStore => 2,
+        Refusal::BadDesk => 3,
+        Refusal::IllegalName => 4,
+        Refusal::WrongInode => 5,
+        Refusal::NameAbsent => 6,
+        Refusal::NameTaken => 7,
+        Refusal::NotEmpty => 8,
+        Refusal::PastEnd => 9,
+        Refusal::IntoItself => 10,
+        Refusal::NoInode => 11,
+        Refusal::NoBlocks => 12,
+        Refusal::NoSlot => 13,
+        Refusal::Busy => 14,
+        Refusal::WrongState => 15,
+        Refusal::ImageFull => 16,
+    }
+}
+
+// 0, or the refusal's number.
+fn told_number(a: Answer) -> usize
+    ensures { λ r. ⌜ r ≡ told a .number ⌝ }
+{
+    match a {
+        Answer::Done(_) => 0,
+        Answer::Refused(e) => refusal_number(e),
+    }
+}
+
+// A word, and a number after it.
+fn put_numbered(out: &mut [u8], o: usize, word: &[u8], n: usize) -> usize
+    requires { ⌜ o + length (now word) + 20 ≤ length (now out) ⌝ }
+    ensures { λ r. ⌜ Put (now (out .entry)) o (now (word .entry) ++ decimalText n) r (now (out .exit)) ⌝ }
+    ensures { λ r. ⌜ r ≤ o + length (now (word .entry)) + 20 ⌝ }
+{
+    let e = put(&mut *out, o, word);
+    put_decimal(out, e, n)
+}
+
+fn put_told(out: &mut [u8], o: usize, a: Answer) -> usize
+    requires { ⌜ o + 23 ≤ length (now out) ⌝ }
+    ensures { λ r. ⌜ Put (now (out .entry)) o (toldText a) r (now (out .exit)) ⌝ }
+    ensures { λ r. ⌜ r ≤ o + 23 ⌝ }
+{
+    match a {
+        Answer::Done(n) => put_numbered(out, o, b"ok ", n),
+        Answer::Refused(e) => put_numbered(out, o, b"no ", refusal_number(e)),
+    }
+}
+
+fn put_laid(out: &mut [u8], o: usize, a: Answer, d: Answer) -> usize
+    requires { ⌜ o + 44 ≤ length (now out) ⌝ }
+    ensures { λ r. ⌜ Put (now (out .entry)) o ((okText ++ decimalText (told a .number)) ++ (32 ∷ decimalText (told d .number))) r (now (out .exit)) ⌝ }
+    ensures { λ r. ⌜ r ≤ o + 44 ⌝ }
+{
+    let e = put_numbered(&mut *out, o, b"ok ", told_number(a));
+    put_numbered(out, e, b" ", told_number(d))
+}
+
+// The first k bytes of s, or all.
+fn front(s: &[u8], k: usize) -> &[u8]
+    ensures { λ r. ⌜ now r ≡ take k (now (s .entry)) ⌝ }
+{
+    if s.len() < k {
+        return s;
+    }
+    &s[0..k]
+}
+
+fn put_shown(out: &mut [u8], o: usize, n: usize, k: usize, page: &[u8]) -> usize
+    requires { ⌜ o + 25 + 2 * length (now page) ≤ length (now out) ⌝ }
+    ensures { λ r. ⌜ Put (now (out .entry)) o ((okText ++ decimalText n) ++ (32 ∷ bytesText (take k (now (page .entry))))) r (now (out .exit)) ⌝ }
+    ensures { λ r. ⌜ r ≤ o + 25 + 2 * length (now (page .entry)) ⌝ }
+{
+    let shown = front(page, k);
+    let e = put_numbered(&mut *out, o, b"ok ", n);
+    let f = put(&mut *out, e, b" ");
+    put_bytes(out, f, shown)
+}
+
+fn put_reply(out: &mut [u8], o: usize, reply: Reply, page: &[u8]) -> usize
+    requires { ⌜ o + 44 + 2 * length (now page) ≤ length (now out) ⌝ }
+    ensures { λ r. ⌜ Put (now (out .entry)) o (replyText reply (now (page .entry))) r (now (out .exit)) ⌝ }
+    ensures { λ r. ⌜ r ≤ o + 44 + 2 * length (now (page .entry)) ⌝ }
+{
+    match reply {
+        Reply::Error => put(out, o, b"err"),
+        Reply::Plain => put(out, o, b"ok"),
+        Reply::Yes => put(out, o, b"yes"),
+        Reply::No => put(out, o, b"no"),
+        Reply::Told(a) => put_told(out, o, a),
+        Reply::Laid(a, d) => put_laid(out, o, a, d),
+        Reply::Shown(n, k) => put_shown(out, o, n, k, page),
+    }
+}
+
+fn put_sums(out: &mut [u8], o: usize, sums: Sums) -> usize
+    requires { ⌜ o + 54 ≤ length (now out) ⌝ }
+    ensures { λ r. ⌜ Put (now (out .entry)) o (sumsText sums) r (now (out .exit)) ⌝ }
+    ensures { λ r. ⌜ r ≤ o + 54 ⌝ }
+{
+    let a = put(&mut *out, o, b" |");
+    let b = put_sum(&mut *out, a, sums.store);
+    let c = put_sum(&mut *out, b, sums.image);
+    let d = put_sum(&mut *out, c, sums.desk);
+    put(out, d, b"\n")
+}
+
+fn is_error(reply: Reply) -> bool
+    ensures { λ r. ⌜ r ≡ isError reply ⌝ }
+{
+    match reply {
+        Reply::Error => true,
+        Reply::Plain => false,
+        Reply::Yes => false,
+        Reply::No => false,
+        Reply::Told(_) => false,
+        Reply::Laid(_, _) => false,
+        Reply::Shown(_, _) => false,
+    }
+}
+
+fn put_ending(out: &mut [u8], o: usize, reply: Reply, sums: Sums) -> usize
+    requires { ⌜ o + 54 ≤ length (now out) ⌝ }
+    ensures { λ r. ⌜ Put (now (out .entry)) o (ending reply sums) r (now (out .exit)) ⌝ }
+    ensures { λ r. ⌜ r ≤ o + 54 ⌝ }
+{
+    if is_error(reply) {
+        return put(out, o, b"\n");
+    }
+    put_sums(out, o, sums)
+}
+
+// The line at o of out; where it ends.
+pub fn put_line(out: &mut [u8], o: usize, reply: Reply, page: &[u8], sums: Sums) -> usize
+    requires { ⌜ o + 98 + 2 * length (now page) ≤ length (now out) ⌝ }
+    ensures { λ r. ⌜ Put (now (out .entry)) o (lineText reply (now (page .entry)) sums) r (now (out .exit)) ⌝ }
+    ensures { λ r. ⌜ r ≤ o + 98 + 2 * length (now (page .entry)) ⌝ }
+{
+    let e = put_reply(&mut *out, o, reply, page);
+    put_ending(out, e, reply, sums)
+}

@@ -1,0 +1,241 @@
+// Standard input, line by line.
+ghost use mathlib.Core.Path.{_≡_};
+ghost use Prim.Native.Nat.{_+_, _*_, _≤_};
+ghost use lib.ListN.{length};
+ghost use Rattle.replay.specs.Fit.{Fit, lineRoom, Ready, Kept};
+use commands::Reply;
+use commands::Sums;
+use commands::Verb;
+use commands::answer::put_line;
+use commands::checksum::checksum;
+use commands::fields::command;
+use commands::fields::field;
+use commands::words::verb;
+use crate::buffers;
+use crate::buffers::Lengths;
+use crate::buffers::Step;
+use crate::calls;
+use libc::STDIN_FILENO;
+use libc::STDOUT_FILENO;
+
+const NEWLINE: u8 = 10;
+
+// Between two bytes of the input: the lengths of the buffers, how much of a line came and whether more than there is room for, how much is to
+// be printed, and whether the input goes on.
+pub struct State {
+    pub lengths: Lengths,
+    pub used: usize,
+    pub long: bool,
+    pub filled: usize,
+    pub open: bool,
+}
+
+impl State {
+    fn new() -> State
+        ensures { λ r. ⌜ Fit (r .lengths) 0 0 0 × (r .used ≡ 0) × (r .filled ≡ 0) ⌝ }
+    {
+        State {
+            lengths: Lengths {
+                store: 0,
+                image: 0,
+                desk: 0,
+            },
+            used: 0,
+            long: false,
+            filled: 0,
+            open: true,
+        }
+    }
+
+    fn with_used(mut self, used: usize) -> State
+        ensures { λ r. ⌜ Kept r self × (r .used ≡ used) ⌝ }
+    {
+        self.used = used;
+        self
+    }
+
+    fn too_long(mut self) -> State
+        ensures { λ r. ⌜ Kept r self × (r .used ≡ self .used) ⌝ }
+    {
+        self.long = true;
+        self
+    }
+
+    fn closed(mut self) -> State
+        ensures { λ r. ⌜ Kept r self × (r .used ≡ self .used) ⌝ }
+    {
+        self.open = false;
+        self
+    }
+}
+
+// Every command but `new`, on the buffers as long as they are.
+fn dispatch(cmd: &[u8], store: &mut [u8], image: &mut [u8], desk: &mut [u8], page: &mut [u8]) -> Reply {
+    let verb = verb(field(cmd, 0));
+    match verb {
+        Verb::Poke => buffers::poke(cmd, store, image, desk),
+        Verb::Lay => buffers::lay(cmd, store, desk),
+        Verb::Check => buffers::check(cmd, store, image),
+        _ => calls::call(verb, cmd, store, page),
+    }
+}
+
+fn step(cmd: &[u8], store: &mut [u8], image: &mut [u8], desk: &mut [u8], page: &mut [u8], lengths: Lengths) -> Step
+    requires { ⌜ Fit lengths (length (now store)) (length (now image)) (length (now desk)) ⌝ }
+    ensures { λ r. ⌜ Fit (r .lengths) (length (now (store .entry))) (length (now (image .entry))) (length (now (desk .entry))) ⌝ }
+{
+    let verb = verb(field(cmd, 0));
+    if let Verb::New = verb {
+        return buffers::renew(cmd, store, image, desk, lengths);
+    }
+    let s = lengths.store;
+    let i = lengths.image;
+    let d = lengths.desk;
+    let reply = dispatch(cmd, &mut store[0..s], &mut image[0..i], &mut desk[0..d], page);
+    Step { reply, lengths }
+}
+
+// Where room bytes are free: what stands before it goes out if need be.
+fn with_room(out: &[u8], filled: usize, room: usize) -> usize
+    requires { ⌜ (filled ≤ length (now out)) × (room ≤ length (now out)) ⌝ }
+    ensures { λ r. ⌜ r + room ≤ length (now (out .entry)) ⌝ }
+{
+    if out.len() - filled < room {
+        io::write_all(STDOUT_FILENO, &out[0..filled]);
+        return 0;
+    }
+    filled
+}
+
+fn sums(store: &[u8], image: &[u8], desk: &[u8], lengths: Lengths) -> Sums
+    requires { ⌜ Fit lengths (length (now store)) (length (now image)) (length (now desk)) ⌝ }
+{
+    let s = lengths.store;
+    let i = lengths.image;
+    let d = lengths.desk;
+    Sums {
+        store: checksum(&store[0..s]),
+        image: checksum(&image[0..i]),
+        desk: checksum(&desk[0..d]),
+    }
+}
+
+fn answer(line: &[u8], store: &mut [u8], image: &mut [u8], desk: &mut [u8], page: &mut [u8], out: &mut [u8], state: State) -> State
+    requires { ⌜ Ready state (length (now store)) (length (now image)) (length (now desk)) (length (now page)) (length (now out)) ⌝ }
+    ensures { λ r. ⌜ Ready r (length (now (store .entry))) (length (now (image .entry))) (length (now (desk .entry))) (length (now (page .entry))) (length (now (out .entry))) ⌝ }
+    ensures { λ r. ⌜ r .used ≡ 0 ⌝ }
+{
+    let old = state.lengths;
+    let room = 98 + 2 * page.len();
+    let step = step(command(line), &mut *store, &mut *image, &mut *desk, &mut *page, old);
+    let lengths = step.lengths;
+    let reply = step.reply;
+    let sums = sums(&*store, &*image, &*desk, lengths);
+    let at = with_room(&*out, state.filled, room);
+    let filled = put_line(out, at, reply, &*page, sums);
+    State {
+        lengths,
+        used: 0,
+        long: false,
+        filled,
+        open: true,
+    }
+}
+
+// A line that there was no room for is answered like an empty one.
+fn end_line(store: &mut [u8], image: &mut [u8], desk: &mut [u8], page: &mut [u8], line: &[u8], out: &mut [u8], state: State) -> State
+    requires { ⌜ Ready state (length (now store)) (length (now image)) (length (now desk)) (length (now page)) (length (now out)) ⌝ }
+    requires { ⌜ state .used ≤ length (now line) ⌝ }
+    ensures { λ r. ⌜ Ready r (length (now (store .entry))) (length (now (image .entry))) (length (now (desk .entry))) (length (now (page .entry))) (length (now (out .entry))) ⌝ }
+    ensures { λ r. ⌜ r .used ≡ 0 ⌝ }
+{
+    let used = state.used;
+    if state.long {
+        return answer(&line[0..0], store, image, desk, page, out, state);
+    }
+    answer(&line[0..used], store, image, desk, page, out, state)
+}
+
+// One byte of the input.
+fn take_byte(b: u8, store: &mut [u8], image: &mut [u8], desk: &mut [u8], page: &mut [u8], line: &mut [u8], out: &mut [u8], state: State) -> State
+    requires { ⌜ Ready state (length (now store)) (length (now image)) (length (now desk)) (length (now page)) (length (now out)) ⌝ }
+    requires { ⌜ state .used ≤ length (now line) ⌝ }
+    ensures { λ r. ⌜ Ready r (length (now (store .entry))) (length (now (image .entry))) (length (now (desk .entry))) (length (now (page .entry))) (length (now (out .entry))) ⌝ }
+    ensures { λ r. ⌜ r .used ≤ length (now (line .entry)) ⌝ }
+{
+    if b == NEWLINE {
+        return end_line(store, image, desk, page, &*line, out, state);
+    }
+    let used = state.used;
+    if used < line.len() {
+        line[used] = b;
+        return state.with_used(used + 1);
+    }
+    state.too_long()
+}
+
+fn take_piece(piece: &[u8], store: &mut [u8], image: &mut [u8], desk: &mut [u8], page: &mut [u8], line: &mut [u8], out: &mut [u8], state: State) -> State
+    requires { ⌜ Ready state (length (now store)) (length (now image)) (length (now desk)) (length (now page)) (length (now out)) ⌝ }
+    requires { ⌜ state .used ≤ length (now line) ⌝ }
+    ensures { λ r. ⌜ Ready r (length (now (store .entry))) (length (now (image .entry))) (length (now (desk .entry))) (length (now (page .entry))) (length (now (out .entry))) ⌝ }
+    ensures { λ r. ⌜ r .used ≤ length (now (line .entry)) ⌝ }
+{
+    let mut s = state;
+    for k in 0..piece.len() {
+        s = take_byte(piece[k], &mut *store, &mut *image, &mut *desk, &mut *page, &mut *line, &mut *out, s);
+    }
+    s
+}
+
+// What one read gives.
+fn take_some(store: &mut [u8], image: &mut [u8], desk: &mut [u8], page: &mut [u8], line: &mut [u8], out: &mut [u8], state: State) -> State
+    requires { ⌜ Ready state (length (now store)) (length (now image)) (length (now desk)) (length (now page)) (length (now out)) ⌝ }
+    requires { ⌜ state .used ≤ length (now line) ⌝ }
+    ensures { λ r. ⌜ Ready r (length (now (store .entry))) (length (now (image .entry))) (length (now (desk .entry))) (length (now (page .entry))) (length (now (out .entry))) ⌝ }
+    ensures { λ r. ⌜ r .used ≤ length (now (line .entry)) ⌝ }
+{
+    let mut piece = io::large_buffer();
+    let got = libc::read(STDIN_FILENO, &mut piece);
+    let n = io::count(got, &piece);
+    if n == 0 {
+        return state.closed();
+    }
+    take_piece(&piece[0..n], store, image, desk, page, line, out, state)
+}
+
+// The whole input. Nothing says that an input ends, so the turns are counted down from a number that no run uses up.
+fn take_all(store: &mut [u8], image: &mut [u8], desk: &mut [u8], page: &mut [u8], line: &mut [u8], out: &mut [u8], state: State) -> State
+    requires { ⌜ Ready state (length (now store)) (length (now image)) (length (now desk)) (length (now page)) (length (now out)) ⌝ }
+    requires { ⌜ state .used ≤ length (now line) ⌝ }
+    ensures { λ r. ⌜ Ready r (length (now (store .entry))) (length (now (image .entry))) (length (now (desk .entry))) (length (now (page .entry))) (length (now (out .entry))) ⌝ }
+    ensures { λ r. ⌜ r .used ≤ length (now (line .entry)) ⌝ }
+{
+    let mut s = state;
+    let mut turns = u64::MAX;
+    while turns > 0 && s.open {
+        s = take_some(&mut *store, &mut *image, &mut *desk, &mut *page, &mut *line, &mut *out, s);
+        turns -= 1;
+    }
+    s
+}
+
+// A last line may lack its newline.
+fn end_input(store: &mut [u8], image: &mut [u8], desk: &mut [u8], page: &mut [u8], line: &[u8], out: &mut [u8], state: State) -> State
+    requires { ⌜ Ready state (length (now store)) (length (now image)) (length (now desk)) (length (now page)) (length (now out)) ⌝ }
+    requires { ⌜ state .used ≤ length (now line) ⌝ }
+    ensures { λ r. ⌜ r .filled ≤ length (now (out .entry)) ⌝ }
+{
+    if state.used == 0 {
+        return state;
+    }
+    end_line(store, image, desk, page, line, out, state)
+}
+
+pub fn replay(store: &mut [u8], image: &mut [u8], desk: &mut [u8], page: &mut [u8], line: &mut [u8], out: &mut [u8])
+    requires { ⌜ lineRoom (length (now page)) ≤ length (now out) ⌝ }
+{
+    let s = take_all(&mut *store, &mut *image, &mut *desk, &mut *page, &mut *line, &mut *out, State::new());
+    let s = end_input(store, image, desk, page, &*line, &mut *out, s);
+    let filled = s.filled;
+    io::write_all(STDOUT_FILENO, &out[0..filled]);
+}
