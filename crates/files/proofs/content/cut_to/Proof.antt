@@ -1,8 +1,8 @@
 use Prim.Native.Nat.{_-_, _≤_}
 use native.Mathlib.Omega.{arith}
-use Rattle.files.proofs.StoreLaws.{kind-some, kind-most, kind-fits, kind-size}
-use Rattle.files.proofs.ReadLaws.{file-fits}
-use Rattle.files.proofs.CutLaws.{free-few, inodes-few, cut-few, cut-header, cut-done}
+use Rattle.files.proofs.Stores.StoreLaws.{kind-some, kind-most, kind-fits, kind-size}
+use Rattle.files.proofs.Steps.ReadLaws.{file-fits}
+use Rattle.files.proofs.Steps.CutLaws.{free-few, inodes-few, cut-few, cut-header, cut-done}
 use borrow.Author.Needs.{needs}
 use Rattle.files.proofs.content.cut_to.Statement.{statement}
 use Rattle.files.proofs.content.cut_to.Tie as tie

@@ -8,9 +8,9 @@ use Rattle.layout.specs.Header.{headerOf}
 use Rattle.layout.specs.Inode.{InodeFits, sizeOf}
 use Rattle.layout.specs.Block.{blocksUsed}
 use Rattle.layout.specs.Free.{freeBlock}
-use Rattle.files.proofs.StoreLaws.{kind-fits, addresses-most}
-use Rattle.files.proofs.RecordLaws.{header-inode, used-is}
-use Rattle.files.proofs.GrowCodeLaws.{Turn, Growing, sized-same, free-range, sound-growing, turn-begin, turn-search, turn-some, turn-more, turn-end}
+use Rattle.files.proofs.Stores.StoreLaws.{kind-fits, addresses-most}
+use Rattle.files.proofs.Stores.RecordLaws.{header-inode, used-is}
+use Rattle.files.proofs.Steps.GrowCodeLaws.{Turn, Growing, sized-same, free-range, sound-growing, turn-begin, turn-search, turn-some, turn-more, turn-end}
 use borrow.Author.Needs.{needs}
 use Rattle.files.proofs.content.grow.Statement.{statement}
 use Rattle.files.proofs.content.grow.Tie as tie

@@ -1,4 +1,4 @@
-use Rattle.files.proofs.PlannedLaws.{shorten-planned}
+use Rattle.files.proofs.Plans.PlannedLaws.{shorten-planned}
 use borrow.Author.Needs.{needs}
 use Rattle.files.proofs.content.shorten_file.Statement.{statement}
 use Rattle.files.proofs.content.shorten_file.Tie as tie

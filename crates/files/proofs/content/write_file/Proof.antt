@@ -4,9 +4,9 @@ use native.Mathlib.Omega.{arith}
 use denote.Ref.{now}
 use Rattle.layout.specs.Inode.{sizeOf}
 use Rattle.files.specs.Apply.{written}
-use Rattle.files.proofs.StoreLaws.{kind-size}
-use Rattle.files.proofs.PlannedLaws.{write-file, write-most, write-size, write-free}
-use Rattle.files.proofs.GrowCodeLaws.{sound-growing, fits-more}
+use Rattle.files.proofs.Stores.StoreLaws.{kind-size}
+use Rattle.files.proofs.Plans.PlannedLaws.{write-file, write-most, write-size, write-free}
+use Rattle.files.proofs.Steps.GrowCodeLaws.{sound-growing, fits-more}
 use borrow.Author.Needs.{needs}
 use Rattle.files.proofs.content.write_file.Statement.{statement}
 use Rattle.files.proofs.content.write_file.Tie as tie

@@ -1,5 +1,5 @@
-use Rattle.files.proofs.EnterLaws.{free-low, free-high, entered-fits, create-counts}
-use Rattle.files.proofs.StoreLaws.{kind-most}
+use Rattle.files.proofs.Steps.EnterLaws.{free-low, free-high, entered-fits, create-counts}
+use Rattle.files.proofs.Stores.StoreLaws.{kind-most}
 use Rattle.files.specs.Apply.{created}
 use Rattle.files.specs.Inode.{lessFree}
 use Rattle.layout.specs.Inode.{putInode}

@@ -1,4 +1,4 @@
-use Rattle.files.proofs.EnterLaws.{last-link, other-link}
+use Rattle.files.proofs.Steps.EnterLaws.{last-link, other-link}
 use native.Mathlib.Omega.{arith}
 use mathlib.Core.Path.{sym, _∙_}
 use borrow.Author.Needs.{needs}

@@ -1,4 +1,4 @@
-use Rattle.files.proofs.EnterLaws.{roomed, roomed-dir}
+use Rattle.files.proofs.Steps.EnterLaws.{roomed, roomed-dir}
 use Rattle.files.specs.Apply.{enter}
 use Rattle.directory.specs.Slot.{putEntry}
 use denote.Ref.{now}

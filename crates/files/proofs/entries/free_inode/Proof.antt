@@ -1,4 +1,4 @@
-use Rattle.files.proofs.EnterLaws.{freed-counts, used-bound}
+use Rattle.files.proofs.Steps.EnterLaws.{freed-counts, used-bound}
 use Rattle.files.specs.Inode.{moreFree}
 use Rattle.layout.specs.Block.{blocksUsed}
 use Rattle.layout.specs.Inode.{putInode}

@@ -1,5 +1,5 @@
-use Rattle.files.proofs.EnterLaws.{few-links, entered-fits, entered-links}
-use Rattle.files.proofs.StoreLaws.{kind-some, kind-most}
+use Rattle.files.proofs.Steps.EnterLaws.{few-links, entered-fits, entered-links}
+use Rattle.files.proofs.Stores.StoreLaws.{kind-some, kind-most}
 use Rattle.files.specs.Apply.{linked}
 use Rattle.layout.specs.Inode.{linksOf, putLinks}
 use denote.Ref.{now}

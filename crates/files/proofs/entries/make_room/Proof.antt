@@ -1,4 +1,4 @@
-use Rattle.files.proofs.EnterLaws.{room-none, room-some, room-takes}
+use Rattle.files.proofs.Steps.EnterLaws.{room-none, room-some, room-takes}
 use mathlib.Core.Path.{_∙_}
 use borrow.Author.Needs.{needs}
 use Rattle.files.proofs.entries.make_room.Statement.{statement}

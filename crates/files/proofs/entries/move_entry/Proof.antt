@@ -1,5 +1,5 @@
-use Rattle.files.proofs.EnterLaws.{roomed-dir, roomed-slot, moving-dir, moving-slot, moving-fits}
-use Rattle.files.proofs.StoreLaws.{kind-most}
+use Rattle.files.proofs.Steps.EnterLaws.{roomed-dir, roomed-slot, moving-dir, moving-slot, moving-fits}
+use Rattle.files.proofs.Stores.StoreLaws.{kind-most}
 use Rattle.files.specs.Apply.{setParent, moved}
 use Rattle.directory.specs.Slot.{putEntry, clearEntry}
 use denote.Ref.{now}

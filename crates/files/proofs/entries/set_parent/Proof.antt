@@ -1,4 +1,4 @@
-use Rattle.files.proofs.EnterLaws.{parent-file, parent-directory}
+use Rattle.files.proofs.Steps.EnterLaws.{parent-file, parent-directory}
 use Rattle.files.specs.Inode.{withParent}
 use Rattle.layout.specs.Inode.{putAttributes}
 use Rattle.layout.specs.declared.inode.Inode.{Inode}

@@ -1,5 +1,5 @@
-use Rattle.files.proofs.EnterLaws.{cleared}
-use Rattle.files.proofs.StoreLaws.{kind-dir}
+use Rattle.files.proofs.Steps.EnterLaws.{cleared}
+use Rattle.files.proofs.Stores.StoreLaws.{kind-dir}
 use Rattle.files.specs.Apply.{dropLink, unlinked}
 use mathlib.Core.List.{List}
 use mathlib.Core.Path.{ap, _∙_}

@@ -1,4 +1,4 @@
-use Rattle.files.proofs.CallLaws.{guard-unframed, guard-unsound, guard-sound}
+use Rattle.files.proofs.Steps.CallLaws.{guard-unframed, guard-unsound, guard-sound}
 use Rattle.sound.proofs.CheckLaws.{read-inodes, read-blocks, framed-on, sound-on}
 use Rattle.sound.specs.Sound.{framedB}
 use Rattle.layout.specs.Sizes.{mostStoreBlocks}

@@ -1,4 +1,4 @@
-use Rattle.files.proofs.PlanFacts.{links}
+use Rattle.files.proofs.Plans.PlanFacts.{links}
 use Rattle.files.specs.Plain.{left, doLink}
 use Rattle.names.proofs.NameLaws.{legal-bounds}
 use Rattle.answers.specs.declared.Answer.the-variants.{Done}

@@ -1,4 +1,4 @@
-use Rattle.files.proofs.PlanFacts.{creates}
+use Rattle.files.proofs.Plans.PlanFacts.{creates}
 use Rattle.files.specs.Plain.{left, doCreate}
 use Rattle.names.proofs.NameLaws.{legal-bounds}
 use Rattle.answers.specs.declared.Answer.the-variants.{Done}

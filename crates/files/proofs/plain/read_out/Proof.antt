@@ -1,4 +1,4 @@
-use Rattle.files.proofs.PlanFacts.{Reads, reads}
+use Rattle.files.proofs.Plans.PlanFacts.{Reads, reads}
 use Rattle.files.specs.Plain.{left, doRead}
 use Rattle.answers.specs.declared.Answer.the-variants.{Done}
 use lib.ListN.{length}

@@ -1,5 +1,5 @@
-use Rattle.files.proofs.StoreLaws.{found-some, found-most}
-use Rattle.files.proofs.PlanFacts.{renames, moves}
+use Rattle.files.proofs.Stores.StoreLaws.{found-some, found-most}
+use Rattle.files.proofs.Plans.PlanFacts.{renames, moves}
 use Rattle.files.specs.Plain.{left, doRename}
 use Rattle.directory.proofs.SlotLaws.{find-below}
 use Rattle.names.proofs.NameLaws.{legal-bounds}

@@ -1,7 +1,7 @@
 use Rattle.files.specs.Plan.{shortenPlan}
 use Rattle.files.specs.declared.SizePlan.the-variants.{To}
 use mathlib.Core.Path.{_≡_, subst}
-use Rattle.files.proofs.PlanFacts.{shortens}
+use Rattle.files.proofs.Plans.PlanFacts.{shortens}
 use Rattle.files.specs.Plain.{left, doShorten}
 use Rattle.answers.specs.declared.Answer.the-variants.{Done}
 use denote.Ref.{now}

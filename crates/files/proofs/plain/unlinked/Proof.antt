@@ -1,6 +1,6 @@
 use native.Mathlib.Omega.{arith}
-use Rattle.files.proofs.StoreLaws.{found-some, found-most}
-use Rattle.files.proofs.PlanFacts.{unlinks}
+use Rattle.files.proofs.Stores.StoreLaws.{found-some, found-most}
+use Rattle.files.proofs.Plans.PlanFacts.{unlinks}
 use Rattle.files.specs.Plain.{left, doUnlink}
 use Rattle.directory.proofs.SlotLaws.{find-below}
 use Rattle.answers.specs.declared.Answer.the-variants.{Done}

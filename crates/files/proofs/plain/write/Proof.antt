@@ -1,5 +1,5 @@
 use lib.ListN.{length}
-use Rattle.files.proofs.CallLaws.{passed, call-through, call-stopped}
+use Rattle.files.proofs.Steps.CallLaws.{passed, call-through, call-stopped}
 use Rattle.files.specs.Plain.{doWrite, plainWrite}
 use Rattle.files.specs.Plan.{writePlan}
 use denote.Ref.{now}

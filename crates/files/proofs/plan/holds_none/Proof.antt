@@ -1,4 +1,4 @@
-use Rattle.files.proofs.TakePlanLaws.{empty-read, none-more, none-stopped, none-done}
+use Rattle.files.proofs.Plans.TakePlanLaws.{empty-read, none-more, none-stopped, none-done}
 use denote.Ref.{now}
 use Prim.Native.Nat.{_-_, _≤_}
 use mathlib.Core.Path.{_≡_}

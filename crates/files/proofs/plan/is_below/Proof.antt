@@ -1,5 +1,5 @@
-use Rattle.files.proofs.TakePlanLaws.{below-file, below-directory}
-use Rattle.files.proofs.StoreLaws.{fits}
+use Rattle.files.proofs.Plans.TakePlanLaws.{below-file, below-directory}
+use Rattle.files.proofs.Stores.StoreLaws.{fits}
 use mathlib.Core.Path.{sym, _∙_}
 use borrow.Author.Needs.{needs}
 use Rattle.files.proofs.plan.is_below.Statement.{statement}

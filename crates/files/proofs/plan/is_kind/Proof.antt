@@ -1,4 +1,4 @@
-use Rattle.files.proofs.StoreLaws.{kind-low, kind-high, kind-read}
+use Rattle.files.proofs.Stores.StoreLaws.{kind-low, kind-high, kind-read}
 use borrow.Author.Needs.{needs}
 use Rattle.files.proofs.plan.is_kind.Statement.{statement}
 use Rattle.files.proofs.plan.is_kind.Tie as tie

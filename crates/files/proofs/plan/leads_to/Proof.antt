@@ -1,5 +1,5 @@
-use Rattle.files.proofs.StoreLaws.{fits}
-use Rattle.files.proofs.ParentLaws.{Climbing, climbing-start, climbing-found, climbing-root, climbing-turn, climbing-end}
+use Rattle.files.proofs.Stores.StoreLaws.{fits}
+use Rattle.files.proofs.Plans.ParentLaws.{Climbing, climbing-start, climbing-found, climbing-root, climbing-turn, climbing-end}
 use borrow.Author.Needs.{needs}
 use native.Mathlib.Omega.{arith}
 use Prim.Native.Nat.{_-_}

@@ -1,6 +1,6 @@
 use native.Mathlib.Omega.{arith}
-use Rattle.files.proofs.TakePlanLaws.{rename-illegal, rename-illegal-new, rename-wrong, rename-wrong-new, rename-absent, rename-there}
-use Rattle.files.proofs.StoreLaws.{kind-dir, found-some, found-most}
+use Rattle.files.proofs.Plans.TakePlanLaws.{rename-illegal, rename-illegal-new, rename-wrong, rename-wrong-new, rename-absent, rename-there}
+use Rattle.files.proofs.Stores.StoreLaws.{kind-dir, found-some, found-most}
 use Rattle.files.specs.Inode.{isDirectory}
 use Rattle.files.specs.Plan.{inodeAt}
 use Rattle.directory.proofs.SlotLaws.{find-below}

@@ -1,7 +1,7 @@
 use Prim.Native.Nat.{_≤_}
 use native.Mathlib.Omega.{arith}
-use Rattle.files.proofs.TakePlanLaws.{unlink-illegal, unlink-wrong, unlink-absent, unlink-full, unlink-file, unlink-empty}
-use Rattle.files.proofs.StoreLaws.{fits, dir-of, kind-dir, found-some, found-most}
+use Rattle.files.proofs.Plans.TakePlanLaws.{unlink-illegal, unlink-wrong, unlink-absent, unlink-full, unlink-file, unlink-empty}
+use Rattle.files.proofs.Stores.StoreLaws.{fits, dir-of, kind-dir, found-some, found-most}
 use Rattle.files.specs.Inode.{isDirectory}
 use Rattle.files.specs.Plan.{inodeAt}
 use Rattle.directory.proofs.SlotLaws.{find-below}

@@ -1,0 +1,80 @@
+-- Up from a directory, on a sound store: whether it is another or below it. n is the inode count.
+use Prim.Native.Nat.{ℕ, zero, suc, _+_, _-_, _≤_, _<_}
+use mathlib.Core.Path.{_≡_, sym, ap, _∙_, subst}
+use mathlib.Core.Bool.{true, false}
+use mathlib.Core.List.{List}
+use native.Mathlib.Omega.{arith}
+use borrow.Author.Tests.{ne-eqb}
+use lib.Dec.{eqb}
+use Rattle.bounded.specs.Climb.{leadsB}
+use Rattle.bounded.proofs.ClimbLaws.{leads-here, leads-turn, leads-end}
+use Rattle.layout.specs.Sizes.{mostStoreBlocks, rootInode}
+use Rattle.layout.specs.Inode.{parentOf, directoryKind}
+use Rattle.sound.specs.Sound.{Sound, inodesIn}
+use Rattle.sound.specs.Pass.{IsDir}
+use Rattle.sound.proofs.FactLaws.{naming-dir}
+use Rattle.files.specs.Inode.{isDirectory}
+use Rattle.files.proofs.Stores.StoreLaws.{kind-some, kind-most, kind-is}
+
+-- ---- above the root there is nothing: it has no parent, and number 0 reads as it does
+module _ (s : List ℕ) (r : parentOf s rootInode ≡ 0) (i : ℕ) (l : 1 ≤ i) where
+  zero-parent : parentOf s 0 ≡ 0
+  unfolding parentOf
+  zero-parent = r
+
+  none-above-zero : (k : ℕ) → leadsB (parentOf s) i k 0 ≡ false
+  none-above-zero zero = leads-end (parentOf s) i 0 ∙ ne-eqb 0 i (λ e. omega arith)
+  none-above-zero (suc k) =
+      let m : suc k ≡ k + 1 = omega arith in
+      ap (λ (j : ℕ). leadsB (parentOf s) i j 0) m
+      ∙ leads-turn (parentOf s) i k 0 (λ e. omega arith)
+      ∙ ap (leadsB (parentOf s) i k) zero-parent
+      ∙ none-above-zero k
+
+  none-above-root : (rootInode ≡ i → ⊥) → (k : ℕ) → leadsB (parentOf s) i k rootInode ≡ false
+  none-above-root h zero = leads-end (parentOf s) i rootInode ∙ ne-eqb rootInode i h
+  none-above-root h (suc k) =
+      let m : suc k ≡ k + 1 = omega arith in
+      ap (λ (j : ℕ). leadsB (parentOf s) i j rootInode) m
+      ∙ leads-turn (parentOf s) i k rootInode h
+      ∙ ap (leadsB (parentOf s) i k) r
+      ∙ none-above-zero k
+
+-- ---- the climb from e, k steps up at the directory x
+pub record Climbing (s : List ℕ) (n i e k x : ℕ) : Type 0 where
+  pub few : k ≤ n
+  pub dir : IsDir s n x
+  pub left : leadsB (parentOf s) i n e ≡ leadsB (parentOf s) i (n - k) x
+
+module _ (s : List ℕ) (n i e : ℕ) (h : Sound mostStoreBlocks false s) (q : n ≡ inodesIn s) where
+  pub climbing-start : isDirectory s n e ≡ true → Climbing s n i e 0 e
+  climbing-start d =
+      let z : n ≡ n - 0 = omega arith in
+      record {
+        few = omega arith;
+        dir = record { low = kind-some s n directoryKind e d; high = kind-most s n directoryKind e d; kind = kind-is s n directoryKind e d };
+        left = ap (λ (j : ℕ). leadsB (parentOf s) i j e) z;
+      }
+
+  module _ (k x : ℕ) (c : Climbing s n i e k x) where
+    pub climbing-found : x ≡ i → true ≡ leadsB (parentOf s) i n e
+    climbing-found f = sym (c .left ∙ leads-here (parentOf s) i (n - k) x f)
+
+    pub climbing-root : 1 ≤ i → (x ≡ i → ⊥) → x ≡ rootInode → false ≡ leadsB (parentOf s) i n e
+    climbing-root l f r =
+        sym (c .left ∙ ap (leadsB (parentOf s) i (n - k)) r ∙ none-above-root s (h .root-parent) i l (λ z. f (r ∙ z)) (n - k))
+
+    pub climbing-turn : k < n → (x ≡ i → ⊥) → (x ≡ rootInode → ⊥) → (y : ℕ) → y ≡ parentOf s x → Climbing s n i e (k + 1) y
+    climbing-turn l f r y p =
+        let m : n - k ≡ n - (k + 1) + 1 = omega arith in
+        let d : IsDir s (inodesIn s) x = subst (λ (z : ℕ). IsDir s z x) q (c .dir) in
+        record {
+          few = omega arith;
+          dir = subst (λ (z : ℕ). IsDir s z y) (sym q) (subst (IsDir s (inodesIn s)) (sym p) (naming-dir h x d r .1 .above));
+          left = c .left ∙ ap (λ (j : ℕ). leadsB (parentOf s) i j x) m ∙ leads-turn (parentOf s) i (n - (k + 1)) x f ∙ ap (leadsB (parentOf s) i (n - (k + 1))) (sym p);
+        }
+
+    pub climbing-end : n ≤ k → eqb x i ≡ leadsB (parentOf s) i n e
+    climbing-end l =
+        let z : n - k ≡ 0 = omega arith in
+        sym (c .left ∙ ap (λ (j : ℕ). leadsB (parentOf s) i j x) z ∙ leads-end (parentOf s) i x)

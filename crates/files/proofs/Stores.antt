@@ -1,0 +1,6 @@
+pub mod AddressLaws
+pub mod FileLaws
+pub mod KeepLaws
+pub mod RecordLaws
+pub mod SameLaws
+pub mod StoreLaws
