@@ -2,6 +2,5 @@ pub mod EntryPlanLaws
 pub mod ParentLaws
 pub mod PlanFacts
 pub mod PlanLaws
-pub mod PlannedLaws
 pub mod SizePlanLaws
 pub mod TakePlanLaws

@@ -28,6 +28,7 @@ use Rattle.files.specs.Apply.{shortened}
 use Rattle.files.proofs.Stores.StoreLaws.{fits, kind-some, kind-most, kind-is}
 use Rattle.files.proofs.Stores.SameLaws.{SameFrame, SameInode, InBlock, frame-stays, frame-then, inode-stays, inode-then, put-in-block, in-block-out, in-block-in, put-inode, inode-new, inode-blocks, more-free}
 use Rattle.files.proofs.Stores.KeepLaws.{Body, body-of}
+use Rattle.files.proofs.Plans.PlanFacts.{shortens}
 use Rattle.files.proofs.Stores.FileLaws.{Holds, ZeroPast, tail-past, used-low, other-byte, content-sound, Resized, resized-sound}
 
 -- ---- r is s with zeros past z in the block that z ends in
@@ -216,26 +217,12 @@ module _ (s : List ℕ) (n b i z : ℕ) (h : Holds s n b i z) where
       cut-to (subst (λ (x : ℕ). blocksUsed z ≤ blocksUsed x) (sym (o .size)) (used-down s n b i z h)) (a .past)
 
 -- ---- the call
-pub record Shortable (s : List ℕ) (n i z y : ℕ) : Type 0 where
-  pub file : isFile s n i ≡ true
-  pub size : z ≤ sizeOf s i
-  pub same : y ≡ z
-
-pub shortable : (s : List ℕ) (n i z y : ℕ) → shortenPlan s n i z ≡ To y → Shortable s n i z y
-unfolding shortenPlan
-shortable s n i z y = go (isFile s n i) refl (ltb (sizeOf s i) z) refl
-  where
-    go : (a : Bool) → isFile s n i ≡ a → (b : Bool) → ltb (sizeOf s i) z ≡ b → pick (not a) (NoSize WrongInode) (pick b (NoSize PastEnd) (To z)) ≡ To y → Shortable s n i z y
-    go false p b q e = let f : _≡_ {A = ℕ} 0 1 = cc in absurd (omega arith)
-    go true p true q e = let f : _≡_ {A = ℕ} 0 1 = cc in absurd (omega arith)
-    go true p false q e = record { file = p; size = ltb-false (sizeOf s i) z q; same = cc }
-
 pub shorten-sound : (s : List ℕ) (n b i z y : ℕ) → Sound mostStoreBlocks false s → n ≡ inodesIn s → b ≡ blocksIn s
     → shortenPlan s n i z ≡ To y → Sound mostStoreBlocks false (shortened s n i y)
 shorten-sound s n b i z y h p q e =
-    let w = shortable s n i z y e in
-    let m = w .size in
-    let o = w .same in
+    let w = shortens s n i z y e in
+    let m = w .inside in
+    let o = w .size in
     cut-sound s n b i y (record {
       sound = h;
       inodes = p;

@@ -28,6 +28,7 @@ use Rattle.files.specs.Apply.{written}
 use Rattle.files.proofs.Stores.StoreLaws.{fits, kind-some, kind-most, kind-is, kind-size}
 use Rattle.files.proofs.Stores.SameLaws.{SameFrame, SameInode, SameBlock, InBlock, frame-stays, frame-then, inode-stays, inode-then, put-in-block, in-block-out, put-attributes, attributes-new, attributes-blocks}
 use Rattle.files.proofs.Stores.KeepLaws.{body-of}
+use Rattle.files.proofs.Plans.PlanFacts.{Writes, writes}
 use Rattle.files.proofs.Kept.GrowLaws.{Grown, FreeBlock, free-block, some-free, block-added, add-block-sound, grown-used, grown-kth, grown-bytes}
 use Rattle.files.proofs.Stores.FileLaws.{Holds, holds-less, ZeroPast, tail-past, used-low, other-byte, content-sound, Resized, resized-sound}
 
@@ -271,40 +272,7 @@ put-file-sound [] s n b i o h = h .sound
 put-file-sound (v ∷ xs) s n b i o h = put-file-sound xs (oneByte s n i o v) n b i (o + 1) (put-file-next v xs s n b i o h)
 
 -- ---- the call
--- what an accepted plan says
-pub record Writable (s : List ℕ) (n i o k z : ℕ) : Type 0 where
-  pub file : isFile s n i ≡ true
-  pub start : o ≤ sizeOf s i
-  pub within : o + k ≤ mostFileBytes
-  pub free : blocksUsed z - blocksUsed (sizeOf s i) ≤ headerOf s .«free_blocks»
-  pub size : z ≡ max (sizeOf s i) (o + k)
-
-pub writable : (s : List ℕ) (n i o k z : ℕ) → writePlan s n i o k ≡ To z → Writable s n i o k z
-unfolding writePlan
-writable s n i o k z =
-    go (isFile s n i) refl (ltb (sizeOf s i) o) refl (ltb mostFileBytes (o + k)) refl (ltb (headerOf s .«free_blocks») (blocksUsed w - blocksUsed (sizeOf s i))) refl
-  where
-    w : ℕ
-    w = max (sizeOf s i) (o + k)
-
-    go : (a : Bool) → isFile s n i ≡ a → (b : Bool) → ltb (sizeOf s i) o ≡ b → (c : Bool) → ltb mostFileBytes (o + k) ≡ c
-        → (d : Bool) → ltb (headerOf s .«free_blocks») (blocksUsed w - blocksUsed (sizeOf s i)) ≡ d
-        → pick (not a) (NoSize WrongInode) (pick (b || c) (NoSize PastEnd) (pick d (NoSize NoBlocks) (To w))) ≡ To z → Writable s n i o k z
-    go false p b q c r d t e = let f : _≡_ {A = ℕ} 0 1 = cc in absurd (omega arith)
-    go true p true q c r d t e = let f : _≡_ {A = ℕ} 0 1 = cc in absurd (omega arith)
-    go true p false q true r d t e = let f : _≡_ {A = ℕ} 0 1 = cc in absurd (omega arith)
-    go true p false q false r true t e = let f : _≡_ {A = ℕ} 0 1 = cc in absurd (omega arith)
-    go true p false q false r false t e =
-        let f : w ≡ z = cc in
-        record {
-          file = p;
-          start = ltb-false (sizeOf s i) o q;
-          within = ltb-false mostFileBytes (o + k) r;
-          free = subst (λ (a : ℕ). blocksUsed a - blocksUsed (sizeOf s i) ≤ headerOf s .«free_blocks») f (ltb-false (headerOf s .«free_blocks») (blocksUsed w - blocksUsed (sizeOf s i)) t);
-          size = sym f;
-        }
-
-module _ (s : List ℕ) (n b i o : ℕ) (xs : List ℕ) (z : ℕ) (h : Sound mostStoreBlocks false s) (x : n ≡ inodesIn s) (y : b ≡ blocksIn s) (w : Writable s n i o (length xs) z) where
+module _ (s : List ℕ) (n b i o : ℕ) (xs : List ℕ) (z : ℕ) (h : Sound mostStoreBlocks false s) (x : n ≡ inodesIn s) (y : b ≡ blocksIn s) (w : Writes s n i o (length xs) z) where
   low : 1 ≤ i
   low = kind-some s n fileKind i (w .file)
 
@@ -323,7 +291,7 @@ module _ (s : List ℕ) (n b i o : ℕ) (xs : List ℕ) (z : ℕ) (h : Sound mos
 
   used-few : blocksUsed z ≤ addressCount
   unfolding blocksUsed
-  used-few = let e = w .size in let a = w .within in let c = kind-size s n h x fileKind i (w .file) in omega arith
+  used-few = let e = w .size in let a = w .most in let c = kind-size s n h x fileKind i (w .file) in omega arith
 
   -- with the blocks
   abbrev wide : List ℕ
@@ -334,7 +302,7 @@ module _ (s : List ℕ) (n b i o : ℕ) (xs : List ℕ) (z : ℕ) (h : Sound mos
       let a = used-up in
       let c = used-few in
       let k = is-file in
-      add-blocks more s n b i (record { sound = h; inodes = x; blocks = y; low = low; high = high; in-use = λ e. omega arith; free = w .free; few = omega arith })
+      add-blocks more s n b i (record { sound = h; inodes = x; blocks = y; low = low; high = high; in-use = λ e. omega arith; free = w .blocks; few = omega arith })
 
   -- past the new size stand zeros: old ones, and those of new blocks
   wide-past : ZeroPast wide n i z
@@ -385,4 +353,4 @@ module _ (s : List ℕ) (n b i o : ℕ) (xs : List ℕ) (z : ℕ) (h : Sound mos
 
 pub write-sound : (s : List ℕ) (n b i o : ℕ) (xs : List ℕ) (z : ℕ) → Sound mostStoreBlocks false s → n ≡ inodesIn s → b ≡ blocksIn s
     → writePlan s n i o (length xs) ≡ To z → Sound mostStoreBlocks false (written s n b i o xs z)
-write-sound s n b i o xs z h x y e = written-sound s n b i o xs z h x y (writable s n i o (length xs) z e)
+write-sound s n b i o xs z h x y e = written-sound s n b i o xs z h x y (writes s n i o (length xs) z e)

@@ -62,6 +62,20 @@ or-false-r : (a b : Bool) → a || b ≡ false → b ≡ false
 or-false-r true b e = absurd (clash true refl e)
 or-false-r false b e = e
 
+-- ---- what plans share
+-- a new name in the directory d
+pub record NewIn (s : List ℕ) (n d : ℕ) (name : List ℕ) : Type 0 where
+  pub legal : legalName name ≡ true
+  pub directory : isDirectory s n d ≡ true
+  pub absent : findSlot s n d name ≡ Absent
+
+-- the name in slot t of the directory d, which names i
+pub record FoundIn (s : List ℕ) (n d : ℕ) (name : List ℕ) (t i : ℕ) : Type 0 where
+  pub legal : legalName name ≡ true
+  pub directory : isDirectory s n d ≡ true
+  pub found : findSlot s n d name ≡ At t
+  pub inode : i ≡ inodeAt s n d t
+
 -- ---- create
 no-make : (e : Refusal) (i : ℕ) (r : Room) → NoCreate e ≡ Make i r → ⊥
 no-make e i r h = let z : _≡_ {A = ℕ} 0 1 = cc in absurd (omega arith)
@@ -73,9 +87,7 @@ make-room : (j i : ℕ) (q r : Room) → Make j q ≡ Make i r → q ≡ r
 make-room j i q r h = cc
 
 pub record Creates (s : List ℕ) (n b d : ℕ) (name : List ℕ) (i : ℕ) (r : Room) : Type 0 where
-  pub legal : legalName name ≡ true
-  pub directory : isDirectory s n d ≡ true
-  pub absent : findSlot s n d name ≡ Absent
+  pub new : NewIn s n d name
   pub inode : freeInode s n ≡ At i
   pub room : roomIn s n b d ≡ Has r
 
@@ -88,7 +100,7 @@ creates s n b d name i r e =
     let f = found-none (findSlot s n d name) _ _ z (c .1) (λ t. no-make _ i r) in
     let g = found-at (freeInode s n) _ _ z (f .1) (no-make _ i r) in
     let h = room-had (roomIn s n b d) _ _ z (g .2) (λ w. no-make w i r) in
-    record { legal = a .0; directory = c .0; absent = f .0; inode = g .1 ∙ ap At (make-inode (g .0) i (h .0) r (h .2)); room = h .1 ∙ ap Has (make-room (g .0) i (h .0) r (h .2)) }
+    record { new = record { legal = a .0; directory = c .0; absent = f .0 }; inode = g .1 ∙ ap At (make-inode (g .0) i (h .0) r (h .2)); room = h .1 ∙ ap Has (make-room (g .0) i (h .0) r (h .2)) }
 
 -- ---- link
 no-add : (e : Refusal) (r : Room) → NoLink e ≡ Add r → ⊥
@@ -98,10 +110,8 @@ add-room : (q r : Room) → Add q ≡ Add r → q ≡ r
 add-room q r h = cc
 
 pub record Links (s : List ℕ) (n b d : ℕ) (name : List ℕ) (i : ℕ) (r : Room) : Type 0 where
-  pub legal : legalName name ≡ true
-  pub directory : isDirectory s n d ≡ true
+  pub new : NewIn s n d name
   pub file : isFile s n i ≡ true
-  pub absent : findSlot s n d name ≡ Absent
   pub room : roomIn s n b d ≡ Has r
 
 pub links : (s : List ℕ) (n b d : ℕ) (name : List ℕ) (i : ℕ) (r : Room) → linkPlan s n b d name i ≡ Add r → Links s n b d name i r
@@ -112,7 +122,11 @@ links s n b d name i r e =
     let c = pick-not (isDirectory s n d && isFile s n i) (NoLink _) _ z (a .1) (no-add _ r) in
     let f = found-none (findSlot s n d name) _ _ z (c .1) (λ t. no-add _ r) in
     let h = room-had (roomIn s n b d) _ _ z (f .1) (λ w. no-add w r) in
-    record { legal = a .0; directory = and-left (isDirectory s n d) (isFile s n i) (c .0); file = and-right (isDirectory s n d) (isFile s n i) (c .0); absent = f .0; room = h .1 ∙ ap Has (add-room (h .0) r (h .2)) }
+    record {
+      new = record { legal = a .0; directory = and-left (isDirectory s n d) (isFile s n i) (c .0); absent = f .0 };
+      file = and-right (isDirectory s n d) (isFile s n i) (c .0);
+      room = h .1 ∙ ap Has (add-room (h .0) r (h .2));
+    }
 
 -- ---- unlink
 no-take : (e : Refusal) (t i : ℕ) → NoUnlink e ≡ Take t i → ⊥
@@ -125,10 +139,7 @@ take-inode : (u t j i : ℕ) → Take u j ≡ Take t i → j ≡ i
 take-inode u t j i h = cc
 
 pub record Unlinks (s : List ℕ) (n d : ℕ) (name : List ℕ) (t i : ℕ) : Type 0 where
-  pub legal : legalName name ≡ true
-  pub directory : isDirectory s n d ≡ true
-  pub found : findSlot s n d name ≡ At t
-  pub inode : i ≡ inodeAt s n d t
+  pub entry : FoundIn s n d name t i
   -- "Directories unlink only when empty"
   pub empty : kindOf s i ≡ directoryKind → holdsNone s n i ≡ true
 
@@ -150,24 +161,17 @@ unlinks s n d name t i e =
     let p = take-slot (f .0) t (inodeAt s n d (f .0)) i (g .1) in
     let q = take-inode (f .0) t (inodeAt s n d (f .0)) i (g .1) in
     record {
-      legal = a .0;
-      directory = c .0;
-      found = f .1 ∙ ap At p;
-      inode = sym q ∙ ap (inodeAt s n d) p;
+      entry = record { legal = a .0; directory = c .0; found = f .1 ∙ ap At p; inode = sym q ∙ ap (inodeAt s n d) p };
       empty = unlink-empty s n i (subst (λ (j : ℕ). eqb (kindOf s j) directoryKind && not (holdsNone s n j) ≡ false) q (g .0));
     }
 
 -- ---- rename
--- the entry that is there
+-- the entry that is there, and its new name
 pub record Renames (s : List ℕ) (n d : ℕ) (name : List ℕ) (e : ℕ) (other : List ℕ) (t i : ℕ) : Type 0 where
-  pub legal : legalName name ≡ true
-  pub legal-new : legalName other ≡ true
-  pub directory : isDirectory s n d ≡ true
-  pub directory-new : isDirectory s n e ≡ true
-  pub found : findSlot s n d name ≡ At t
-  pub inode : i ≡ inodeAt s n d t
-  pub absent : findSlot s n e other ≡ Absent
+  pub entry : FoundIn s n d name t i
+  pub new : NewIn s n e other
 
+-- to another directory, with room r there
 pub record Moves (s : List ℕ) (n b d e i : ℕ) (r : Room) : Type 0 where
   pub other : d ≡ e → ⊥
   pub outside : isBelow s n i e ≡ false
@@ -224,7 +228,7 @@ module _ (s : List ℕ) (n b d t i e : ℕ) (other : List ℕ) where
       let f = room-had (roomIn s n b e) _ _ z (c .1) (λ w. no-rename w u j) in
       move-not-rename t i u j (f .0) (f .2)
 
-  pub to-renames : (u j : ℕ) → renameTo s n b d t i e other ≡ Rename u j → (d ≡ e) × (findSlot s n e other ≡ Absent) × (t ≡ u) × (i ≡ j)
+  to-renames : (u j : ℕ) → renameTo s n b d t i e other ≡ Rename u j → (d ≡ e) × (findSlot s n e other ≡ Absent) × (t ≡ u) × (i ≡ j)
   unfolding renameTo
   to-renames u j h = go (eqb d e) refl h
     where
@@ -234,7 +238,7 @@ module _ (s : List ℕ) (n b d t i e : ℕ) (other : List ℕ) where
           (eqb-true d e q, a .0, rename-slot t u i j (a .1), rename-inode t u i j (a .1))
       go false q g = absurd (away-no-rename u j g)
 
-  pub to-moves : (u j : ℕ) (r : Room) → renameTo s n b d t i e other ≡ Move u j r → Moves s n b d e i r × (findSlot s n e other ≡ Absent) × (t ≡ u) × (i ≡ j)
+  to-moves : (u j : ℕ) (r : Room) → renameTo s n b d t i e other ≡ Move u j r → Moves s n b d e i r × (findSlot s n e other ≡ Absent) × (t ≡ u) × (i ≡ j)
   unfolding renameTo
   to-moves u j r h = go (eqb d e) refl h
     where
@@ -250,44 +254,35 @@ module _ (s : List ℕ) (n b d t i e : ℕ) (other : List ℕ) where
           (record { other = eqb-false d e q; outside = c .0; room = f .1 ∙ ap Has (move-room t u i j (f .0) r (f .2)) }, a .0, move-slot t u i j (f .0) r (f .2), move-inode t u i j (f .0) r (f .2))
 
 module _ (s : List ℕ) (n b d : ℕ) (name : List ℕ) (e : ℕ) (other : List ℕ) where
-  -- a plan z that is no refusal
+  -- a plan z that is no refusal, with what comes after the directories are compared
   renames-there : (z : RenamePlan) → ((w : Refusal) → NoRename w ≡ z → ⊥) → renamePlan s n b d name e other ≡ z
-      → (legalName name && legalName other ≡ true) × (isDirectory s n d && isDirectory s n e ≡ true) × ((t : ℕ) × (findSlot s n d name ≡ At t) × (renameTo s n b d t (inodeAt s n d t) e other ≡ z))
+      → (u : ℕ) × (renameTo s n b d u (inodeAt s n d u) e other ≡ z) × ((t i : ℕ) → findSlot s n e other ≡ Absent → u ≡ t → inodeAt s n d u ≡ i → Renames s n d name e other t i)
   unfolding renamePlan
   renames-there z never h =
       let a = pick-not (legalName name && legalName other) (NoRename _) _ z h (never _) in
       let c = pick-not (isDirectory s n d && isDirectory s n e) (NoRename _) _ z (a .1) (never _) in
-      (a .0, c .0, found-at (findSlot s n d name) _ _ z (c .1) (never _))
+      let f = found-at (findSlot s n d name) _ _ z (c .1) (never _) in
+      (f .0, f .2, λ t i g p q. record {
+        entry = record {
+          legal = and-left (legalName name) (legalName other) (a .0);
+          directory = and-left (isDirectory s n d) (isDirectory s n e) (c .0);
+          found = f .1 ∙ ap At p;
+          inode = sym q ∙ ap (inodeAt s n d) p;
+        };
+        new = record { legal = and-right (legalName name) (legalName other) (a .0); directory = and-right (isDirectory s n d) (isDirectory s n e) (c .0); absent = g };
+      })
 
   pub renames : (t i : ℕ) → renamePlan s n b d name e other ≡ Rename t i → Renames s n d name e other t i × (d ≡ e)
   renames t i h =
       let a = renames-there (Rename t i) (λ w. no-rename w t i) h in
-      let u = a .2 .0 in
-      let c = to-renames s n b d u (inodeAt s n d u) e other t i (a .2 .2) in
-      (record {
-        legal = and-left (legalName name) (legalName other) (a .0);
-        legal-new = and-right (legalName name) (legalName other) (a .0);
-        directory = and-left (isDirectory s n d) (isDirectory s n e) (a .1);
-        directory-new = and-right (isDirectory s n d) (isDirectory s n e) (a .1);
-        found = a .2 .1 ∙ ap At (c .2);
-        inode = sym (c .3) ∙ ap (inodeAt s n d) (c .2);
-        absent = c .1;
-      }, c .0)
+      let c = to-renames s n b d (a .0) (inodeAt s n d (a .0)) e other t i (a .1) in
+      (a .2 t i (c .1) (c .2) (c .3), c .0)
 
   pub moves : (t i : ℕ) (r : Room) → renamePlan s n b d name e other ≡ Move t i r → Renames s n d name e other t i × Moves s n b d e i r
   moves t i r h =
       let a = renames-there (Move t i r) (λ w. no-move w t i r) h in
-      let u = a .2 .0 in
-      let c = to-moves s n b d u (inodeAt s n d u) e other t i r (a .2 .2) in
-      (record {
-        legal = and-left (legalName name) (legalName other) (a .0);
-        legal-new = and-right (legalName name) (legalName other) (a .0);
-        directory = and-left (isDirectory s n d) (isDirectory s n e) (a .1);
-        directory-new = and-right (isDirectory s n d) (isDirectory s n e) (a .1);
-        found = a .2 .1 ∙ ap At (c .2);
-        inode = sym (c .3) ∙ ap (inodeAt s n d) (c .2);
-        absent = c .1;
-      }, subst (λ (j : ℕ). Moves s n b d e j r) (c .3) (c .0))
+      let c = to-moves s n b d (a .0) (inodeAt s n d (a .0)) e other t i r (a .1) in
+      (a .2 t i (c .1) (c .2) (c .3), subst (λ (j : ℕ). Moves s n b d e j r) (c .3) (c .0))
 
 -- ---- read, write and shorten
 no-size : (e : Refusal) (z : ℕ) → NoSize e ≡ To z → ⊥

@@ -25,10 +25,11 @@ enum-known-t c = search needs
 rename-requires : tie.Need-rename-requires
 rename-requires c κs = 
     let p = c .before .before .before .before .before .before .before .before .before .pre in
-    let f = renames _ _ _ _ _ _ _ _ _ (sym (c .before .before .before .before .rename-plan .ensures) ∙ c .before .before .t .given .1) .0 in
+    let g = renames _ _ _ _ _ _ _ _ _ (sym (c .before .before .before .before .rename-plan .ensures) ∙ c .before .before .t .given .1) .0 in
+    let f = g .entry in
     let e = f .inode in
     let m = found-most _ _ (p .0) (p .1) _ _ _ (f .directory) (f .legal) (f .found) in
-    (p .0, p .1, f .directory, find-below _ _ _ _ _ (f .found), omega arith, legal-bounds _ (f .legal-new) .1)
+    (p .0, p .1, f .directory, find-below _ _ _ _ _ (f .found), omega arith, legal-bounds _ (g .new .legal) .1)
 
 enum-known-t-2 : tie.Need-enum-known-t-2
 enum-known-t-2 c = search needs
@@ -37,11 +38,11 @@ move-entry-requires : tie.Need-move-entry-requires
 move-entry-requires c κs = 
     let p = c .before .before .before .before .before .before .before .before .before .pre in
     let g = moves _ _ _ _ _ _ _ _ _ _ (sym (c .before .before .before .before .rename-plan .ensures) ∙ c .before .before .t2 .given .1) in
-    let f = g .0 in
+    let f = g .0 .entry in
     let e = f .inode in
     let l = found-some _ _ (p .0) (p .1) _ _ _ (f .directory) (f .legal) (f .found) in
     let m = found-most _ _ (p .0) (p .1) _ _ _ (f .directory) (f .legal) (f .found) in
-    ((p .0, p .1, p .2, f .directory-new, g .1 .room), (f .directory, find-below _ _ _ _ _ (f .found), omega arith, omega arith, legal-bounds _ (f .legal-new) .1))
+    ((p .0, p .1, p .2, g .0 .new .directory, g .1 .room), (f .directory, find-below _ _ _ _ _ (f .found), omega arith, omega arith, legal-bounds _ (g .0 .new .legal) .1))
 
 enum-known-why : tie.Need-enum-known-why
 enum-known-why c = search needs

@@ -21,7 +21,7 @@ enum-known-t c = search needs
 unlink-requires : tie.Need-unlink-requires
 unlink-requires c κs = 
     let p = c .before .before .before .before .before .before .before .before .pre in
-    let f = unlinks _ _ _ _ _ _ (sym (c .before .before .before .before .unlink-plan .ensures) ∙ c .before .before .t .given .1) in
+    let f = unlinks _ _ _ _ _ _ (sym (c .before .before .before .before .unlink-plan .ensures) ∙ c .before .before .t .given .1) .entry in
     let e = f .inode in
     let l = found-some _ _ (p .0) (p .1) _ _ _ (f .directory) (f .legal) (f .found) in
     let m = found-most _ _ (p .0) (p .1) _ _ _ (f .directory) (f .legal) (f .found) in
