@@ -37,6 +37,8 @@ use Rattle.files.proofs.Kept.EntryWriteLaws.{EntriesAlone, entries-stay
 use Rattle.files.proofs.Kept.SlotPlaceLaws.{absent-new, place-bare}
 use Rattle.files.proofs.Kept.StockLaws.{Stock, entries-stock, stock-sound}
 use Rattle.files.proofs.Kept.BaredLaws.{Bared, put-bared, bared-places, bared-unnamed, bared-free, bared-stock, no-blocks}
+use Rattle.files.proofs.Stores.FreeLaws.{free-inode}
+use Rattle.files.proofs.Stores.RecordLaws.{header-inode}
 
 -- ---- the new inode
 pub new-addresses : (k : Kind) (d : ℕ) → newInode k d .addresses ≡ replicate addressCount 0
@@ -68,24 +70,14 @@ pub new-parent : (k : Kind) (d : ℕ) → newInode k d .kind ≡ directoryKind �
 new-parent File d e = absurd (omega arith)
 new-parent Directory d e = refl
 
--- ---- the lowest free inode is a free one
-module _ (s : List ℕ) (n i : ℕ) (e : freeInode s n ≡ At i) where
-  pub free-found : Lowest (isFree s) 1 n i
-  unfolding freeInode
-  free-found = found-lowest (isFree s) 1 n i e
-
-  pub free-kind : kindOf s i ≡ freeKind
-  unfolding isFree
-  free-kind = eqb-true (kindOf s i) freeKind (free-found .holds)
-
 module _ (s : List ℕ) (n d t i : ℕ) (k : Kind) (name : List ℕ) (h : Sound mostStoreBlocks false s) (x : n ≡ inodesIn s)
     (dir : isDirectory s n d ≡ true) (new : freeInode s n ≡ At i) (inside : t < slots s d) (empty : slotEmpty s n d t ≡ true)
     (legal : legalName name ≡ true) (absent : findSlot s n d name ≡ Absent) where
   low : 1 ≤ i
-  low = free-found s n i new .from
+  low = free-inode s n i new .low
 
   high : i ≤ n
-  high = let l = free-found s n i new .below in omega arith
+  high = free-inode s n i new .high
 
   slot : SlotIn s n d t
   slot = slot-in s n d t h x dir inside
@@ -107,7 +99,7 @@ module _ (s : List ℕ) (n d t i : ℕ) (k : Kind) (name : List ℕ) (h : Sound 
   there = inode-fits s m n i (alone .frame .long) (fits s n h x i low high)
 
   free : kindOf m i ≡ freeKind
-  free = alone .inodes i low high .kind ∙ free-kind s n i new
+  free = alone .inodes i low high .kind ∙ free-inode s n i new .kind
 
   -- with the inode, and with the free counts
   abbrev v : Inode
@@ -123,7 +115,7 @@ module _ (s : List ℕ) (n d t i : ℕ) (k : Kind) (name : List ℕ) (h : Sound 
   counts = let l = there .area in let e = length-inode m n i v in less-free u n (omega arith) 1 0
 
   header : headerOf u ≡ headerOf m
-  header = put-inode m n i there v (ap length (new-addresses k d)) .header
+  header = header-inode m n i low high v
 
   bared : Bared m w n i v
   bared = put-bared m w n i (headerOf u .«free_inodes» - 1) (headerOf u .«free_blocks» - 0) v there (new-addresses k d) counts
@@ -163,7 +155,7 @@ module _ (s : List ℕ) (n d t i : ℕ) (k : Kind) (name : List ℕ) (h : Sound 
   tree =
       let o = create-others in
       let r = create-new in
-      let f = free-kind s n i new in
+      let f = free-inode s n i new .kind in
       tree-create n i (nodesOf s n) (nodesOf w n) (tree-at s n h x) (above-at s n h x) low high
       (λ j l g z. o j l g z .kind) (λ j l g z. o j l g z .links) (λ j l g z. o j l g z .parent)
       p d (place-below slot) (place-dir d t (slot .low) (slot .small)) (place-bare s n d t slot empty) (create-filled .names) (λ q l z. create-filled .others q l z .names)

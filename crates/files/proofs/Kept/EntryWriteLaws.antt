@@ -27,7 +27,7 @@ use Rattle.sound.proofs.EntryLaws.{entry-place, slot-place}
 use Rattle.files.proofs.Stores.SameLaws.{SameFrame, SameInode, SameBlock, InBlock, frame-stays, frame-then, inode-then, inode-stays, put-entry, clear-entry}
 use Rattle.files.proofs.Stores.KeepLaws.{place-slot, slot-kept, same-slots}
 use Rattle.files.specs.Inode.{isDirectory}
-use Rattle.files.proofs.Stores.StoreLaws.{dir-of, kind-some, kind-most, kind-is}
+use Rattle.files.proofs.Stores.StoreLaws.{one-at, dir-of, kind-some, kind-most, kind-is}
 use Rattle.files.proofs.Kept.ChangeLaws.{OtherPlaces, Emptied, Filled}
 
 -- entries alone change: the header, all inodes and the bytes of files stay
@@ -44,12 +44,6 @@ entries-stay s n = record {
   inodes = λ j l m. inode-stays s n j;
   files = λ j k l m e u. refl;
 }
-
--- no block is two inodes' or twice one's
-pub block-one : (s : List ℕ) (n : ℕ) → Sound mostStoreBlocks false s → n ≡ inodesIn s → (i k j l : ℕ) → 1 ≤ i → i ≤ n → 1 ≤ j → j ≤ n
-    → k < blocksUsed (sizeOf s i) → l < blocksUsed (sizeOf s j) → kthBlock s n i k ≡ kthBlock s n j l → (i ≡ j) × (k ≡ l)
-block-one s n h x i k j l a b c d u v e =
-    one-block h i k j l a (omega arith) c (omega arith) u v (subst (λ (z : ℕ). kthBlock s z i k ≡ kthBlock s z j l) x e)
 
 -- the block of a slot is one that the size uses
 pub slot-block : (s : List ℕ) (d t : ℕ) → t < slots s d → t / 4 < blocksUsed (sizeOf s d)
@@ -137,7 +131,7 @@ module _ (s m : List ℕ) (n d t : ℕ) (h : Sound mostStoreBlocks false s) (x :
 
       go : Dec (kthBlock m n (dirOf q) (slotOf q / 4) ≡ here) → Apart (slotAt m n (dirOf q) (slotOf q)) 16 (slotAt m n d t) 16
       go (yes e) =
-          let r = block-one s n h x (dirOf q) (slotOf q / 4) d (t / 4) (omega arith) (omega arith) low high taken used (sym block ∙ e ∙ same-block) in
+          let r = one-at s n h x (dirOf q) (slotOf q / 4) d (t / 4) (omega arith) (omega arith) low high taken used (sym block ∙ e ∙ same-block) in
           let f : dirOf q ≡ d = r .0 in
           apart-slots m n (dirOf q) (slotOf q) d t f (r .1) (λ g. z (omega arith))
       go (no e) =
@@ -154,7 +148,7 @@ module _ (s m : List ℕ) (n d t : ℕ) (h : Sound mostStoreBlocks false s) (x :
       files = λ j k l o e u.
           let g = dir-of s n h x j l o .blocks k u .low in
           i .others (kthBlock s n j k) g
-          (λ z. let r = block-one s n h x j k d (t / 4) l o low high u used (z ∙ same-block) .0 in let y = sym (ap (kindOf s) r) ∙ e in omega arith)
+          (λ z. let r = one-at s n h x j k d (t / 4) l o low high u used (z ∙ same-block) .0 in let y = sym (ap (kindOf s) r) ∙ e in omega arith)
           ∙ a .files j k l o e u;
     }
 

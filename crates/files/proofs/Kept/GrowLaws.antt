@@ -38,6 +38,7 @@ use Rattle.files.proofs.Stores.StoreLaws.{fits}
 use Rattle.files.proofs.Stores.SameLaws.{SameFrame, SameInode, SameBlock, frame-then, inode-then, zero-block, zero-block-is, put-inode, inode-new, inode-blocks, less-free}
 use Rattle.files.proofs.Stores.KeepLaws.{SamePlace, SameTree, Body, body-of, inode-kept, entry-in, entry-kept, place-slot, place-new, place-kept, slot-kept, changed, sound-kept}
 use Rattle.files.proofs.Stores.AddressLaws.{differ-new, address-kth, unnamed-change}
+use Rattle.files.proofs.Stores.FreeLaws.{FreeBlock}
 
 -- block c is the next of inode i in t
 pub record Grown (s t : List ℕ) (n i c : ℕ) : Type 0 where
@@ -263,32 +264,6 @@ module _ (s t : List ℕ) (n b i c : ℕ) (h : Sound mostStoreBlocks false s) (x
       let p = body .free-blocks in
       let q = g .free-blocks in
       sound-kept s t h (g .frame) n b x y grown-tree grown-inodes grown-differ (g .free-inodes) (omega arith)
-
--- ---- the lowest free block
-module _ (s : List ℕ) (n b : ℕ) where
-  pub record FreeBlock (c : ℕ) : Type 0 where
-    pub low : 1 ≤ c
-    pub high : c ≤ b
-    pub free : named s n c ≡ false
-
-  pub free-block : (c : ℕ) → freeBlock s n b ≡ At c → FreeBlock c
-  unfolding freeBlock
-  free-block c e =
-      let r = found-lowest (λ a. not (named s n a)) 1 b c e in
-      let l = r .below in
-      record { low = r .from; high = omega arith; free = not-true (named s n c) (r .holds) }
-
-  -- "The free counts are true.": where the header tells of one there is one
-  pub some-free : Body s n b → 1 ≤ headerOf s .«free_blocks» → (c : ℕ) × (freeBlock s n b ≡ At c)
-  unfolding freeBlock
-  some-free h l =
-      let f : ℕ → Bool = λ a. not (named s n a) in
-      let e = h .free-blocks in
-      let r = count-some (unnamedB s n) b (omega arith) in
-      let k = r .0 in
-      let a : k < b = r .1 in
-      let d = lowest-of f 1 b (k + 1) (omega arith) (omega arith) (r .2) in
-      (d .0, lowest-found f 1 b (d .0) (d .1))
 
 -- ---- a block more for an inode in use
 module _ (s : List ℕ) (n b i c : ℕ) (h : Sound mostStoreBlocks false s) (x : n ≡ inodesIn s) (y : b ≡ blocksIn s)

@@ -1,6 +1,6 @@
 -- What the searches of a directory say of its places. n is the inode count, d a directory with slot t.
 use Prim.Native.Nat.{ℕ, _≤_, _<_}
-use mathlib.Core.Path.{_≡_, sym, ap, _∙_, subst}
+use mathlib.Core.Path.{_≡_, refl, sym, ap, _∙_, subst}
 use mathlib.Core.Bool.{true, false}
 use mathlib.Core.List.{List}
 use Rattle.bounded.specs.declared.Found.the-variants.{At, Absent}
@@ -11,7 +11,7 @@ use Rattle.names.specs.Name.{legalName}
 use Rattle.names.specs.Entry.{entryInode, isEmpty, sameName}
 use Rattle.names.proofs.EntryLaws.{empty-inode, empty-not-named}
 use Rattle.directory.specs.Slot.{mostSlots, slots, entryOf, slotNamed, findSlot, slotEmpty}
-use Rattle.directory.proofs.SlotLaws.{find-absent, find-named}
+use Rattle.directory.proofs.SlotLaws.{find-below, find-absent, find-named}
 use Rattle.sound.specs.Place.{dirOf, slotOf, isSlot, entryAt, filled, naming}
 use Rattle.sound.specs.Pass.{placeOf}
 use Rattle.sound.specs.Sound.{Sound, inodesIn}
@@ -77,3 +77,7 @@ entry-here s n d t i h x dir inside full is =
       used = λ z. r .used (ap (kindOf s) e ∙ z);
       not-root = λ z. r .not-root (e ∙ z);
     }
+
+-- the one that a search for a legal name found
+pub found-here : (s : List ℕ) (n : ℕ) → Sound mostStoreBlocks false s → n ≡ inodesIn s → (d t : ℕ) (name : List ℕ) → isDirectory s n d ≡ true → legalName name ≡ true → findSlot s n d name ≡ At t → EntryHere s n d t (inodeAt s n d t)
+found-here s n h x d t name k l f = entry-here s n d t (inodeAt s n d t) h x k (find-below s n d name t f) (found-full s n d name t l f) refl

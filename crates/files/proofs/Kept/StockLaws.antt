@@ -23,6 +23,7 @@ use Rattle.files.proofs.Kept.TreeLaws.{Tree}
 use Rattle.files.proofs.Kept.SoundTreeLaws.{nodesOf, entries-back, links-back}
 use Rattle.files.proofs.Kept.EntryWriteLaws.{EntriesAlone}
 use Rattle.files.proofs.Kept.InodeWriteLaws.{SameBody, Relinked, each-inode, body-all}
+use Rattle.files.proofs.Stores.FreeLaws.{same-free}
 
 -- inodes are sound by themselves, no block is named twice, and the free counts are true
 pub record Stock (t : List ℕ) (n b : ℕ) : Type 0 where
@@ -39,10 +40,6 @@ last-used z h = omega arith
 pub kth-is : (s : List ℕ) (n i k : ℕ) → kthBlock s n i k ≡ addressOf s n (place i k)
 unfolding kthBlock
 kth-is s n i k = refl
-
--- kinds that are the same give the same free inodes
-pub same-free : (s t : List ℕ) (n : ℕ) → ((j : ℕ) → 1 ≤ j → j ≤ n → kindOf t j ≡ kindOf s j) → count (freeB t) n ≡ count (freeB s) n
-same-free s t n h = count-ext (freeB t) (freeB s) n (λ k l. ap (λ (x : ℕ). eqb x freeKind) (h (k + 1) (omega arith) (omega arith)))
 
 -- ---- entries alone change
 pub entries-stock : (s t : List ℕ) (n b : ℕ) → Body s n b → EntriesAlone s t n → Stock t n b

@@ -37,6 +37,7 @@ use Rattle.files.proofs.Kept.InodeWriteLaws.{SameBody, same-body, body-
 use Rattle.files.proofs.Kept.SlotPlaceLaws.{EntryHere, entry-here}
 use Rattle.files.proofs.Kept.StockLaws.{Stock, entries-stock, relinked-stock, stock-sound}
 use Rattle.files.proofs.Kept.BaredLaws.{Bared, put-bared, bared-places, bared-unnamed, bared-free, bared-stock, naming-none}
+use Rattle.files.proofs.Stores.RecordLaws.{header-inode}
 
 -- no entry stands in a directory that holds none
 pub unfilled : (s : List ℕ) (n i : ℕ) → holdsNone s n i ≡ true → (q : ℕ) → dirOf q ≡ i → filled s n q ≡ false
@@ -138,8 +139,7 @@ module _ (s : List ℕ) (n d t i : ℕ) (h : Sound mostStoreBlocks false s) (x :
     counts = let l = there .area in let e = length-inode m n i zeroInode in more-free u n (omega arith) 1 (blocksUsed (sizeOf m i))
 
     header : headerOf u ≡ headerOf m
-    unfolding zeroInode
-    header = put-inode m n i there zeroInode refl .header
+    header = header-inode m n i low high zeroInode
 
     bared : Bared m z n i zeroInode
     unfolding zeroInode

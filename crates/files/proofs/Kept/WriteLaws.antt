@@ -29,8 +29,9 @@ use Rattle.files.proofs.Stores.StoreLaws.{fits, kind-some, kind-most, k
 use Rattle.files.proofs.Stores.SameLaws.{SameFrame, SameInode, SameBlock, InBlock, frame-stays, frame-then, inode-stays, inode-then, put-in-block, in-block-out, put-attributes, attributes-new, attributes-blocks}
 use Rattle.files.proofs.Stores.KeepLaws.{body-of}
 use Rattle.files.proofs.Plans.PlanFacts.{Writes, writes}
-use Rattle.files.proofs.Kept.GrowLaws.{Grown, FreeBlock, free-block, some-free, block-added, add-block-sound, grown-used, grown-kth, grown-bytes}
+use Rattle.files.proofs.Kept.GrowLaws.{Grown, block-added, add-block-sound, grown-used, grown-kth, grown-bytes}
 use Rattle.files.proofs.Stores.FileLaws.{Holds, holds-less, ZeroPast, tail-past, used-low, other-byte, content-sound, Resized, resized-sound}
+use Rattle.files.proofs.Stores.FreeLaws.{FreeBlock, free-block, block-found}
 
 -- ---- m blocks more
 pub record Widened (s t : List ℕ) (n i m : ℕ) : Type 0 where
@@ -138,7 +139,7 @@ module _ (s : List ℕ) (n b i m : ℕ) (h : Spare s n b i (suc m)) where
   room-left = let d = h .few in omega arith
 
   some-left : (c : ℕ) × (freeBlock s n b ≡ At c)
-  some-left = let a = h .free in some-free s n b (body-of s n b (h .sound) (h .inodes) (h .blocks)) (omega arith)
+  some-left = let a = h .free in let e = body-of s n b (h .sound) (h .inodes) (h .blocks) .free-blocks in block-found s n b (omega arith)
 
   module _ (c : ℕ) (w : FreeBlock s n b c) where
     grown : Grown s (addBlock s n i c) n i c

@@ -33,54 +33,21 @@ use Rattle.files.specs.Inode.{isDirectory, zeroInode, newInode, withPare
 use Rattle.files.specs.Content.{addBlock}
 use Rattle.files.specs.Room.{roomIn, makeRoom}
 use Rattle.files.specs.Apply.{enter, dropLink, setParent}
-use Rattle.files.proofs.Stores.StoreLaws.{fits, dir-of, kind-some, kind-most, kind-is, kind-dir, kind-fits}
+use Rattle.files.proofs.Stores.StoreLaws.{sized-at, fits, dir-of, kind-some, kind-most, kind-is, kind-dir, kind-fits}
 use Rattle.files.proofs.Stores.SameLaws.{SameInode, put-entry, clear-entry, put-inode}
-use Rattle.files.proofs.Stores.KeepLaws.{same-slots}
-use Rattle.files.proofs.Kept.GrowLaws.{FreeBlock, free-block}
+use Rattle.files.proofs.Stores.KeepLaws.{same-slots, body-of}
+use Rattle.files.proofs.Stores.FreeLaws.{free-inode, inode-counted, free-block, block-counted, few-free-inodes, few-free-blocks}
 use Rattle.files.proofs.Kept.RoomLaws.{IsRoom, slot, block, is-room, Roomed, make-room, same-kind}
+use Rattle.files.proofs.Stores.RecordLaws.{header-inode}
+use Rattle.layout.proofs.FrameLaws.{length-inode}
 
--- ---- the counts of a sound store
-module _ (s : List ℕ) (h : Sound mostStoreBlocks false s) where
-  pub few-free-inodes : headerOf s .«free_inodes» ≤ mostInodes
-  few-free-inodes =
-      let a = h .free-inodes in
-      let b = count-le (freeB s) (inodesIn s) in
-      let c = h .framed .most-inodes in
-      omega arith
-
-  pub few-free-blocks : headerOf s .«free_blocks» ≤ mostStoreBlocks
-  few-free-blocks =
-      let a = h .free-blocks in
-      let b = count-le (unnamedB s (inodesIn s)) (blocksIn s) in
-      let c = h .framed .most-blocks in
-      omega arith
-
-  pub few-links : (i : ℕ) → 1 ≤ i → i ≤ inodesIn s → linksOf s i ≤ 12288
-  few-links i l m =
-      let a = h .links i l m .counted in
-      let b = tally-le (naming s (inodesIn s)) (48 * inodesIn s) i in
-      let c = h .framed .most-inodes in
-      omega arith
-
-  pub some-free-inode : (i : ℕ) → freeInode s (inodesIn s) ≡ At i → 1 ≤ headerOf s .«free_inodes»
-  unfolding freeInode isFree
-  some-free-inode i e =
-      let r = found-lowest (λ j. eqb (kindOf s j) 0) 1 (inodesIn s) i e in
-      let l = r .from in
-      let m = r .below in
-      let q : i ≡ i - 1 + 1 = omega arith in
-      let a = h .free-inodes in
-      let b = count-pos (freeB s) (inodesIn s) (i - 1) (omega arith) (subst (λ (j : ℕ). eqb (kindOf s j) 0 ≡ true) q (r .holds)) in
-      omega arith
-
--- the lowest free inode is one of the n
-pub free-low : (s : List ℕ) (n i : ℕ) → freeInode s n ≡ At i → 1 ≤ i
-unfolding freeInode
-free-low s n i e = found-lowest (isFree s) 1 n i e .from
-
-pub free-high : (s : List ℕ) (n i : ℕ) → freeInode s n ≡ At i → i ≤ n
-unfolding freeInode
-free-high s n i e = let m = found-lowest (isFree s) 1 n i e .below in omega arith
+-- a sound store names an inode from no more places than it has
+pub few-links : (s : List ℕ) → Sound mostStoreBlocks false s → (i : ℕ) → 1 ≤ i → i ≤ inodesIn s → linksOf s i ≤ 12288
+few-links s h i l m =
+    let a = h .links i l m .counted in
+    let b = tally-le (naming s (inodesIn s)) (48 * inodesIn s) i in
+    let c = h .framed .most-inodes in
+    omega arith
 
 -- ---- the room in d
 module _ (s : List ℕ) (n b d : ℕ) (r : Room) (h : Sound mostStoreBlocks false s) (x : n ≡ inodesIn s) (y : b ≡ blocksIn s) (k : isDirectory s n d ≡ true) (e : roomIn s n b d ≡ Has r) where
@@ -101,20 +68,6 @@ module _ (s : List ℕ) (n b d : ℕ) (r : Room) (h : Sound mostStoreBlocks fals
     pub few : blocksUsed (sizeOf s d) < addressCount
     pub free : 1 ≤ headerOf s .«free_blocks»
 
-  takes-free : (c : ℕ) → FreeBlock s n b c → 1 ≤ headerOf s .«free_blocks»
-  takes-free c w =
-      let l = w .low in
-      let m = w .high in
-      let q : c ≡ c - 1 + 1 = omega arith in
-      let u : named s n (c - 1 + 1) ≡ false = subst (λ (j : ℕ). named s n j ≡ false) q (w .free) in
-      let z : unnamedB s (inodesIn s) (c - 1) ≡ true = subst (λ (j : ℕ). not (named s j (c - 1 + 1)) ≡ true) x (rw u refl) in
-      let a = count-pos (unnamedB s (inodesIn s)) (blocksIn s) (c - 1) (omega arith) z in
-      let f = h .free-blocks in
-      omega arith
-
-  takes-sized : Sized s n b
-  takes-sized = subst (λ (j : ℕ). Sized s j b) (sym x) (subst (Sized s (inodesIn s)) (sym y) (sized h (omega arith)))
-
   pub room-takes : r .block ≢ 0 → Takes (r .block)
   room-takes q = go (is-room s n b d r e)
     where
@@ -123,7 +76,7 @@ module _ (s : List ℕ) (n b d : ℕ) (r : Room) (h : Sound mostStoreBlocks fals
       go (block c u f z) =
           let w = free-block s n b c f in
           subst Takes (sym (ap (λ (v : Room). v .block) z))
-          (record { inode = kind-fits s n h x directoryKind d k; sized = takes-sized; low = w .low; high = w .high; few = u; free = takes-free c w })
+          (record { inode = kind-fits s n h x directoryKind d k; sized = sized-at s n b h x y; low = w .low; high = w .high; few = u; free = let f = body-of s n b h x y .free-blocks in let o = block-counted s n b c w in omega arith })
 
   -- t is the store with the room
   module _ (t : List ℕ) (q : t ≡ makeRoom s n d r) where
@@ -188,17 +141,6 @@ module _ (s : List ℕ) (n b d : ℕ) (r : Room) (h : Sound mostStoreBlocks fals
       ∙ put-inodes grown n d (r .slot) (roomed-dir s n b d r h x y k e grown refl d k) (grown-is .slot) i name j l m .links
       ∙ grown-is .tree .links j l m
 
--- ---- an inode written
-pub twelve : (k : Kind) (d : ℕ) → length (newInode k d .addresses) ≡ addressCount
-twelve File d = length-replicate {A = ℕ} 12 0
-twelve Directory d = length-replicate {A = ℕ} 12 0
-
-pub written-header : (s : List ℕ) (n i : ℕ) (v : Inode) → InodeFits s n i → length (v .addresses) ≡ addressCount → headerOf (putInode s n i v) ≡ headerOf s
-written-header s n i v f l = put-inode s n i f v l .header
-
-pub written-length : (s : List ℕ) (n i : ℕ) (v : Inode) → InodeFits s n i → length (v .addresses) ≡ addressCount → length (putInode s n i v) ≡ length s
-written-length s n i v f l = put-inode s n i f v l .frame .long
-
 -- ---- one link less
 module _ (s : List ℕ) (n i : ℕ) where
   pub last-link : linksOf s i ≤ 1 → moreFree (putInode s n i zeroInode) 1 (blocksUsed (sizeOf s i)) ≡ dropLink s n i
@@ -223,11 +165,13 @@ module _ (s : List ℕ) (n i e : ℕ) where
 pub create-counts : (s : List ℕ) (n b d : ℕ) (r : Room) (h : Sound mostStoreBlocks false s) → n ≡ inodesIn s → b ≡ blocksIn s → isDirectory s n d ≡ true → roomIn s n b d ≡ Has r → (i : ℕ) (name t : List ℕ) → t ≡ enter s n d r i name
     → freeInode s n ≡ At i → (k : Kind) (u : List ℕ) → u ≡ putInode t n i (newInode k d) → (headerBytes ≤ length u) × (1 ≤ headerOf u .«free_inodes»)
 create-counts s n b d r h x y g e i name t q f k u w =
-    let fit = entered-fits s n b d r h x y g e i name t q i (free-low s n i f) (free-high s n i f) in
-    let a = ap (λ (z : List ℕ). headerOf z .«free_inodes») w ∙ ap (λ (v : Header). v .«free_inodes») (written-header t n i (newInode k d) fit (twelve k d)) in
+    let o = free-inode s n i f in
+    let fit = entered-fits s n b d r h x y g e i name t q i (o .low) (o .high) in
+    let a = ap (λ (z : List ℕ). headerOf z .«free_inodes») w ∙ ap (λ (v : Header). v .«free_inodes») (header-inode t n i (o .low) (o .high) (newInode k d)) in
     let c = entered-free s n b d r h x y g e i name t q in
-    let j = some-free-inode s h i (subst (λ (m : ℕ). freeInode s m ≡ At i) x f) in
-    let l : length u ≡ length t = ap (length {A = ℕ}) w ∙ written-length t n i (newInode k d) fit (twelve k d) in
+    let j = body-of s n b h x y .free-inodes in
+    let v = inode-counted s n i f in
+    let l : length u ≡ length t = ap (length {A = ℕ}) w ∙ length-inode t n i (newInode k d) in
     let m = fit .area in
     (omega arith, omega arith)
 
@@ -272,21 +216,17 @@ module _ (s : List ℕ) (n : ℕ) (h : Sound mostStoreBlocks false s) (x : n ≡
         blocks = omega arith;
       }
 
--- ---- an inode freed: u is t with inode i zero
-module _ (t : List ℕ) (n i : ℕ) (f : InodeFits t n i) (a : headerOf t .«free_inodes» ≤ mostInodes) (b : headerOf t .«free_blocks» ≤ mostStoreBlocks) (v : Inode) (g : v ≡ zeroInode) (u : List ℕ) (q : u ≡ putInode t n i v) where
-  zeros : length (v .addresses) ≡ addressCount
-  unfolding zeroInode
-  zeros = ap (λ (w : Inode). length (w .addresses)) g ∙ length-replicate {A = ℕ} 12 0
-
+-- ---- an inode freed: u is t with inode i written anew
+module _ (t : List ℕ) (n i : ℕ) (f : InodeFits t n i) (a : headerOf t .«free_inodes» ≤ mostInodes) (b : headerOf t .«free_blocks» ≤ mostStoreBlocks) (v : Inode) (u : List ℕ) (q : u ≡ putInode t n i v) where
   freed-header : headerOf u ≡ headerOf t
-  freed-header = ap headerOf q ∙ written-header t n i v f zeros
+  freed-header = ap headerOf q ∙ header-inode t n i (f .low) (f .high) v
 
   -- the counts have room for what is freed: m blocks
   pub freed-counts : (m : ℕ) → m ≤ mostStoreBlocks → (headerBytes ≤ length u) × (headerOf u .«free_inodes» + 1 < 65536) × (headerOf u .«free_blocks» + m < 65536)
   freed-counts m l =
       let c = ap (λ (z : Header). z .«free_inodes») freed-header in
       let d = ap (λ (z : Header). z .«free_blocks») freed-header in
-      let e = ap (length {A = ℕ}) q ∙ written-length t n i v f zeros in
+      let e = ap (length {A = ℕ}) q ∙ length-inode t n i v in
       let k = f .area in
       (omega arith, omega arith, omega arith)
 

@@ -17,6 +17,7 @@ use Rattle.sound.specs.Inode.{InodeSound}
 use Rattle.sound.specs.Sound.{Sound, inodesIn, blocksIn}
 use Rattle.sound.proofs.FactLaws.{one-block}
 use Rattle.files.specs.Content.{fileByte}
+use Rattle.files.proofs.Stores.StoreLaws.{one-at}
 use Rattle.files.proofs.Stores.SameLaws.{SameFrame, SameInode, SameBlock, InBlock}
 use Rattle.files.proofs.Stores.KeepLaws.{ZeroTail, Body, body-of, inode-like, inode-kept, file-tree, sound-kept}
 use Rattle.files.proofs.Stores.AddressLaws.{differ-less, address-kth, same-differ, same-unnamed, unnamed-change}
@@ -54,11 +55,8 @@ module _ (s : List ℕ) (n i : ℕ) where
       let c : o ≡ x % 64 = omega arith in
       ap₂ (λ (j r : ℕ). getD (blockOf s n (kthBlock s n i j)) r 0) a c ∙ h x (omega arith) (omega arith)
 
--- ---- blocks in use by two inodes differ, and so do two of one inode
+-- ---- a block in use
 module _ (s : List ℕ) (n b : ℕ) (h : Sound mostStoreBlocks false s) (x : n ≡ inodesIn s) (y : b ≡ blocksIn s) where
-  pub one-at : (i k j a : ℕ) → 1 ≤ i → i ≤ n → 1 ≤ j → j ≤ n → k < blocksUsed (sizeOf s i) → a < blocksUsed (sizeOf s j) → kthBlock s n i k ≡ kthBlock s n j a → (i ≡ j) × (k ≡ a)
-  one-at i k j a l m p q u w e = one-block h i k j a l (omega arith) p (omega arith) u w (subst (λ (z : ℕ). kthBlock s z i k ≡ kthBlock s z j a) x e)
-
   pub used-low : (i k : ℕ) → 1 ≤ i → i ≤ n → k < blocksUsed (sizeOf s i) → 1 ≤ kthBlock s n i k
   unfolding blocksUsed
   used-low i k l m u = let r = body-of s n b h x y .inodes i l m in let z = r .size in r .used k (omega arith) u .0
@@ -70,7 +68,7 @@ module _ (s t : List ℕ) (n b i k : ℕ) (h : Sound mostStoreBlocks false s) (x
   pub other-block : (j a : ℕ) → 1 ≤ j → j ≤ n → a < blocksUsed (sizeOf s j) → (j ≡ i → a ≡ k → ⊥) → SameBlock s t n (kthBlock s n j a)
   other-block j a p q w e =
       g .others (kthBlock s n j a) (used-low s n b h x y j a p q w)
-      (λ z. e (one-at s n b h x y j a i k p q l m w u z .0) (one-at s n b h x y j a i k p q l m w u z .1))
+      (λ z. e (one-at s n h x j a i k p q l m w u z .0) (one-at s n h x j a i k p q l m w u z .1))
 
   -- and so do the bytes of the file in them
   pub other-byte : (o : ℕ) → o < blockBytes * blocksUsed (sizeOf s i) → o / blockBytes ≢ k → o / blockBytes < addressCount → fileByte t n i o ≡ fileByte s n i o

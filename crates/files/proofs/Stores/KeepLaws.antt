@@ -32,6 +32,7 @@ use Rattle.sound.specs.Pass.{IsDir}
 use Rattle.sound.proofs.PlaceLaws.{slot-is, filled-is}
 use Rattle.sound.proofs.SoundLaws.{climbs}
 use Rattle.files.proofs.Stores.SameLaws.{SameFrame, SameInode, SameBlock}
+use Rattle.files.proofs.Stores.FreeLaws.{same-free}
 
 -- ---- an inode by itself
 -- "File bytes past the size in the last block are zero."
@@ -230,9 +231,6 @@ module _ (s t : List ℕ) (n : ℕ) (e : SameTree s t n) where
             leads-kept (IsDir s n) (parentOf s) (parentOf t) rootInode n c (λ y q. e .parents y (q .low) (q .high)) (w .0) i (record { low = l; high = m; kind = d }) (w .1);
       }
 
-  free-inodes-kept : count (freeB t) n ≡ count (freeB s) n
-  free-inodes-kept = count-ext (freeB t) (freeB s) n (λ k l. ap (λ (x : ℕ). eqb x freeKind) (e .kinds (k + 1) (omega arith) (omega arith)))
-
 -- ---- the whole
 -- what is left to show of a store with the frame of a sound one
 pub record Body (t : List ℕ) (n b : ℕ) : Type 0 where
@@ -310,6 +308,6 @@ module _ (s t : List ℕ) (h : Sound mostStoreBlocks false s) (f : SameFrame s t
           root-parent = e .parents rootInode (omega arith) (omega arith) ∙ r .root-parent;
           entries = λ p l q. let q′ = sym (e .places p l .stands) ∙ q in entry-sound-kept s t n p e l (r .entries p l q′) q′;
           links = λ i l m. link-sound-kept s t n e (climbs s n (r .entries) (λ j k o. let c = r .links j k o in record { counted = c .counted; named = c .named; one = c .one })) i l m (r .links i l m);
-          free-inodes = free-inodes ∙ r .free-inodes ∙ sym (free-inodes-kept s t n e);
+          free-inodes = free-inodes ∙ r .free-inodes ∙ sym (same-free s t n (e .kinds));
           free-blocks = free-blocks;
         })

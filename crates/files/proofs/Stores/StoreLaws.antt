@@ -18,12 +18,13 @@ use Rattle.directory.proofs.SlotLaws.{few-slots, find-below, find-named}
 use Rattle.sound.specs.Place.{isSlot, filled, naming}
 use Rattle.sound.specs.Entry.{EntrySound}
 use Rattle.sound.specs.Pass.{placeOf}
-use Rattle.sound.specs.Sound.{Sound, inodesIn}
+use Rattle.sound.specs.Sound.{Sound, inodesIn, blocksIn}
 use Rattle.sound.proofs.PlaceLaws.{filled-is, naming-entry}
 use Rattle.sound.proofs.EntryLaws.{entry-place, slot-place}
-use Rattle.sound.proofs.FactLaws.{inode-fits, dir-fits, address-bound}
+use Rattle.sound.proofs.FactLaws.{sized, one-block, inode-fits, dir-fits, address-bound}
 use Rattle.files.specs.Inode.{isKind, isDirectory}
 use Rattle.files.specs.Plan.{inodeAt}
+use Rattle.layout.specs.Block.{Sized, blocksUsed, kthBlock}
 
 -- ---- the kind of a number
 module _ (s : List ℕ) (n k i : ℕ) where
@@ -53,6 +54,9 @@ module _ (s : List ℕ) (n k i : ℕ) where
     kind-is = eqb-true (kindOf s i) k (and-right (leb i n) (eqb (kindOf s i) k) (and-right (leb 1 i) (leb i n && eqb (kindOf s i) k) t))
 
 -- ---- a sound store
+pub sized-at : (s : List ℕ) (n b : ℕ) → Sound mostStoreBlocks false s → n ≡ inodesIn s → b ≡ blocksIn s → Sized s n b
+sized-at s n b h x y = subst (λ (j : ℕ). Sized s j b) (sym x) (subst (Sized s (inodesIn s)) (sym y) (sized h (omega arith)))
+
 module _ (s : List ℕ) (n : ℕ) (h : Sound mostStoreBlocks false s) (e : n ≡ inodesIn s) where
   pub fits : (i : ℕ) → 1 ≤ i → i ≤ n → InodeFits s n i
   fits i l m = subst (λ (x : ℕ). InodeFits s x i) (sym e) (inode-fits h i l (omega arith))
@@ -66,6 +70,10 @@ module _ (s : List ℕ) (n : ℕ) (h : Sound mostStoreBlocks false s) (e : n ≡
       let q = address-bound h x (omega arith) in
       subst (λ (y : ℕ). addressOf s y x ≤ mostImageBlocks) (sym e) (omega arith)
 
+  -- no block is two inodes' or twice one's
+  pub one-at : (i k j a : ℕ) → 1 ≤ i → i ≤ n → 1 ≤ j → j ≤ n → k < blocksUsed (sizeOf s i) → a < blocksUsed (sizeOf s j) → kthBlock s n i k ≡ kthBlock s n j a → (i ≡ j) × (k ≡ a)
+  one-at i k j a l m p q u w f = one-block h i k j a l (omega arith) p (omega arith) u w (subst (λ (z : ℕ). kthBlock s z i k ≡ kthBlock s z j a) e f)
+
 -- ---- an inode of a kind on a sound store
 module _ (s : List ℕ) (n : ℕ) (h : Sound mostStoreBlocks false s) (e : n ≡ inodesIn s) (k i : ℕ) (t : isKind s n k i ≡ true) where
   pub kind-fits : InodeFits s n i
@@ -76,37 +84,3 @@ module _ (s : List ℕ) (n : ℕ) (h : Sound mostStoreBlocks false s) (e : n ≡
 
   pub kind-size : sizeOf s i ≤ mostFileBytes
   kind-size = let m = kind-most s n k i t in h .inodes i (kind-some s n k i t) (omega arith) .size
-
--- ---- the entry that a search for a legal name found
-module _ (s : List ℕ) (n : ℕ) (h : Sound mostStoreBlocks false s) (e : n ≡ inodesIn s) (d t : ℕ) (name : List ℕ) (k : isDirectory s n d ≡ true) (l : legalName name ≡ true) (f : findSlot s n d name ≡ At t) where
-  found-few : t < mostSlots
-  found-few = let a = find-below s n d name t f in let b = few-slots s n d (kind-dir s n h e directoryKind d k) in omega arith
-
-  found-slot : isSlot s (placeOf d t) ≡ true
-  found-slot = slot-place s n d t (kind-some s n directoryKind d k) found-few .from (kind-is s n directoryKind d k, find-below s n d name t f)
-
-  pub found-filled : filled s n (placeOf d t) ≡ true
-  found-filled =
-      filled-is s n (placeOf d t) .from (
-        found-slot,
-        rw (entry-place s n d t (kind-some s n directoryKind d k) found-few)
-            (fails (isEmpty (entryOf s n d t)) (λ z. clash (sameName (entryOf s n d t) name) (find-named s n d name t f) (empty-not-named (entryOf s n d t) name z l))),
-      )
-
-  pub found-sound : EntrySound s n (placeOf d t)
-  found-sound =
-      let a = kind-some s n directoryKind d k in
-      let b = kind-most s n directoryKind d k in
-      let m = found-few in
-      let g = subst (λ (x : ℕ). filled s x (placeOf d t) ≡ true) e found-filled in
-      subst (λ (x : ℕ). EntrySound s x (placeOf d t)) (sym e) (h .entries (placeOf d t) (omega arith) g)
-
-  pub found-naming : naming s n (placeOf d t) ≡ inodeAt s n d t
-  found-naming =
-      naming-entry s n (placeOf d t) found-slot ∙ ap entryInode (entry-place s n d t (kind-some s n directoryKind d k) found-few)
-
-  pub found-some : 1 ≤ inodeAt s n d t
-  found-some = let a = found-sound .low in let b = found-naming in omega arith
-
-  pub found-most : inodeAt s n d t ≤ n
-  found-most = let a = found-sound .high in let b = found-naming in omega arith

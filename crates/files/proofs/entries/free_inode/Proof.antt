@@ -30,7 +30,7 @@ cast-more-free : tie.Need-cast-more-free
 cast-more-free c = let u = used-bound (c .before .before .before .before .before .before .before .size .result) (omega arith) in let e = c .before .before .before .before .before .before .blocks-used .ensures in omega arith
 
 more-free-requires : tie.Need-more-free-requires
-more-free-requires c κs = let p = c .before .before .before .before .before .before .before .before .before .before .pre in let u = used-bound (c .before .before .before .before .before .before .before .size .result) (omega arith) in let e = c .before .before .before .before .before .before .blocks-used .ensures in freed-counts _ _ _ (p .0) (p .1) (p .2) _ (c .before .before .before .before .before .zero-inode .ensures) _ (c .before .before .before .write .ensures) _ (omega arith)
+more-free-requires c κs = let p = c .before .before .before .before .before .before .before .before .before .before .pre in let u = used-bound (c .before .before .before .before .before .before .before .size .result) (omega arith) in let e = c .before .before .before .before .before .before .blocks-used .ensures in freed-counts _ _ _ (p .0) (p .1) (p .2) _ _ (c .before .before .before .write .ensures) _ (omega arith)
 
 same-length : tie.Need-same-length
 same-length c = search needs

@@ -1,4 +1,4 @@
-use Rattle.files.proofs.Stores.StoreLaws.{found-some, found-most}
+use Rattle.files.proofs.Kept.SlotPlaceLaws.{found-here}
 use Rattle.files.proofs.Plans.PlanFacts.{renames, moves}
 use Rattle.files.specs.Plain.{left, doRename}
 use Rattle.directory.proofs.SlotLaws.{find-below}
@@ -28,7 +28,7 @@ rename-requires c κs =
     let g = renames _ _ _ _ _ _ _ _ _ (sym (c .before .before .before .before .rename-plan .ensures) ∙ c .before .before .t .given .1) .0 in
     let f = g .entry in
     let e = f .inode in
-    let m = found-most _ _ (p .0) (p .1) _ _ _ (f .directory) (f .legal) (f .found) in
+    let m = found-here _ _ (p .0) (p .1) _ _ _ (f .directory) (f .legal) (f .found) .high in
     (p .0, p .1, f .directory, find-below _ _ _ _ _ (f .found), omega arith, legal-bounds _ (g .new .legal) .1)
 
 enum-known-t-2 : tie.Need-enum-known-t-2
@@ -40,8 +40,8 @@ move-entry-requires c κs =
     let g = moves _ _ _ _ _ _ _ _ _ _ (sym (c .before .before .before .before .rename-plan .ensures) ∙ c .before .before .t2 .given .1) in
     let f = g .0 .entry in
     let e = f .inode in
-    let l = found-some _ _ (p .0) (p .1) _ _ _ (f .directory) (f .legal) (f .found) in
-    let m = found-most _ _ (p .0) (p .1) _ _ _ (f .directory) (f .legal) (f .found) in
+    let l = found-here _ _ (p .0) (p .1) _ _ _ (f .directory) (f .legal) (f .found) .low in
+    let m = found-here _ _ (p .0) (p .1) _ _ _ (f .directory) (f .legal) (f .found) .high in
     ((p .0, p .1, p .2, g .0 .new .directory, g .1 .room), (f .directory, find-below _ _ _ _ _ (f .found), omega arith, omega arith, legal-bounds _ (g .0 .new .legal) .1))
 
 enum-known-why : tie.Need-enum-known-why

@@ -1,5 +1,5 @@
 use native.Mathlib.Omega.{arith}
-use Rattle.files.proofs.Stores.StoreLaws.{found-some, found-most}
+use Rattle.files.proofs.Kept.SlotPlaceLaws.{found-here}
 use Rattle.files.proofs.Plans.PlanFacts.{unlinks}
 use Rattle.files.specs.Plain.{left, doUnlink}
 use Rattle.directory.proofs.SlotLaws.{find-below}
@@ -23,8 +23,8 @@ unlink-requires c κs =
     let p = c .before .before .before .before .before .before .before .before .pre in
     let f = unlinks _ _ _ _ _ _ (sym (c .before .before .before .before .unlink-plan .ensures) ∙ c .before .before .t .given .1) .entry in
     let e = f .inode in
-    let l = found-some _ _ (p .0) (p .1) _ _ _ (f .directory) (f .legal) (f .found) in
-    let m = found-most _ _ (p .0) (p .1) _ _ _ (f .directory) (f .legal) (f .found) in
+    let l = found-here _ _ (p .0) (p .1) _ _ _ (f .directory) (f .legal) (f .found) .low in
+    let m = found-here _ _ (p .0) (p .1) _ _ _ (f .directory) (f .legal) (f .found) .high in
     (p .0, p .1, f .directory, find-below _ _ _ _ _ (f .found), omega arith, omega arith)
 
 enum-known-why : tie.Need-enum-known-why
