@@ -30,7 +30,7 @@ use Rattle.directory.specs.Slot.{slots, entryOf}
 use Rattle.sound.specs.Place.{dirOf, slotOf, entryAt}
 use Rattle.sound.specs.Inode.{InodeSound}
 use Rattle.sound.specs.Sound.{Sound, inodesIn, blocksIn, unnamedB}
-use Rattle.sound.proofs.FactLaws.{unnamed}
+use Rattle.sound.proofs.FactLaws.{unnamed, named-is}
 use Rattle.sound.proofs.PlaceLaws.{slot-is}
 use Rattle.files.specs.Inode.{withBlocks}
 use Rattle.files.specs.Content.{addBlock}
@@ -39,6 +39,7 @@ use Rattle.files.proofs.Stores.SameLaws.{SameFrame, SameInode, SameBloc
 use Rattle.files.proofs.Stores.KeepLaws.{SamePlace, SameTree, Body, body-of, inode-kept, entry-in, entry-kept, place-slot, place-new, place-kept, slot-kept, changed, sound-kept}
 use Rattle.files.proofs.Stores.AddressLaws.{differ-new, address-kth, unnamed-change}
 use Rattle.files.proofs.Stores.FreeLaws.{FreeBlock}
+use Rattle.bounded.proofs.BoolLaws.{same-test}
 
 -- block c is the next of inode i in t
 pub record Grown (s t : List ℕ) (n i c : ℕ) : Type 0 where
@@ -139,6 +140,40 @@ module _ (s t : List ℕ) (n i c : ℕ) (g : Grown s t n i c) where
       ∙ getD-part (blockOf t n (kthBlock t n i (u / 4))) (16 * (u % 4)) 16 k h
       ∙ ap (λ (x : List ℕ). getD x (16 * (u % 4) + k) 0) e
       ∙ getD-replicate 64 (16 * (u % 4) + k) 0 0 (omega arith))
+
+  -- every other address is what it was
+  pub grown-address : (w : ℕ) → w < addressCount * n → w ≢ place i (blocksUsed (sizeOf s i)) → addressOf t n w ≡ addressOf s n w
+  grown-address w q e = address-kth t n w ∙ at (ℕ-discrete (w / 12 + 1) i) ∙ sym (address-kth s n w)
+    where
+      at : Dec (w / 12 + 1 ≡ i) → kthBlock t n (w / 12 + 1) (w % 12) ≡ kthBlock s n (w / 12 + 1) (w % 12)
+      at (yes o) = ap (λ (j : ℕ). kthBlock t n j (w % 12)) o ∙ g .old (w % 12) (omega arith) (λ k. e (omega arith)) ∙ ap (λ (j : ℕ). kthBlock s n j (w % 12)) (sym o)
+      at (no o) = g .others (w / 12 + 1) (omega arith) (omega arith) o .blocks (w % 12) (omega arith)
+
+  -- which blocks are named then, where the place was empty
+  module _ (l : 1 ≤ i) (m : i ≤ n) (u : blocksUsed (sizeOf s i) < addressCount) (d : ℕ) where
+    abbrev next : ℕ
+    next = place i (blocksUsed (sizeOf s i))
+
+    put-there : addressOf t n next ≡ c
+    unfolding kthBlock
+    put-there = g .new
+
+    pub named-new : d ≡ c → named t n d ≡ true
+    named-new e = named-is t n d .from (next, omega arith, put-there ∙ sym e)
+
+    pub named-old : addressOf s n next ≡ 0 → 1 ≤ d → d ≢ c → named t n d ≡ named s n d
+    named-old r p q =
+        same-test _ _
+        (λ h. let w = named-is t n d .to h in came (w .0) (w .1) (w .2) (ℕ-discrete (w .0) next))
+        (λ h. let w = named-is s n d .to h in goes (w .0) (w .1) (w .2) (ℕ-discrete (w .0) next))
+      where
+        came : (x : ℕ) → x < addressCount * n → addressOf t n x ≡ d → Dec (x ≡ next) → named s n d ≡ true
+        came x o e (yes z) = absurd (q (sym e ∙ ap (addressOf t n) z ∙ put-there))
+        came x o e (no z) = named-is s n d .from (x, o, sym (grown-address x o z) ∙ e)
+
+        goes : (x : ℕ) → x < addressCount * n → addressOf s n x ≡ d → Dec (x ≡ next) → named t n d ≡ true
+        goes x o e (yes z) = let y : d ≡ 0 = sym e ∙ ap (addressOf s n) z ∙ r in absurd (omega arith)
+        goes x o e (no z) = named-is t n d .from (x, o, grown-address x o z ∙ e)
 
 -- ---- on a sound store, with a block that no address names
 module _ (s t : List ℕ) (n b i c : ℕ) (h : Sound mostStoreBlocks false s) (x : n ≡ inodesIn s) (y : b ≡ blocksIn s)
@@ -250,12 +285,7 @@ module _ (s t : List ℕ) (n b i c : ℕ) (h : Sound mostStoreBlocks false s) (x
   unfolding kthBlock
   grown-differ =
       differ-new (addressOf s n) (addressOf t n) (addressCount * n) (place i (blocksUsed (sizeOf s i))) c (body .once) (unnamed s n c free) (g .new)
-      (λ w q e. address-kth t n w ∙ at w q e (ℕ-discrete (w / 12 + 1) i) ∙ sym (address-kth s n w))
-    where
-      at : (w : ℕ) → w < addressCount * n → w ≢ place i (blocksUsed (sizeOf s i)) → Dec (w / 12 + 1 ≡ i) → kthBlock t n (w / 12 + 1) (w % 12) ≡ kthBlock s n (w / 12 + 1) (w % 12)
-      at w q e (yes o) =
-          ap (λ (j : ℕ). kthBlock t n j (w % 12)) o ∙ g .old (w % 12) (omega arith) (λ k. e (omega arith)) ∙ ap (λ (j : ℕ). kthBlock s n j (w % 12)) (sym o)
-      at w q e (no o) = g .others (w / 12 + 1) (omega arith) (omega arith) o .blocks (w % 12) (omega arith)
+      (grown-address s t n i c g)
 
   pub grown-sound : Sound mostStoreBlocks false t
   grown-sound =

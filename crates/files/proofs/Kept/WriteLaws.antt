@@ -134,20 +134,25 @@ pub record Spare (s : List ℕ) (n b i m : ℕ) : Type 0 where
   pub free : m ≤ headerOf s .«free_blocks»
   pub few : blocksUsed (sizeOf s i) + m ≤ addressCount
 
+pub spare-of : (s : List ℕ) (n b i m : ℕ) → Sound mostStoreBlocks false s → n ≡ inodesIn s → b ≡ blocksIn s → isFile s n i ≡ true → m ≤ headerOf s .«free_blocks» → blocksUsed (sizeOf s i) + m ≤ addressCount → Spare s n b i m
+spare-of s n b i m h x y f l u =
+    let k = kind-is s n fileKind i f in
+    record { sound = h; inodes = x; blocks = y; low = kind-some s n fileKind i f; high = kind-most s n fileKind i f; in-use = λ e. omega arith; free = l; few = u }
+
 module _ (s : List ℕ) (n b i m : ℕ) (h : Spare s n b i (suc m)) where
-  room-left : blocksUsed (sizeOf s i) < addressCount
+  pub room-left : blocksUsed (sizeOf s i) < addressCount
   room-left = let d = h .few in omega arith
 
-  some-left : (c : ℕ) × (freeBlock s n b ≡ At c)
+  pub some-left : (c : ℕ) × (freeBlock s n b ≡ At c)
   some-left = let a = h .free in let e = body-of s n b (h .sound) (h .inodes) (h .blocks) .free-blocks in block-found s n b (omega arith)
 
   module _ (c : ℕ) (w : FreeBlock s n b c) where
-    grown : Grown s (addBlock s n i c) n i c
-    grown = block-added s n b i c (h .sound) (h .inodes) (h .blocks) (h .low) (h .high) room-left w
+    pub spare-grown : Grown s (addBlock s n i c) n i c
+    spare-grown = block-added s n b i c (h .sound) (h .inodes) (h .blocks) (h .low) (h .high) room-left w
 
-    spare-next : Spare (addBlock s n i c) n b i m
+    pub spare-next : Spare (addBlock s n i c) n b i m
     spare-next =
-        let g = grown in
+        let g = spare-grown in
         let z = grown-used s (addBlock s n i c) n i c g in
         let k = g .free-blocks in
         let a = h .free in
@@ -171,7 +176,7 @@ module _ (s : List ℕ) (n b i m : ℕ) (h : Spare s n b i (suc m)) where
       let w = free-block s n b c e in
       let r = addBlock s n i c in
       subst (λ (z : Found). Widened s (onFound z (λ a. addBlocks (addBlock s n i a) n b i m) s) n i (suc m)) (sym e)
-      (widened-more s r (addBlocks r n b i m) n b i c m (h .sound) (h .inodes) (h .blocks) (h .low) (h .high) (h .in-use) room-left w (grown c w) (f r (spare-next c w)))
+      (widened-more s r (addBlocks r n b i m) n b i c m (h .sound) (h .inodes) (h .blocks) (h .low) (h .high) (h .in-use) room-left w (spare-grown c w) (f r (spare-next c w)))
 
 pub add-blocks : (m : ℕ) (s : List ℕ) (n b i : ℕ) → Spare s n b i m → Widened s (addBlocks s n b i m) n i m
 add-blocks zero s n b i h = unfold addBlocks in widened-none s n i (h .sound)
@@ -302,8 +307,7 @@ module _ (s : List ℕ) (n b i o : ℕ) (xs : List ℕ) (z : ℕ) (h : Sound mos
   widened =
       let a = used-up in
       let c = used-few in
-      let k = is-file in
-      add-blocks more s n b i (record { sound = h; inodes = x; blocks = y; low = low; high = high; in-use = λ e. omega arith; free = w .blocks; few = omega arith })
+      add-blocks more s n b i (spare-of s n b i more h x y (w .file) (w .blocks) (omega arith))
 
   -- past the new size stand zeros: old ones, and those of new blocks
   wide-past : ZeroPast wide n i z
@@ -332,7 +336,7 @@ module _ (s : List ℕ) (n b i o : ℕ) (xs : List ℕ) (z : ℕ) (h : Sound mos
   sized-is : Resized wide sized n i z
   sized-is = put-size wide n b i z (widened .sound) wide-inodes wide-blocks low high wide-used
 
-  sized-holds : Holds sized n b i (o + length xs)
+  pub sized-holds : Holds sized n b i (o + length xs)
   sized-holds =
       let g = sized-is in
       let e = g .size in

@@ -12,13 +12,14 @@ use Rattle.bounded.proofs.TableLaws.{length-table, getD-table, table-ext}
 use Rattle.octets.specs.Octets.{part, splice, copied}
 use Rattle.octets.proofs.PartLaws.{length-inside, getD-part, splice-append}
 use Rattle.layout.specs.Sizes.{mostStoreBlocks}
-use Rattle.layout.specs.Inode.{sizeOf}
+use Rattle.layout.specs.Inode.{sizeOf, fileKind}
 use Rattle.layout.specs.Block.{blockAt, blockOf, blocksUsed, kthBlock}
 use Rattle.sound.specs.Sound.{Sound, inodesIn}
 use Rattle.files.specs.Inode.{isKind}
 use Rattle.files.specs.Fits.{byteAt, FileFits}
 use Rattle.files.specs.Content.{fileByte, fileBytes}
-use Rattle.files.proofs.Stores.StoreLaws.{kind-dir, kind-size}
+use Rattle.files.proofs.Stores.StoreLaws.{kind-of, kind-dir, kind-size}
+use Rattle.files.proofs.Stores.FileLaws.{Holds}
 
 -- ---- files that fit
 -- the first z bytes of an inode of a sound store
@@ -28,6 +29,9 @@ file-fits s n h e k i t z l =
     let d = kind-dir s n h e k i t in
     let m = kind-size s n h e k i t in
     record { inode = d .inode; most = omega arith; blocks = λ j b. d .blocks j (omega arith) }
+
+pub holds-fits : (s : List ℕ) (n b i z : ℕ) → Holds s n b i z → FileFits s n i z
+holds-fits s n b i z h = file-fits s n (h .sound) (h .inodes) fileKind i (kind-of s n fileKind i (h .low) (h .high) (h .kind)) z (h .size)
 
 module _ (s : List ℕ) (n i z : ℕ) (f : FileFits s n i z) where
   pub fits-less : (y : ℕ) → y ≤ z → FileFits s n i y

@@ -14,11 +14,12 @@ use Rattle.octets.proofs.WordLaws.{length-words}
 use Rattle.layout.specs.declared.inode.Inode.{Inode}
 use Rattle.layout.specs.Header.{headerOf, putFree}
 use Rattle.layout.specs.Inode.{InodeFits, attributesAt, addressAt, place, kindOf, linksOf, sizeOf, parentOf, addressOf, addressesOf, attributeEntry, inodeOf, putAttributes, putAddresses, putInode}
-use Rattle.layout.specs.Block.{blocksUsed}
+use Rattle.layout.specs.Block.{blocksUsed, kthBlock}
 use Rattle.layout.proofs.View.{View, viewOf, below, overlay, withHeader, withAttributes, withAddress}
-use Rattle.layout.proofs.FrameLaws.{length-entry, length-free, header-past}
+use Rattle.layout.proofs.FrameLaws.{length-inode, length-entry, length-free, header-past}
 use Rattle.layout.proofs.ViewLaws.{within-in, below-in, overlay-in, overlay-out, header-free, view-free, view-inode}
 use Rattle.files.specs.Inode.{lessFree}
+use Rattle.files.proofs.Stores.SameLaws.{less-free, inode-new, inode-blocks}
 
 -- ---- the free counts
 pub length-less : (s : List ℕ) (x y : ℕ) → length (lessFree s x y) ≡ length s
@@ -124,39 +125,18 @@ table-list : (l : List ℕ) (k : ℕ) → length l ≡ k → table (λ j. getD l
 table-list l k e = sym (filled-all (λ j. getD l j 0) k k l (omega arith) (record { long = e; each = λ j h. refl }))
 
 module _ (s : List ℕ) (n i : ℕ) (f : InodeFits s n i) (v : Inode) (e : length (v .addresses) ≡ 12) (x y : ℕ) where
-  -- the store then
-  abbrev after : List ℕ
-  after = lessFree (putInode s n i v) x y
-
-  view-after : viewOf n after ≡ withHeader (withAddress (withAttributes (viewOf n s) i v) (overlay (viewOf n s .address) (place i 0) (v .addresses))) (headerOf after)
-  unfolding lessFree
-  view-after = view-free n (putInode s n i v) _ _ ∙ ap (λ (w : View). withHeader w (headerOf after)) (view-inode n s i v f e)
-
-  -- the addresses of i, and the others
-  pub address-read : (k : ℕ) → k < 12 → addressOf after n (place i k) ≡ getD (v .addresses) k 0
-  unfolding viewOf
-  address-read k h =
-      let a = f .low in
-      let b = f .high in
-      let q : place i k - place i 0 ≡ k = omega arith in
-      sym (below-in (12 * n) (addressOf after n) (place i k) (omega arith)) ∙ ap (λ (w : View). w .address (place i k)) view-after
-      ∙ overlay-in (below (12 * n) (addressOf s n)) (place i 0) (v .addresses) (place i k) (omega arith) (omega arith) ∙ ap (λ (j : ℕ). getD (v .addresses) j 0) q
-
-  pub address-else : (z : ℕ) → z < 12 * n → Apart z 1 (place i 0) 12 → addressOf after n z ≡ addressOf s n z
-  unfolding viewOf
-  address-else z h g =
-      sym (below-in (12 * n) (addressOf after n) z h) ∙ ap (λ (w : View). w .address z) view-after
-      ∙ overlay-out (below (12 * n) (addressOf s n)) (place i 0) (v .addresses) z (omega arith) ∙ below-in (12 * n) (addressOf s n) z h
-
-  pub inode-read : inodeOf after n i ≡ v
-  unfolding inodeOf addressesOf viewOf
+  pub inode-read : inodeOf (lessFree (putInode s n i v) x y) n i ≡ v
+  unfolding inodeOf addressesOf kthBlock
   inode-read =
-      let a = f .low in
-      let b = f .high in
+      let t = putInode s n i v in
+      let o = length-inode s n i v in
+      let q = f .area in
+      let a = less-free t n (omega arith) x y .inodes i (f .low) (f .high) in
+      let g = inode-new s n i f v e in
       λ k. record {
-        kind = (sym (within-in n (kindOf after) i a b) ∙ ap (λ (w : View). w .kind i) view-after ∙ upd-same _ i (v .kind)) k;
-        links = (sym (within-in n (linksOf after) i a b) ∙ ap (λ (w : View). w .links i) view-after ∙ upd-same _ i (v .links)) k;
-        size = (sym (within-in n (sizeOf after) i a b) ∙ ap (λ (w : View). w .size i) view-after ∙ upd-same _ i (v .size)) k;
-        parent = (sym (within-in n (parentOf after) i a b) ∙ ap (λ (w : View). w .parent i) view-after ∙ upd-same _ i (v .parent)) k;
-        addresses = (table-ext (λ j. addressOf after n (place i j)) (λ j. getD (v .addresses) j 0) 12 address-read ∙ table-list (v .addresses) 12 e) k;
+        kind = (a .kind ∙ g .kind) k;
+        links = (a .links ∙ g .links) k;
+        size = (a .size ∙ g .size) k;
+        parent = (a .parent ∙ g .parent) k;
+        addresses = (table-ext (λ j. addressOf (lessFree t x y) n (place i j)) (λ j. getD (v .addresses) j 0) 12 (λ j l. a .blocks j l ∙ inode-blocks s n i f v e j l) ∙ table-list (v .addresses) 12 e) k;
       }

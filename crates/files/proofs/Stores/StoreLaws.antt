@@ -1,10 +1,10 @@
 -- What a sound store gives to the calls on it. n and b are the counts that the code has read.
 use Prim.Native.Nat.{ℕ, _*_, _≤_, _<_}
-use mathlib.Core.Path.{_≡_, sym, ap, _∙_, subst}
+use mathlib.Core.Path.{_≡_, refl, sym, ap, _∙_, subst}
 use mathlib.Core.Bool.{true, false, _&&_}
 use mathlib.Core.List.{List}
 use native.Mathlib.Omega.{arith}
-use borrow.Author.Tests.{leb-true, eqb-true, le-leb, lt-leb}
+use borrow.Author.Tests.{eq-eqb, leb-true, eqb-true, le-leb, lt-leb}
 use lib.Dec.{eqb, leb}
 use Rattle.bounded.specs.declared.Found.the-variants.{At}
 use Rattle.bounded.proofs.BoolLaws.{clash, fails, and-false-l, and-left, and-right, chain-end}
@@ -39,6 +39,9 @@ module _ (s : List ℕ) (n k i : ℕ) where
   pub kind-read : (x : ℕ) → 1 ≤ i → i ≤ n → x ≡ kindOf s i → eqb x k ≡ isKind s n k i
   unfolding isKind
   kind-read x l h q = chain-end _ _ _ (le-leb 1 i l) (chain-end _ _ _ (le-leb i n h) (ap (λ (y : ℕ). eqb y k) q))
+
+  pub kind-of : 1 ≤ i → i ≤ n → kindOf s i ≡ k → isKind s n k i ≡ true
+  kind-of l h q = sym (kind-read (kindOf s i) l h refl) ∙ eq-eqb (kindOf s i) k q
 
   module _ (t : isKind s n k i ≡ true) where
     pub kind-some : 1 ≤ i

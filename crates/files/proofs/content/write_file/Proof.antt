@@ -3,7 +3,9 @@ use native.Mathlib.Omega.{arith}
 use Rattle.files.specs.Apply.{written}
 use Rattle.files.proofs.Stores.StoreLaws.{kind-size}
 use Rattle.files.proofs.Plans.PlanFacts.{writes}
-use Rattle.files.proofs.Steps.GrowCodeLaws.{sound-growing, fits-more}
+use Rattle.files.proofs.Kept.WriteLaws.{sized-holds}
+use Rattle.files.proofs.Steps.ReadLaws.{holds-fits}
+use denote.Ref.{now}
 use borrow.Author.Needs.{needs}
 use Rattle.files.proofs.content.write_file.Statement.{statement}
 use Rattle.files.proofs.content.write_file.Tie as tie
@@ -20,11 +22,9 @@ extend-requires c κs =
 put-file-requires : tie.Need-put-file-requires
 put-file-requires c κs =
     let p = c .before .before .before .before .before .before .before .pre in
+    let a = c .before .before .before .before .before .before .before .args in
     let w = writes _ _ _ _ _ _ (p .3) in
-    let l = kind-size _ _ (p .0) (p .1) _ _ (w .file) in
-    let z = w .size in
-    let m = w .most in
-    rw (c .before .before .before .extend .ensures) (fits-more _ _ _ _ _ _ _ (sound-growing _ _ _ _ _ (p .0) (p .1) (p .2) (w .file)) (omega arith) (omega arith) (w .blocks) (omega arith))
+    rw (c .before .before .before .extend .ensures) (holds-fits _ _ _ _ _ (sized-holds _ _ _ _ _ (now (a .xs)) _ (p .0) (p .1) (p .2) w))
 
 same-length : tie.Need-same-length
 same-length c = search needs
