@@ -21,11 +21,11 @@ use Rattle.sound.specs.Place.{dirOf, isSlot, filled, naming}
 use Rattle.sound.specs.Inode.{InodeSound}
 use Rattle.sound.specs.Sound.{freeB, unnamedB}
 use Rattle.sound.proofs.PlaceLaws.{slot-is, filled-is, naming-filled}
-use Rattle.files.proofs.Stores.SameLaws.{SameFrame, SameInode, SameBlock, NewInode, InCounts, frame-then, inode-then, put-inode, inode-new, inode-blocks}
+use Rattle.files.proofs.Stores.SameLaws.{SameFrame, SameInode, SameBlock, same-body, each-inode, NewInode, InCounts, frame-then, inode-then, put-inode, inode-new, inode-blocks}
 use Rattle.files.proofs.Stores.KeepLaws.{SamePlace, inode-kept}
 use Rattle.files.proofs.Stores.AddressLaws.{differ-less, address-kth, unnamed-change}
 use Rattle.files.proofs.Kept.TreeLaws.{count-but}
-use Rattle.files.proofs.Kept.InodeWriteLaws.{same-body, place-body, each-inode}
+use Rattle.files.proofs.Kept.InodeWriteLaws.{place-body}
 use Rattle.files.proofs.Kept.StockLaws.{Stock, kth-is}
 
 -- inode i is v, which has no blocks; the other inodes and the bytes of blocks stay

@@ -35,7 +35,7 @@ use Rattle.sound.proofs.PlaceLaws.{slot-is}
 use Rattle.files.specs.Inode.{withBlocks}
 use Rattle.files.specs.Content.{addBlock}
 use Rattle.files.proofs.Stores.StoreLaws.{fits}
-use Rattle.files.proofs.Stores.SameLaws.{SameFrame, SameInode, SameBlock, frame-then, inode-then, zero-block, zero-block-is, put-inode, inode-new, inode-blocks, less-free}
+use Rattle.files.proofs.Stores.SameLaws.{each-inode, SameFrame, SameInode, SameBlock, frame-then, inode-then, zero-block, zero-block-is, put-inode, inode-new, inode-blocks, less-free}
 use Rattle.files.proofs.Stores.KeepLaws.{SamePlace, SameTree, Body, body-of, inode-kept, entry-in, entry-kept, place-slot, place-new, place-kept, slot-kept, changed, sound-kept}
 use Rattle.files.proofs.Stores.AddressLaws.{differ-new, address-kth, unnamed-change}
 use Rattle.files.proofs.Stores.FreeLaws.{FreeBlock}
@@ -276,10 +276,9 @@ module _ (s t : List ℕ) (n b i c : ℕ) (h : Sound mostStoreBlocks false s) (x
       }
 
   grown-inodes : (j : ℕ) → 1 ≤ j → j ≤ n → InodeSound t n b j
-  grown-inodes j a d = elim (ℕ-discrete j i) as (λ _. InodeSound t n b j) [
-    | yes e ↦ subst (InodeSound t n b) (sym e) grown-inode
-    | no e ↦ inode-kept s t n b j (g .others j a d e) (λ k q. grown-bytes j (sizeOf s j / blockBytes) a d (unfold blocksUsed in omega arith)) (body .inodes j a d)
-  ]
+  grown-inodes j a d =
+      each-inode (InodeSound t n b) i j grown-inode
+      (λ e. inode-kept s t n b j (g .others j a d e) (λ k q. grown-bytes j (sizeOf s j / blockBytes) a d (unfold blocksUsed in omega arith)) (body .inodes j a d))
 
   grown-differ : Differ (addressOf t n) (addressCount * n)
   unfolding kthBlock

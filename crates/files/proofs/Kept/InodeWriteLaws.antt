@@ -11,25 +11,8 @@ use Rattle.layout.specs.Block.{blocksUsed, kthBlock}
 use Rattle.directory.specs.Slot.{mostSlots, slots}
 use Rattle.sound.specs.Place.{dirOf, slotOf, entryAt}
 use Rattle.files.specs.Inode.{withParent}
-use Rattle.files.proofs.Stores.SameLaws.{SameInode, SameBlock, InInode, put-links, links-new, links-alone, put-attributes, attributes-blocks, attributes-new}
+use Rattle.files.proofs.Stores.SameLaws.{SameBody, SameBlock, InInode, same-body, each-inode, put-links, links-body, put-attributes, attributes-blocks, attributes-new}
 use Rattle.files.proofs.Stores.KeepLaws.{SamePlace, place-slot, slot-kept, entry-kept}
-
--- kind, size and blocks stay
-pub record SameBody (s t : List ℕ) (n i : ℕ) : Type 0 where
-  pub kind : kindOf t i ≡ kindOf s i
-  pub spare : spareOf t i ≡ spareOf s i
-  pub size : sizeOf t i ≡ sizeOf s i
-  pub blocks : (k : ℕ) → k < addressCount → kthBlock t n i k ≡ kthBlock s n i k
-
-pub same-body : {s t : List ℕ} {n i : ℕ} → SameInode s t n i → SameBody s t n i
-same-body e = record { kind = e .kind; spare = e .spare; size = e .size; blocks = e .blocks }
-
-pub body-then : {s t u : List ℕ} {n i : ℕ} → SameBody s t n i → SameBody t u n i → SameBody s u n i
-body-then a b = record { kind = b .kind ∙ a .kind; spare = b .spare ∙ a .spare; size = b .size ∙ a .size; blocks = λ k l. b .blocks k l ∙ a .blocks k l }
-
--- what holds of i and of all others holds of all
-pub each-inode : (P : ℕ → Type 0) (i j : ℕ) → P i → (j ≢ i → P j) → P j
-each-inode P i j p f = elim (ℕ-discrete j i) as (λ _. P j) [ yes e ↦ subst P (sym e) p | no e ↦ f e ]
 
 -- ---- the places of a directory that keeps its body, with all bytes of blocks
 pub place-body : (s t : List ℕ) (n q : ℕ) → SameBody s t n (dirOf q) → ((c : ℕ) → SameBlock s t n c) → SamePlace s t n q
@@ -52,15 +35,7 @@ relinked-places {s} {t} {n} a q l = place-body s t n q (body-all a (dirOf q) (om
 -- ---- the two writers
 module _ (s : List ℕ) (n i : ℕ) (f : InodeFits s n i) where
   pub links-relinked : (v : ℕ) → Relinked s (putLinks s i v) n i
-  links-relinked v =
-      let r = links-alone s n i v f in
-      record { inode = put-links s n i f v; body = record { kind = r .kind; spare = r .spare; size = r .size; blocks = r .blocks } }
-
-  pub links-put : (v : ℕ) → linksOf (putLinks s i v) i ≡ v
-  links-put v = links-new s n i v f
-
-  pub links-parent : (v : ℕ) → parentOf (putLinks s i v) i ≡ parentOf s i
-  links-parent v = links-alone s n i v f .parent
+  links-relinked v = record { inode = put-links s n i f v; body = links-body s n i f v }
 
   -- a directory with another parent; "a zero byte" is kept by zero
   module _ (e : ℕ) (zero : spareOf s i ≡ 0) where

@@ -13,13 +13,13 @@ use Rattle.directory.specs.Slot.{slots, findSlot, slotEmpty, putEntry}
 use Rattle.sound.specs.Pass.{placeOf}
 use Rattle.sound.specs.Sound.{Sound, inodesIn, blocksIn}
 use Rattle.files.specs.Inode.{isFile, isDirectory}
-use Rattle.files.proofs.Stores.SameLaws.{frame-then, inode-then}
+use Rattle.files.proofs.Stores.SameLaws.{SameBody, same-body, body-then, links-new, links-parent, frame-then, inode-then}
 use Rattle.files.proofs.Stores.StoreLaws.{kind-some, kind-most, kind-is, kind-fits}
 use Rattle.files.proofs.Kept.ChangeLaws.{OtherInodes, Filled, filled-then, names-filled}
 use Rattle.files.proofs.Kept.TreeLaws.{Tree, tree-link}
 use Rattle.files.proofs.Kept.SoundTreeLaws.{nodesOf, body-at, names-at, above-at, tree-at}
 use Rattle.files.proofs.Kept.EntryWriteLaws.{EntriesAlone, entries-stay, SlotIn, slot-in, place-below, put-alone, put-filled}
-use Rattle.files.proofs.Kept.InodeWriteLaws.{SameBody, same-body, body-then, Relinked, relinked-places, links-relinked, links-put, links-parent}
+use Rattle.files.proofs.Kept.InodeWriteLaws.{Relinked, relinked-places, links-relinked}
 use Rattle.files.proofs.Kept.SlotPlaceLaws.{absent-new, place-bare}
 use Rattle.files.proofs.Kept.StockLaws.{entries-stock, relinked-stock, stock-sound}
 
@@ -72,7 +72,7 @@ module _ (s : List ℕ) (n d t i : ℕ) (name : List ℕ) (h : Sound mostStoreBl
   kind = alone .inodes i low high .kind ∙ kind-is s n fileKind i file
 
   pub link-links : linksOf w i ≡ linksOf s i + 1
-  link-links = links-put m n i fits (linksOf m i + 1) ∙ ap (λ (z : ℕ). z + 1) (alone .inodes i low high .links)
+  link-links = links-new m n i fits (linksOf m i + 1) ∙ ap (λ (z : ℕ). z + 1) (alone .inodes i low high .links)
 
   tree : Tree n (nodesOf w n)
   tree =

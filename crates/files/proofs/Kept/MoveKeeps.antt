@@ -24,47 +24,29 @@ use Rattle.sound.proofs.EntryLaws.{place-dir}
 use Rattle.files.specs.Inode.{isDirectory, withParent}
 use Rattle.files.specs.Plan.{inodeAt, isBelow}
 use Rattle.files.specs.Apply.{setParent}
-use Rattle.files.proofs.Stores.SameLaws.{SameFrame, frame-stays, frame-then, inode-stays, inode-then}
+use Rattle.files.proofs.Stores.SameLaws.{SameBody, same-body, body-then, SameFrame, frame-stays, frame-then, inode-stays, inode-then}
 use Rattle.files.proofs.Stores.KeepLaws.{SamePlace, SameTree, tree-stays, leads-kept}
 use Rattle.files.proofs.Stores.StoreLaws.{fits, kind-some, kind-most, kind-is}
 use Rattle.files.proofs.Kept.ChangeLaws.{OtherInodes, Emptied, Filled, filled-then, names-emptied, names-filled, new-emptied}
 use Rattle.files.proofs.Kept.TreeLaws.{Nodes, Tree, Dir, Above, parent-dir, tree-move}
 use Rattle.files.proofs.Kept.SoundTreeLaws.{nodesOf, body-at, names-at, above-at, tree-at}
 use Rattle.files.proofs.Kept.EntryWriteLaws.{EntriesAlone, entries-stay, SlotIn, slot-in, place-below, clear-alone, clear-emptied, put-alone, put-filled}
-use Rattle.files.proofs.Kept.InodeWriteLaws.{SameBody, same-body, body-then, relinked-places, parent-relinked, parent-links, parent-put}
+use Rattle.files.proofs.Kept.InodeWriteLaws.{relinked-places, parent-relinked, parent-links, parent-put}
 use Rattle.files.proofs.Kept.SlotPlaceLaws.{EntryHere, entry-here, absent-new, place-bare}
 use Rattle.files.proofs.Kept.StockLaws.{Stock, entries-stock, relinked-stock, stock-sound}
+use Rattle.files.proofs.Plans.ParentLaws.{climb-step, past-root, zero-parent}
 
 -- ---- a climb to i: the test with n steps tells all
--- above the root there is nothing
-climb-none : (up : ℕ → ℕ) → up 0 ≡ 0 → (k : ℕ) → climb up k 0 ≡ 0
-unfolding climb
-climb-none up e zero = refl
-climb-none up e (suc k) = ap (climb up k) e ∙ climb-none up e k
-
--- one step of a climb to i
-climb-step : (up : ℕ → ℕ) (i k x : ℕ) → climb up k x ≡ i → (x ≡ i → ⊥) → Leads up i (up x)
-unfolding climb
-climb-step up i zero x c h = absurd (h c)
-climb-step up i (suc k) x c h = (k, c)
-
 module _ (n : ℕ) (v : Nodes) (t : Tree n v) (a : Above n v) (none : v .parent 0 ≡ 0) (i e : ℕ) (low : 1 ≤ i) (not-root : i ≢ rootInode) where
   -- a directory from which the way up comes to i
   abbrev Under : ℕ → Type 0
   Under x = Dir n v x × Leads (v .parent) i x
 
-  past-root : Leads (v .parent) i rootInode → ⊥
-  past-root r =
-      let l = climb-step (v .parent) i (r .0) rootInode (r .1) (λ z. not-root (sym z)) in
-      let z : climb (v .parent) (l .0) 0 ≡ i = ap (climb (v .parent) (l .0)) (sym (t .root-parent)) ∙ l .1 in
-      let o = climb-none (v .parent) none (l .0) in
-      omega arith
-
   under : Closed Under (v .parent) i n
   under = record {
     within = λ x d. (d .0 .low, d .0 .high);
     parent = λ x d h. (
-      parent-dir n v t a x (d .0) (λ z. past-root (subst (Leads (v .parent) i) z (d .1))),
+      parent-dir n v t a x (d .0) (λ z. past-root (v .parent) none (t .root-parent) i low not-root (subst (Leads (v .parent) i) z (d .1))),
       climb-step (v .parent) i (d .1 .0) x (d .1 .1) h,
     );
   }
@@ -76,18 +58,13 @@ module _ (n : ℕ) (v : Nodes) (t : Tree n v) (a : Above n v) (none : v .parent 
   pub leads-other : (up : ℕ → ℕ) → ((x : ℕ) → Dir n v x → up x ≡ v .parent x) → Dir n v e → Leads (v .parent) i e → Leads up i e
   leads-other up h d l = leads-kept Under (v .parent) up i n under (λ x k. h x (k .0)) (l .0) e (d, l) (l .1)
 
--- the parent of no inode, as the bytes have it, is that of the root
-parent-none : (s : List ℕ) → parentOf s 0 ≡ parentOf s rootInode
-unfolding parentOf
-parent-none s = refl
-
 -- ---- refusal 10 and what it says on a sound store
 module _ (s : List ℕ) (n i e : ℕ) (h : Sound mostStoreBlocks false s) (x : n ≡ inodesIn s) (low : 1 ≤ i) (not-root : i ≢ rootInode) (dir : isDirectory s n e ≡ true) where
   above : Dir n (nodesOf s n) e
   above = record { low = kind-some s n directoryKind e dir; high = kind-most s n directoryKind e dir; kind = kind-is s n directoryKind e dir }
 
   none : parentOf s 0 ≡ 0
-  none = parent-none s ∙ h .root-parent
+  none = zero-parent s (h .root-parent)
 
   pub not-below : isBelow s n i e ≡ false → kindOf s i ≡ directoryKind → Leads (parentOf s) i e → ⊥
   unfolding isBelow

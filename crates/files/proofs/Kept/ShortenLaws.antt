@@ -18,6 +18,7 @@ use Rattle.layout.specs.Header.{headerOf}
 use Rattle.layout.specs.Inode.{sizeOf, addressOf, addressesOf, inodeOf, place, putInode, fileKind}
 use Rattle.layout.specs.Block.{blockAt, blockOf, blocksUsed, kthBlock, putInBlock}
 use Rattle.layout.proofs.ViewLaws.{inode-fits}
+use Rattle.directory.specs.Slot.{DirFits}
 use Rattle.sound.specs.Sound.{Sound, inodesIn, blocksIn}
 use Rattle.answers.specs.declared.Refusal.the-variants.{WrongInode, PastEnd}
 use Rattle.files.specs.declared.SizePlan.the-variants.{To, NoSize}
@@ -25,11 +26,11 @@ use Rattle.files.specs.Inode.{isFile, withBlocks}
 use Rattle.files.specs.Content.{fileByte, zeroRest, keepFirst, cutTo}
 use Rattle.files.specs.Plan.{shortenPlan}
 use Rattle.files.specs.Apply.{shortened}
-use Rattle.files.proofs.Stores.StoreLaws.{fits, kind-some, kind-most, kind-is}
+use Rattle.files.proofs.Stores.StoreLaws.{fits, dir-of, kind-some, kind-most, kind-is}
 use Rattle.files.proofs.Stores.SameLaws.{SameFrame, SameInode, InBlock, frame-stays, frame-then, inode-stays, inode-then, put-in-block, in-block-out, in-block-in, put-inode, inode-new, inode-blocks, more-free}
 use Rattle.files.proofs.Stores.KeepLaws.{Body, body-of}
 use Rattle.files.proofs.Plans.PlanFacts.{shortens}
-use Rattle.files.proofs.Stores.FileLaws.{Holds, ZeroPast, tail-past, used-low, other-byte, content-sound, Resized, resized-sound}
+use Rattle.files.proofs.Stores.FileLaws.{Holds, ZeroPast, tail-past, other-byte, content-sound, Resized, resized-sound}
 
 -- ---- r is s with zeros past z in the block that z ends in
 pub record Trimmed (s r : List ℕ) (n i z : ℕ) : Type 0 where
@@ -44,9 +45,11 @@ module _ (s : List ℕ) (n b i z : ℕ) (h : Holds s n b i z) where
   body : Body s n b
   body = body-of s n b (h .sound) (h .inodes) (h .blocks)
 
+  dir : DirFits s n i
+  dir = dir-of s n (h .sound) (h .inodes) i (h .low) (h .high)
+
   few : blocksUsed (sizeOf s i) ≤ addressCount
-  unfolding blocksUsed
-  few = let a = body .inodes i (h .low) (h .high) .size in omega arith
+  few = dir .few
 
   pub used-down : blocksUsed z ≤ blocksUsed (sizeOf s i)
   unfolding blocksUsed
@@ -73,17 +76,12 @@ module _ (s : List ℕ) (n b i z : ℕ) (h : Holds s n b i z) where
     in-rest : InBlock s rest n last
     in-rest =
         let l = long in
-        put-in-block s n last (used-low s n b (h .sound) (h .inodes) (h .blocks) i (z / blockBytes) (h .low) (h .high) used) (z % blockBytes) zeros (omega arith)
+        put-in-block s n last (dir .blocks (z / blockBytes) used .low) (z % blockBytes) zeros (omega arith)
 
     inside : blockAt n last + z % blockBytes + length zeros ≤ length s
     inside =
         let l = long in
-        let f = few in
-        let g = used in
-        let w = h .sound .framed .long in
-        let x = h .inodes in
-        let y = h .blocks in
-        let c = body .inodes i (h .low) (h .high) .used (z / blockBytes) (omega arith) used .1 in
+        let c = dir .blocks (z / blockBytes) used .inside in
         omega arith
 
     same-last : (o : ℕ) → o / blockBytes ≡ z / blockBytes → kthBlock rest n i (o / blockBytes) ≡ last

@@ -15,14 +15,14 @@ use Rattle.layout.specs.Inode.{kindOf, sizeOf, parentOf, addressOf, place, free
 use Rattle.layout.specs.Block.{blockOf, blocksUsed, kthBlock}
 use Rattle.sound.specs.Inode.{InodeSound}
 use Rattle.sound.specs.Sound.{Sound, inodesIn, blocksIn, freeB, unnamedB}
-use Rattle.files.proofs.Stores.SameLaws.{SameFrame, SameBlock}
-use Rattle.files.proofs.Stores.KeepLaws.{Body, sound-of, inode-kept}
+use Rattle.files.proofs.Stores.SameLaws.{SameFrame, SameBody, SameBlock, each-inode}
+use Rattle.files.proofs.Stores.KeepLaws.{Body, sound-of, inode-like, tail-kept, inode-kept}
 use Rattle.files.proofs.Stores.AddressLaws.{same-differ, same-unnamed}
 use Rattle.files.proofs.Kept.ChangeLaws.{NamesSound}
 use Rattle.files.proofs.Kept.TreeLaws.{Tree}
 use Rattle.files.proofs.Kept.SoundTreeLaws.{nodesOf, entries-back, links-back}
 use Rattle.files.proofs.Kept.EntryWriteLaws.{EntriesAlone}
-use Rattle.files.proofs.Kept.InodeWriteLaws.{SameBody, Relinked, each-inode, body-all}
+use Rattle.files.proofs.Kept.InodeWriteLaws.{Relinked, body-all}
 use Rattle.files.proofs.Stores.FreeLaws.{same-free}
 
 -- inodes are sound by themselves, no block is named twice, and the free counts are true
@@ -69,26 +69,7 @@ stock-sound s t n h x f k a r =
 module _ (s t : List ℕ) (n b i : ℕ) (e : SameBody s t n i) (g : (c : ℕ) → SameBlock s t n c)
     (used : kindOf s i ≡ freeKind → ⊥) (file : kindOf s i ≡ fileKind → parentOf t i ≡ parentOf s i) where
   inode-relinked : InodeSound s n b i → InodeSound t n b i
-  inode-relinked h =
-      let z = e .size in
-      let u : blocksUsed (sizeOf t i) ≡ blocksUsed (sizeOf s i) = ap blocksUsed z in
-      let r : sizeOf t i % blockBytes ≡ sizeOf s i % blockBytes = ap (λ (x : ℕ). x % blockBytes) z in
-      let m = h .size in
-      record {
-        kind = rw (e .kind) (h .kind);
-        spare = e .spare ∙ h .spare;
-        free = λ k. absurd (used (sym (e .kind) ∙ k));
-        size = rw z (h .size);
-        used = λ k l w. let q = h .used k l (omega arith) in rw (e .blocks k l) q;
-        rest = λ k l w. sym (kth-is t n i k) ∙ e .blocks k l ∙ kth-is s n i k ∙ h .rest k l (omega arith);
-        directory = λ k. r ∙ h .directory (sym (e .kind) ∙ k);
-        tail = λ k q o l w.
-            let k′ = sym (e .kind) ∙ k in
-            let q′ : sizeOf s i % blockBytes ≡ 0 → ⊥ = λ x. q (r ∙ x) in
-            let c : kthBlock t n i (sizeOf t i / blockBytes) ≡ kthBlock s n i (sizeOf s i / blockBytes) = ap (λ (x : ℕ). kthBlock t n i (x / blockBytes)) z ∙ e .blocks (sizeOf s i / blockBytes) (omega arith) in
-            ap (λ (x : ℕ). getD (blockOf t n x) o 0) c ∙ ap (λ (x : List ℕ). getD x o 0) (g (kthBlock s n i (sizeOf s i / blockBytes))) ∙ h .tail k′ q′ o l (omega arith);
-        parent = λ k. let k′ = sym (e .kind) ∙ k in file k′ ∙ h .parent k′;
-      }
+  inode-relinked h = inode-like s t n b i e (λ k. absurd (used k)) file (tail-kept s t n b i e (λ _ _. g (kthBlock s n i (sizeOf s i / blockBytes))) h) h
 
 module _ (s t : List ℕ) (n b i : ℕ) (a : Relinked s t n i)
     (used : kindOf s i ≡ freeKind → ⊥) (file : kindOf s i ≡ fileKind → parentOf t i ≡ parentOf s i) where

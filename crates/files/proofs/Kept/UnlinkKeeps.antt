@@ -27,13 +27,13 @@ use Rattle.sound.proofs.PlaceLaws.{slot-is, filled-is}
 use Rattle.files.specs.Inode.{isDirectory, zeroInode, moreFree}
 use Rattle.files.specs.Plan.{inodeAt, holdsNone}
 use Rattle.files.specs.Apply.{dropLink, unlinked}
-use Rattle.files.proofs.Stores.SameLaws.{NewInode, frame-then, inode-then, InCounts, put-inode, more-free}
+use Rattle.files.proofs.Stores.SameLaws.{SameBody, same-body, body-then, links-new, links-parent, NewInode, frame-then, inode-then, InCounts, put-inode, more-free}
 use Rattle.files.proofs.Stores.StoreLaws.{fits}
 use Rattle.files.proofs.Kept.ChangeLaws.{OtherInodes, Emptied, emptied-then, names-emptied}
 use Rattle.files.proofs.Kept.TreeLaws.{Tree, tree-less, tree-last, counted-some, one-other}
 use Rattle.files.proofs.Kept.SoundTreeLaws.{nodesOf, body-at, names-at, above-at, tree-at}
 use Rattle.files.proofs.Kept.EntryWriteLaws.{EntriesAlone, entries-stay, place-below, clear-alone, clear-emptied}
-use Rattle.files.proofs.Kept.InodeWriteLaws.{SameBody, same-body, body-then, Relinked, relinked-places, links-relinked, links-put, links-parent}
+use Rattle.files.proofs.Kept.InodeWriteLaws.{Relinked, relinked-places, links-relinked}
 use Rattle.files.proofs.Kept.SlotPlaceLaws.{EntryHere, entry-here}
 use Rattle.files.proofs.Kept.StockLaws.{Stock, entries-stock, relinked-stock, stock-sound}
 use Rattle.files.proofs.Kept.BaredLaws.{Bared, put-bared, bared-places, bared-unnamed, bared-free, bared-stock, naming-none}
@@ -105,7 +105,7 @@ module _ (s : List ℕ) (n d t i : ℕ) (h : Sound mostStoreBlocks false s) (x :
     less-emptied = emptied-then below (relinked-places relinked) emptied
 
     less-links : linksOf w i ≡ linksOf s i - 1
-    less-links = links-put m n i there (linksOf m i - 1) ∙ ap (λ (y : ℕ). y - 1) links
+    less-links = links-new m n i there (linksOf m i - 1) ∙ ap (λ (y : ℕ). y - 1) links
 
     parent : parentOf w i ≡ parentOf m i
     parent = links-parent m n i there (linksOf m i - 1)

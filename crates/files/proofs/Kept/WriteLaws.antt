@@ -25,12 +25,12 @@ use Rattle.files.specs.Inode.{isFile, withSize}
 use Rattle.files.specs.Content.{fileByte, putFile, addBlock, addBlocks, putSize}
 use Rattle.files.specs.Plan.{writePlan}
 use Rattle.files.specs.Apply.{written}
-use Rattle.files.proofs.Stores.StoreLaws.{fits, kind-some, kind-most, kind-is, kind-size}
+use Rattle.files.proofs.Stores.StoreLaws.{fits, dir-of, kind-some, kind-most, kind-is, kind-size}
 use Rattle.files.proofs.Stores.SameLaws.{SameFrame, SameInode, SameBlock, InBlock, frame-stays, frame-then, inode-stays, inode-then, put-in-block, in-block-out, put-attributes, attributes-new, attributes-blocks}
 use Rattle.files.proofs.Stores.KeepLaws.{body-of}
 use Rattle.files.proofs.Plans.PlanFacts.{Writes, writes}
 use Rattle.files.proofs.Kept.GrowLaws.{Grown, block-added, add-block-sound, grown-used, grown-kth, grown-bytes}
-use Rattle.files.proofs.Stores.FileLaws.{Holds, holds-less, ZeroPast, tail-past, used-low, other-byte, content-sound, Resized, resized-sound}
+use Rattle.files.proofs.Stores.FileLaws.{Holds, holds-less, ZeroPast, tail-past, other-byte, content-sound, Resized, resized-sound}
 use Rattle.files.proofs.Stores.FreeLaws.{FreeBlock, free-block, block-found}
 
 -- ---- m blocks more
@@ -227,11 +227,10 @@ module _ (s : List ℕ) (n b i o v : ℕ) (h : Holds s n b i (suc o)) where
   used = let z = h .size in omega arith
 
   few : blocksUsed (sizeOf s i) ≤ addressCount
-  unfolding blocksUsed
-  few = let z = body-of s n b (h .sound) (h .inodes) (h .blocks) .inodes i (h .low) (h .high) .size in omega arith
+  few = dir-of s n (h .sound) (h .inodes) i (h .low) (h .high) .few
 
   pub put-byte : InBlock s after n (kthBlock s n i k)
-  put-byte = put-in-block s n (kthBlock s n i k) (used-low s n b (h .sound) (h .inodes) (h .blocks) i k (h .low) (h .high) used) (o % blockBytes) (v ∷ []) (omega arith)
+  put-byte = put-in-block s n (kthBlock s n i k) (dir-of s n (h .sound) (h .inodes) i (h .low) (h .high) .blocks k used .low) (o % blockBytes) (v ∷ []) (omega arith)
 
   -- the others stay
   pub put-byte-other : (a : ℕ) → a < blockBytes * blocksUsed (sizeOf s i) → a ≢ o → fileByte after n i a ≡ fileByte s n i a

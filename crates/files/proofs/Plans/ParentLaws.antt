@@ -1,13 +1,15 @@
 -- Up from a directory, on a sound store: whether it is another or below it. n is the inode count.
 use Prim.Native.Nat.{ℕ, zero, suc, _+_, _-_, _≤_, _<_}
-use mathlib.Core.Path.{_≡_, sym, ap, _∙_, subst}
+use mathlib.Core.Path.{_≡_, refl, sym, ap, _∙_, subst}
+use mathlib.Core.Logic.{_≢_}
 use mathlib.Core.Bool.{true, false}
 use mathlib.Core.List.{List}
 use native.Mathlib.Omega.{arith}
 use borrow.Author.Tests.{ne-eqb}
 use lib.Dec.{eqb}
-use Rattle.bounded.specs.Climb.{leadsB}
-use Rattle.bounded.proofs.ClimbLaws.{leads-here, leads-turn, leads-end}
+use Rattle.bounded.specs.Climb.{climb, Leads, leadsB}
+use Rattle.bounded.proofs.BoolLaws.{fails}
+use Rattle.bounded.proofs.ClimbLaws.{leads-prop, leads-here, leads-turn, leads-end}
 use Rattle.layout.specs.Sizes.{mostStoreBlocks, rootInode}
 use Rattle.layout.specs.Inode.{parentOf, directoryKind}
 use Rattle.sound.specs.Sound.{Sound, inodesIn}
@@ -16,29 +18,29 @@ use Rattle.sound.proofs.FactLaws.{naming-dir}
 use Rattle.files.specs.Inode.{isDirectory}
 use Rattle.files.proofs.Stores.StoreLaws.{kind-some, kind-most, kind-is}
 
--- ---- above the root there is nothing: it has no parent, and number 0 reads as it does
-module _ (s : List ℕ) (r : parentOf s rootInode ≡ 0) (i : ℕ) (l : 1 ≤ i) where
-  zero-parent : parentOf s 0 ≡ 0
-  unfolding parentOf
-  zero-parent = r
+-- ---- above the root there is nothing
+-- the root has no parent, and number 0 reads as it does
+pub zero-parent : (s : List ℕ) → parentOf s rootInode ≡ 0 → parentOf s 0 ≡ 0
+unfolding parentOf
+zero-parent s r = r
 
-  none-above-zero : (k : ℕ) → leadsB (parentOf s) i k 0 ≡ false
-  none-above-zero zero = leads-end (parentOf s) i 0 ∙ ne-eqb 0 i (λ e. omega arith)
-  none-above-zero (suc k) =
-      let m : suc k ≡ k + 1 = omega arith in
-      ap (λ (j : ℕ). leadsB (parentOf s) i j 0) m
-      ∙ leads-turn (parentOf s) i k 0 (λ e. omega arith)
-      ∙ ap (leadsB (parentOf s) i k) zero-parent
-      ∙ none-above-zero k
+climb-zero : (up : ℕ → ℕ) → up 0 ≡ 0 → (k : ℕ) → climb up k 0 ≡ 0
+unfolding climb
+climb-zero up e zero = refl
+climb-zero up e (suc k) = ap (climb up k) e ∙ climb-zero up e k
 
-  none-above-root : (rootInode ≡ i → ⊥) → (k : ℕ) → leadsB (parentOf s) i k rootInode ≡ false
-  none-above-root h zero = leads-end (parentOf s) i rootInode ∙ ne-eqb rootInode i h
-  none-above-root h (suc k) =
-      let m : suc k ≡ k + 1 = omega arith in
-      ap (λ (j : ℕ). leadsB (parentOf s) i j rootInode) m
-      ∙ leads-turn (parentOf s) i k rootInode h
-      ∙ ap (leadsB (parentOf s) i k) r
-      ∙ none-above-zero k
+-- one step of a climb to i
+pub climb-step : (up : ℕ → ℕ) (i k x : ℕ) → climb up k x ≡ i → (x ≡ i → ⊥) → Leads up i (up x)
+unfolding climb
+climb-step up i zero x c h = absurd (h c)
+climb-step up i (suc k) x c h = (k, c)
+
+pub past-root : (up : ℕ → ℕ) → up 0 ≡ 0 → up rootInode ≡ 0 → (i : ℕ) → 1 ≤ i → i ≢ rootInode → Leads up i rootInode → ⊥
+past-root up none root i low other r =
+    let l = climb-step up i (r .0) rootInode (r .1) (λ z. other (sym z)) in
+    let z : climb up (l .0) 0 ≡ i = ap (climb up (l .0)) (sym root) ∙ l .1 in
+    let o = climb-zero up none (l .0) in
+    omega arith
 
 -- ---- the climb from e, k steps up at the directory x
 pub record Climbing (s : List ℕ) (n i e k x : ℕ) : Type 0 where
@@ -62,7 +64,7 @@ module _ (s : List ℕ) (n i e : ℕ) (h : Sound mostStoreBlocks false s) (q : n
 
     pub climbing-root : 1 ≤ i → (x ≡ i → ⊥) → x ≡ rootInode → false ≡ leadsB (parentOf s) i n e
     climbing-root l f r =
-        sym (c .left ∙ ap (leadsB (parentOf s) i (n - k)) r ∙ none-above-root s (h .root-parent) i l (λ z. f (r ∙ z)) (n - k))
+        sym (c .left ∙ ap (leadsB (parentOf s) i (n - k)) r ∙ fails (leadsB (parentOf s) i (n - k) rootInode) (λ z. past-root (parentOf s) (zero-parent s (h .root-parent)) (h .root-parent) i l (λ y. f (r ∙ sym y)) (leads-prop (parentOf s) i (n - k) rootInode z)))
 
     pub climbing-turn : k < n → (x ≡ i → ⊥) → (x ≡ rootInode → ⊥) → (y : ℕ) → y ≡ parentOf s x → Climbing s n i e (k + 1) y
     climbing-turn l f r y p =

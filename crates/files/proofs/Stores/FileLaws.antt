@@ -17,8 +17,8 @@ use Rattle.sound.specs.Inode.{InodeSound}
 use Rattle.sound.specs.Sound.{Sound, inodesIn, blocksIn}
 use Rattle.sound.proofs.FactLaws.{one-block}
 use Rattle.files.specs.Content.{fileByte}
-use Rattle.files.proofs.Stores.StoreLaws.{one-at}
-use Rattle.files.proofs.Stores.SameLaws.{SameFrame, SameInode, SameBlock, InBlock}
+use Rattle.files.proofs.Stores.StoreLaws.{one-at, dir-of}
+use Rattle.files.proofs.Stores.SameLaws.{same-body, each-inode, SameFrame, SameInode, SameBlock, InBlock}
 use Rattle.files.proofs.Stores.KeepLaws.{ZeroTail, Body, body-of, inode-like, inode-kept, file-tree, sound-kept}
 use Rattle.files.proofs.Stores.AddressLaws.{differ-less, address-kth, same-differ, same-unnamed, unnamed-change}
 
@@ -55,19 +55,13 @@ module _ (s : List ℕ) (n i : ℕ) where
       let c : o ≡ x % 64 = omega arith in
       ap₂ (λ (j r : ℕ). getD (blockOf s n (kthBlock s n i j)) r 0) a c ∙ h x (omega arith) (omega arith)
 
--- ---- a block in use
-module _ (s : List ℕ) (n b : ℕ) (h : Sound mostStoreBlocks false s) (x : n ≡ inodesIn s) (y : b ≡ blocksIn s) where
-  pub used-low : (i k : ℕ) → 1 ≤ i → i ≤ n → k < blocksUsed (sizeOf s i) → 1 ≤ kthBlock s n i k
-  unfolding blocksUsed
-  used-low i k l m u = let r = body-of s n b h x y .inodes i l m in let z = r .size in r .used k (omega arith) u .0
-
 -- ---- bytes of the k-th block of a file
 module _ (s t : List ℕ) (n b i k : ℕ) (h : Sound mostStoreBlocks false s) (x : n ≡ inodesIn s) (y : b ≡ blocksIn s)
     (l : 1 ≤ i) (m : i ≤ n) (v : kindOf s i ≡ fileKind) (u : k < blocksUsed (sizeOf s i)) (g : InBlock s t n (kthBlock s n i k)) where
   -- the other blocks in use stay
   pub other-block : (j a : ℕ) → 1 ≤ j → j ≤ n → a < blocksUsed (sizeOf s j) → (j ≡ i → a ≡ k → ⊥) → SameBlock s t n (kthBlock s n j a)
   other-block j a p q w e =
-      g .others (kthBlock s n j a) (used-low s n b h x y j a p q w)
+      g .others (kthBlock s n j a) (dir-of s n h x j p q .blocks a w .low)
       (λ z. e (one-at s n h x j a i k p q l m w u z .0) (one-at s n h x j a i k p q l m w u z .1))
 
   -- and so do the bytes of the file in them
@@ -85,10 +79,10 @@ module _ (s t : List ℕ) (n b i k : ℕ) (h : Sound mostStoreBlocks false s) (x
       sound-kept s t h (g .frame) n b x y
       (file-tree s t n i (λ j p q _. g .inodes j p q) (o .kind) (o .links) (o .parent) (λ z. omega arith)
       (λ d a p q z f. other-block d a p q f (λ a′ _. let c : directoryKind ≡ fileKind = sym z ∙ ap (kindOf s) a′ ∙ v in omega arith)))
-      (λ j p q. elim (ℕ-discrete j i) as (λ _. InodeSound t n b j) [
-        | yes z ↦ subst (InodeSound t n b) (sym z) (inode-like s t n b i o (past-tail t n i (subst (ZeroPast t n i) (sym (o .size)) w)) (r .inodes i l m))
-        | no z ↦ inode-kept s t n b j (g .inodes j p q) (λ _ f. other-block j (sizeOf s j / blockBytes) p q (unfold blocksUsed in omega arith) (λ a _. z a)) (r .inodes j p q)
-      ])
+      (λ j p q.
+      each-inode (InodeSound t n b) i j
+      (inode-like s t n b i (same-body o) (λ _. (o .links, o .parent)) (λ _. o .parent) (past-tail t n i (subst (ZeroPast t n i) (sym (o .size)) w)) (r .inodes i l m))
+      (λ z. inode-kept s t n b j (g .inodes j p q) (λ _ f. other-block j (sizeOf s j / blockBytes) p q (unfold blocksUsed in omega arith) (λ a _. z a)) (r .inodes j p q)))
       (same-differ s t n e (r .once)) (ap (λ (z : Header). z .«free_inodes») (g .header)) (ap (λ (z : Header). z .«free_blocks») (g .header) ∙ r .free-blocks ∙ sym (same-unnamed s t n e b))
 
 -- ---- a file of another size, on the first of its blocks
@@ -113,8 +107,7 @@ module _ (s t : List ℕ) (n b i z : ℕ) (h : Sound mostStoreBlocks false s) (x
   body = body-of s n b h x y
 
   few : blocksUsed (sizeOf s i) ≤ addressCount
-  unfolding blocksUsed
-  few = let a = body .inodes i l m .size in omega arith
+  few = dir-of s n h x i l m .few
 
   -- the bytes that are left are the same
   pub resized-byte : (o : ℕ) → o < blockBytes * blocksUsed z → fileByte t n i o ≡ fileByte s n i o
@@ -150,10 +143,7 @@ module _ (s t : List ℕ) (n b i z : ℕ) (h : Sound mostStoreBlocks false s) (x
       }
 
   resized-inodes : (j : ℕ) → 1 ≤ j → j ≤ n → InodeSound t n b j
-  resized-inodes j p q = elim (ℕ-discrete j i) as (λ _. InodeSound t n b j) [
-    | yes e ↦ subst (InodeSound t n b) (sym e) resized-inode
-    | no e ↦ inode-kept s t n b j (g .others j p q e) (λ _ _. g .bytes _) (body .inodes j p q)
-  ]
+  resized-inodes j p q = each-inode (InodeSound t n b) i j resized-inode (λ e. inode-kept s t n b j (g .others j p q e) (λ _ _. g .bytes _) (body .inodes j p q))
 
   resized-differ : Differ (addressOf t n) (addressCount * n)
   resized-differ =

@@ -31,7 +31,7 @@ use Rattle.sound.specs.Sound.{Framed, Sound, inodesIn, blocksIn, freeB, unnamed
 use Rattle.sound.specs.Pass.{IsDir}
 use Rattle.sound.proofs.PlaceLaws.{slot-is, filled-is}
 use Rattle.sound.proofs.SoundLaws.{climbs}
-use Rattle.files.proofs.Stores.SameLaws.{SameFrame, SameInode, SameBlock}
+use Rattle.files.proofs.Stores.SameLaws.{SameFrame, SameInode, SameBody, SameBlock, same-body}
 use Rattle.files.proofs.Stores.FreeLaws.{same-free}
 
 -- ---- an inode by itself
@@ -39,38 +39,42 @@ use Rattle.files.proofs.Stores.FreeLaws.{same-free}
 abbrev pub ZeroTail : List ℕ → ℕ → ℕ → Type 0
 ZeroTail s n i = kindOf s i ≡ fileKind → (sizeOf s i % blockBytes ≡ 0 → ⊥) → (o : ℕ) → o < blockBytes → sizeOf s i % blockBytes ≤ o → tailByte s n i o ≡ 0
 
-pub inode-like : (s t : List ℕ) (n b i : ℕ) → SameInode s t n i → ZeroTail t n i → InodeSound s n b i → InodeSound t n b i
+-- its links and parent may change where they do not count
+pub inode-like : (s t : List ℕ) (n b i : ℕ) → SameBody s t n i → (kindOf s i ≡ freeKind → (linksOf t i ≡ linksOf s i) × (parentOf t i ≡ parentOf s i)) → (kindOf s i ≡ fileKind → parentOf t i ≡ parentOf s i)
+    → ZeroTail t n i → InodeSound s n b i → InodeSound t n b i
 unfolding kthBlock
-inode-like s t n b i e g h =
+inode-like s t n b i e bare file g h =
     let z = e .size in
     let u : blocksUsed (sizeOf t i) ≡ blocksUsed (sizeOf s i) = ap blocksUsed z in
     record {
       kind = rw (e .kind) (h .kind);
       spare = e .spare ∙ h .spare;
-      free = λ k. (e .links ∙ h .free (sym (e .kind) ∙ k) .0, (z ∙ h .free (sym (e .kind) ∙ k) .1 .0, e .parent ∙ h .free (sym (e .kind) ∙ k) .1 .1));
+      free = λ k. let k′ = sym (e .kind) ∙ k in (bare k′ .0 ∙ h .free k′ .0, (z ∙ h .free k′ .1 .0, bare k′ .1 ∙ h .free k′ .1 .1));
       size = rw z (h .size);
       used = λ k l w. let q = h .used k l (omega arith) in rw (e .blocks k l) q;
       rest = λ k l w. e .blocks k l ∙ h .rest k l (omega arith);
       directory = λ k. ap (λ (x : ℕ). x % blockBytes) z ∙ h .directory (sym (e .kind) ∙ k);
       tail = g;
-      parent = λ k. e .parent ∙ h .parent (sym (e .kind) ∙ k);
+      parent = λ k. let k′ = sym (e .kind) ∙ k in file k′ ∙ h .parent k′;
     }
 
 -- the bytes of the block that its size ends in stay, where they count
-pub inode-kept : (s t : List ℕ) (n b i : ℕ) → SameInode s t n i
+pub tail-kept : (s t : List ℕ) (n b i : ℕ) → SameBody s t n i
     → (kindOf s i ≡ fileKind → (sizeOf s i % blockBytes ≡ 0 → ⊥) → SameBlock s t n (kthBlock s n i (sizeOf s i / blockBytes)))
-    → InodeSound s n b i → InodeSound t n b i
-inode-kept s t n b i e g h =
+    → InodeSound s n b i → ZeroTail t n i
+tail-kept s t n b i e g h k q o l w =
     let z = e .size in
     let r : sizeOf t i % blockBytes ≡ sizeOf s i % blockBytes = ap (λ (x : ℕ). x % blockBytes) z in
     let m = h .size in
-    inode-like s t n b i e
-    (λ k q o l w.
     let k′ = sym (e .kind) ∙ k in
     let q′ : sizeOf s i % blockBytes ≡ 0 → ⊥ = λ x. q (r ∙ x) in
     let c : kthBlock t n i (sizeOf t i / blockBytes) ≡ kthBlock s n i (sizeOf s i / blockBytes) = ap (λ (x : ℕ). kthBlock t n i (x / blockBytes)) z ∙ e .blocks (sizeOf s i / blockBytes) (omega arith) in
-    ap (λ (x : ℕ). getD (blockOf t n x) o 0) c ∙ ap (λ (x : List ℕ). getD x o 0) (g k′ q′) ∙ h .tail k′ q′ o l (omega arith))
-    h
+    ap (λ (x : ℕ). getD (blockOf t n x) o 0) c ∙ ap (λ (x : List ℕ). getD x o 0) (g k′ q′) ∙ h .tail k′ q′ o l (omega arith)
+
+pub inode-kept : (s t : List ℕ) (n b i : ℕ) → SameInode s t n i
+    → (kindOf s i ≡ fileKind → (sizeOf s i % blockBytes ≡ 0 → ⊥) → SameBlock s t n (kthBlock s n i (sizeOf s i / blockBytes)))
+    → InodeSound s n b i → InodeSound t n b i
+inode-kept s t n b i e g h = inode-like s t n b i (same-body e) (λ _. (e .links, e .parent)) (λ _. e .parent) (tail-kept s t n b i (same-body e) g h) h
 
 -- ---- an entry, in a block of the same number and bytes
 pub entry-in : (s : List ℕ) (n d u : ℕ) → entryOf s n d u ≡ part (blockOf s n (kthBlock s n d (u / 4))) (16 * (u % 4)) 16

@@ -4,6 +4,7 @@ use mathlib.Core.Path.{_≡_, refl, sym, ap, ap₂, _∙_, subst}
 use mathlib.Core.Logic.{_≢_}
 use mathlib.Core.Bool.{_&&_}
 use mathlib.Core.List.{List}
+use native.Mathlib.Decide.{ℕ-discrete}
 use native.Mathlib.Omega.{arith}
 use lib.Dec.{eqb}
 use lib.ListN.{length, getD, replicate, length-replicate}
@@ -45,6 +46,20 @@ pub record SameInode (s t : List ℕ) (n i : ℕ) : Type 0 where
   pub parent : parentOf t i ≡ parentOf s i
   pub blocks : (k : ℕ) → k < addressCount → kthBlock t n i k ≡ kthBlock s n i k
 
+-- of them all but its links and its parent
+pub record SameBody (s t : List ℕ) (n i : ℕ) : Type 0 where
+  pub kind : kindOf t i ≡ kindOf s i
+  pub spare : spareOf t i ≡ spareOf s i
+  pub size : sizeOf t i ≡ sizeOf s i
+  pub blocks : (k : ℕ) → k < addressCount → kthBlock t n i k ≡ kthBlock s n i k
+
+pub same-body : {s t : List ℕ} {n i : ℕ} → SameInode s t n i → SameBody s t n i
+same-body e = record { kind = e .kind; spare = e .spare; size = e .size; blocks = e .blocks }
+
+-- what holds of inode i and of all others holds of all
+pub each-inode : (P : ℕ → Type 0) (i j : ℕ) → P i → (j ≢ i → P j) → P j
+each-inode P i j p f = elim (ℕ-discrete j i) as (λ _. P j) [ yes e ↦ subst P (sym e) p | no e ↦ f e ]
+
 -- the bytes of block c
 abbrev pub SameBlock : List ℕ → List ℕ → ℕ → ℕ → Type 0
 SameBlock s t n c = blockOf t n c ≡ blockOf s n c
@@ -69,6 +84,9 @@ inode-then a b = record {
   parent = b .parent ∙ a .parent;
   blocks = λ k l. b .blocks k l ∙ a .blocks k l;
 }
+
+pub body-then : {s t u : List ℕ} {n i : ℕ} → SameBody s t n i → SameBody t u n i → SameBody s u n i
+body-then a b = record { kind = b .kind ∙ a .kind; spare = b .spare ∙ a .spare; size = b .size ∙ a .size; blocks = λ k l. b .blocks k l ∙ a .blocks k l }
 
 pub frame-stays : (s : List ℕ) → SameFrame s s
 frame-stays s = record { long = refl; inodes = refl; blocks = refl; complete = refl; root = refl; reserved = refl }
@@ -304,30 +322,26 @@ module _ (s : List ℕ) (n i : ℕ) (f : InodeFits s n i) where
           }
 
 -- a new count of links, and all else of the inode
-module _ (s : List ℕ) (n i v : ℕ) (f : InodeFits s n i) where
+module _ (s : List ℕ) (n i : ℕ) (f : InodeFits s n i) (v : ℕ) where
   pub links-new : linksOf (putLinks s i v) i ≡ v
   unfolding linksOf putLinks
   links-new = let a = f .low in let b = f .high in let c = f .area in num-same 2 s (attributesAt i + 2) v (omega arith) (omega arith)
 
-  pub record LinksAlone (t : List ℕ) : Type 0 where
-    pub kind : kindOf t i ≡ kindOf s i
-    pub spare : spareOf t i ≡ spareOf s i
-    pub size : sizeOf t i ≡ sizeOf s i
-    pub parent : parentOf t i ≡ parentOf s i
-    pub blocks : (k : ℕ) → k < addressCount → kthBlock t n i k ≡ kthBlock s n i k
-
-  pub links-alone : LinksAlone (putLinks s i v)
-  unfolding putLinks kindOf spareOf sizeOf parentOf kthBlock addressOf
-  links-alone =
+  pub links-body : SameBody s (putLinks s i v) n i
+  unfolding putLinks kindOf spareOf sizeOf kthBlock addressOf
+  links-body =
       let a = f .low in
       let b = f .high in
       record {
         kind = num-other 1 2 s (attributesAt i) (attributesAt i + 2) v (omega arith);
         spare = num-other 1 2 s (attributesAt i + 1) (attributesAt i + 2) v (omega arith);
         size = num-other 2 2 s (attributesAt i + 4) (attributesAt i + 2) v (omega arith);
-        parent = num-other 2 2 s (attributesAt i + 6) (attributesAt i + 2) v (omega arith);
         blocks = λ k l. num-other 2 2 s (addressAt n (place i k)) (attributesAt i + 2) v (omega arith);
       }
+
+  pub links-parent : parentOf (putLinks s i v) i ≡ parentOf s i
+  unfolding putLinks parentOf
+  links-parent = let a = f .low in num-other 2 2 s (attributesAt i + 6) (attributesAt i + 2) v (omega arith)
 
 -- ---- the free counts
 module _ (s : List ℕ) (n : ℕ) (f : headerBytes ≤ length s) where
