@@ -18,6 +18,7 @@ use Rattle.layout.specs.Inode.{freeKind, fileKind, directoryKind}
 use Rattle.directory.specs.Slot.{mostSlots}
 use Rattle.sound.specs.Place.{dirOf}
 use Rattle.files.proofs.Stores.KeepLaws.{leads-kept}
+use Rattle.files.proofs.Stores.SameLaws.{each-inode}
 
 -- what the tree is made of: of each inode its kind, links and parent, and of each place the inode that it names, 0 where there is none
 pub record Nodes : Type 0 where
@@ -162,13 +163,11 @@ module _ (n i : ℕ) (v w : Nodes) (t : Tree n v) (a : Above n v) (low : 1 ≤ i
         parent = λ z. parents j o (omega arith) h ∙ ap (v .parent) e ∙ r .parent (sym b ∙ z);
       }
 
-  -- an inode other than i that is met as often as before, where its directory leads up
-  linked-else : (j : ℕ) → 1 ≤ j → j ≤ n → j ≢ i → tally (w .naming) (mostSlots * n) j ≡ tally (v .naming) (mostSlots * n) j
+  -- an inode of the same kind and links that is met as often as before, where its directory leads up
+  linked-same : (j : ℕ) → 1 ≤ j → j ≤ n → w .kind j ≡ v .kind j → w .links j ≡ v .links j → tally (w .naming) (mostSlots * n) j ≡ tally (v .naming) (mostSlots * n) j
       → (v .kind j ≡ directoryKind → Leads (w .parent) rootInode j) → Linked n w j
-  linked-else j l m h e up =
+  linked-same j l m k c e up =
       let r = t .linked j l m in
-      let k = kinds j l m h in
-      let c = linkss j l m h in
       record {
         counted = c ∙ r .counted ∙ sym e;
         named = λ z y. subst (λ (x : ℕ). 1 ≤ x) (sym c) (r .named (λ q. z (k ∙ q)) y);
@@ -176,11 +175,18 @@ module _ (n i : ℕ) (v w : Nodes) (t : Tree n v) (a : Above n v) (low : 1 ≤ i
         leads = λ z. up (sym k ∙ z);
       }
 
-  -- the root is another
-  root-else : i ≢ rootInode → (w .kind rootInode ≡ directoryKind) × (w .parent rootInode ≡ 0)
-  root-else h =
-      let z : rootInode ≢ i = λ e. h (sym e) in
-      (kinds rootInode (omega arith) (omega arith) z ∙ t .root, parents rootInode (omega arith) (omega arith) z ∙ t .root-parent)
+  -- the root is another than i, the entries name what they may, and the other inodes are met as often as before
+  tree-else : i ≢ rootInode → ((q : ℕ) → q < mostSlots * n → 1 ≤ w .naming q → Names n w (w .naming q) (dirOf q))
+      → ((j : ℕ) → 1 ≤ j → j ≢ i → tally (w .naming) (mostSlots * n) j ≡ tally (v .naming) (mostSlots * n) j)
+      → ((j : ℕ) → 1 ≤ j → j ≤ n → j ≢ i → v .kind j ≡ directoryKind → Leads (w .parent) rootInode j) → Linked n w i → Tree n w
+  tree-else not-root names met leads here =
+      let z : rootInode ≢ i = λ e. not-root (sym e) in
+      record {
+        root = kinds rootInode (omega arith) (omega arith) z ∙ t .root;
+        root-parent = parents rootInode (omega arith) (omega arith) z ∙ t .root-parent;
+        names = names;
+        linked = λ j l m. each-inode (Linked n w) i j here (λ q. linked-same j l m (kinds j l m q) (linkss j l m q) (met j l q) (leads j l m q));
+      }
 
   -- ---- i keeps its kind and its parent
   module _ (k : w .kind i ≡ v .kind i) (u : w .parent i ≡ v .parent i) where
@@ -200,6 +206,10 @@ module _ (n i : ℕ) (v w : Nodes) (t : Tree n v) (a : Above n v) (low : 1 ≤ i
           parent = λ z. parent-all x o (r .high) ∙ r .parent (sym b ∙ z);
         }
 
+    -- a place that names what it did
+    names-same : (q : ℕ) → q < mostSlots * n → 1 ≤ w .naming q → w .naming q ≡ v .naming q → Names n w (w .naming q) (dirOf q)
+    names-same q m o b = subst (λ (x : ℕ). Names n w x (dirOf q)) (sym b) (names-all (dirOf q) (v .naming q) (omega arith) (t .names q m (omega arith)))
+
     leads-all : (j : ℕ) → 1 ≤ j → j ≤ n → v .kind j ≡ directoryKind → Leads (w .parent) rootInode j
     leads-all j l m z = leads-same n v t a (w .parent) (λ x d. parent-all x (d .low) (d .high)) j (record { low = l; high = m; kind = z })
 
@@ -207,12 +217,14 @@ module _ (n i : ℕ) (v w : Nodes) (t : Tree n v) (a : Above n v) (low : 1 ≤ i
     pub tree-link : (p : ℕ) → p < mostSlots * n → v .naming p ≡ 0 → w .naming p ≡ i → ElseBelow (mostSlots * n) p (v .naming) (w .naming)
         → v .kind i ≡ fileKind → w .links i ≡ v .links i + 1 → Tree n w
     tree-link p l e f h file c =
+        tree-else not-root (λ q m o. at q m o (ℕ-discrete q p)) others (λ j y z q. leads-all j y z)
+        (let r = t .linked i low high in
         record {
-          root = root-else not-root .0;
-          root-parent = root-else not-root .1;
-          names = λ q m o. at q m o (ℕ-discrete q p);
-          linked = λ j y z. of j y z (ℕ-discrete j i);
-        }
+          counted = let b = tallied i low in let d = one-same i i refl in let g = r .counted in omega arith;
+          named = λ _ _. omega arith;
+          one = λ x _. let b = sym k ∙ x in absurd (omega arith);
+          leads = λ x. let b = sym k ∙ x in absurd (omega arith);
+        })
       where
         not-root : i ≢ rootInode
         not-root z = let b : v .kind i ≡ directoryKind = ap (v .kind) z ∙ t .root in omega arith
@@ -221,57 +233,32 @@ module _ (n i : ℕ) (v w : Nodes) (t : Tree n v) (a : Above n v) (low : 1 ≤ i
         at q m o (yes z) =
             subst (λ (x : ℕ). Names n w x (dirOf q)) (sym f ∙ ap (w .naming) (sym z))
             (record { high = high; used = λ y. let b = sym k ∙ y in omega arith; not-root = not-root; parent = λ y. let b = sym k ∙ y in absurd (omega arith) })
-        at q m o (no z) =
-            let b = h q m z in
-            subst (λ (x : ℕ). Names n w x (dirOf q)) (sym b) (names-all (dirOf q) (v .naming q) (omega arith) (t .names q m (omega arith)))
+        at q m o (no z) = names-same q m o (h q m z)
 
         tallied : (j : ℕ) → 1 ≤ j → tally (w .naming) (mostSlots * n) j ≡ tally (v .naming) (mostSlots * n) j + one (eqb i j)
         tallied j y = tally-filled (v .naming) (w .naming) (mostSlots * n) p i l h e f j y
 
-        of : (j : ℕ) → 1 ≤ j → j ≤ n → Dec (j ≡ i) → Linked n w j
-        of j y z (no q) = linked-else j y z q (let b = tallied j y in let d = one-other i j (λ x. q (sym x)) in omega arith) (leads-all j y z)
-        of j y z (yes q) =
-            subst (Linked n w) (sym q) (
-            let r = t .linked i low high in
-            record {
-              counted = let b = tallied i low in let d = one-same i i refl in let g = r .counted in omega arith;
-              named = λ _ _. omega arith;
-              one = λ x _. let b = sym k ∙ x in absurd (omega arith);
-              leads = λ x. let b = sym k ∙ x in absurd (omega arith);
-            })
+        others : (j : ℕ) → 1 ≤ j → j ≢ i → tally (w .naming) (mostSlots * n) j ≡ tally (v .naming) (mostSlots * n) j
+        others j y q = let b = tallied j y in let d = one-other i j (λ x. q (sym x)) in omega arith
 
     -- "rename" within a directory: every place names what it did
     pub tree-rename : ((q : ℕ) → q < mostSlots * n → w .naming q ≡ v .naming q) → i ≢ rootInode → w .links i ≡ v .links i → Tree n w
     tree-rename h not-root c =
-        record {
-          root = root-else not-root .0;
-          root-parent = root-else not-root .1;
-          names = λ q m o. let b = h q m in subst (λ (x : ℕ). Names n w x (dirOf q)) (sym b) (names-all (dirOf q) (v .naming q) (omega arith) (t .names q m (omega arith)));
-          linked = λ j y z. of j y z (ℕ-discrete j i);
-        }
-      where
-        of : (j : ℕ) → 1 ≤ j → j ≤ n → Dec (j ≡ i) → Linked n w j
-        of j y z (no q) = linked-else j y z q (tally-same (v .naming) (w .naming) (mostSlots * n) h j) (leads-all j y z)
-        of j y z (yes q) =
-            subst (Linked n w) (sym q) (
-            let r = t .linked i low high in
-            record {
-              counted = c ∙ r .counted ∙ sym (tally-same (v .naming) (w .naming) (mostSlots * n) h i);
-              named = λ x g. subst (λ (o : ℕ). 1 ≤ o) (sym c) (r .named (λ b. x (k ∙ b)) g);
-              one = λ x g. c ∙ r .one (sym k ∙ x) g;
-              leads = λ x. leads-all i low high (sym k ∙ x);
-            })
+        tree-else not-root (λ q m o. names-same q m o (h q m)) (λ j y q. tally-same (v .naming) (w .naming) (mostSlots * n) h j) (λ j y z q. leads-all j y z)
+        (linked-same i low high k c (tally-same (v .naming) (w .naming) (mostSlots * n) h i) (leads-all i low high))
 
     -- "unlink" of one of several links: the place names nothing, and i has one link less
     pub tree-less : (p : ℕ) → p < mostSlots * n → v .naming p ≡ i → w .naming p ≡ 0 → ElseBelow (mostSlots * n) p (v .naming) (w .naming)
         → 2 ≤ v .links i → w .links i ≡ v .links i - 1 → Tree n w
     tree-less p l e f h two c =
+        tree-else not-root (λ q m o. at q m o (ℕ-discrete q p)) others (λ j y z q. leads-all j y z)
+        (let r = t .linked i low high in
         record {
-          root = root-else not-root .0;
-          root-parent = root-else not-root .1;
-          names = λ q m o. at q m o (ℕ-discrete q p);
-          linked = λ j y z. of j y z (ℕ-discrete j i);
-        }
+          counted = let b = tallied i low in let d = one-same i i refl in let g = r .counted in omega arith;
+          named = λ _ _. omega arith;
+          one = λ x _. absurd (not-dir x);
+          leads = λ x. absurd (not-dir x);
+        })
       where
         not-root : i ≢ rootInode
         not-root z = t .names p l (omega arith) .not-root (e ∙ z)
@@ -281,36 +268,27 @@ module _ (n i : ℕ) (v w : Nodes) (t : Tree n v) (a : Above n v) (low : 1 ≤ i
 
         at : (q : ℕ) → q < mostSlots * n → 1 ≤ w .naming q → Dec (q ≡ p) → Names n w (w .naming q) (dirOf q)
         at q m o (yes z) = let b : w .naming q ≡ 0 = ap (w .naming) z ∙ f in absurd (omega arith)
-        at q m o (no z) =
-            let b = h q m z in
-            subst (λ (x : ℕ). Names n w x (dirOf q)) (sym b) (names-all (dirOf q) (v .naming q) (omega arith) (t .names q m (omega arith)))
+        at q m o (no z) = names-same q m o (h q m z)
 
         tallied : (j : ℕ) → 1 ≤ j → tally (v .naming) (mostSlots * n) j ≡ tally (w .naming) (mostSlots * n) j + one (eqb i j)
         tallied j y = tally-filled (w .naming) (v .naming) (mostSlots * n) p i l (λ q m z. sym (h q m z)) f e j y
 
-        of : (j : ℕ) → 1 ≤ j → j ≤ n → Dec (j ≡ i) → Linked n w j
-        of j y z (no q) = linked-else j y z q (let b = tallied j y in let d = one-other i j (λ x. q (sym x)) in omega arith) (leads-all j y z)
-        of j y z (yes q) =
-            subst (Linked n w) (sym q) (
-            let r = t .linked i low high in
-            record {
-              counted = let b = tallied i low in let d = one-same i i refl in let g = r .counted in omega arith;
-              named = λ _ _. omega arith;
-              one = λ x _. absurd (not-dir x);
-              leads = λ x. absurd (not-dir x);
-            })
+        others : (j : ℕ) → 1 ≤ j → j ≢ i → tally (w .naming) (mostSlots * n) j ≡ tally (v .naming) (mostSlots * n) j
+        others j y q = let b = tallied j y in let d = one-other i j (λ x. q (sym x)) in omega arith
 
   -- "create": an empty place of directory d names i, which was free, and now is a file or a directory with one link
   pub tree-create : (p d : ℕ) → p < mostSlots * n → dirOf p ≡ d → v .naming p ≡ 0 → w .naming p ≡ i → ElseBelow (mostSlots * n) p (v .naming) (w .naming)
       → v .kind d ≡ directoryKind → v .kind i ≡ freeKind → v .links i ≡ 0
       → (w .kind i ≡ freeKind → ⊥) → (w .kind i ≡ directoryKind → w .parent i ≡ d) → w .links i ≡ 1 → Tree n w
   tree-create p d l home e f h dir free none used up c =
+      tree-else not-root (λ q m o. at q m o (ℕ-discrete q p)) others (λ j y z q b. leads-old j (record { low = y; high = z; kind = b }))
+      (let r = t .linked i low high in
       record {
-        root = root-else not-root .0;
-        root-parent = root-else not-root .1;
-        names = λ q m o. at q m o (ℕ-discrete q p);
-        linked = λ j y z. of j y z (ℕ-discrete j i);
-      }
+        counted = let b = tallied i low in let g = one-same i i refl in let o = r .counted in omega arith;
+        named = λ _ _. omega arith;
+        one = λ _ _. c;
+        leads = λ x. leads-up (w .parent) rootInode i (subst (Leads (w .parent) rootInode) (sym (up x)) (leads-old d (record { low = omega arith; high = omega arith; kind = dir })));
+      })
     where
       not-root : i ≢ rootInode
       not-root z = let b : v .kind i ≡ directoryKind = ap (v .kind) z ∙ t .root in omega arith
@@ -328,40 +306,28 @@ module _ (n i : ℕ) (v w : Nodes) (t : Tree n v) (a : Above n v) (low : 1 ≤ i
       tallied : (j : ℕ) → 1 ≤ j → tally (w .naming) (mostSlots * n) j ≡ tally (v .naming) (mostSlots * n) j + one (eqb i j)
       tallied j y = tally-filled (v .naming) (w .naming) (mostSlots * n) p i l h e f j y
 
+      others : (j : ℕ) → 1 ≤ j → j ≢ i → tally (w .naming) (mostSlots * n) j ≡ tally (v .naming) (mostSlots * n) j
+      others j y q = let b = tallied j y in let d = one-other i j (λ x. q (sym x)) in omega arith
+
       leads-old : (j : ℕ) → Dir n v j → Leads (w .parent) rootInode j
       leads-old j = leads-same n v t a (w .parent) (λ x b. parents x (b .low) (b .high) (λ z. let g = ap (v .kind) z in let o = b .kind in omega arith)) j
-
-      of : (j : ℕ) → 1 ≤ j → j ≤ n → Dec (j ≡ i) → Linked n w j
-      of j y z (no q) =
-          linked-else j y z q (let b = tallied j y in let g = one-other i j (λ x. q (sym x)) in omega arith)
-          (λ b. leads-old j (record { low = y; high = z; kind = b }))
-      of j y z (yes q) =
-          subst (Linked n w) (sym q) (
-          let r = t .linked i low high in
-          record {
-            counted = let b = tallied i low in let g = one-same i i refl in let o = r .counted in omega arith;
-            named = λ _ _. omega arith;
-            one = λ _ _. c;
-            leads = λ x. leads-up (w .parent) rootInode i (subst (Leads (w .parent) rootInode) (sym (up x)) (leads-old d (record { low = omega arith; high = omega arith; kind = dir })));
-          })
 
   -- "unlink" of the last link: the place names nothing, and i, in which no entry stands, is free
   pub tree-last : (p : ℕ) → p < mostSlots * n → v .naming p ≡ i → w .naming p ≡ 0 → ElseBelow (mostSlots * n) p (v .naming) (w .naming)
       → v .links i ≡ 1 → (v .kind i ≡ directoryKind → (q : ℕ) → q < mostSlots * n → dirOf q ≡ i → v .naming q ≡ 0)
       → w .kind i ≡ freeKind → w .links i ≡ 0 → Tree n w
   tree-last p l e f h last bare k c =
-      record {
-        root = root-else not-root .0;
-        root-parent = root-else not-root .1;
-        names = λ q m o. at q m o (ℕ-discrete q p);
-        linked = λ j y z. of j y z (ℕ-discrete j i);
-      }
+      tree-else not-root (λ q m o. at q m o (ℕ-discrete q p)) others (λ j y z q b. leads-old j (record { low = y; high = z; kind = b }, q))
+      (record { counted = c ∙ sym nowhere; named = λ x _. absurd (x k); one = λ x _. absurd (omega arith); leads = λ x. absurd (omega arith) })
     where
       not-root : i ≢ rootInode
       not-root z = t .names p l (omega arith) .not-root (e ∙ z)
 
       tallied : (j : ℕ) → 1 ≤ j → tally (v .naming) (mostSlots * n) j ≡ tally (w .naming) (mostSlots * n) j + one (eqb i j)
       tallied j y = tally-filled (w .naming) (v .naming) (mostSlots * n) p i l (λ q m z. sym (h q m z)) f e j y
+
+      others : (j : ℕ) → 1 ≤ j → j ≢ i → tally (w .naming) (mostSlots * n) j ≡ tally (v .naming) (mostSlots * n) j
+      others j y q = let b = tallied j y in let d = one-other i j (λ x. q (sym x)) in omega arith
 
       nowhere : tally (w .naming) (mostSlots * n) i ≡ 0
       nowhere = let b = tallied i low in let g = one-same i i refl in let o = t .linked i low high .counted in omega arith
@@ -389,31 +355,14 @@ module _ (n i : ℕ) (v w : Nodes) (t : Tree n v) (a : Above n v) (low : 1 ≤ i
           leads-kept Stays (v .parent) (w .parent) rootInode n (record { within = λ x y. (y .0 .low, y .0 .high); parent = stays })
           (λ x y. parents x (y .0 .low) (y .0 .high) (y .1)) (r .0) j b (r .1)
 
-      of : (j : ℕ) → 1 ≤ j → j ≤ n → Dec (j ≡ i) → Linked n w j
-      of j y z (no q) =
-          linked-else j y z q (let b = tallied j y in let g = one-other i j (λ x. q (sym x)) in omega arith)
-          (λ b. leads-old j (record { low = y; high = z; kind = b }, q))
-      of j y z (yes q) =
-          subst (Linked n w) (sym q)
-          (record {
-            counted = c ∙ sym nowhere;
-            named = λ x _. absurd (x k);
-            one = λ x _. absurd (omega arith);
-            leads = λ x. absurd (omega arith);
-          })
-
   -- "move": place p names nothing, the empty place u of directory e names i, and a directory i has the parent e, to which it does not lead
   pub tree-move : (p u e : ℕ) → p < mostSlots * n → u < mostSlots * n → dirOf u ≡ e → v .naming p ≡ i → w .naming p ≡ 0 → v .naming u ≡ 0 → w .naming u ≡ i
       → ((q : ℕ) → q < mostSlots * n → q ≢ p → q ≢ u → w .naming q ≡ v .naming q)
       → v .kind e ≡ directoryKind → (v .kind i ≡ directoryKind → Leads (v .parent) i e → ⊥)
       → w .kind i ≡ v .kind i → w .links i ≡ v .links i → (v .kind i ≡ directoryKind → w .parent i ≡ e) → Tree n w
   tree-move p u e l m home was gone free now h dir apart k c up =
-      record {
-        root = root-else not-root .0;
-        root-parent = root-else not-root .1;
-        names = λ q b o. at q b o (ℕ-discrete q p) (ℕ-discrete q u);
-        linked = λ j y z. of j y z (ℕ-discrete j i);
-      }
+      tree-else not-root (λ q b o. at q b o (ℕ-discrete q p) (ℕ-discrete q u)) (λ j y q. tallied j y) (λ j y z q b. leads-old j (record { low = y; high = z; kind = b }))
+      (linked-same i low high k c (tallied i low) (λ x. leads-old i (record { low = low; high = high; kind = x })))
     where
       old : Names n v i (dirOf p)
       old = subst (λ (x : ℕ). Names n v x (dirOf p)) was (t .names p l (omega arith))
@@ -478,15 +427,3 @@ module _ (n i : ℕ) (v w : Nodes) (t : Tree n v) (a : Above n v) (low : 1 ≤ i
         | yes z ↦ leads-dir z j b
         | no z ↦ leads-same n v t a (w .parent) (λ x y. parents x (y .low) (y .high) (λ q. z (ap (v .kind) (sym q) ∙ y .kind))) j b
       ]
-
-      of : (j : ℕ) → 1 ≤ j → j ≤ n → Dec (j ≡ i) → Linked n w j
-      of j y z (no q) = linked-else j y z q (tallied j y) (λ b. leads-old j (record { low = y; high = z; kind = b }))
-      of j y z (yes q) =
-          subst (Linked n w) (sym q) (
-          let r = t .linked i low high in
-          record {
-            counted = c ∙ r .counted ∙ sym (tallied i low);
-            named = λ x g. subst (λ (o : ℕ). 1 ≤ o) (sym c) (r .named (λ b. x (k ∙ b)) g);
-            one = λ x g. c ∙ r .one (sym k ∙ x) g;
-            leads = λ x. leads-old i (record { low = low; high = high; kind = sym k ∙ x });
-          })
