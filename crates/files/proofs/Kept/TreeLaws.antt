@@ -98,6 +98,12 @@ tally-filled f g m p i l h e r v y =
     let c : one (eqb (g p) v) ≡ one (eqb i v) = ap (λ (x : ℕ). one (eqb x v)) r in
     omega arith
 
+pub tally-more : (f g : ℕ → ℕ) (m p i : ℕ) → p < m → ElseBelow m p f g → f p ≡ 0 → g p ≡ i → 1 ≤ i → tally g m i ≡ tally f m i + 1
+tally-more f g m p i l h e r y = let b = tally-filled f g m p i l h e r i y in let d = one-same i i refl in omega arith
+
+pub tally-else : (f g : ℕ → ℕ) (m p i : ℕ) → p < m → ElseBelow m p f g → f p ≡ 0 → g p ≡ i → (v : ℕ) → 1 ≤ v → v ≢ i → tally g m v ≡ tally f m v
+tally-else f g m p i l h e r v y q = let b = tally-filled f g m p i l h e r v y in let d = one-other i v (λ x. q (sym x)) in omega arith
+
 pub tally-same : (f g : ℕ → ℕ) (m : ℕ) → ((q : ℕ) → q < m → g q ≡ f q) → (v : ℕ) → tally g m v ≡ tally f m v
 tally-same f g m h v = count-ext (λ k. eqb (g k) v) (λ k. eqb (f k) v) m (λ k b. ap (λ (x : ℕ). eqb x v) (h k b))
 
@@ -217,10 +223,10 @@ module _ (n i : ℕ) (v w : Nodes) (t : Tree n v) (a : Above n v) (low : 1 ≤ i
     pub tree-link : (p : ℕ) → p < mostSlots * n → v .naming p ≡ 0 → w .naming p ≡ i → ElseBelow (mostSlots * n) p (v .naming) (w .naming)
         → v .kind i ≡ fileKind → w .links i ≡ v .links i + 1 → Tree n w
     tree-link p l e f h file c =
-        tree-else not-root (λ q m o. at q m o (ℕ-discrete q p)) others (λ j y z q. leads-all j y z)
+        tree-else not-root (λ q m o. at q m o (ℕ-discrete q p)) (tally-else (v .naming) (w .naming) (mostSlots * n) p i l h e f) (λ j y z q. leads-all j y z)
         (let r = t .linked i low high in
         record {
-          counted = let b = tallied i low in let d = one-same i i refl in let g = r .counted in omega arith;
+          counted = let b = tally-more (v .naming) (w .naming) (mostSlots * n) p i l h e f low in let g = r .counted in omega arith;
           named = λ _ _. omega arith;
           one = λ x _. let b = sym k ∙ x in absurd (omega arith);
           leads = λ x. let b = sym k ∙ x in absurd (omega arith);
@@ -235,12 +241,6 @@ module _ (n i : ℕ) (v w : Nodes) (t : Tree n v) (a : Above n v) (low : 1 ≤ i
             (record { high = high; used = λ y. let b = sym k ∙ y in omega arith; not-root = not-root; parent = λ y. let b = sym k ∙ y in absurd (omega arith) })
         at q m o (no z) = names-same q m o (h q m z)
 
-        tallied : (j : ℕ) → 1 ≤ j → tally (w .naming) (mostSlots * n) j ≡ tally (v .naming) (mostSlots * n) j + one (eqb i j)
-        tallied j y = tally-filled (v .naming) (w .naming) (mostSlots * n) p i l h e f j y
-
-        others : (j : ℕ) → 1 ≤ j → j ≢ i → tally (w .naming) (mostSlots * n) j ≡ tally (v .naming) (mostSlots * n) j
-        others j y q = let b = tallied j y in let d = one-other i j (λ x. q (sym x)) in omega arith
-
     -- "rename" within a directory: every place names what it did
     pub tree-rename : ((q : ℕ) → q < mostSlots * n → w .naming q ≡ v .naming q) → i ≢ rootInode → w .links i ≡ v .links i → Tree n w
     tree-rename h not-root c =
@@ -254,7 +254,7 @@ module _ (n i : ℕ) (v w : Nodes) (t : Tree n v) (a : Above n v) (low : 1 ≤ i
         tree-else not-root (λ q m o. at q m o (ℕ-discrete q p)) others (λ j y z q. leads-all j y z)
         (let r = t .linked i low high in
         record {
-          counted = let b = tallied i low in let d = one-same i i refl in let g = r .counted in omega arith;
+          counted = let b = tally-more (w .naming) (v .naming) (mostSlots * n) p i l (λ q m z. sym (h q m z)) f e low in let g = r .counted in omega arith;
           named = λ _ _. omega arith;
           one = λ x _. absurd (not-dir x);
           leads = λ x. absurd (not-dir x);
@@ -270,21 +270,18 @@ module _ (n i : ℕ) (v w : Nodes) (t : Tree n v) (a : Above n v) (low : 1 ≤ i
         at q m o (yes z) = let b : w .naming q ≡ 0 = ap (w .naming) z ∙ f in absurd (omega arith)
         at q m o (no z) = names-same q m o (h q m z)
 
-        tallied : (j : ℕ) → 1 ≤ j → tally (v .naming) (mostSlots * n) j ≡ tally (w .naming) (mostSlots * n) j + one (eqb i j)
-        tallied j y = tally-filled (w .naming) (v .naming) (mostSlots * n) p i l (λ q m z. sym (h q m z)) f e j y
-
         others : (j : ℕ) → 1 ≤ j → j ≢ i → tally (w .naming) (mostSlots * n) j ≡ tally (v .naming) (mostSlots * n) j
-        others j y q = let b = tallied j y in let d = one-other i j (λ x. q (sym x)) in omega arith
+        others j y q = sym (tally-else (w .naming) (v .naming) (mostSlots * n) p i l (λ q m z. sym (h q m z)) f e j y q)
 
   -- "create": an empty place of directory d names i, which was free, and now is a file or a directory with one link
   pub tree-create : (p d : ℕ) → p < mostSlots * n → dirOf p ≡ d → v .naming p ≡ 0 → w .naming p ≡ i → ElseBelow (mostSlots * n) p (v .naming) (w .naming)
       → v .kind d ≡ directoryKind → v .kind i ≡ freeKind → v .links i ≡ 0
       → (w .kind i ≡ freeKind → ⊥) → (w .kind i ≡ directoryKind → w .parent i ≡ d) → w .links i ≡ 1 → Tree n w
   tree-create p d l home e f h dir free none used up c =
-      tree-else not-root (λ q m o. at q m o (ℕ-discrete q p)) others (λ j y z q b. leads-old j (record { low = y; high = z; kind = b }))
+      tree-else not-root (λ q m o. at q m o (ℕ-discrete q p)) (tally-else (v .naming) (w .naming) (mostSlots * n) p i l h e f) (λ j y z q b. leads-old j (record { low = y; high = z; kind = b }))
       (let r = t .linked i low high in
       record {
-        counted = let b = tallied i low in let g = one-same i i refl in let o = r .counted in omega arith;
+        counted = let b = tally-more (v .naming) (w .naming) (mostSlots * n) p i l h e f low in let o = r .counted in omega arith;
         named = λ _ _. omega arith;
         one = λ _ _. c;
         leads = λ x. leads-up (w .parent) rootInode i (subst (Leads (w .parent) rootInode) (sym (up x)) (leads-old d (record { low = omega arith; high = omega arith; kind = dir })));
@@ -303,12 +300,6 @@ module _ (n i : ℕ) (v w : Nodes) (t : Tree n v) (a : Above n v) (low : 1 ≤ i
           (record { high = high; used = used; not-root = not-root; parent = λ y. up y ∙ sym home ∙ ap dirOf (sym z) })
       at q m o (no z) = let b = h q m z in names-else q m b o (λ x. unnamed q m (sym b ∙ x))
 
-      tallied : (j : ℕ) → 1 ≤ j → tally (w .naming) (mostSlots * n) j ≡ tally (v .naming) (mostSlots * n) j + one (eqb i j)
-      tallied j y = tally-filled (v .naming) (w .naming) (mostSlots * n) p i l h e f j y
-
-      others : (j : ℕ) → 1 ≤ j → j ≢ i → tally (w .naming) (mostSlots * n) j ≡ tally (v .naming) (mostSlots * n) j
-      others j y q = let b = tallied j y in let d = one-other i j (λ x. q (sym x)) in omega arith
-
       leads-old : (j : ℕ) → Dir n v j → Leads (w .parent) rootInode j
       leads-old j = leads-same n v t a (w .parent) (λ x b. parents x (b .low) (b .high) (λ z. let g = ap (v .kind) z in let o = b .kind in omega arith)) j
 
@@ -323,14 +314,11 @@ module _ (n i : ℕ) (v w : Nodes) (t : Tree n v) (a : Above n v) (low : 1 ≤ i
       not-root : i ≢ rootInode
       not-root z = t .names p l (omega arith) .not-root (e ∙ z)
 
-      tallied : (j : ℕ) → 1 ≤ j → tally (v .naming) (mostSlots * n) j ≡ tally (w .naming) (mostSlots * n) j + one (eqb i j)
-      tallied j y = tally-filled (w .naming) (v .naming) (mostSlots * n) p i l (λ q m z. sym (h q m z)) f e j y
-
       others : (j : ℕ) → 1 ≤ j → j ≢ i → tally (w .naming) (mostSlots * n) j ≡ tally (v .naming) (mostSlots * n) j
-      others j y q = let b = tallied j y in let d = one-other i j (λ x. q (sym x)) in omega arith
+      others j y q = sym (tally-else (w .naming) (v .naming) (mostSlots * n) p i l (λ q m z. sym (h q m z)) f e j y q)
 
       nowhere : tally (w .naming) (mostSlots * n) i ≡ 0
-      nowhere = let b = tallied i low in let g = one-same i i refl in let o = t .linked i low high .counted in omega arith
+      nowhere = let b = tally-more (w .naming) (v .naming) (mostSlots * n) p i l (λ q m z. sym (h q m z)) f e low in let o = t .linked i low high .counted in omega arith
 
       at : (q : ℕ) → q < mostSlots * n → 1 ≤ w .naming q → Dec (q ≡ p) → Names n w (w .naming q) (dirOf q)
       at q m o (yes z) = let b : w .naming q ≡ 0 = ap (w .naming) z ∙ f in absurd (omega arith)
