@@ -21,17 +21,16 @@ use Rattle.sound.specs.Place.{dirOf, isSlot, filled, naming}
 use Rattle.sound.specs.Inode.{InodeSound}
 use Rattle.sound.specs.Sound.{freeB, unnamedB}
 use Rattle.sound.proofs.PlaceLaws.{slot-is, filled-is, naming-filled}
-use Rattle.files.proofs.Stores.SameLaws.{SameFrame, SameInode, SameBlock, same-body, each-inode, NewInode, InCounts, frame-then, inode-then, put-inode, inode-new, inode-blocks}
-use Rattle.files.proofs.Stores.KeepLaws.{SamePlace, inode-kept}
+use Rattle.files.proofs.Stores.SameLaws.{OtherInodes, SameFrame, SameInode, SameBlock, same-body, each-inode, NewInode, InCounts, frame-then, inode-then, put-inode, inode-new, inode-blocks}
+use Rattle.files.proofs.Stores.KeepLaws.{SamePlace, place-kept, inode-kept}
 use Rattle.files.proofs.Stores.AddressLaws.{differ-less, address-kth, unnamed-change}
 use Rattle.files.proofs.Kept.TreeLaws.{count-but}
-use Rattle.files.proofs.Kept.InodeWriteLaws.{place-body}
-use Rattle.files.proofs.Kept.StockLaws.{Stock, kth-is}
+use Rattle.files.proofs.Kept.StockLaws.{Stock}
 
 -- inode i is v, which has no blocks; the other inodes and the bytes of blocks stay
 pub record Bared (s t : List ℕ) (n i : ℕ) (v : Inode) : Type 0 where
   pub frame : SameFrame s t
-  pub others : (j : ℕ) → 1 ≤ j → j ≤ n → j ≢ i → SameInode s t n j
+  pub others : OtherInodes s t n i
   pub bytes : (c : ℕ) → SameBlock s t n c
   pub new : NewInode t i v
   pub none : (k : ℕ) → k < addressCount → kthBlock t n i k ≡ 0
@@ -81,13 +80,13 @@ module _ (s t : List ℕ) (n i : ℕ) (v : Inode) (a : Bared s t n i v) (empty :
   bared-places bare q l = elim (ℕ-discrete (dirOf q) i) as (λ _. SamePlace s t n q) [
     | yes e ↦ place-none s t n q (bare q l e)
         (fails (filled t n q) (λ z. clash (isSlot t q) (filled-is t n q .to z .0) (no-slots t q (ap (sizeOf t) e ∙ size-none))))
-    | no e ↦ place-body s t n q (same-body (a .others (dirOf q) (omega arith) (omega arith) e)) (a .bytes)
+    | no e ↦ place-kept s t n q (same-body (a .others (dirOf q) (omega arith) (omega arith) e)) (λ k _ _. a .bytes (kthBlock s n (dirOf q) k))
   ]
 
   module _ (b : ℕ) (low : 1 ≤ i) (high : i ≤ n) (h : Stock s n b) (kind : v .kind ≤ directoryKind)
       (free : v .kind ≡ freeKind → (v .links ≡ 0) × (v .parent ≡ 0)) (file : v .kind ≡ fileKind → v .parent ≡ 0) where
     new-inode : InodeSound t n b i
-    unfolding blocksUsed
+    unfolding blocksUsed kthBlock
     new-inode =
         let r = a .new in
         let z = size-none in
@@ -97,7 +96,7 @@ module _ (s t : List ℕ) (n i : ℕ) (v : Inode) (a : Bared s t n i v) (empty :
           free = λ k. let f = free (sym (r .kind) ∙ k) in (r .links ∙ f .0, (z, r .parent ∙ f .1));
           size = omega arith;
           used = λ k l w. absurd (omega arith);
-          rest = λ k l w. sym (kth-is t n i k) ∙ a .none k l;
+          rest = λ k l w. a .none k l;
           directory = λ _. omega arith;
           tail = λ _ q o l w. absurd (q (omega arith));
           parent = λ k. r .parent ∙ file (sym (r .kind) ∙ k);

@@ -26,10 +26,6 @@ use Rattle.files.proofs.Stores.KeepLaws.{SamePlace, same-names}
 abbrev pub OtherPlaces : List ℕ → List ℕ → ℕ → ℕ → Type 0
 OtherPlaces s t n p = (q : ℕ) → q < mostSlots * n → q ≢ p → SamePlace s t n q
 
--- every inode but i stays
-abbrev pub OtherInodes : List ℕ → List ℕ → ℕ → ℕ → Type 0
-OtherInodes s t n i = (j : ℕ) → 1 ≤ j → j ≤ n → j ≢ i → SameInode s t n j
-
 -- no entry stands at p now
 pub record Emptied (s t : List ℕ) (n p : ℕ) : Type 0 where
   pub stands : filled t n p ≡ false

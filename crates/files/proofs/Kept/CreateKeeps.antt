@@ -28,9 +28,9 @@ use Rattle.sound.proofs.EntryLaws.{place-dir}
 use Rattle.files.specs.declared.Kind.{Kind}
 use Rattle.files.specs.declared.Kind.the-variants.{File, Directory}
 use Rattle.files.specs.Inode.{isDirectory, newInode, lessFree}
-use Rattle.files.proofs.Stores.SameLaws.{NewInode, frame-then, inode-then, InCounts, put-inode, less-free}
+use Rattle.files.proofs.Stores.SameLaws.{OtherInodes, NewInode, frame-then, inode-then, InCounts, put-inode, less-free}
 use Rattle.files.proofs.Stores.StoreLaws.{fits}
-use Rattle.files.proofs.Kept.ChangeLaws.{OtherInodes, Filled, filled-then, names-filled}
+use Rattle.files.proofs.Kept.ChangeLaws.{Filled, filled-then, names-filled}
 use Rattle.files.proofs.Kept.TreeLaws.{Tree, tree-create, one-same, one-other}
 use Rattle.files.proofs.Kept.SoundTreeLaws.{nodesOf, body-at, names-at, above-at, tree-at}
 use Rattle.files.proofs.Kept.EntryWriteLaws.{EntriesAlone, entries-stay, SlotIn, slot-in, place-below, put-alone, put-filled}

@@ -35,7 +35,7 @@ use Rattle.sound.proofs.PlaceLaws.{slot-is}
 use Rattle.files.specs.Inode.{withBlocks}
 use Rattle.files.specs.Content.{addBlock}
 use Rattle.files.proofs.Stores.StoreLaws.{fits}
-use Rattle.files.proofs.Stores.SameLaws.{each-inode, SameFrame, SameInode, SameBlock, frame-then, inode-then, zero-block, zero-block-is, put-inode, inode-new, inode-blocks, less-free}
+use Rattle.files.proofs.Stores.SameLaws.{same-body, OtherInodes, each-inode, SameFrame, SameInode, SameBlock, frame-then, inode-then, zero-block, zero-block-is, put-inode, inode-new, inode-blocks, less-free}
 use Rattle.files.proofs.Stores.KeepLaws.{SamePlace, SameTree, Body, body-of, inode-kept, entry-in, entry-kept, place-slot, place-new, place-kept, slot-kept, changed, sound-kept}
 use Rattle.files.proofs.Stores.AddressLaws.{differ-new, address-kth, unnamed-change}
 use Rattle.files.proofs.Stores.FreeLaws.{FreeBlock}
@@ -44,7 +44,7 @@ use Rattle.bounded.proofs.BoolLaws.{same-test}
 -- block c is the next of inode i in t
 pub record Grown (s t : List ℕ) (n i c : ℕ) : Type 0 where
   pub frame : SameFrame s t
-  pub others : (j : ℕ) → 1 ≤ j → j ≤ n → j ≢ i → SameInode s t n j
+  pub others : OtherInodes s t n i
   pub kind : kindOf t i ≡ kindOf s i
   pub spare : spareOf t i ≡ 0
   pub links : linksOf t i ≡ linksOf s i
@@ -237,7 +237,7 @@ module _ (s t : List ℕ) (n b i c : ℕ) (h : Sound mostStoreBlocks false s) (x
     parents = changed s t n i (g .others) parentOf (g .parent) (λ j e. e .parent);
     places = λ p q. elim (ℕ-discrete (dirOf p) i) as (λ _. SamePlace s t n p) [
       | yes e ↦ grown-at p (omega arith) (subst (λ (d : ℕ). Grown s t n d c) (sym e) g)
-      | no e ↦ place-kept s t n p (g .others (dirOf p) (omega arith) (omega arith) e) (λ k z w. grown-bytes (dirOf p) k (omega arith) (omega arith) w)
+      | no e ↦ place-kept s t n p (same-body (g .others (dirOf p) (omega arith) (omega arith) e)) (λ k z w. grown-bytes (dirOf p) k (omega arith) (omega arith) w)
     ];
   }
 

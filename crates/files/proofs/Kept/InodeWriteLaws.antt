@@ -12,14 +12,7 @@ use Rattle.directory.specs.Slot.{mostSlots, slots}
 use Rattle.sound.specs.Place.{dirOf, slotOf, entryAt}
 use Rattle.files.specs.Inode.{withParent}
 use Rattle.files.proofs.Stores.SameLaws.{SameBody, SameBlock, InInode, same-body, each-inode, put-links, links-body, put-attributes, attributes-blocks, attributes-new}
-use Rattle.files.proofs.Stores.KeepLaws.{SamePlace, place-slot, slot-kept, entry-kept}
-
--- ---- the places of a directory that keeps its body, with all bytes of blocks
-pub place-body : (s t : List ℕ) (n q : ℕ) → SameBody s t n (dirOf q) → ((c : ℕ) → SameBlock s t n c) → SamePlace s t n q
-unfolding entryAt slots
-place-body s t n q e f =
-    place-slot s t n q (slot-kept s t q (e .kind) (λ _. ap (λ (z : ℕ). 4 * blocksUsed z) (e .size)))
-    (λ y. let l : slotOf q / 4 < 12 = omega arith in entry-kept s t n (dirOf q) (slotOf q) (e .blocks (slotOf q / 4) l) (f (kthBlock s n (dirOf q) (slotOf q / 4))))
+use Rattle.files.proofs.Stores.KeepLaws.{SamePlace, place-kept}
 
 -- inode i alone changes, in its links or its parent
 pub record Relinked (s t : List ℕ) (n i : ℕ) : Type 0 where
@@ -30,7 +23,7 @@ pub body-all : {s t : List ℕ} {n i : ℕ} → Relinked s t n i → (j : ℕ) �
 body-all {s} {t} {n} {i} a j l m = each-inode (SameBody s t n) i j (a .body) (λ z. same-body (a .inode .others j l m z))
 
 pub relinked-places : {s t : List ℕ} {n i : ℕ} → Relinked s t n i → (q : ℕ) → q < mostSlots * n → SamePlace s t n q
-relinked-places {s} {t} {n} a q l = place-body s t n q (body-all a (dirOf q) (omega arith) (omega arith)) (a .inode .bytes)
+relinked-places {s} {t} {n} a q l = place-kept s t n q (body-all a (dirOf q) (omega arith) (omega arith)) (λ k _ _. a .inode .bytes (kthBlock s n (dirOf q) k))
 
 -- ---- the two writers
 module _ (s : List ℕ) (n i : ℕ) (f : InodeFits s n i) where

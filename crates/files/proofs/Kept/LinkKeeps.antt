@@ -13,9 +13,9 @@ use Rattle.directory.specs.Slot.{slots, findSlot, slotEmpty, putEntry}
 use Rattle.sound.specs.Pass.{placeOf}
 use Rattle.sound.specs.Sound.{Sound, inodesIn, blocksIn}
 use Rattle.files.specs.Inode.{isFile, isDirectory}
-use Rattle.files.proofs.Stores.SameLaws.{SameBody, same-body, body-then, links-new, links-parent, frame-then, inode-then}
+use Rattle.files.proofs.Stores.SameLaws.{OtherInodes, SameBody, same-body, body-then, links-new, links-parent, frame-then, inode-then}
 use Rattle.files.proofs.Stores.StoreLaws.{kind-some, kind-most, kind-is, kind-fits}
-use Rattle.files.proofs.Kept.ChangeLaws.{OtherInodes, Filled, filled-then, names-filled}
+use Rattle.files.proofs.Kept.ChangeLaws.{Filled, filled-then, names-filled}
 use Rattle.files.proofs.Kept.TreeLaws.{Tree, tree-link}
 use Rattle.files.proofs.Kept.SoundTreeLaws.{nodesOf, body-at, names-at, above-at, tree-at}
 use Rattle.files.proofs.Kept.EntryWriteLaws.{EntriesAlone, entries-stay, SlotIn, slot-in, place-below, put-alone, put-filled}

@@ -24,10 +24,10 @@ use Rattle.sound.proofs.EntryLaws.{place-dir}
 use Rattle.files.specs.Inode.{isDirectory, withParent}
 use Rattle.files.specs.Plan.{inodeAt, isBelow}
 use Rattle.files.specs.Apply.{setParent}
-use Rattle.files.proofs.Stores.SameLaws.{SameBody, same-body, body-then, SameFrame, frame-stays, frame-then, inode-stays, inode-then}
+use Rattle.files.proofs.Stores.SameLaws.{OtherInodes, SameBody, same-body, body-then, SameFrame, frame-stays, frame-then, inode-stays, inode-then}
 use Rattle.files.proofs.Stores.KeepLaws.{SamePlace, SameTree, tree-stays, leads-kept}
 use Rattle.files.proofs.Stores.StoreLaws.{fits, kind-some, kind-most, kind-is}
-use Rattle.files.proofs.Kept.ChangeLaws.{OtherInodes, Emptied, Filled, filled-then, names-emptied, names-filled, new-emptied}
+use Rattle.files.proofs.Kept.ChangeLaws.{Emptied, Filled, filled-then, names-emptied, names-filled, new-emptied}
 use Rattle.files.proofs.Kept.TreeLaws.{Nodes, Tree, Dir, Above, parent-dir, tree-move}
 use Rattle.files.proofs.Kept.SoundTreeLaws.{nodesOf, body-at, names-at, above-at, tree-at}
 use Rattle.files.proofs.Kept.EntryWriteLaws.{EntriesAlone, entries-stay, SlotIn, slot-in, place-below, clear-alone, clear-emptied, put-alone, put-filled}

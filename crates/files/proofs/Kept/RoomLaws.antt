@@ -30,7 +30,7 @@ use Rattle.files.specs.Inode.{isKind, isDirectory}
 use Rattle.files.specs.Content.{addBlock}
 use Rattle.files.specs.Room.{room, roomIn, makeRoom}
 use Rattle.files.proofs.Stores.StoreLaws.{kind-read, kind-low, kind-high, kind-some, kind-most, kind-is}
-use Rattle.files.proofs.Stores.SameLaws.{SameFrame, SameInode, frame-stays, inode-stays}
+use Rattle.files.proofs.Stores.SameLaws.{OtherInodes, SameFrame, SameInode, frame-stays, inode-stays}
 use Rattle.files.proofs.Stores.KeepLaws.{SameTree, tree-stays, same-slots}
 use Rattle.files.proofs.Kept.GrowLaws.{block-added, add-block-sound, grown-tree, grown-slots, grown-entry, grown-empty}
 use Rattle.files.proofs.Stores.FreeLaws.{FreeBlock, free-block}
@@ -56,7 +56,7 @@ pub record Roomed (s t : List ℕ) (n d u : ℕ) : Type 0 where
   pub sound : Sound mostStoreBlocks false t
   pub frame : SameFrame s t
   pub tree : SameTree s t n
-  pub others : (j : ℕ) → 1 ≤ j → j ≤ n → j ≢ d → SameInode s t n j
+  pub others : OtherInodes s t n d
   pub free-inodes : headerOf t .«free_inodes» ≡ headerOf s .«free_inodes»
   -- the slots that were there, and those that are new
   pub more : slots s d ≤ slots t d

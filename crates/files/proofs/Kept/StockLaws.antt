@@ -37,10 +37,6 @@ last-used : (z : ℕ) → (z % blockBytes ≡ 0 → ⊥) → z / blockBytes < bl
 unfolding blocksUsed
 last-used z h = omega arith
 
-pub kth-is : (s : List ℕ) (n i k : ℕ) → kthBlock s n i k ≡ addressOf s n (place i k)
-unfolding kthBlock
-kth-is s n i k = refl
-
 -- ---- entries alone change
 pub entries-stock : (s t : List ℕ) (n b : ℕ) → Body s n b → EntriesAlone s t n → Stock t n b
 entries-stock s t n b h a = record {

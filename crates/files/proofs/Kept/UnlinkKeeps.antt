@@ -27,9 +27,9 @@ use Rattle.sound.proofs.PlaceLaws.{slot-is, filled-is}
 use Rattle.files.specs.Inode.{isDirectory, zeroInode, moreFree}
 use Rattle.files.specs.Plan.{inodeAt, holdsNone}
 use Rattle.files.specs.Apply.{dropLink, unlinked}
-use Rattle.files.proofs.Stores.SameLaws.{SameBody, same-body, body-then, links-new, links-parent, NewInode, frame-then, inode-then, InCounts, put-inode, more-free}
+use Rattle.files.proofs.Stores.SameLaws.{OtherInodes, SameBody, same-body, body-then, links-new, links-parent, NewInode, frame-then, inode-then, InCounts, put-inode, more-free}
 use Rattle.files.proofs.Stores.StoreLaws.{fits}
-use Rattle.files.proofs.Kept.ChangeLaws.{OtherInodes, Emptied, emptied-then, names-emptied}
+use Rattle.files.proofs.Kept.ChangeLaws.{Emptied, emptied-then, names-emptied}
 use Rattle.files.proofs.Kept.TreeLaws.{Tree, tree-less, tree-last, counted-some, one-other}
 use Rattle.files.proofs.Kept.SoundTreeLaws.{nodesOf, body-at, names-at, above-at, tree-at}
 use Rattle.files.proofs.Kept.EntryWriteLaws.{EntriesAlone, entries-stay, place-below, clear-alone, clear-emptied}

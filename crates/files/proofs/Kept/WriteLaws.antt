@@ -26,7 +26,7 @@ use Rattle.files.specs.Content.{fileByte, putFile, addBlock, addBlocks, 
 use Rattle.files.specs.Plan.{writePlan}
 use Rattle.files.specs.Apply.{written}
 use Rattle.files.proofs.Stores.StoreLaws.{fits, dir-of, kind-some, kind-most, kind-is, kind-size}
-use Rattle.files.proofs.Stores.SameLaws.{SameFrame, SameInode, SameBlock, InBlock, frame-stays, frame-then, inode-stays, inode-then, put-in-block, in-block-out, put-attributes, attributes-new, attributes-blocks}
+use Rattle.files.proofs.Stores.SameLaws.{OtherInodes, SameFrame, SameInode, SameBlock, InBlock, frame-stays, frame-then, inode-stays, inode-then, put-in-block, in-block-out, put-attributes, attributes-new, attributes-blocks}
 use Rattle.files.proofs.Stores.KeepLaws.{body-of}
 use Rattle.files.proofs.Plans.PlanFacts.{Writes, writes}
 use Rattle.files.proofs.Kept.GrowLaws.{Grown, block-added, add-block-sound, grown-used, grown-kth, grown-bytes}
@@ -37,7 +37,7 @@ use Rattle.files.proofs.Stores.FreeLaws.{FreeBlock, free-block, block-f
 pub record Widened (s t : List ℕ) (n i m : ℕ) : Type 0 where
   pub sound : Sound mostStoreBlocks false t
   pub frame : SameFrame s t
-  pub others : (j : ℕ) → 1 ≤ j → j ≤ n → j ≢ i → SameInode s t n j
+  pub others : OtherInodes s t n i
   pub kind : kindOf t i ≡ kindOf s i
   pub links : linksOf t i ≡ linksOf s i
   pub parent : parentOf t i ≡ parentOf s i

@@ -18,7 +18,7 @@ use Rattle.sound.specs.Sound.{Sound, inodesIn, blocksIn}
 use Rattle.sound.proofs.FactLaws.{one-block}
 use Rattle.files.specs.Content.{fileByte}
 use Rattle.files.proofs.Stores.StoreLaws.{one-at, dir-of}
-use Rattle.files.proofs.Stores.SameLaws.{same-body, each-inode, SameFrame, SameInode, SameBlock, InBlock}
+use Rattle.files.proofs.Stores.SameLaws.{OtherInodes, same-body, each-inode, SameFrame, SameInode, SameBlock, InBlock}
 use Rattle.files.proofs.Stores.KeepLaws.{ZeroTail, Body, body-of, inode-like, inode-kept, file-tree, sound-kept}
 use Rattle.files.proofs.Stores.AddressLaws.{differ-less, address-kth, same-differ, same-unnamed, unnamed-change}
 
@@ -89,7 +89,7 @@ module _ (s t : List ℕ) (n b i k : ℕ) (h : Sound mostStoreBlocks false s) (x
 -- t has the size z for i, and gives back the blocks that it does not need
 pub record Resized (s t : List ℕ) (n i z : ℕ) : Type 0 where
   pub frame : SameFrame s t
-  pub others : (j : ℕ) → 1 ≤ j → j ≤ n → j ≢ i → SameInode s t n j
+  pub others : OtherInodes s t n i
   pub kind : kindOf t i ≡ kindOf s i
   pub spare : spareOf t i ≡ 0
   pub links : linksOf t i ≡ linksOf s i

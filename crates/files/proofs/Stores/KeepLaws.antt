@@ -31,7 +31,7 @@ use Rattle.sound.specs.Sound.{Framed, Sound, inodesIn, blocksIn, freeB, unnamed
 use Rattle.sound.specs.Pass.{IsDir}
 use Rattle.sound.proofs.PlaceLaws.{slot-is, filled-is}
 use Rattle.sound.proofs.SoundLaws.{climbs}
-use Rattle.files.proofs.Stores.SameLaws.{SameFrame, SameInode, SameBody, SameBlock, same-body}
+use Rattle.files.proofs.Stores.SameLaws.{OtherInodes, SameFrame, SameInode, SameBody, SameBlock, same-body}
 use Rattle.files.proofs.Stores.FreeLaws.{same-free}
 
 -- ---- an inode by itself
@@ -124,10 +124,10 @@ unfolding slots
 same-slots e = rw (e .size)
 
 -- of a directory that stays, with the bytes of its blocks
-pub place-kept : (s t : List ℕ) (n p : ℕ) → SameInode s t n (dirOf p) → ((k : ℕ) → kindOf s (dirOf p) ≡ directoryKind → k < blocksUsed (sizeOf s (dirOf p)) → SameBlock s t n (kthBlock s n (dirOf p) k)) → SamePlace s t n p
+pub place-kept : (s t : List ℕ) (n p : ℕ) → SameBody s t n (dirOf p) → ((k : ℕ) → kindOf s (dirOf p) ≡ directoryKind → k < blocksUsed (sizeOf s (dirOf p)) → SameBlock s t n (kthBlock s n (dirOf p) k)) → SamePlace s t n p
 unfolding entryAt slots
 place-kept s t n p e f =
-    place-slot s t n p (slot-kept s t p (e .kind) (λ _. same-slots e))
+    place-slot s t n p (slot-kept s t p (e .kind) (λ _. ap (λ (z : ℕ). 4 * blocksUsed z) (e .size)))
     (λ q.
     let r = slot-is s p .to q in
     let l : slotOf p / 4 < 12 = omega arith in
@@ -156,7 +156,7 @@ tree-then a b = record {
 }
 
 -- one inode changes that is no directory, and the blocks of directories stay
-module _ (s t : List ℕ) (n i : ℕ) (others : (j : ℕ) → 1 ≤ j → j ≤ n → j ≢ i → SameInode s t n j) where
+module _ (s t : List ℕ) (n i : ℕ) (others : OtherInodes s t n i) where
   -- a field, where only that of i may change
   pub changed : (f : List ℕ → ℕ → ℕ) → f t i ≡ f s i → ((j : ℕ) → SameInode s t n j → f t j ≡ f s j) → (j : ℕ) → 1 ≤ j → j ≤ n → f t j ≡ f s j
   changed f e g j l m = elim (ℕ-discrete j i) as (λ _. f t j ≡ f s j) [
@@ -173,7 +173,7 @@ module _ (s t : List ℕ) (n i : ℕ) (others : (j : ℕ) → 1 ≤ j → j ≤ 
         parents = changed parentOf c (λ j e. e .parent);
         places = λ p l. elim (ℕ-discrete (dirOf p) i) as (λ _. SamePlace s t n p) [
           | yes q ↦ place-slot s t n p (slot-kept s t p (kinds (dirOf p) (omega arith) (omega arith)) (λ k. absurd (v (ap (kindOf s) (sym q) ∙ k)))) (λ e. absurd (v (ap (kindOf s) (sym q) ∙ slot-is s p .to e .0)))
-          | no q ↦ place-kept s t n p (others (dirOf p) (omega arith) (omega arith) q) (λ k z w. g (dirOf p) k (omega arith) (omega arith) z w)
+          | no q ↦ place-kept s t n p (same-body (others (dirOf p) (omega arith) (omega arith) q)) (λ k z w. g (dirOf p) k (omega arith) (omega arith) z w)
         ];
       }
     where

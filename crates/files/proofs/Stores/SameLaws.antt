@@ -46,7 +46,11 @@ pub record SameInode (s t : List ℕ) (n i : ℕ) : Type 0 where
   pub parent : parentOf t i ≡ parentOf s i
   pub blocks : (k : ℕ) → k < addressCount → kthBlock t n i k ≡ kthBlock s n i k
 
--- of them all but its links and its parent
+-- of every inode but i
+abbrev pub OtherInodes : List ℕ → List ℕ → ℕ → ℕ → Type 0
+OtherInodes s t n i = (j : ℕ) → 1 ≤ j → j ≤ n → j ≢ i → SameInode s t n j
+
+-- all but the links and the parent of inode i
 pub record SameBody (s t : List ℕ) (n i : ℕ) : Type 0 where
   pub kind : kindOf t i ≡ kindOf s i
   pub spare : spareOf t i ≡ spareOf s i
@@ -106,7 +110,7 @@ pub record InBlock (s t : List ℕ) (n c : ℕ) : Type 0 where
 pub record InInode (s t : List ℕ) (n i : ℕ) : Type 0 where
   pub frame : SameFrame s t
   pub header : headerOf t ≡ headerOf s
-  pub others : (j : ℕ) → 1 ≤ j → j ≤ n → j ≢ i → SameInode s t n j
+  pub others : OtherInodes s t n i
   pub bytes : (a : ℕ) → SameBlock s t n a
 
 -- the attributes of i are those of v
