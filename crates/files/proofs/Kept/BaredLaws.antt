@@ -1,7 +1,6 @@
 -- An inode is written with no blocks: a new one, or one that is freed. What that keeps. n and b are the counts of inodes and blocks.
 use Prim.Native.Nat.{ℕ, _+_, _-_, _*_, _/_, _%_, _≤_, _<_}
 use mathlib.Core.Path.{_≡_, sym, ap, _∙_}
-use mathlib.Core.Logic.{_≢_}
 use mathlib.Core.Bool.{false}
 use mathlib.Core.List.{List}
 use native.Mathlib.Decide.{ℕ-discrete}
@@ -21,7 +20,7 @@ use Rattle.sound.specs.Place.{dirOf, isSlot, filled, naming}
 use Rattle.sound.specs.Inode.{InodeSound}
 use Rattle.sound.specs.Sound.{freeB, unnamedB}
 use Rattle.sound.proofs.PlaceLaws.{slot-is, filled-is, naming-filled}
-use Rattle.files.proofs.Stores.SameLaws.{OtherInodes, SameFrame, SameInode, SameBlock, same-body, each-inode, NewInode, InCounts, frame-then, inode-then, put-inode, inode-new, inode-blocks}
+use Rattle.files.proofs.Stores.SameLaws.{OtherInodes, SameFrame, SameBlock, same-body, each-inode, NewInode, InCounts, frame-then, inode-then, put-inode, inode-new, inode-blocks}
 use Rattle.files.proofs.Stores.KeepLaws.{SamePlace, place-kept, inode-kept}
 use Rattle.files.proofs.Stores.AddressLaws.{differ-less, address-kth, unnamed-change}
 use Rattle.files.proofs.Kept.TreeLaws.{count-but}

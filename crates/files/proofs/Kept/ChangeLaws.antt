@@ -18,7 +18,6 @@ use Rattle.names.proofs.EntryLaws.{named, entry-byte, legal-entry}
 use Rattle.directory.specs.Slot.{mostSlots}
 use Rattle.sound.specs.Place.{dirOf, slotOf, entryAt, filled, naming}
 use Rattle.sound.specs.Entry.{EntrySound, sameNames, sibling}
-use Rattle.files.proofs.Stores.SameLaws.{SameInode}
 use Rattle.files.proofs.Stores.KeepLaws.{SamePlace, same-names}
 
 -- ---- the two changes

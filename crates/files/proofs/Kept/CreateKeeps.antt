@@ -4,18 +4,15 @@ use mathlib.Core.Path.{_≡_, refl, sym, ap, _∙_}
 use mathlib.Core.Bool.{true, false}
 use mathlib.Core.List.{List}
 use native.Mathlib.Omega.{arith}
-use borrow.Author.Tests.{eqb-true}
-use lib.ListN.{length, replicate}
-use Rattle.bounded.specs.Count.{count, one}
+use lib.ListN.{replicate}
 use Rattle.bounded.specs.declared.Found.the-variants.{At, Absent}
 use Rattle.bounded.proofs.BoolLaws.{fails}
-use Rattle.bounded.proofs.SearchLaws.{Lowest, found-lowest}
 use Rattle.layout.specs.Sizes.{mostStoreBlocks, addressCount}
 use Rattle.layout.specs.Header.{headerOf}
 use Rattle.layout.specs.declared.header.Header.{Header}
 use Rattle.layout.specs.declared.inode.Inode.{Inode}
 use Rattle.layout.specs.Inode.{InodeFits, kindOf, sizeOf, putInode, freeKind, fileKind, directoryKind}
-use Rattle.layout.specs.Free.{isFree, freeInode}
+use Rattle.layout.specs.Free.{freeInode}
 use Rattle.layout.proofs.FrameLaws.{length-inode}
 use Rattle.layout.proofs.ViewLaws.{inode-fits}
 use Rattle.names.specs.Name.{legalName}
@@ -28,7 +25,7 @@ use Rattle.sound.proofs.EntryLaws.{place-dir}
 use Rattle.files.specs.declared.Kind.{Kind}
 use Rattle.files.specs.declared.Kind.the-variants.{File, Directory}
 use Rattle.files.specs.Inode.{isDirectory, newInode, lessFree}
-use Rattle.files.proofs.Stores.SameLaws.{OtherInodes, NewInode, frame-then, inode-then, InCounts, put-inode, less-free}
+use Rattle.files.proofs.Stores.SameLaws.{OtherInodes, NewInode, frame-then, inode-then, InCounts, less-free}
 use Rattle.files.proofs.Stores.StoreLaws.{fits}
 use Rattle.files.proofs.Kept.ChangeLaws.{Filled, filled-then, names-filled}
 use Rattle.files.proofs.Kept.TreeLaws.{Tree, tree-create, one-same, one-other}

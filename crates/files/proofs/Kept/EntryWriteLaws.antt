@@ -1,5 +1,5 @@
 -- What the writers of entries do on a sound store: one place is emptied or filled, the inodes and the bytes of files stay. n and b are the counts of inodes and blocks.
-use Prim.Native.Nat.{ℕ, _+_, _-_, _*_, _/_, _≤_, _<_}
+use Prim.Native.Nat.{ℕ, _+_, _*_, _/_, _≤_, _<_}
 use mathlib.Core.Path.{_≡_, refl, sym, ap, _∙_, subst}
 use mathlib.Core.Logic.{_≢_}
 use mathlib.Core.Bool.{true, false}
@@ -21,7 +21,6 @@ use Rattle.directory.proofs.SlotLaws.{few-slots, slot-fits, apart-blocks, apart
 use Rattle.sound.specs.Place.{dirOf, slotOf, isSlot, entryAt, filled}
 use Rattle.sound.specs.Pass.{placeOf}
 use Rattle.sound.specs.Sound.{Sound, inodesIn}
-use Rattle.sound.proofs.FactLaws.{one-block}
 use Rattle.sound.proofs.PlaceLaws.{slot-is, filled-is, naming-entry}
 use Rattle.sound.proofs.EntryLaws.{entry-place, slot-place}
 use Rattle.files.proofs.Stores.SameLaws.{SameFrame, SameInode, SameBlock, InBlock, frame-stays, frame-then, inode-then, inode-stays, put-entry, clear-entry}

@@ -2,17 +2,13 @@
 use Prim.Native.Nat.{ℕ, _+_, _-_, _*_, _/_, _%_, _≤_, _<_}
 use mathlib.Core.Path.{_≡_, sym, ap, _∙_, subst}
 use mathlib.Core.Logic.{_≢_}
-use mathlib.Core.Bool.{Bool, true, false, not}
+use mathlib.Core.Bool.{true, false}
 use mathlib.Core.List.{List}
 use native.Mathlib.Decide.{ℕ-discrete, decLt}
 use native.Mathlib.Omega.{arith}
-use borrow.Author.Tests.{not-true}
 use lib.ListN.{length, getD, set, replicate, length-set, getD-replicate}
 use lib.Seq.{getD-set-same, getD-set-other}
 use Rattle.bounded.specs.Count.{Differ}
-use Rattle.bounded.specs.declared.Found.the-variants.{At}
-use Rattle.bounded.proofs.CountLaws.{count-some}
-use Rattle.bounded.proofs.SearchLaws.{found-lowest, lowest-of, lowest-found}
 use Rattle.bounded.proofs.TableLaws.{length-table, getD-table}
 use Rattle.bounded.proofs.ReflectLaws.{r-fails}
 use Rattle.octets.proofs.PartLaws.{getD-part}
@@ -22,20 +18,20 @@ use Rattle.layout.specs.declared.inode.Inode.{Inode}
 use Rattle.layout.specs.Header.{headerOf}
 use Rattle.layout.specs.Inode.{InodeFits, kindOf, spareOf, linksOf, sizeOf, parentOf, addressOf, addressesOf, inodeOf, place, putInode, freeKind, directoryKind}
 use Rattle.layout.specs.Block.{blockAt, blockOf, zeroBlock, blocksUsed, kthBlock}
-use Rattle.layout.specs.Free.{named, freeBlock}
+use Rattle.layout.specs.Free.{named}
 use Rattle.layout.proofs.ViewLaws.{inode-fits}
 use Rattle.names.specs.Entry.{isEmpty}
 use Rattle.names.proofs.EntryLaws.{empty}
 use Rattle.directory.specs.Slot.{slots, entryOf}
 use Rattle.sound.specs.Place.{dirOf, slotOf, entryAt}
 use Rattle.sound.specs.Inode.{InodeSound}
-use Rattle.sound.specs.Sound.{Sound, inodesIn, blocksIn, unnamedB}
+use Rattle.sound.specs.Sound.{Sound, inodesIn, blocksIn}
 use Rattle.sound.proofs.FactLaws.{unnamed, named-is}
 use Rattle.sound.proofs.PlaceLaws.{slot-is}
 use Rattle.files.specs.Inode.{withBlocks}
 use Rattle.files.specs.Content.{addBlock}
 use Rattle.files.proofs.Stores.StoreLaws.{fits}
-use Rattle.files.proofs.Stores.SameLaws.{same-body, OtherInodes, each-inode, SameFrame, SameInode, SameBlock, frame-then, inode-then, zero-block, zero-block-is, put-inode, inode-new, inode-blocks, less-free}
+use Rattle.files.proofs.Stores.SameLaws.{same-body, OtherInodes, each-inode, SameFrame, SameBlock, frame-then, inode-then, zero-block, zero-block-is, put-inode, inode-new, inode-blocks, less-free}
 use Rattle.files.proofs.Stores.KeepLaws.{SamePlace, SameTree, Body, body-of, inode-kept, entry-in, entry-kept, place-slot, place-new, place-kept, slot-kept, changed, sound-kept}
 use Rattle.files.proofs.Stores.AddressLaws.{differ-new, address-kth, unnamed-change}
 use Rattle.files.proofs.Stores.FreeLaws.{FreeBlock}

@@ -1,17 +1,14 @@
 -- What the writers of an inode leave of it, of the others and of the places. n is the inode count.
-use Prim.Native.Nat.{ℕ, _*_, _/_, _≤_, _<_}
-use mathlib.Core.Path.{_≡_, sym, ap, _∙_, subst}
-use mathlib.Core.Logic.{_≢_}
+use Prim.Native.Nat.{ℕ, _*_, _≤_, _<_}
+use mathlib.Core.Path.{_≡_, sym, _∙_}
 use mathlib.Core.List.{List}
-use native.Mathlib.Decide.{ℕ-discrete}
 use native.Mathlib.Omega.{arith}
-use Rattle.layout.specs.Sizes.{addressCount}
-use Rattle.layout.specs.Inode.{InodeFits, kindOf, spareOf, linksOf, sizeOf, parentOf, inodeOf, putAttributes, putLinks}
-use Rattle.layout.specs.Block.{blocksUsed, kthBlock}
-use Rattle.directory.specs.Slot.{mostSlots, slots}
-use Rattle.sound.specs.Place.{dirOf, slotOf, entryAt}
+use Rattle.layout.specs.Inode.{InodeFits, spareOf, linksOf, parentOf, inodeOf, putAttributes, putLinks}
+use Rattle.layout.specs.Block.{kthBlock}
+use Rattle.directory.specs.Slot.{mostSlots}
+use Rattle.sound.specs.Place.{dirOf}
 use Rattle.files.specs.Inode.{withParent}
-use Rattle.files.proofs.Stores.SameLaws.{SameBody, SameBlock, InInode, same-body, each-inode, put-links, links-body, put-attributes, attributes-blocks, attributes-new}
+use Rattle.files.proofs.Stores.SameLaws.{SameBody, InInode, same-body, each-inode, put-links, links-body, put-attributes, attributes-blocks, attributes-new}
 use Rattle.files.proofs.Stores.KeepLaws.{SamePlace, place-kept}
 
 -- inode i alone changes, in its links or its parent

@@ -1,5 +1,5 @@
 -- A move to another directory keeps a store sound. n is the inode count.
-use Prim.Native.Nat.{ℕ, zero, suc, _-_, _*_, _≤_, _<_}
+use Prim.Native.Nat.{ℕ, _*_, _≤_, _<_}
 use mathlib.Core.Path.{_≡_, refl, sym, ap, _∙_, subst}
 use mathlib.Core.Logic.{_≢_}
 use mathlib.Core.Bool.{Bool, true, false, _&&_}
@@ -7,7 +7,7 @@ use mathlib.Core.List.{List}
 use native.Mathlib.Omega.{arith}
 use borrow.Author.Tests.{eq-eqb, eqb-true, eqb-false}
 use lib.Dec.{eqb}
-use Rattle.bounded.specs.Climb.{climb, Leads, leadsB, Closed}
+use Rattle.bounded.specs.Climb.{Leads, leadsB, Closed}
 use Rattle.bounded.specs.Search.{pick}
 use Rattle.bounded.specs.declared.Found.the-variants.{Absent}
 use Rattle.bounded.proofs.BoolLaws.{clash, fails, and-left, and-right}
@@ -17,7 +17,7 @@ use Rattle.layout.specs.Inode.{kindOf, linksOf, parentOf, inodeOf, putAttribute
 use Rattle.layout.proofs.ViewLaws.{inode-fits}
 use Rattle.names.specs.Name.{legalName}
 use Rattle.directory.specs.Slot.{mostSlots, slots, findSlot, slotEmpty, putEntry, clearEntry}
-use Rattle.sound.specs.Place.{filled, naming}
+use Rattle.sound.specs.Place.{naming}
 use Rattle.sound.specs.Pass.{placeOf}
 use Rattle.sound.specs.Sound.{Sound, inodesIn, blocksIn}
 use Rattle.sound.proofs.EntryLaws.{place-dir}

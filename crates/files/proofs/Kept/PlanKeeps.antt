@@ -1,38 +1,25 @@
 -- The calls on entries keep a store sound: the room that a plan makes, and then the change. n and b are the counts of inodes and blocks.
 use Prim.Native.Nat.{ℕ, _<_}
-use mathlib.Core.Path.{_≡_, refl, sym, ap, _∙_, subst}
-use mathlib.Core.Logic.{_≢_}
-use mathlib.Core.Bool.{Bool, true, false, not, _&&_}
+use mathlib.Core.Path.{_≡_, sym, ap, _∙_, subst}
+use mathlib.Core.Bool.{true, false}
 use mathlib.Core.List.{List}
-use native.Mathlib.Omega.{arith}
-use borrow.Author.Tests.{eq-eqb, eqb-true, eqb-false, not-false}
-use lib.Dec.{eqb}
-use Rattle.bounded.specs.Search.{pick, onFound}
-use Rattle.bounded.specs.declared.Found.{Found}
-use Rattle.bounded.specs.declared.Found.the-variants.{At, Absent}
-use Rattle.bounded.proofs.BoolLaws.{and-left, and-right}
+use Rattle.bounded.specs.declared.Found.the-variants.{Absent}
 use Rattle.layout.specs.Sizes.{mostStoreBlocks}
-use Rattle.layout.specs.Inode.{kindOf, fileKind, directoryKind}
-use Rattle.layout.specs.Free.{freeInode}
-use Rattle.names.specs.Name.{legalName}
+use Rattle.layout.specs.Inode.{fileKind, directoryKind}
 use Rattle.names.specs.Entry.{entryInode, isEmpty}
 use Rattle.directory.specs.Slot.{findSlot, slotEmpty}
 use Rattle.directory.proofs.SlotLaws.{find-below}
-use Rattle.answers.specs.declared.Refusal.{Refusal}
-use Rattle.answers.specs.declared.Refusal.the-variants.{IllegalName, WrongInode, NameAbsent, NameTaken, NotEmpty, IntoItself, NoInode}
 use Rattle.sound.specs.Sound.{Sound, inodesIn, blocksIn}
 use Rattle.files.specs.declared.Kind.{Kind}
 use Rattle.files.specs.declared.Room.{Room}
-use Rattle.files.specs.declared.RoomPlan.{RoomPlan}
-use Rattle.files.specs.declared.RoomPlan.the-variants.{Has, NoRoom}
-use Rattle.files.specs.declared.CreatePlan.the-variants.{Make, NoCreate}
-use Rattle.files.specs.declared.LinkPlan.the-variants.{Add, NoLink}
-use Rattle.files.specs.declared.UnlinkPlan.the-variants.{Take, NoUnlink}
-use Rattle.files.specs.declared.RenamePlan.{RenamePlan}
-use Rattle.files.specs.declared.RenamePlan.the-variants.{Same, Rename, Move, NoRename}
-use Rattle.files.specs.Inode.{isKind, isFile, isDirectory}
-use Rattle.files.specs.Room.{roomIn, onRoom, makeRoom}
-use Rattle.files.specs.Plan.{inodeAt, holdsNone, isBelow, createPlan, linkPlan, unlinkPlan, renameTo, renamePlan}
+use Rattle.files.specs.declared.RoomPlan.the-variants.{Has}
+use Rattle.files.specs.declared.CreatePlan.the-variants.{Make}
+use Rattle.files.specs.declared.LinkPlan.the-variants.{Add}
+use Rattle.files.specs.declared.UnlinkPlan.the-variants.{Take}
+use Rattle.files.specs.declared.RenamePlan.the-variants.{Rename, Move}
+use Rattle.files.specs.Inode.{isKind, isDirectory}
+use Rattle.files.specs.Room.{roomIn, makeRoom}
+use Rattle.files.specs.Plan.{createPlan, linkPlan, unlinkPlan, renamePlan}
 use Rattle.files.specs.Apply.{enter, created, linked, unlinked, renamed, moved}
 use Rattle.files.proofs.Stores.KeepLaws.{same-slots}
 use Rattle.files.proofs.Stores.StoreLaws.{kind-some, kind-most}

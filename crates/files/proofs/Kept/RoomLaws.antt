@@ -30,7 +30,7 @@ use Rattle.files.specs.Inode.{isKind, isDirectory}
 use Rattle.files.specs.Content.{addBlock}
 use Rattle.files.specs.Room.{room, roomIn, makeRoom}
 use Rattle.files.proofs.Stores.StoreLaws.{kind-read, kind-low, kind-high, kind-some, kind-most, kind-is}
-use Rattle.files.proofs.Stores.SameLaws.{OtherInodes, SameFrame, SameInode, frame-stays, inode-stays}
+use Rattle.files.proofs.Stores.SameLaws.{OtherInodes, SameFrame, frame-stays, inode-stays}
 use Rattle.files.proofs.Stores.KeepLaws.{SameTree, tree-stays, same-slots}
 use Rattle.files.proofs.Kept.GrowLaws.{block-added, add-block-sound, grown-tree, grown-slots, grown-entry, grown-empty}
 use Rattle.files.proofs.Stores.FreeLaws.{FreeBlock, free-block}

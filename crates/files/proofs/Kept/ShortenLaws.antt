@@ -2,15 +2,15 @@
 use Prim.Native.Nat.{ℕ, _+_, _-_, _*_, _/_, _%_, _≤_, _<_}
 use mathlib.Core.Path.{_≡_, refl, sym, ap, ap₂, _∙_, subst}
 use mathlib.Core.Logic.{_≢_}
-use mathlib.Core.Bool.{Bool, true, false, not}
+use mathlib.Core.Bool.{Bool, false}
 use mathlib.Core.List.{List}
 use native.Mathlib.Decide.{ℕ-discrete}
 use native.Mathlib.Omega.{arith}
-use borrow.Author.Tests.{ltb-false, lt-ltb, le-ltb, eq-eqb, ne-eqb}
+use borrow.Author.Tests.{lt-ltb, le-ltb, eq-eqb, ne-eqb}
 use lib.Dec.{ltb}
 use lib.ListN.{length, getD, replicate, length-replicate, getD-replicate}
 use Rattle.bounded.specs.Search.{pick}
-use Rattle.bounded.proofs.TableLaws.{length-table, getD-table}
+use Rattle.bounded.proofs.TableLaws.{getD-table}
 use Rattle.layout.specs.Sizes.{addressCount, blockBytes, mostStoreBlocks}
 use Rattle.layout.specs.declared.header.Header.{Header}
 use Rattle.layout.specs.declared.inode.Inode.{Inode}
@@ -20,9 +20,8 @@ use Rattle.layout.specs.Block.{blockAt, blockOf, blocksUsed, kthBlock, putInBlo
 use Rattle.layout.proofs.ViewLaws.{inode-fits}
 use Rattle.directory.specs.Slot.{DirFits}
 use Rattle.sound.specs.Sound.{Sound, inodesIn, blocksIn}
-use Rattle.answers.specs.declared.Refusal.the-variants.{WrongInode, PastEnd}
-use Rattle.files.specs.declared.SizePlan.the-variants.{To, NoSize}
-use Rattle.files.specs.Inode.{isFile, withBlocks}
+use Rattle.files.specs.declared.SizePlan.the-variants.{To}
+use Rattle.files.specs.Inode.{withBlocks}
 use Rattle.files.specs.Content.{fileByte, zeroRest, keepFirst, cutTo}
 use Rattle.files.specs.Plan.{shortenPlan}
 use Rattle.files.specs.Apply.{shortened}
@@ -31,6 +30,7 @@ use Rattle.files.proofs.Stores.SameLaws.{SameFrame, SameInode, InBlock,
 use Rattle.files.proofs.Stores.KeepLaws.{Body, body-of}
 use Rattle.files.proofs.Plans.PlanFacts.{shortens}
 use Rattle.files.proofs.Stores.FileLaws.{Holds, ZeroPast, tail-past, other-byte, content-sound, Resized, resized-sound}
+use Rattle.files.proofs.Stores.RecordLaws.{length-keep, keep-at}
 
 -- ---- r is s with zeros past z in the block that z ends in
 pub record Trimmed (s r : List ℕ) (n i z : ℕ) : Type 0 where
@@ -147,21 +147,15 @@ module _ (s : List ℕ) (n b i z : ℕ) (h : Holds s n b i z) where
 
 -- ---- its first addresses alone
 module _ (s : List ℕ) (n i k : ℕ) where
-  keep-long : length (keepFirst (addressesOf s n i) k) ≡ addressCount
-  unfolding keepFirst
-  keep-long = length-table (λ j. pick (ltb j k) (getD (addressesOf s n i) j 0) 0) 12
-
-  keep-at : (j : ℕ) → j < addressCount → getD (keepFirst (addressesOf s n i) k) j 0 ≡ pick (ltb j k) (kthBlock s n i j) 0
-  unfolding keepFirst addressesOf kthBlock
-  keep-at j l =
-      getD-table (λ a. pick (ltb a k) (getD (addressesOf s n i) a 0) 0) 12 j l
-      ∙ ap (λ (x : ℕ). pick (ltb j k) x 0) (getD-table (λ a. addressOf s n (place i a)) 12 j l)
+  kept : (j : ℕ) → j < addressCount → getD (keepFirst (addressesOf s n i) k) j 0 ≡ pick (ltb j k) (kthBlock s n i j) 0
+  unfolding addressesOf kthBlock
+  kept j l = keep-at (addressesOf s n i) k j l ∙ ap (λ (x : ℕ). pick (ltb j k) x 0) (getD-table (λ a. addressOf s n (place i a)) 12 j l)
 
   pub keep-below : (j : ℕ) → j < addressCount → j < k → getD (keepFirst (addressesOf s n i) k) j 0 ≡ kthBlock s n i j
-  keep-below j l m = keep-at j l ∙ ap (λ (b : Bool). pick b (kthBlock s n i j) 0) (lt-ltb j k m)
+  keep-below j l m = kept j l ∙ ap (λ (b : Bool). pick b (kthBlock s n i j) 0) (lt-ltb j k m)
 
   pub keep-past : (j : ℕ) → j < addressCount → k ≤ j → getD (keepFirst (addressesOf s n i) k) j 0 ≡ 0
-  keep-past j l m = keep-at j l ∙ ap (λ (b : Bool). pick b (kthBlock s n i j) 0) (le-ltb j k m)
+  keep-past j l m = kept j l ∙ ap (λ (b : Bool). pick b (kthBlock s n i j) 0) (le-ltb j k m)
 
 module _ (s : List ℕ) (n b i z : ℕ) (h : Holds s n b i z) where
   trim : Trimmed s (zeroRest s n i z) n i z
@@ -184,7 +178,7 @@ module _ (s : List ℕ) (n b i z : ℕ) (h : Holds s n b i z) where
   cut-to =
       let a = trim in
       let f = inode-fits s trimmed n i (a .frame .long) (fits s n (h .sound) (h .inodes) i (h .low) (h .high)) in
-      let e = keep-long s n i (blocksUsed z) in
+      let e = length-keep (addressesOf s n i) (blocksUsed z) in
       let g = put-inode trimmed n i f new e in
       let v = inode-new trimmed n i f new e in
       let r = f .area in

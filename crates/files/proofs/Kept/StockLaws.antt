@@ -1,18 +1,15 @@
 -- The inodes, blocks and free counts of a store, and what the changes of entries and of one inode keep of them. n and b are the counts of inodes and blocks.
-use Prim.Native.Nat.{ℕ, _+_, _-_, _*_, _/_, _%_, _≤_, _<_}
+use Prim.Native.Nat.{ℕ, _*_, _/_, _%_, _≤_, _<_}
 use mathlib.Core.Path.{_≡_, refl, sym, ap, _∙_}
-use mathlib.Core.Bool.{true, false}
+use mathlib.Core.Bool.{false}
 use mathlib.Core.List.{List}
 use native.Mathlib.Omega.{arith}
-use lib.Dec.{eqb}
-use lib.ListN.{getD}
-use Rattle.bounded.specs.Count.{one, count, Differ}
-use Rattle.bounded.proofs.CountLaws.{count-ext}
+use Rattle.bounded.specs.Count.{count, Differ}
 use Rattle.layout.specs.Sizes.{mostStoreBlocks, addressCount, blockBytes}
 use Rattle.layout.specs.Header.{headerOf}
 use Rattle.layout.specs.declared.header.Header.{Header}
-use Rattle.layout.specs.Inode.{kindOf, sizeOf, parentOf, addressOf, place, freeKind, fileKind}
-use Rattle.layout.specs.Block.{blockOf, blocksUsed, kthBlock}
+use Rattle.layout.specs.Inode.{kindOf, sizeOf, parentOf, addressOf, freeKind, fileKind}
+use Rattle.layout.specs.Block.{blocksUsed, kthBlock}
 use Rattle.sound.specs.Inode.{InodeSound}
 use Rattle.sound.specs.Sound.{Sound, inodesIn, blocksIn, freeB, unnamedB}
 use Rattle.files.proofs.Stores.SameLaws.{SameFrame, SameBody, SameBlock, each-inode}

@@ -9,7 +9,7 @@ use borrow.Author.Tests.{eq-eqb, ne-eqb}
 use lib.Dec.{eqb}
 use Rattle.bounded.specs.Count.{one, count, tally}
 use Rattle.bounded.specs.Climb.{Leads}
-use Rattle.bounded.specs.Update.{upd, there}
+use Rattle.bounded.specs.Update.{upd}
 use Rattle.bounded.proofs.CountLaws.{count-ext, count-at, met, met-at, met-once}
 use Rattle.bounded.proofs.ClimbLaws.{leads-up, leads-moved}
 use Rattle.bounded.proofs.UpdateLaws.{changed, upd-same, upd-other}

@@ -7,7 +7,6 @@ use native.Mathlib.Decide.{ℕ-discrete}
 use native.Mathlib.Omega.{arith}
 use borrow.Author.Tests.{leb-true, leb-false}
 use lib.Dec.{leb}
-use Rattle.bounded.specs.Count.{count, one}
 use Rattle.bounded.specs.Search.{pick}
 use Rattle.bounded.proofs.BoolLaws.{clash, fails}
 use Rattle.bounded.proofs.BelowLaws.{all-at}
@@ -27,7 +26,7 @@ use Rattle.sound.proofs.PlaceLaws.{slot-is, filled-is}
 use Rattle.files.specs.Inode.{isDirectory, zeroInode, moreFree}
 use Rattle.files.specs.Plan.{inodeAt, holdsNone}
 use Rattle.files.specs.Apply.{dropLink, unlinked}
-use Rattle.files.proofs.Stores.SameLaws.{OtherInodes, SameBody, same-body, body-then, links-new, links-parent, NewInode, frame-then, inode-then, InCounts, put-inode, more-free}
+use Rattle.files.proofs.Stores.SameLaws.{OtherInodes, SameBody, same-body, body-then, links-new, links-parent, NewInode, frame-then, inode-then, InCounts, more-free}
 use Rattle.files.proofs.Stores.StoreLaws.{fits}
 use Rattle.files.proofs.Kept.ChangeLaws.{Emptied, emptied-then, names-emptied}
 use Rattle.files.proofs.Kept.TreeLaws.{Tree, tree-less, tree-last, counted-some, one-other}

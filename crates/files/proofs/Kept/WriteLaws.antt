@@ -1,32 +1,29 @@
 -- A write keeps a store sound: the file takes its blocks, then its size, then its bytes. n and b are the counts of inodes and blocks, i is a file.
-use Prim.Native.Nat.{ℕ, zero, suc, _+_, _-_, _*_, _/_, _%_, _≤_, _<_, max}
+use Prim.Native.Nat.{ℕ, zero, suc, _+_, _-_, _*_, _/_, _%_, _≤_, _<_}
 use mathlib.Core.Path.{_≡_, refl, sym, ap, _∙_, subst}
 use mathlib.Core.Logic.{_≢_}
-use mathlib.Core.Bool.{Bool, true, false, not, _||_}
+use mathlib.Core.Bool.{true, false}
 use mathlib.Core.List.{List, [], _∷_}
 use native.Mathlib.Decide.{ℕ-discrete, decLt}
 use native.Mathlib.Omega.{arith}
-use borrow.Author.Tests.{ltb-false}
-use lib.Dec.{ltb}
 use lib.ListN.{length, getD, getD-replicate}
-use Rattle.bounded.specs.Search.{pick, onFound}
+use Rattle.bounded.specs.Search.{onFound}
 use Rattle.bounded.specs.declared.Found.{Found}
 use Rattle.bounded.specs.declared.Found.the-variants.{At}
-use Rattle.layout.specs.Sizes.{addressCount, blockBytes, mostStoreBlocks, mostFileBytes}
+use Rattle.layout.specs.Sizes.{addressCount, blockBytes, mostStoreBlocks}
 use Rattle.layout.specs.declared.header.Header.{Header}
 use Rattle.layout.specs.Header.{headerOf}
 use Rattle.layout.specs.Inode.{kindOf, linksOf, sizeOf, parentOf, inodeOf, freeKind, fileKind}
 use Rattle.layout.specs.Block.{blockOf, blocksUsed, kthBlock, putInBlock}
 use Rattle.layout.specs.Free.{freeBlock}
 use Rattle.sound.specs.Sound.{Sound, inodesIn, blocksIn}
-use Rattle.answers.specs.declared.Refusal.the-variants.{WrongInode, PastEnd, NoBlocks}
-use Rattle.files.specs.declared.SizePlan.the-variants.{To, NoSize}
+use Rattle.files.specs.declared.SizePlan.the-variants.{To}
 use Rattle.files.specs.Inode.{isFile, withSize}
 use Rattle.files.specs.Content.{fileByte, putFile, addBlock, addBlocks, putSize}
 use Rattle.files.specs.Plan.{writePlan}
 use Rattle.files.specs.Apply.{written}
 use Rattle.files.proofs.Stores.StoreLaws.{fits, dir-of, kind-some, kind-most, kind-is, kind-size}
-use Rattle.files.proofs.Stores.SameLaws.{OtherInodes, SameFrame, SameInode, SameBlock, InBlock, frame-stays, frame-then, inode-stays, inode-then, put-in-block, in-block-out, put-attributes, attributes-new, attributes-blocks}
+use Rattle.files.proofs.Stores.SameLaws.{OtherInodes, SameFrame, SameBlock, InBlock, frame-stays, frame-then, inode-stays, inode-then, put-in-block, in-block-out, put-attributes, attributes-new, attributes-blocks}
 use Rattle.files.proofs.Stores.KeepLaws.{body-of}
 use Rattle.files.proofs.Plans.PlanFacts.{Writes, writes}
 use Rattle.files.proofs.Kept.GrowLaws.{Grown, block-added, add-block-sound, grown-used, grown-kth, grown-bytes}

@@ -5,7 +5,6 @@ use mathlib.Core.Logic.{_≢_}
 use mathlib.Core.Bool.{true, false}
 use mathlib.Core.List.{List}
 use native.Mathlib.Omega.{arith}
-use borrow.Author.Tests.{ne-eqb}
 use lib.Dec.{eqb}
 use Rattle.bounded.specs.Climb.{climb, Leads, leadsB}
 use Rattle.bounded.proofs.BoolLaws.{fails}

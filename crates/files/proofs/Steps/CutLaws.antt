@@ -6,26 +6,21 @@ use mathlib.Core.List.{List}
 use native.Mathlib.Decide.{ℕ-discrete, decLt}
 use native.Mathlib.Omega.{arith}
 use borrow.Author.Tests.{eq-eqb, ne-eqb, lt-ltb, le-ltb}
-use lib.Dec.{eqb, ltb}
-use lib.ListN.{length, getD, set, replicate, length-set}
+use lib.Dec.{eqb}
+use lib.ListN.{getD, set, replicate, length-set}
 use lib.Seq.{ext-getD, getD-set-same, getD-set-other}
 use Rattle.bounded.specs.Search.{pick}
 use Rattle.bounded.specs.Table.{table}
-use Rattle.bounded.proofs.TableLaws.{length-table, getD-table}
-use Rattle.bounded.proofs.CountLaws.{count-le}
 use Rattle.octets.specs.Octets.{splice, zeroed}
-use Rattle.octets.proofs.PartLaws.{length-splice}
-use Rattle.layout.specs.Sizes.{mostStoreBlocks}
 use Rattle.layout.specs.declared.inode.Inode.{Inode}
 use Rattle.layout.specs.Header.{headerOf}
 use Rattle.layout.specs.Inode.{sizeOf, inodeOf, putInode}
 use Rattle.layout.specs.Block.{blockAt, putInBlock, blocksUsed, kthBlock}
 use Rattle.layout.proofs.FrameLaws.{header-past}
-use Rattle.sound.specs.Sound.{Sound, freeB, unnamedB, inodesIn, blocksIn}
 use Rattle.files.specs.Inode.{withBlocks, moreFree}
 use Rattle.files.specs.Fits.{byteAt}
 use Rattle.files.specs.Content.{zeroRest, keepFirst, cutTo}
-use Rattle.files.proofs.Stores.RecordLaws.{header-inode, size-is}
+use Rattle.files.proofs.Stores.RecordLaws.{length-keep, keep-at, header-inode, size-is}
 
 -- ---- the rest of the last block
 module _ (s : List ℕ) (n i z : ℕ) where
@@ -37,71 +32,37 @@ module _ (s : List ℕ) (n i z : ℕ) where
   unfolding zeroRest zeroed putInBlock byteAt
   rest-some h = rw (ne-eqb (z % 64) 0 h)
 
-  -- it is past the inodes
-  rest-keeps : {A : Type 0} (f : List ℕ → A) → ((p : ℕ) (xs : List ℕ) → 16 ≤ p → f (splice s p xs) ≡ f s) → f (zeroRest s n i z) ≡ f s
-  unfolding zeroRest putInBlock
-  rest-keeps f h = go (eqb (z % 64) 0)
-    where
-      go : (b : Bool) → f (pick b s (splice s (blockAt n (kthBlock s n i (z / 64)) + z % 64) (replicate (64 - z % 64) 0))) ≡ f s
-      go true = refl
-      go false = h _ _ (omega arith)
-
-  pub length-rest : length (zeroRest s n i z) ≡ length s
-  length-rest = rest-keeps length (λ p xs l. length-splice s p xs)
-
+  -- it is past the header
   pub header-rest : headerOf (zeroRest s n i z) ≡ headerOf s
-  header-rest = rest-keeps headerOf (λ p xs l. header-past s p xs l)
+  unfolding zeroRest putInBlock
+  header-rest = go (eqb (z % 64) 0)
+    where
+      go : (b : Bool) → headerOf (pick b s (splice s (blockAt n (kthBlock s n i (z / 64)) + z % 64) (replicate (64 - z % 64) 0))) ≡ headerOf s
+      go true = refl
+      go false = header-past s _ _ (omega arith)
 
--- ---- the first k of twelve addresses
+-- ---- a loop that keeps the first of twelve addresses: before it, and a turn
 module _ (a : List ℕ) where
-  kept : ℕ → ℕ → ℕ
-  kept k j = pick (ltb j k) (getD a j 0) 0
-
-  pub length-keep : (k : ℕ) → length (keepFirst a k) ≡ 12
-  unfolding keepFirst
-  length-keep k = length-table _ 12
-
-  -- a loop that keeps them: before it, and a turn
   pub keep-begin : replicate 12 0 ≡ keepFirst a 0
   unfolding keepFirst table
   keep-begin = refl
 
-  keep-at : (k j : ℕ) → j < 12 → getD (keepFirst a k) j 0 ≡ pick (ltb j k) (getD a j 0) 0
-  unfolding keepFirst
-  keep-at k j l = getD-table _ 12 j l
-
   pub keep-turn : (k : ℕ) → k < 12 → set (keepFirst a k) k (getD a k 0) ≡ keepFirst a (k + 1)
   keep-turn k l =
-      ext-getD 0 _ _ (length-set (keepFirst a k) k (getD a k 0) ∙ length-keep k ∙ sym (length-keep (k + 1)))
-      (λ j b. let c = length-set (keepFirst a k) k (getD a k 0) ∙ length-keep k in at j (omega arith) (ℕ-discrete j k) (decLt j k))
+      ext-getD 0 _ _ (length-set (keepFirst a k) k (getD a k 0) ∙ length-keep a k ∙ sym (length-keep a (k + 1)))
+      (λ j b. let c = length-set (keepFirst a k) k (getD a k 0) ∙ length-keep a k in at j (omega arith) (ℕ-discrete j k) (decLt j k))
     where
       at : (j : ℕ) → j < 12 → Dec (j ≡ k) → Dec (j < k) → getD (set (keepFirst a k) k (getD a k 0)) j 0 ≡ getD (keepFirst a (k + 1)) j 0
       at j m (yes e) d =
-          let c = length-keep k in
+          let c = length-keep a k in
           ap (λ (x : ℕ). getD (set (keepFirst a k) k (getD a k 0)) x 0) e ∙ getD-set-same (keepFirst a k) k (getD a k 0) 0 (omega arith)
-          ∙ sym (keep-at (k + 1) j m ∙ rw (lt-ltb j (k + 1) (omega arith), e))
+          ∙ sym (keep-at a (k + 1) j m ∙ rw (lt-ltb j (k + 1) (omega arith), e))
       at j m (no e) (yes d) =
           getD-set-other (keepFirst a k) k j (getD a k 0) 0 e
-          ∙ keep-at k j m ∙ rw (lt-ltb j k d) (sym (keep-at (k + 1) j m ∙ rw (lt-ltb j (k + 1) (omega arith))))
+          ∙ keep-at a k j m ∙ rw (lt-ltb j k d) (sym (keep-at a (k + 1) j m ∙ rw (lt-ltb j (k + 1) (omega arith))))
       at j m (no e) (no d) =
           getD-set-other (keepFirst a k) k j (getD a k 0) 0 e
-          ∙ keep-at k j m ∙ rw (le-ltb j k (omega arith)) (sym (keep-at (k + 1) j m ∙ rw (le-ltb j (k + 1) (omega arith))))
-
--- ---- the free counts of a sound store
-module _ (s : List ℕ) (h : Sound mostStoreBlocks false s) where
-  pub free-few : headerOf s .«free_blocks» ≤ 1024
-  free-few =
-      let m = h .framed .most-blocks in
-      let c = count-le (unnamedB s (inodesIn s)) (blocksIn s) in
-      let e = h .free-blocks in
-      omega arith
-
-  pub inodes-few : headerOf s .«free_inodes» ≤ 256
-  inodes-few =
-      let m = h .framed .most-inodes in
-      let c = count-le (freeB s) (inodesIn s) in
-      let e = h .free-inodes in
-      omega arith
+          ∙ keep-at a k j m ∙ rw (le-ltb j k (omega arith)) (sym (keep-at a (k + 1) j m ∙ rw (le-ltb j (k + 1) (omega arith))))
 
 -- the blocks k of z bytes, and u of all
 pub cut-few : (s : List ℕ) (n i z k u : ℕ) (v : Inode) → v ≡ inodeOf s n i → u ≡ blocksUsed (v .size) → k ≡ blocksUsed z → z ≤ sizeOf s i → sizeOf s i ≤ 768 → (k ≤ u) × (u ≤ 12)

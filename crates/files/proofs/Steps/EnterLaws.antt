@@ -2,42 +2,39 @@
 use Prim.Native.Nat.{ℕ, _+_, _*_, _-_, _/_, _≤_, _<_}
 use mathlib.Core.Path.{_≡_, refl, sym, ap, _∙_, subst}
 use mathlib.Core.Logic.{_≢_}
-use mathlib.Core.Bool.{true, false, not}
+use mathlib.Core.Bool.{true, false}
 use mathlib.Core.List.{List}
 use native.Mathlib.Decide.{ℕ-discrete}
 use native.Mathlib.Omega.{arith}
-use borrow.Author.Tests.{eq-eqb, ne-eqb, eqb-true, not-false, le-leb, lt-leb}
-use lib.Dec.{eqb}
-use lib.ListN.{length, length-replicate}
+use borrow.Author.Tests.{eq-eqb, ne-eqb, le-leb, lt-leb}
+use lib.ListN.{length}
 use Rattle.bounded.specs.declared.Found.the-variants.{At}
-use Rattle.bounded.proofs.CountLaws.{count-pos, count-le, tally-le}
-use Rattle.bounded.proofs.SearchLaws.{found-lowest}
-use Rattle.layout.specs.Sizes.{headerBytes, mostInodes, mostStoreBlocks, mostDirectoryBlocks, addressCount}
+use Rattle.bounded.proofs.CountLaws.{tally-le}
+use Rattle.layout.specs.Sizes.{headerBytes, mostInodes, mostStoreBlocks, addressCount}
 use Rattle.layout.specs.declared.header.Header.{Header}
 use Rattle.layout.specs.declared.inode.Inode.{Inode}
 use Rattle.layout.specs.Header.{headerOf}
 use Rattle.layout.specs.Inode.{InodeFits, kindOf, linksOf, sizeOf, inodeOf, putInode, putLinks, putAttributes, directoryKind}
 use Rattle.layout.specs.Block.{Sized, blocksUsed, kthBlock}
-use Rattle.layout.specs.Free.{named, isFree, freeInode}
+use Rattle.layout.specs.Free.{freeInode}
 use Rattle.layout.proofs.ViewLaws.{inode-fits}
 use Rattle.directory.specs.Slot.{DirFits, slots, putEntry, clearEntry}
 use Rattle.directory.proofs.SlotLaws.{block-fits, length-put, fits-clear, slots-clear, length-clear}
-use Rattle.sound.specs.Sound.{Sound, freeB, unnamedB, inodesIn, blocksIn}
+use Rattle.sound.specs.Sound.{Sound, inodesIn, blocksIn}
 use Rattle.sound.specs.Place.{naming}
 use Rattle.sound.proofs.FactLaws.{sized}
 use Rattle.files.specs.declared.Room.{Room}
 use Rattle.files.specs.declared.RoomPlan.the-variants.{Has}
 use Rattle.files.specs.declared.Kind.{Kind}
-use Rattle.files.specs.declared.Kind.the-variants.{File, Directory}
 use Rattle.files.specs.Inode.{isDirectory, zeroInode, newInode, withParent, moreFree}
 use Rattle.files.specs.Content.{addBlock}
 use Rattle.files.specs.Room.{roomIn, makeRoom}
 use Rattle.files.specs.Apply.{enter, dropLink, setParent}
-use Rattle.files.proofs.Stores.StoreLaws.{sized-at, fits, dir-of, kind-some, kind-most, kind-is, kind-dir, kind-fits}
-use Rattle.files.proofs.Stores.SameLaws.{SameInode, put-entry, clear-entry, put-inode}
+use Rattle.files.proofs.Stores.StoreLaws.{sized-at, fits, dir-of, kind-some, kind-most, kind-dir, kind-fits}
+use Rattle.files.proofs.Stores.SameLaws.{SameInode, put-entry, clear-entry}
 use Rattle.files.proofs.Stores.KeepLaws.{same-slots, body-of}
 use Rattle.files.proofs.Stores.FreeLaws.{free-inode, inode-counted, free-block, block-counted, few-free-inodes, few-free-blocks}
-use Rattle.files.proofs.Kept.RoomLaws.{IsRoom, slot, block, is-room, Roomed, make-room, same-kind}
+use Rattle.files.proofs.Kept.RoomLaws.{IsRoom, slot, block, is-room, Roomed, make-room}
 use Rattle.files.proofs.Stores.RecordLaws.{header-inode}
 use Rattle.layout.proofs.FrameLaws.{length-inode}
 

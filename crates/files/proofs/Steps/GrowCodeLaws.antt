@@ -1,7 +1,7 @@
 -- Blocks more for a file, each the lowest that is free. n and b are the counts of inodes and blocks, i is the file.
-use Prim.Native.Nat.{ℕ, zero, suc, _+_, _*_, _-_, _≤_, _<_}
+use Prim.Native.Nat.{ℕ, suc, _+_, _*_, _-_, _≤_, _<_}
 use mathlib.Core.Path.{_≡_, refl, sym, ap, _∙_, subst}
-use mathlib.Core.Bool.{Bool, true, false, not}
+use mathlib.Core.Bool.{Bool, true, not}
 use mathlib.Core.Logic.{_≢_}
 use mathlib.Core.List.{List}
 use native.Mathlib.Decide.{decLt, ℕ-discrete}
@@ -9,38 +9,30 @@ use native.Mathlib.Omega.{arith}
 use borrow.Author.Tests.{not-true, not-false}
 use lib.Dec.{eqb}
 use lib.ListN.{length, getD, set, replicate, length-set}
-use lib.Seq.{getD-set-same, getD-set-other}
 use Rattle.bounded.specs.Search.{firstFrom, onFound}
 use Rattle.bounded.specs.Seen.{Seen}
-use Rattle.bounded.specs.Update.{Changed, here, there}
-use Rattle.bounded.specs.Count.{count, one}
+use Rattle.bounded.specs.Count.{count}
 use Rattle.bounded.specs.declared.Found.{Found}
 use Rattle.bounded.specs.declared.Found.the-variants.{At, Absent}
-use Rattle.bounded.proofs.BoolLaws.{clash, same-test}
-use Rattle.bounded.proofs.CountLaws.{count-some, count-at}
-use Rattle.bounded.proofs.SearchLaws.{Lowest, found-lowest, lowest-of, lowest-found, absent-of, first-end, first-ext, first-skip}
+use Rattle.bounded.proofs.BoolLaws.{clash}
+use Rattle.bounded.proofs.SearchLaws.{Lowest, found-lowest, absent-of, first-end, first-ext, first-skip}
 use Rattle.bounded.proofs.SeenLaws.{seen-test}
-use Rattle.bounded.proofs.TableLaws.{getD-table, length-table}
-use Rattle.octets.specs.Octets.{Apart, zeroed}
+use Rattle.octets.specs.Octets.{zeroed}
 use Rattle.octets.proofs.PartLaws.{length-zeroed}
-use Rattle.layout.specs.Sizes.{mostStoreBlocks}
 use Rattle.layout.specs.declared.inode.Inode.{Inode}
 use Rattle.layout.specs.Header.{headerOf}
-use Rattle.layout.specs.Inode.{InodeFits, attributesAt, attributeEntry, place, sizeOf, addressOf, addressesOf, inodeOf, putAttributes, putInode}
-use Rattle.layout.specs.Block.{Sized, blockAt, zeroBlock, blocksUsed, kthBlock}
+use Rattle.layout.specs.Inode.{InodeFits, attributesAt, attributeEntry, place, sizeOf, addressOf, inodeOf, putAttributes, putInode}
+use Rattle.layout.specs.Block.{Sized, blockAt, zeroBlock, blocksUsed}
 use Rattle.layout.specs.Free.{named, freeBlock}
-use Rattle.layout.proofs.FrameLaws.{length-entry, length-attributes, length-inode, header-past, address-apart}
+use Rattle.layout.proofs.FrameLaws.{length-inode, header-past}
 use Rattle.layout.proofs.ViewLaws.{inode-fits}
-use Rattle.sound.specs.Sound.{Sound, inodesIn, blocksIn, unnamedB}
-use Rattle.sound.proofs.FactLaws.{named-is, sized, used-block}
-use Rattle.files.specs.Inode.{isKind, withBlocks, withSize, lessFree}
-use Rattle.files.specs.Fits.{FileFits}
+use Rattle.files.specs.Inode.{withBlocks, lessFree}
 use Rattle.files.specs.Content.{addBlock, addBlocks, putSize}
 use Rattle.files.proofs.Stores.FreeLaws.{FreeBlock, free-block}
 use Rattle.files.proofs.Stores.KeepLaws.{body-of}
 use Rattle.files.proofs.Kept.GrowLaws.{Grown, grown-used, named-new, named-old}
 use Rattle.files.proofs.Kept.WriteLaws.{Spare, room-left, some-left, spare-grown, spare-next}
-use Rattle.files.proofs.Stores.RecordLaws.{length-less, less-past, less-less, header-inode, inode-less, inode-past, inode-twice, attributes-twice, inode-read, used-is, twelve}
+use Rattle.files.proofs.Stores.RecordLaws.{less-past, less-less, header-inode, inode-less, inode-past, inode-twice, attributes-twice, inode-read, used-is, twelve}
 
 -- ---- a search that finds something ends at its last number at most
 pub search-left : (f : ℕ → Bool) (c last : ℕ) → (firstFrom f c (last + 1 - c) ≡ Absent → ⊥) → c ≤ last

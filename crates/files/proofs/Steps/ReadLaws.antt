@@ -34,9 +34,6 @@ pub holds-fits : (s : List ℕ) (n b i z : ℕ) → Holds s n b i z → FileFits
 holds-fits s n b i z h = file-fits s n (h .sound) (h .inodes) fileKind i (kind-of s n fileKind i (h .low) (h .high) (h .kind)) z (h .size)
 
 module _ (s : List ℕ) (n i z : ℕ) (f : FileFits s n i z) where
-  pub fits-less : (y : ℕ) → y ≤ z → FileFits s n i y
-  fits-less y l = let m = f .most in record { inode = f .inode; most = omega arith; blocks = λ j b. f .blocks j (omega arith) }
-
   -- byte x below z: its block, and the bytes from it on in the block
   module _ (x : ℕ) (l : x < z) where
     pub byte-block : 1 ≤ kthBlock s n i (x / 64)

@@ -15,10 +15,9 @@ use Rattle.layout.specs.Inode.{kindOf, spareOf, linksOf, sizeOf, parentOf, addr
 use Rattle.layout.specs.Block.{blockOf, blocksUsed, kthBlock}
 use Rattle.sound.specs.Inode.{InodeSound}
 use Rattle.sound.specs.Sound.{Sound, inodesIn, blocksIn}
-use Rattle.sound.proofs.FactLaws.{one-block}
 use Rattle.files.specs.Content.{fileByte}
 use Rattle.files.proofs.Stores.StoreLaws.{one-at, dir-of}
-use Rattle.files.proofs.Stores.SameLaws.{OtherInodes, same-body, each-inode, SameFrame, SameInode, SameBlock, InBlock}
+use Rattle.files.proofs.Stores.SameLaws.{OtherInodes, same-body, each-inode, SameFrame, SameBlock, InBlock}
 use Rattle.files.proofs.Stores.KeepLaws.{ZeroTail, Body, body-of, inode-like, inode-kept, file-tree, sound-kept}
 use Rattle.files.proofs.Stores.AddressLaws.{differ-less, address-kth, same-differ, same-unnamed, unnamed-change}
 

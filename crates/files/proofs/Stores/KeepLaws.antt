@@ -1,5 +1,5 @@
 -- What of a sound store stays where inodes and blocks stay: each inode by itself, and the tree of entries and links. n and b are the counts of inodes and blocks.
-use Prim.Native.Nat.{ℕ, zero, suc, _+_, _*_, _/_, _%_, _≤_, _<_}
+use Prim.Native.Nat.{ℕ, zero, suc, _*_, _/_, _%_, _≤_, _<_}
 use mathlib.Core.Path.{_≡_, refl, sym, ap, _∙_, subst}
 use mathlib.Core.Logic.{_≢_}
 use mathlib.Core.Bool.{Bool, true, false, _&&_, true≢false}
@@ -142,18 +142,6 @@ pub record SameTree (s t : List ℕ) (n : ℕ) : Type 0 where
 
 pub tree-stays : (s : List ℕ) (n : ℕ) → SameTree s s n
 tree-stays s n = record { kinds = λ i l m. refl; links = λ i l m. refl; parents = λ i l m. refl; places = λ p l. record { stands = refl; names = refl; entry = λ e. refl } }
-
-pub tree-then : {s t u : List ℕ} {n : ℕ} → SameTree s t n → SameTree t u n → SameTree s u n
-tree-then a b = record {
-  kinds = λ i l m. b .kinds i l m ∙ a .kinds i l m;
-  links = λ i l m. b .links i l m ∙ a .links i l m;
-  parents = λ i l m. b .parents i l m ∙ a .parents i l m;
-  places = λ p l. record {
-    stands = b .places p l .stands ∙ a .places p l .stands;
-    names = b .places p l .names ∙ a .places p l .names;
-    entry = λ e. b .places p l .entry (a .places p l .stands ∙ e) ∙ a .places p l .entry e;
-  };
-}
 
 -- one inode changes that is no directory, and the blocks of directories stay
 module _ (s t : List ℕ) (n i : ℕ) (others : OtherInodes s t n i) where

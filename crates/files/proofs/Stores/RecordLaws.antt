@@ -5,27 +5,24 @@ use mathlib.Core.List.{List}
 use native.Mathlib.Omega.{arith}
 use lib.ListN.{length, getD}
 use Rattle.bounded.specs.Table.{table}
-use Rattle.bounded.proofs.TableLaws.{length-table, table-ext, filled-all}
-use Rattle.bounded.proofs.UpdateLaws.{upd-same}
-use Rattle.octets.specs.Octets.{splice, Apart, toBytes, putNum, wordBytes}
+use Rattle.bounded.proofs.TableLaws.{length-table, getD-table, table-ext, filled-all}
+use Rattle.octets.specs.Octets.{splice, toBytes, putNum, wordBytes}
 use Rattle.octets.proofs.PartLaws.{splice-comm, splice-twice}
 use Rattle.octets.proofs.NumLaws.{length-toBytes, num-comm, num-twice}
 use Rattle.octets.proofs.WordLaws.{length-words}
 use Rattle.layout.specs.declared.inode.Inode.{Inode}
 use Rattle.layout.specs.Header.{headerOf, putFree}
-use Rattle.layout.specs.Inode.{InodeFits, attributesAt, addressAt, place, kindOf, linksOf, sizeOf, parentOf, addressOf, addressesOf, attributeEntry, inodeOf, putAttributes, putAddresses, putInode}
+use Rattle.layout.specs.Inode.{InodeFits, attributesAt, addressAt, place, sizeOf, addressOf, addressesOf, attributeEntry, inodeOf, putAttributes, putAddresses, putInode}
 use Rattle.layout.specs.Block.{blocksUsed, kthBlock}
-use Rattle.layout.proofs.View.{View, viewOf, below, overlay, withHeader, withAttributes, withAddress}
-use Rattle.layout.proofs.FrameLaws.{length-inode, length-entry, length-free, header-past}
-use Rattle.layout.proofs.ViewLaws.{within-in, below-in, overlay-in, overlay-out, header-free, view-free, view-inode}
+use Rattle.layout.proofs.FrameLaws.{length-inode, length-entry, header-past}
+use Rattle.layout.proofs.ViewLaws.{header-free}
 use Rattle.files.specs.Inode.{lessFree}
 use Rattle.files.proofs.Stores.SameLaws.{less-free, inode-new, inode-blocks}
+use lib.Dec.{ltb}
+use Rattle.bounded.specs.Search.{pick}
+use Rattle.files.specs.Content.{keepFirst}
 
 -- ---- the free counts
-pub length-less : (s : List ℕ) (x y : ℕ) → length (lessFree s x y) ≡ length s
-unfolding lessFree
-length-less s x y = length-free s _ _
-
 -- after a write past the header, and before it
 module _ (s : List ℕ) (p : ℕ) (xs : List ℕ) (h : 16 ≤ p) where
   free-past : (x y : ℕ) → putFree (splice s p xs) x y ≡ splice (putFree s x y) p xs
@@ -69,6 +66,16 @@ module _ (s : List ℕ) (n i : ℕ) (v : Inode) (e : v ≡ inodeOf s n i) where
   pub twelve : length (v .addresses) ≡ 12
   unfolding inodeOf addressesOf
   twelve = ap (λ (w : Inode). length (w .addresses)) e ∙ length-table (λ k. addressOf s n (place i k)) 12
+
+-- the first k of twelve addresses
+module _ (a : List ℕ) (k : ℕ) where
+  pub length-keep : length (keepFirst a k) ≡ 12
+  unfolding keepFirst
+  length-keep = length-table (λ j. pick (ltb j k) (getD a j 0) 0) 12
+
+  pub keep-at : (j : ℕ) → j < 12 → getD (keepFirst a k) j 0 ≡ pick (ltb j k) (getD a j 0) 0
+  unfolding keepFirst
+  keep-at j l = getD-table (λ i. pick (ltb i k) (getD a i 0) 0) 12 j l
 
 -- as it is written
 module _ (s : List ℕ) (n i : ℕ) (l : 1 ≤ i) (m : i ≤ n) (v : Inode) where

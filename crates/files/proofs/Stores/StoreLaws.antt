@@ -6,24 +6,13 @@ use mathlib.Core.List.{List}
 use native.Mathlib.Omega.{arith}
 use borrow.Author.Tests.{eq-eqb, leb-true, eqb-true, le-leb, lt-leb}
 use lib.Dec.{eqb, leb}
-use Rattle.bounded.specs.declared.Found.the-variants.{At}
-use Rattle.bounded.proofs.BoolLaws.{clash, fails, and-false-l, and-left, and-right, chain-end}
+use Rattle.bounded.proofs.BoolLaws.{and-false-l, and-left, and-right, chain-end}
 use Rattle.layout.specs.Sizes.{mostStoreBlocks, mostImageBlocks, mostFileBytes, addressCount}
-use Rattle.layout.specs.Inode.{InodeFits, kindOf, sizeOf, addressOf, directoryKind}
-use Rattle.names.specs.Name.{legalName}
-use Rattle.names.specs.Entry.{entryInode, isEmpty, sameName}
-use Rattle.names.proofs.EntryLaws.{empty-not-named}
-use Rattle.directory.specs.Slot.{DirFits, mostSlots, entryOf, findSlot}
-use Rattle.directory.proofs.SlotLaws.{few-slots, find-below, find-named}
-use Rattle.sound.specs.Place.{isSlot, filled, naming}
-use Rattle.sound.specs.Entry.{EntrySound}
-use Rattle.sound.specs.Pass.{placeOf}
+use Rattle.layout.specs.Inode.{InodeFits, kindOf, sizeOf, addressOf}
+use Rattle.directory.specs.Slot.{DirFits}
 use Rattle.sound.specs.Sound.{Sound, inodesIn, blocksIn}
-use Rattle.sound.proofs.PlaceLaws.{filled-is, naming-entry}
-use Rattle.sound.proofs.EntryLaws.{entry-place, slot-place}
 use Rattle.sound.proofs.FactLaws.{sized, one-block, inode-fits, dir-fits, address-bound}
-use Rattle.files.specs.Inode.{isKind, isDirectory}
-use Rattle.files.specs.Plan.{inodeAt}
+use Rattle.files.specs.Inode.{isKind}
 use Rattle.layout.specs.Block.{Sized, blocksUsed, kthBlock}
 
 -- ---- the kind of a number

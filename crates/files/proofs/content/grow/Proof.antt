@@ -5,7 +5,7 @@ use denote.Ref.{now}
 use Rattle.bounded.specs.declared.Found.the-variants.{At}
 use Rattle.layout.proofs.ViewLaws.{inode-fits}
 use Rattle.layout.specs.Header.{headerOf}
-use Rattle.layout.specs.Inode.{InodeFits, sizeOf}
+use Rattle.layout.specs.Inode.{InodeFits}
 use Rattle.layout.specs.Block.{Sized}
 use Rattle.layout.specs.Free.{freeBlock}
 use Rattle.files.proofs.Stores.StoreLaws.{sized-at, kind-fits, addresses-most}

@@ -5,7 +5,6 @@ use Rattle.files.specs.Apply.{created}
 use Rattle.files.specs.Inode.{lessFree}
 use Rattle.layout.specs.Inode.{putInode}
 use Rattle.layout.specs.declared.inode.Inode.{Inode}
-use denote.Ref.{now}
 use native.Mathlib.Omega.{arith}
 use mathlib.Core.List.{List}
 use mathlib.Core.Path.{ap, ap₂, _∙_}

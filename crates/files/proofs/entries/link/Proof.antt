@@ -2,7 +2,6 @@ use Rattle.files.proofs.Steps.EnterLaws.{few-links, entered-fits, enter
 use Rattle.files.proofs.Stores.StoreLaws.{kind-some, kind-most}
 use Rattle.files.specs.Apply.{linked}
 use Rattle.layout.specs.Inode.{linksOf, putLinks}
-use denote.Ref.{now}
 use native.Mathlib.Omega.{arith}
 use mathlib.Core.List.{List}
 use mathlib.Core.Path.{ap, ap₂, _∙_}

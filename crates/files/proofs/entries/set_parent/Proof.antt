@@ -4,7 +4,6 @@ use Rattle.layout.specs.Inode.{putAttributes}
 use Rattle.layout.specs.declared.inode.Inode.{Inode}
 use denote.Ref.{now}
 use mathlib.Core.Path.{sym, ap, _∙_}
-use Prim.Native.Nat.{ℕ}
 use borrow.Author.Needs.{needs}
 use Rattle.files.proofs.entries.set_parent.Statement.{statement}
 use Rattle.files.proofs.entries.set_parent.Tie as tie

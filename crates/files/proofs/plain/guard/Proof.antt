@@ -6,7 +6,7 @@ use Rattle.bounded.proofs.BoolLaws.{chain-on, chain-off}
 use denote.Ref.{now}
 use native.Mathlib.Omega.{arith}
 use mathlib.Core.Bool.{true}
-use mathlib.Core.Path.{_≡_, sym, _∙_}
+use mathlib.Core.Path.{_≡_, _∙_}
 use borrow.Author.Needs.{needs}
 use Rattle.files.proofs.plain.guard.Statement.{statement}
 use Rattle.files.proofs.plain.guard.Tie as tie

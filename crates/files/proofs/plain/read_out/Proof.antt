@@ -3,9 +3,8 @@ use Rattle.files.specs.Plain.{left, doRead}
 use Rattle.answers.specs.declared.Answer.the-variants.{Done}
 use lib.ListN.{length}
 use denote.Ref.{now}
-use mathlib.Core.List.{List}
 use native.Mathlib.Omega.{arith}
-use mathlib.Core.Path.{_≡_, sym, ap, _∙_}
+use mathlib.Core.Path.{sym, ap, _∙_}
 use borrow.Author.Needs.{needs}
 use Rattle.files.proofs.plain.read_out.Statement.{statement}
 use Rattle.files.proofs.plain.read_out.Tie as tie

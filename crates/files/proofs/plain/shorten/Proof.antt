@@ -1,4 +1,3 @@
-use lib.ListN.{length}
 use Rattle.files.proofs.Steps.CallLaws.{passed, call-through, call-stopped}
 use Rattle.files.specs.Plain.{doShorten, plainShorten}
 use Rattle.files.specs.Plan.{shortenPlan}

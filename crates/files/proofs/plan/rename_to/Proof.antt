@@ -5,7 +5,6 @@ use Rattle.directory.specs.Slot.{findSlot}
 use Rattle.files.proofs.Plans.TakePlanLaws.{to-same, to-taken, to-taken-there, to-rename, to-itself, to-move, to-roomless}
 use Rattle.files.proofs.Stores.StoreLaws.{kind-dir}
 use Rattle.names.proofs.NameLaws.{legal-bounds}
-use Rattle.bounded.proofs.BoolLaws.{chain-on, chain-off}
 use mathlib.Core.Path.{sym, _∙_}
 use borrow.Author.Needs.{needs}
 use Rattle.files.proofs.plan.rename_to.Statement.{statement}
