@@ -27,6 +27,8 @@ use Rattle.files.specs.declared.Kind.the-variants.{File, Directory}
 use Rattle.files.specs.Inode.{isDirectory, newInode, lessFree}
 use Rattle.files.proofs.Stores.SameLaws.{OtherInodes, NewInode, frame-then, inode-then, InCounts, less-free}
 use Rattle.files.proofs.Stores.StoreLaws.{fits}
+use Rattle.files.proofs.Stores.FreeLaws.{free-inode}
+use Rattle.files.proofs.Stores.RecordLaws.{header-inode}
 use Rattle.files.proofs.Kept.ChangeLaws.{Filled, filled-then, names-filled}
 use Rattle.files.proofs.Kept.TreeLaws.{Tree, tree-create, one-same, one-other}
 use Rattle.files.proofs.Kept.SoundTreeLaws.{nodesOf, body-at, names-at, above-at, tree-at}
@@ -34,8 +36,6 @@ use Rattle.files.proofs.Kept.EntryWriteLaws.{EntriesAlone, entries-stay
 use Rattle.files.proofs.Kept.SlotPlaceLaws.{absent-new, place-bare}
 use Rattle.files.proofs.Kept.StockLaws.{Stock, entries-stock, stock-sound}
 use Rattle.files.proofs.Kept.BaredLaws.{Bared, put-bared, bared-places, bared-unnamed, bared-free, bared-stock, no-blocks}
-use Rattle.files.proofs.Stores.FreeLaws.{free-inode}
-use Rattle.files.proofs.Stores.RecordLaws.{header-inode}
 
 -- ---- the new inode
 pub new-addresses : (k : Kind) (d : ℕ) → newInode k d .addresses ≡ replicate addressCount 0

@@ -7,8 +7,8 @@ use mathlib.Core.List.{List}
 use native.Mathlib.Decide.{ℕ-discrete}
 use native.Mathlib.Omega.{arith}
 use lib.ListN.{length, replicate}
-use Rattle.octets.specs.Octets.{Apart}
 use Rattle.bounded.proofs.BoolLaws.{clash, fails}
+use Rattle.octets.specs.Octets.{Apart}
 use Rattle.layout.specs.Sizes.{mostStoreBlocks}
 use Rattle.layout.specs.Header.{headerOf}
 use Rattle.layout.specs.Inode.{kindOf, sizeOf, fileKind, directoryKind}
@@ -23,9 +23,9 @@ use Rattle.sound.specs.Pass.{placeOf}
 use Rattle.sound.specs.Sound.{Sound, inodesIn}
 use Rattle.sound.proofs.PlaceLaws.{slot-is, filled-is, naming-entry}
 use Rattle.sound.proofs.EntryLaws.{entry-place, slot-place}
+use Rattle.files.specs.Inode.{isDirectory}
 use Rattle.files.proofs.Stores.SameLaws.{SameFrame, SameInode, SameBlock, InBlock, frame-stays, frame-then, inode-then, inode-stays, put-entry, clear-entry}
 use Rattle.files.proofs.Stores.KeepLaws.{place-slot, slot-kept, same-slots}
-use Rattle.files.specs.Inode.{isDirectory}
 use Rattle.files.proofs.Stores.StoreLaws.{one-at, dir-of, kind-some, kind-most, kind-is}
 use Rattle.files.proofs.Kept.ChangeLaws.{OtherPlaces, Emptied, Filled}
 

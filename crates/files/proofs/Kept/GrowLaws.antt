@@ -11,6 +11,7 @@ use lib.Seq.{getD-set-same, getD-set-other}
 use Rattle.bounded.specs.Count.{Differ}
 use Rattle.bounded.proofs.TableLaws.{length-table, getD-table}
 use Rattle.bounded.proofs.ReflectLaws.{r-fails}
+use Rattle.bounded.proofs.BoolLaws.{same-test}
 use Rattle.octets.proofs.PartLaws.{getD-part}
 use Rattle.layout.specs.Sizes.{addressCount, blockBytes, mostStoreBlocks}
 use Rattle.layout.specs.declared.header.Header.{Header}
@@ -35,7 +36,6 @@ use Rattle.files.proofs.Stores.SameLaws.{same-body, OtherInodes, each-i
 use Rattle.files.proofs.Stores.KeepLaws.{SamePlace, SameTree, Body, body-of, inode-kept, entry-in, entry-kept, place-slot, place-new, place-kept, slot-kept, changed, sound-kept}
 use Rattle.files.proofs.Stores.AddressLaws.{differ-new, address-kth, unnamed-change}
 use Rattle.files.proofs.Stores.FreeLaws.{FreeBlock}
-use Rattle.bounded.proofs.BoolLaws.{same-test}
 
 -- block c is the next of inode i in t
 pub record Grown (s t : List ℕ) (n i c : ℕ) : Type 0 where

@@ -27,6 +27,7 @@ use Rattle.files.specs.Apply.{setParent}
 use Rattle.files.proofs.Stores.SameLaws.{OtherInodes, SameBody, same-body, body-then, SameFrame, frame-stays, frame-then, inode-stays, inode-then}
 use Rattle.files.proofs.Stores.KeepLaws.{SamePlace, SameTree, tree-stays, leads-kept}
 use Rattle.files.proofs.Stores.StoreLaws.{fits, kind-some, kind-most, kind-is}
+use Rattle.files.proofs.Plans.ParentLaws.{climb-step, past-root, zero-parent}
 use Rattle.files.proofs.Kept.ChangeLaws.{Emptied, Filled, filled-then, names-emptied, names-filled, new-emptied}
 use Rattle.files.proofs.Kept.TreeLaws.{Nodes, Tree, Dir, Above, parent-dir, tree-move}
 use Rattle.files.proofs.Kept.SoundTreeLaws.{nodesOf, body-at, names-at, above-at, tree-at}
@@ -34,7 +35,6 @@ use Rattle.files.proofs.Kept.EntryWriteLaws.{EntriesAlone, entries-stay
 use Rattle.files.proofs.Kept.InodeWriteLaws.{relinked-places, parent-relinked, parent-links, parent-put}
 use Rattle.files.proofs.Kept.SlotPlaceLaws.{EntryHere, entry-here, absent-new, place-bare}
 use Rattle.files.proofs.Kept.StockLaws.{Stock, entries-stock, relinked-stock, stock-sound}
-use Rattle.files.proofs.Plans.ParentLaws.{climb-step, past-root, zero-parent}
 
 -- ---- a climb to i: the test with n steps tells all
 module _ (n : ℕ) (v : Nodes) (t : Tree n v) (a : Above n v) (none : v .parent 0 ≡ 0) (i e : ℕ) (low : 1 ≤ i) (not-root : i ≢ rootInode) where

@@ -22,8 +22,8 @@ use Rattle.names.specs.Entry.{sameName}
 use Rattle.names.proofs.EntryLaws.{empty-not-named}
 use Rattle.directory.specs.Slot.{slots, entryOf, slotNamed, findSlot, slotEmpty, emptySlot}
 use Rattle.directory.proofs.SlotLaws.{empty-below, empty-at}
-use Rattle.answers.specs.declared.Refusal.the-variants.{NoBlocks, NoSlot}
 use Rattle.sound.specs.Sound.{Sound, inodesIn, blocksIn}
+use Rattle.answers.specs.declared.Refusal.the-variants.{NoBlocks, NoSlot}
 use Rattle.files.specs.declared.Room.{Room}
 use Rattle.files.specs.declared.RoomPlan.the-variants.{Has, NoRoom}
 use Rattle.files.specs.Inode.{isKind, isDirectory}
@@ -32,8 +32,8 @@ use Rattle.files.specs.Room.{room, roomIn, makeRoom}
 use Rattle.files.proofs.Stores.StoreLaws.{kind-read, kind-low, kind-high, kind-some, kind-most, kind-is}
 use Rattle.files.proofs.Stores.SameLaws.{OtherInodes, SameFrame, frame-stays, inode-stays}
 use Rattle.files.proofs.Stores.KeepLaws.{SameTree, tree-stays, same-slots}
-use Rattle.files.proofs.Kept.GrowLaws.{block-added, add-block-sound, grown-tree, grown-slots, grown-entry, grown-empty}
 use Rattle.files.proofs.Stores.FreeLaws.{FreeBlock, free-block}
+use Rattle.files.proofs.Kept.GrowLaws.{block-added, add-block-sound, grown-tree, grown-slots, grown-entry, grown-empty}
 
 -- ---- the two rooms
 pub data IsRoom (s : List ℕ) (n b d : ℕ) (r : Room) : Type 0 where

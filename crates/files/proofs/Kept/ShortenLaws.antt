@@ -28,9 +28,9 @@ use Rattle.files.specs.Apply.{shortened}
 use Rattle.files.proofs.Stores.StoreLaws.{fits, dir-of, kind-some, kind-most, kind-is}
 use Rattle.files.proofs.Stores.SameLaws.{SameFrame, SameInode, InBlock, frame-stays, frame-then, inode-stays, inode-then, put-in-block, in-block-out, in-block-in, put-inode, inode-new, inode-blocks, more-free}
 use Rattle.files.proofs.Stores.KeepLaws.{Body, body-of}
-use Rattle.files.proofs.Plans.PlanFacts.{shortens}
 use Rattle.files.proofs.Stores.FileLaws.{Holds, ZeroPast, tail-past, other-byte, content-sound, Resized, resized-sound}
 use Rattle.files.proofs.Stores.RecordLaws.{length-keep, keep-at}
+use Rattle.files.proofs.Plans.PlanFacts.{shortens}
 
 -- ---- r is s with zeros past z in the block that z ends in
 pub record Trimmed (s r : List ℕ) (n i z : ℕ) : Type 0 where

@@ -15,12 +15,12 @@ use Rattle.sound.specs.Sound.{Sound, inodesIn, blocksIn, freeB, unnamedB}
 use Rattle.files.proofs.Stores.SameLaws.{SameFrame, SameBody, SameBlock, each-inode}
 use Rattle.files.proofs.Stores.KeepLaws.{Body, sound-of, inode-like, tail-kept, inode-kept}
 use Rattle.files.proofs.Stores.AddressLaws.{same-differ, same-unnamed}
+use Rattle.files.proofs.Stores.FreeLaws.{same-free}
 use Rattle.files.proofs.Kept.ChangeLaws.{NamesSound}
 use Rattle.files.proofs.Kept.TreeLaws.{Tree}
 use Rattle.files.proofs.Kept.SoundTreeLaws.{nodesOf, entries-back, links-back}
 use Rattle.files.proofs.Kept.EntryWriteLaws.{EntriesAlone}
 use Rattle.files.proofs.Kept.InodeWriteLaws.{Relinked, body-all}
-use Rattle.files.proofs.Stores.FreeLaws.{same-free}
 
 -- inodes are sound by themselves, no block is named twice, and the free counts are true
 pub record Stock (t : List ℕ) (n b : ℕ) : Type 0 where

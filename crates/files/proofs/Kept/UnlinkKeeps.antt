@@ -28,6 +28,7 @@ use Rattle.files.specs.Plan.{inodeAt, holdsNone}
 use Rattle.files.specs.Apply.{dropLink, unlinked}
 use Rattle.files.proofs.Stores.SameLaws.{OtherInodes, SameBody, same-body, body-then, links-new, links-parent, NewInode, frame-then, inode-then, InCounts, more-free}
 use Rattle.files.proofs.Stores.StoreLaws.{fits}
+use Rattle.files.proofs.Stores.RecordLaws.{header-inode}
 use Rattle.files.proofs.Kept.ChangeLaws.{Emptied, emptied-then, names-emptied}
 use Rattle.files.proofs.Kept.TreeLaws.{Tree, tree-less, tree-last, counted-some, one-other}
 use Rattle.files.proofs.Kept.SoundTreeLaws.{nodesOf, body-at, names-at, above-at, tree-at}
@@ -36,7 +37,6 @@ use Rattle.files.proofs.Kept.InodeWriteLaws.{Relinked, relinked-places,
 use Rattle.files.proofs.Kept.SlotPlaceLaws.{EntryHere, entry-here}
 use Rattle.files.proofs.Kept.StockLaws.{Stock, entries-stock, relinked-stock, stock-sound}
 use Rattle.files.proofs.Kept.BaredLaws.{Bared, put-bared, bared-places, bared-unnamed, bared-free, bared-stock, naming-none}
-use Rattle.files.proofs.Stores.RecordLaws.{header-inode}
 
 -- no entry stands in a directory that holds none
 pub unfilled : (s : List ℕ) (n i : ℕ) → holdsNone s n i ≡ true → (q : ℕ) → dirOf q ≡ i → filled s n q ≡ false

@@ -25,10 +25,10 @@ use Rattle.files.specs.Apply.{written}
 use Rattle.files.proofs.Stores.StoreLaws.{fits, dir-of, kind-some, kind-most, kind-is, kind-size}
 use Rattle.files.proofs.Stores.SameLaws.{OtherInodes, SameFrame, SameBlock, InBlock, frame-stays, frame-then, inode-stays, inode-then, put-in-block, in-block-out, put-attributes, attributes-new, attributes-blocks}
 use Rattle.files.proofs.Stores.KeepLaws.{body-of}
-use Rattle.files.proofs.Plans.PlanFacts.{Writes, writes}
-use Rattle.files.proofs.Kept.GrowLaws.{Grown, block-added, add-block-sound, grown-used, grown-kth, grown-bytes}
 use Rattle.files.proofs.Stores.FileLaws.{Holds, holds-less, ZeroPast, tail-past, other-byte, content-sound, Resized, resized-sound}
 use Rattle.files.proofs.Stores.FreeLaws.{FreeBlock, free-block, block-found}
+use Rattle.files.proofs.Plans.PlanFacts.{Writes, writes}
+use Rattle.files.proofs.Kept.GrowLaws.{Grown, block-added, add-block-sound, grown-used, grown-kth, grown-bytes}
 
 -- ---- m blocks more
 pub record Widened (s t : List ℕ) (n i m : ℕ) : Type 0 where

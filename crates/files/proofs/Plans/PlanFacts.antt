@@ -261,16 +261,19 @@ module _ (s : List ℕ) (n b d : ℕ) (name : List ℕ) (e : ℕ) (other : List 
   renames-there z never h =
       let a = pick-not (legalName name && legalName other) (NoRename _) _ z h (never _) in
       let c = pick-not (isDirectory s n d && isDirectory s n e) (NoRename _) _ z (a .1) (never _) in
-      let f = found-at (findSlot s n d name) _ _ z (c .1) (never _) in
-      (f .0, f .2, λ t i g p q. record {
-        entry = record {
-          legal = and-left (legalName name) (legalName other) (a .0);
-          directory = and-left (isDirectory s n d) (isDirectory s n e) (c .0);
-          found = f .1 ∙ ap At p;
-          inode = sym q ∙ ap (inodeAt s n d) p;
-        };
-        new = record { legal = and-right (legalName name) (legalName other) (a .0); directory = and-right (isDirectory s n d) (isDirectory s n e) (c .0); absent = g };
-      })
+      let f = found-at (findSlot s n d name) _ _ z (c .1) (never _) in (
+        f .0,
+        f .2,
+        λ t i g p q. record {
+          entry = record {
+            legal = and-left (legalName name) (legalName other) (a .0);
+            directory = and-left (isDirectory s n d) (isDirectory s n e) (c .0);
+            found = f .1 ∙ ap At p;
+            inode = sym q ∙ ap (inodeAt s n d) p;
+          };
+          new = record { legal = and-right (legalName name) (legalName other) (a .0); directory = and-right (isDirectory s n d) (isDirectory s n e) (c .0); absent = g };
+        },
+      )
 
   pub renames : (t i : ℕ) → renamePlan s n b d name e other ≡ Rename t i → Renames s n d name e other t i × (d ≡ e)
   renames t i h =

@@ -18,6 +18,7 @@ use Rattle.layout.specs.Inode.{InodeFits, kindOf, linksOf, sizeOf, inodeOf, put
 use Rattle.layout.specs.Block.{Sized, blocksUsed, kthBlock}
 use Rattle.layout.specs.Free.{freeInode}
 use Rattle.layout.proofs.ViewLaws.{inode-fits}
+use Rattle.layout.proofs.FrameLaws.{length-inode}
 use Rattle.directory.specs.Slot.{DirFits, slots, putEntry, clearEntry}
 use Rattle.directory.proofs.SlotLaws.{block-fits, length-put, fits-clear, slots-clear, length-clear}
 use Rattle.sound.specs.Sound.{Sound, inodesIn, blocksIn}
@@ -34,9 +35,8 @@ use Rattle.files.proofs.Stores.StoreLaws.{sized-at, fits, dir-of, kind-
 use Rattle.files.proofs.Stores.SameLaws.{SameInode, put-entry, clear-entry}
 use Rattle.files.proofs.Stores.KeepLaws.{same-slots, body-of}
 use Rattle.files.proofs.Stores.FreeLaws.{free-inode, inode-counted, free-block, block-counted, few-free-inodes, few-free-blocks}
-use Rattle.files.proofs.Kept.RoomLaws.{IsRoom, slot, block, is-room, Roomed, make-room}
 use Rattle.files.proofs.Stores.RecordLaws.{header-inode}
-use Rattle.layout.proofs.FrameLaws.{length-inode}
+use Rattle.files.proofs.Kept.RoomLaws.{IsRoom, slot, block, is-room, Roomed, make-room}
 
 -- a sound store names an inode from no more places than it has
 pub few-links : (s : List ℕ) → Sound mostStoreBlocks false s → (i : ℕ) → 1 ≤ i → i ≤ inodesIn s → linksOf s i ≤ 12288

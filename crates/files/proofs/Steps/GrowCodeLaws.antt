@@ -30,9 +30,9 @@ use Rattle.files.specs.Inode.{withBlocks, lessFree}
 use Rattle.files.specs.Content.{addBlock, addBlocks, putSize}
 use Rattle.files.proofs.Stores.FreeLaws.{FreeBlock, free-block}
 use Rattle.files.proofs.Stores.KeepLaws.{body-of}
+use Rattle.files.proofs.Stores.RecordLaws.{less-past, less-less, header-inode, inode-less, inode-past, inode-twice, attributes-twice, inode-read, used-is, twelve}
 use Rattle.files.proofs.Kept.GrowLaws.{Grown, grown-used, named-new, named-old}
 use Rattle.files.proofs.Kept.WriteLaws.{Spare, room-left, some-left, spare-grown, spare-next}
-use Rattle.files.proofs.Stores.RecordLaws.{less-past, less-less, header-inode, inode-less, inode-past, inode-twice, attributes-twice, inode-read, used-is, twelve}
 
 -- ---- a search that finds something ends at its last number at most
 pub search-left : (f : ℕ → Bool) (c last : ℕ) → (firstFrom f c (last + 1 - c) ≡ Absent → ⊥) → c ≤ last

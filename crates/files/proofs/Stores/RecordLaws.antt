@@ -4,7 +4,9 @@ use mathlib.Core.Path.{_≡_, refl, sym, ap, ap₂, _∙_}
 use mathlib.Core.List.{List}
 use native.Mathlib.Omega.{arith}
 use lib.ListN.{length, getD}
+use lib.Dec.{ltb}
 use Rattle.bounded.specs.Table.{table}
+use Rattle.bounded.specs.Search.{pick}
 use Rattle.bounded.proofs.TableLaws.{length-table, getD-table, table-ext, filled-all}
 use Rattle.octets.specs.Octets.{splice, toBytes, putNum, wordBytes}
 use Rattle.octets.proofs.PartLaws.{splice-comm, splice-twice}
@@ -17,10 +19,8 @@ use Rattle.layout.specs.Block.{blocksUsed, kthBlock}
 use Rattle.layout.proofs.FrameLaws.{length-inode, length-entry, header-past}
 use Rattle.layout.proofs.ViewLaws.{header-free}
 use Rattle.files.specs.Inode.{lessFree}
-use Rattle.files.proofs.Stores.SameLaws.{less-free, inode-new, inode-blocks}
-use lib.Dec.{ltb}
-use Rattle.bounded.specs.Search.{pick}
 use Rattle.files.specs.Content.{keepFirst}
+use Rattle.files.proofs.Stores.SameLaws.{less-free, inode-new, inode-blocks}
 
 -- ---- the free counts
 -- after a write past the header, and before it

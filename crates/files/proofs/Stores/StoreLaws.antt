@@ -9,11 +9,11 @@ use lib.Dec.{eqb, leb}
 use Rattle.bounded.proofs.BoolLaws.{and-false-l, and-left, and-right, chain-end}
 use Rattle.layout.specs.Sizes.{mostStoreBlocks, mostImageBlocks, mostFileBytes, addressCount}
 use Rattle.layout.specs.Inode.{InodeFits, kindOf, sizeOf, addressOf}
+use Rattle.layout.specs.Block.{Sized, blocksUsed, kthBlock}
 use Rattle.directory.specs.Slot.{DirFits}
 use Rattle.sound.specs.Sound.{Sound, inodesIn, blocksIn}
 use Rattle.sound.proofs.FactLaws.{sized, one-block, inode-fits, dir-fits, address-bound}
 use Rattle.files.specs.Inode.{isKind}
-use Rattle.layout.specs.Block.{Sized, blocksUsed, kthBlock}
 
 -- ---- the kind of a number
 module _ (s : List ℕ) (n k i : ℕ) where

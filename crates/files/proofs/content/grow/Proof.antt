@@ -3,11 +3,11 @@ use mathlib.Core.Path.{_≡_, sym, ap, _∙_}
 use native.Mathlib.Omega.{arith}
 use denote.Ref.{now}
 use Rattle.bounded.specs.declared.Found.the-variants.{At}
-use Rattle.layout.proofs.ViewLaws.{inode-fits}
 use Rattle.layout.specs.Header.{headerOf}
 use Rattle.layout.specs.Inode.{InodeFits}
 use Rattle.layout.specs.Block.{Sized}
 use Rattle.layout.specs.Free.{freeBlock}
+use Rattle.layout.proofs.ViewLaws.{inode-fits}
 use Rattle.files.proofs.Stores.StoreLaws.{sized-at, kind-fits, addresses-most}
 use Rattle.files.proofs.Stores.RecordLaws.{header-inode, used-is}
 use Rattle.files.proofs.Stores.FreeLaws.{free-block}

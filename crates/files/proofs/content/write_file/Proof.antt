@@ -1,11 +1,11 @@
 use mathlib.Core.Path.{_∙_}
 use native.Mathlib.Omega.{arith}
+use denote.Ref.{now}
 use Rattle.files.specs.Apply.{written}
 use Rattle.files.proofs.Stores.StoreLaws.{kind-size}
 use Rattle.files.proofs.Plans.PlanFacts.{writes}
 use Rattle.files.proofs.Kept.WriteLaws.{sized-holds}
 use Rattle.files.proofs.Steps.ReadLaws.{holds-fits}
-use denote.Ref.{now}
 use borrow.Author.Needs.{needs}
 use Rattle.files.proofs.content.write_file.Statement.{statement}
 use Rattle.files.proofs.content.write_file.Tie as tie

@@ -1,14 +1,14 @@
-use Rattle.files.proofs.Steps.EnterLaws.{entered-fits, create-counts}
-use Rattle.files.proofs.Stores.StoreLaws.{kind-most}
-use Rattle.files.proofs.Stores.FreeLaws.{free-inode}
-use Rattle.files.specs.Apply.{created}
-use Rattle.files.specs.Inode.{lessFree}
-use Rattle.layout.specs.Inode.{putInode}
-use Rattle.layout.specs.declared.inode.Inode.{Inode}
-use native.Mathlib.Omega.{arith}
+use Prim.Native.Nat.{ℕ}
 use mathlib.Core.List.{List}
 use mathlib.Core.Path.{ap, ap₂, _∙_}
-use Prim.Native.Nat.{ℕ}
+use native.Mathlib.Omega.{arith}
+use Rattle.layout.specs.Inode.{putInode}
+use Rattle.layout.specs.declared.inode.Inode.{Inode}
+use Rattle.files.specs.Apply.{created}
+use Rattle.files.specs.Inode.{lessFree}
+use Rattle.files.proofs.Stores.StoreLaws.{kind-most}
+use Rattle.files.proofs.Stores.FreeLaws.{free-inode}
+use Rattle.files.proofs.Steps.EnterLaws.{entered-fits, create-counts}
 use borrow.Author.Needs.{needs}
 use Rattle.files.proofs.entries.create.Statement.{statement}
 use Rattle.files.proofs.entries.create.Tie as tie
@@ -30,7 +30,7 @@ same-length c = search needs
 
 returns : tie.Need-returns
 unfolding created
-returns c = 
+returns c =
     let a = c .before .before .before .before .before .before .before .before .before .before .before .before .before .before .before .args in
     c .before .before .less-free .ensures
     ∙ ap (λ (t : List ℕ). lessFree t 1 0)

@@ -1,12 +1,12 @@
-use Rattle.files.proofs.Steps.EnterLaws.{freed-counts, used-bound}
-use Rattle.files.specs.Inode.{moreFree}
-use Rattle.layout.specs.Block.{blocksUsed}
-use Rattle.layout.specs.Inode.{putInode}
-use denote.Ref.{now}
-use native.Mathlib.Omega.{arith}
+use Prim.Native.Nat.{ℕ}
 use mathlib.Core.List.{List}
 use mathlib.Core.Path.{ap, ap₂, _∙_}
-use Prim.Native.Nat.{ℕ}
+use native.Mathlib.Omega.{arith}
+use denote.Ref.{now}
+use Rattle.layout.specs.Block.{blocksUsed}
+use Rattle.layout.specs.Inode.{putInode}
+use Rattle.files.specs.Inode.{moreFree}
+use Rattle.files.proofs.Steps.EnterLaws.{freed-counts, used-bound}
 use borrow.Author.Needs.{needs}
 use Rattle.files.proofs.entries.free_inode.Statement.{statement}
 use Rattle.files.proofs.entries.free_inode.Tie as tie
@@ -36,7 +36,7 @@ same-length : tie.Need-same-length
 same-length c = search needs
 
 returns : tie.Need-returns
-returns c = 
+returns c =
     let a = c .before .before .before .before .before .before .before .before .before .before .before .before .before .args in
     c .before .before .more-free .ensures
     ∙ ap₂ (λ (t : List ℕ) (m : ℕ). moreFree t 1 m)

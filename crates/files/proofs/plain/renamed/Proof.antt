@@ -1,14 +1,14 @@
-use Rattle.files.proofs.Kept.SlotPlaceLaws.{found-here}
-use Rattle.files.proofs.Plans.PlanFacts.{renames, moves}
-use Rattle.files.specs.Plain.{left, doRename}
-use Rattle.directory.proofs.SlotLaws.{find-below}
-use Rattle.names.proofs.NameLaws.{legal-bounds}
-use Rattle.answers.specs.declared.Answer.the-variants.{Done}
-use denote.Ref.{now}
-use native.Mathlib.Omega.{arith}
 use Prim.Native.Nat.{ℕ}
 use mathlib.Core.List.{List, []}
 use mathlib.Core.Path.{sym, ap, _∙_}
+use native.Mathlib.Omega.{arith}
+use denote.Ref.{now}
+use Rattle.names.proofs.NameLaws.{legal-bounds}
+use Rattle.directory.proofs.SlotLaws.{find-below}
+use Rattle.answers.specs.declared.Answer.the-variants.{Done}
+use Rattle.files.specs.Plain.{left, doRename}
+use Rattle.files.proofs.Plans.PlanFacts.{renames, moves}
+use Rattle.files.proofs.Kept.SlotPlaceLaws.{found-here}
 use borrow.Author.Needs.{needs}
 use Rattle.files.proofs.plain.renamed.Statement.{statement}
 use Rattle.files.proofs.plain.renamed.Tie as tie
@@ -23,7 +23,7 @@ enum-known-t : tie.Need-enum-known-t
 enum-known-t c = search needs
 
 rename-requires : tie.Need-rename-requires
-rename-requires c κs = 
+rename-requires c κs =
     let p = c .before .before .before .before .before .before .before .before .before .pre in
     let g = renames _ _ _ _ _ _ _ _ _ (sym (c .before .before .before .before .rename-plan .ensures) ∙ c .before .before .t .given .1) .0 in
     let f = g .entry in
@@ -35,7 +35,7 @@ enum-known-t-2 : tie.Need-enum-known-t-2
 enum-known-t-2 c = search needs
 
 move-entry-requires : tie.Need-move-entry-requires
-move-entry-requires c κs = 
+move-entry-requires c κs =
     let p = c .before .before .before .before .before .before .before .before .before .pre in
     let g = moves _ _ _ _ _ _ _ _ _ _ (sym (c .before .before .before .before .rename-plan .ensures) ∙ c .before .before .t2 .given .1) in
     let f = g .0 .entry in
@@ -57,7 +57,7 @@ same-length-2 : tie.Need-same-length-2
 same-length-2 c = search needs
 
 returns-2 : tie.Need-returns-2
-returns-2 c = 
+returns-2 c =
     let a = c .before .before .before .before .before .before .before .before .before .before .before .before .args in
     ap (λ (t : List ℕ). left (Done 0) t []) (c .before .before .rename .ensures)
     ∙ ap (doRename (now (a .s)) (a .n) (a .d) (a .e) (now (a .other))) (sym (c .before .before .before .before .before .t .given .1) ∙ c .before .before .before .before .before .before .before .rename-plan .ensures)
@@ -66,7 +66,7 @@ same-length-3 : tie.Need-same-length-3
 same-length-3 c = search needs
 
 returns-3 : tie.Need-returns-3
-returns-3 c = 
+returns-3 c =
     let a = c .before .before .before .before .before .before .before .before .before .before .before .before .args in
     ap (λ (t : List ℕ). left (Done 0) t []) (c .before .before .move-entry .ensures)
     ∙ ap (doRename (now (a .s)) (a .n) (a .d) (a .e) (now (a .other))) (sym (c .before .before .before .before .before .t2 .given .1) ∙ c .before .before .before .before .before .before .before .rename-plan .ensures)

@@ -1,7 +1,7 @@
 use mathlib.Core.Path.{_≡_, sym, _∙_}
 use mathlib.Core.Bool.{true}
-use denote.Ref.{now}
 use borrow.Author.Tests.{not-true, not-false}
+use denote.Ref.{now}
 use Rattle.bounded.specs.declared.Found.the-variants.{At}
 use Rattle.names.specs.Name.{legalName}
 use Rattle.names.proofs.NameLaws.{legal-bounds}

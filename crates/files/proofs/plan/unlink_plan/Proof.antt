@@ -1,19 +1,19 @@
 use Prim.Native.Nat.{_≤_}
-use native.Mathlib.Omega.{arith}
-use Rattle.files.proofs.Plans.TakePlanLaws.{unlink-illegal, unlink-wrong, unlink-absent, unlink-full, unlink-file, unlink-empty}
-use Rattle.files.proofs.Stores.StoreLaws.{fits, dir-of, kind-dir}
-use Rattle.files.proofs.Kept.SlotPlaceLaws.{found-here}
-use Rattle.files.specs.Inode.{isDirectory}
-use Rattle.files.specs.Plan.{inodeAt}
-use Rattle.directory.proofs.SlotLaws.{find-below}
-use Rattle.directory.specs.Slot.{findSlot}
-use Rattle.names.proofs.NameLaws.{legal-bounds}
-use Rattle.names.specs.Name.{legalName}
-use Rattle.bounded.proofs.BoolLaws.{chain-on, chain-off}
-use Rattle.bounded.specs.declared.Found.the-variants.{At}
-use denote.Ref.{now}
 use mathlib.Core.Bool.{true}
 use mathlib.Core.Path.{_≡_, sym, _∙_}
+use native.Mathlib.Omega.{arith}
+use denote.Ref.{now}
+use Rattle.bounded.specs.declared.Found.the-variants.{At}
+use Rattle.bounded.proofs.BoolLaws.{chain-on, chain-off}
+use Rattle.names.specs.Name.{legalName}
+use Rattle.names.proofs.NameLaws.{legal-bounds}
+use Rattle.directory.specs.Slot.{findSlot}
+use Rattle.directory.proofs.SlotLaws.{find-below}
+use Rattle.files.specs.Inode.{isDirectory}
+use Rattle.files.specs.Plan.{inodeAt}
+use Rattle.files.proofs.Stores.StoreLaws.{fits, dir-of, kind-dir}
+use Rattle.files.proofs.Plans.TakePlanLaws.{unlink-illegal, unlink-wrong, unlink-absent, unlink-full, unlink-file, unlink-empty}
+use Rattle.files.proofs.Kept.SlotPlaceLaws.{found-here}
 use borrow.Author.Needs.{needs}
 use Rattle.files.proofs.plan.unlink_plan.Statement.{statement}
 use Rattle.files.proofs.plan.unlink_plan.Tie as tie
