@@ -1,4 +1,4 @@
--- What the searches of a directory say of its places. n is the inode count, d a directory with slot t.
+-- What the searches of a directory say of its places, and the entry that one has found. n is the inode count, d a directory with slot t.
 use Prim.Native.Nat.{ℕ, _≤_, _<_}
 use mathlib.Core.Path.{_≡_, refl, sym, ap, _∙_, subst}
 use mathlib.Core.Bool.{true, false}

@@ -1,4 +1,4 @@
--- Up from a directory, on a sound store: whether it is another or below it. n is the inode count.
+-- Up from a directory to the root, above which there is nothing: whether a directory of a sound store is another or below it. n is the inode count.
 use Prim.Native.Nat.{ℕ, zero, suc, _+_, _-_, _≤_, _<_}
 use mathlib.Core.Path.{_≡_, refl, sym, ap, _∙_, subst}
 use mathlib.Core.Logic.{_≢_}

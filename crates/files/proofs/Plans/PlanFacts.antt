@@ -80,12 +80,6 @@ pub record FoundIn (s : List ℕ) (n d : ℕ) (name : List ℕ) (t i : ℕ) : Ty
 no-make : (e : Refusal) (i : ℕ) (r : Room) → NoCreate e ≡ Make i r → ⊥
 no-make e i r h = let z : _≡_ {A = ℕ} 0 1 = cc in absurd (omega arith)
 
-make-inode : (j i : ℕ) (q r : Room) → Make j q ≡ Make i r → j ≡ i
-make-inode j i q r h = cc
-
-make-room : (j i : ℕ) (q r : Room) → Make j q ≡ Make i r → q ≡ r
-make-room j i q r h = cc
-
 pub record Creates (s : List ℕ) (n b d : ℕ) (name : List ℕ) (i : ℕ) (r : Room) : Type 0 where
   pub new : NewIn s n d name
   pub inode : freeInode s n ≡ At i
@@ -100,14 +94,13 @@ creates s n b d name i r e =
     let f = found-none (findSlot s n d name) _ _ z (c .1) (λ t. no-make _ i r) in
     let g = found-at (freeInode s n) _ _ z (f .1) (no-make _ i r) in
     let h = room-had (roomIn s n b d) _ _ z (g .2) (λ w. no-make w i r) in
-    record { new = record { legal = a .0; directory = c .0; absent = f .0 }; inode = g .1 ∙ ap At (make-inode (g .0) i (h .0) r (h .2)); room = h .1 ∙ ap Has (make-room (g .0) i (h .0) r (h .2)) }
+    let p : g .0 ≡ i = cc (h .2) in
+    let q : h .0 ≡ r = cc (h .2) in
+    record { new = record { legal = a .0; directory = c .0; absent = f .0 }; inode = g .1 ∙ ap At p; room = h .1 ∙ ap Has q }
 
 -- ---- link
 no-add : (e : Refusal) (r : Room) → NoLink e ≡ Add r → ⊥
 no-add e r h = let z : _≡_ {A = ℕ} 0 1 = cc in absurd (omega arith)
-
-add-room : (q r : Room) → Add q ≡ Add r → q ≡ r
-add-room q r h = cc
 
 pub record Links (s : List ℕ) (n b d : ℕ) (name : List ℕ) (i : ℕ) (r : Room) : Type 0 where
   pub new : NewIn s n d name
@@ -122,21 +115,16 @@ links s n b d name i r e =
     let c = pick-not (isDirectory s n d && isFile s n i) (NoLink _) _ z (a .1) (no-add _ r) in
     let f = found-none (findSlot s n d name) _ _ z (c .1) (λ t. no-add _ r) in
     let h = room-had (roomIn s n b d) _ _ z (f .1) (λ w. no-add w r) in
+    let q : h .0 ≡ r = cc (h .2) in
     record {
       new = record { legal = a .0; directory = and-left (isDirectory s n d) (isFile s n i) (c .0); absent = f .0 };
       file = and-right (isDirectory s n d) (isFile s n i) (c .0);
-      room = h .1 ∙ ap Has (add-room (h .0) r (h .2));
+      room = h .1 ∙ ap Has q;
     }
 
 -- ---- unlink
 no-take : (e : Refusal) (t i : ℕ) → NoUnlink e ≡ Take t i → ⊥
 no-take e t i h = let z : _≡_ {A = ℕ} 0 1 = cc in absurd (omega arith)
-
-take-slot : (u t j i : ℕ) → Take u j ≡ Take t i → u ≡ t
-take-slot u t j i h = cc
-
-take-inode : (u t j i : ℕ) → Take u j ≡ Take t i → j ≡ i
-take-inode u t j i h = cc
 
 pub record Unlinks (s : List ℕ) (n d : ℕ) (name : List ℕ) (t i : ℕ) : Type 0 where
   pub entry : FoundIn s n d name t i
@@ -158,8 +146,8 @@ unlinks s n d name t i e =
     let c = pick-not (isDirectory s n d) (NoUnlink _) _ z (a .1) (no-take _ t i) in
     let f = found-at (findSlot s n d name) _ _ z (c .1) (no-take _ t i) in
     let g = pick-else (eqb (kindOf s (inodeAt s n d (f .0))) directoryKind && not (holdsNone s n (inodeAt s n d (f .0)))) (NoUnlink _) _ z (f .2) (no-take _ t i) in
-    let p = take-slot (f .0) t (inodeAt s n d (f .0)) i (g .1) in
-    let q = take-inode (f .0) t (inodeAt s n d (f .0)) i (g .1) in
+    let p : f .0 ≡ t = cc (g .1) in
+    let q : inodeAt s n d (f .0) ≡ i = cc (g .1) in
     record {
       entry = record { legal = a .0; directory = c .0; found = f .1 ∙ ap At p; inode = sym q ∙ ap (inodeAt s n d) p };
       empty = unlink-empty s n i (subst (λ (j : ℕ). eqb (kindOf s j) directoryKind && not (holdsNone s n j) ≡ false) q (g .0));
@@ -183,26 +171,11 @@ no-rename e t i h = let z : _≡_ {A = ℕ} 0 1 = cc in absurd (omega arith)
 no-move : (e : Refusal) (t i : ℕ) (r : Room) → NoRename e ≡ Move t i r → ⊥
 no-move e t i r h = let z : _≡_ {A = ℕ} 0 1 = cc in absurd (omega arith)
 
-rename-slot : (u t j i : ℕ) → Rename u j ≡ Rename t i → u ≡ t
-rename-slot u t j i h = cc
-
-rename-inode : (u t j i : ℕ) → Rename u j ≡ Rename t i → j ≡ i
-rename-inode u t j i h = cc
-
 move-not-rename : (u j t i : ℕ) (r : Room) → Move u j r ≡ Rename t i → ⊥
 move-not-rename u j t i r h = let z : _≡_ {A = ℕ} 0 1 = cc in absurd (omega arith)
 
 rename-not-move : (u j t i : ℕ) (r : Room) → Rename u j ≡ Move t i r → ⊥
 rename-not-move u j t i r h = let z : _≡_ {A = ℕ} 0 1 = cc in absurd (omega arith)
-
-move-slot : (u t j i : ℕ) (q r : Room) → Move u j q ≡ Move t i r → u ≡ t
-move-slot u t j i q r h = cc
-
-move-inode : (u t j i : ℕ) (q r : Room) → Move u j q ≡ Move t i r → j ≡ i
-move-inode u t j i q r h = cc
-
-move-room : (u t j i : ℕ) (q r : Room) → Move u j q ≡ Move t i r → q ≡ r
-move-room u t j i q r h = cc
 
 same-or-no-rename : (c : Bool) (w : Refusal) (t i : ℕ) → pick c Same (NoRename w) ≡ Rename t i → ⊥
 same-or-no-rename true w t i h = let z : _≡_ {A = ℕ} 0 1 = cc in absurd (omega arith)
@@ -235,7 +208,7 @@ module _ (s : List ℕ) (n b d t i e : ℕ) (other : List ℕ) where
       go : (c : Bool) → eqb d e ≡ c → pick c within away ≡ Rename u j → (d ≡ e) × (findSlot s n e other ≡ Absent) × (t ≡ u) × (i ≡ j)
       go true q g =
           let a = found-none (findSlot s n e other) (λ v. pick (eqb v t) Same (NoRename NameTaken)) (Rename t i) (Rename u j) g (λ v. same-or-no-rename (eqb v t) NameTaken u j) in
-          (eqb-true d e q, a .0, rename-slot t u i j (a .1), rename-inode t u i j (a .1))
+          (eqb-true d e q, a .0, cc (a .1), cc (a .1))
       go false q g = absurd (away-no-rename u j g)
 
   to-moves : (u j : ℕ) (r : Room) → renameTo s n b d t i e other ≡ Move u j r → Moves s n b d e i r × (findSlot s n e other ≡ Absent) × (t ≡ u) × (i ≡ j)
@@ -251,7 +224,8 @@ module _ (s : List ℕ) (n b d t i e : ℕ) (other : List ℕ) where
           let a = found-none (findSlot s n e other) (λ v. NoRename NameTaken) (pick (isBelow s n i e) (NoRename IntoItself) (onRoom (roomIn s n b e) (λ x. Move t i x) NoRename)) z g (λ v. no-move NameTaken u j r) in
           let c = pick-else (isBelow s n i e) (NoRename IntoItself) (onRoom (roomIn s n b e) (λ x. Move t i x) NoRename) z (a .1) (no-move IntoItself u j r) in
           let f = room-had (roomIn s n b e) (λ x. Move t i x) NoRename z (c .1) (λ w. no-move w u j r) in
-          (record { other = eqb-false d e q; outside = c .0; room = f .1 ∙ ap Has (move-room t u i j (f .0) r (f .2)) }, a .0, move-slot t u i j (f .0) r (f .2), move-inode t u i j (f .0) r (f .2))
+          let o : f .0 ≡ r = cc (f .2) in
+          (record { other = eqb-false d e q; outside = c .0; room = f .1 ∙ ap Has o }, a .0, cc (f .2), cc (f .2))
 
 module _ (s : List ℕ) (n b d : ℕ) (name : List ℕ) (e : ℕ) (other : List ℕ) where
   -- a plan z that is no refusal, with what comes after the directories are compared
@@ -291,9 +265,6 @@ module _ (s : List ℕ) (n b d : ℕ) (name : List ℕ) (e : ℕ) (other : List 
 no-size : (e : Refusal) (z : ℕ) → NoSize e ≡ To z → ⊥
 no-size e z h = let y : _≡_ {A = ℕ} 0 1 = cc in absurd (omega arith)
 
-to-size : (y z : ℕ) → To y ≡ To z → y ≡ z
-to-size y z h = cc
-
 pub record Reads (s : List ℕ) (n i o k m : ℕ) : Type 0 where
   pub file : isFile s n i ≡ true
   pub inside : o ≤ sizeOf s i
@@ -304,7 +275,7 @@ unfolding readPlan
 reads s n i o k m e =
     let a = pick-not (isFile s n i) (NoSize _) _ (To m) e (no-size _ m) in
     let c = pick-else (ltb (sizeOf s i) o) (NoSize _) _ (To m) (a .1) (no-size _ m) in
-    record { file = a .0; inside = ltb-false (sizeOf s i) o (c .0); count = sym (to-size (min k (sizeOf s i - o)) m (c .1)) }
+    record { file = a .0; inside = ltb-false (sizeOf s i) o (c .0); count = cc (c .1) }
 
 pub record Shortens (s : List ℕ) (n i z y : ℕ) : Type 0 where
   pub file : isFile s n i ≡ true
@@ -316,7 +287,7 @@ unfolding shortenPlan
 shortens s n i z y e =
     let a = pick-not (isFile s n i) (NoSize _) _ (To y) e (no-size _ y) in
     let c = pick-else (ltb (sizeOf s i) z) (NoSize _) _ (To y) (a .1) (no-size _ y) in
-    record { file = a .0; inside = ltb-false (sizeOf s i) z (c .0); size = sym (to-size z y (c .1)) }
+    record { file = a .0; inside = ltb-false (sizeOf s i) z (c .0); size = cc (c .1) }
 
 pub record Writes (s : List ℕ) (n i o k z : ℕ) : Type 0 where
   pub file : isFile s n i ≡ true
@@ -331,7 +302,7 @@ writes s n i o k z e =
     let a = pick-not (isFile s n i) (NoSize _) _ (To z) e (no-size _ z) in
     let c = pick-else (ltb (sizeOf s i) o || ltb mostFileBytes (o + k)) (NoSize _) _ (To z) (a .1) (no-size _ z) in
     let f = pick-else (ltb (headerOf s .«free_blocks») (blocksUsed (max (sizeOf s i) (o + k)) - blocksUsed (sizeOf s i))) (NoSize _) _ (To z) (c .1) (no-size _ z) in
-    let q = to-size (max (sizeOf s i) (o + k)) z (f .1) in
+    let q : max (sizeOf s i) (o + k) ≡ z = cc (f .1) in
     record {
       file = a .0;
       inside = ltb-false (sizeOf s i) o (or-false-l (ltb (sizeOf s i) o) (ltb mostFileBytes (o + k)) (c .0));

@@ -23,7 +23,6 @@ use Rattle.directory.specs.Slot.{DirFits, slots, putEntry, clearEntry}
 use Rattle.directory.proofs.SlotLaws.{block-fits, length-put, fits-clear, slots-clear, length-clear}
 use Rattle.sound.specs.Sound.{Sound, inodesIn, blocksIn}
 use Rattle.sound.specs.Place.{naming}
-use Rattle.sound.proofs.FactLaws.{sized}
 use Rattle.files.specs.declared.Room.{Room}
 use Rattle.files.specs.declared.RoomPlan.the-variants.{Has}
 use Rattle.files.specs.declared.Kind.{Kind}

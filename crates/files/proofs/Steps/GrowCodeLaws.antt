@@ -11,7 +11,6 @@ use lib.Dec.{eqb}
 use lib.ListN.{length, getD, set, replicate, length-set}
 use Rattle.bounded.specs.Search.{firstFrom, onFound}
 use Rattle.bounded.specs.Seen.{Seen}
-use Rattle.bounded.specs.Count.{count}
 use Rattle.bounded.specs.declared.Found.{Found}
 use Rattle.bounded.specs.declared.Found.the-variants.{At, Absent}
 use Rattle.bounded.proofs.BoolLaws.{clash}
