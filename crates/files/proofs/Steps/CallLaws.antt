@@ -37,15 +37,6 @@ module _ (s : List ℕ) where
 no-pass : (w : Refusal) (n b : ℕ) → Stop w ≡ Pass n b → ⊥
 no-pass w n b h = let z : _≡_ {A = ℕ} 0 1 = cc in absurd (omega arith)
 
-stop-is : (v w : Refusal) → Stop v ≡ Stop w → v ≡ w
-stop-is v w h = cc
-
-pass-inodes : (m n a b : ℕ) → Pass m a ≡ Pass n b → m ≡ n
-pass-inodes m n a b h = cc
-
-pass-blocks : (m n a b : ℕ) → Pass m a ≡ Pass n b → a ≡ b
-pass-blocks m n a b h = cc
-
 pub record Passed (s : List ℕ) (n b : ℕ) : Type 0 where
   pub sound : Sound mostStoreBlocks false s
   pub inodes : n ≡ inodesIn s
@@ -61,8 +52,8 @@ module _ (s : List ℕ) where
       let c = pick-not (isSound Store s) (Stop _) _ z (a .1) (no-pass _ n b) in
       record {
         sound = is-sound Store s .to (c .0);
-        inodes = sym (pass-inodes (inodesIn s) n (blocksIn s) b (c .1));
-        blocks = sym (pass-blocks (inodesIn s) n (blocksIn s) b (c .1));
+        inodes = cc (c .1);
+        blocks = cc (c .1);
         calls = λ out o. rw (a .0, c .0) refl;
       }
 
@@ -73,8 +64,8 @@ module _ (s : List ℕ) where
       go : (x y : Bool) → pick (not x) (Stop BadBuffer) (pick (not y) (Stop UnsoundStore) (Pass (inodesIn s) (blocksIn s))) ≡ Stop w
           → left (Refused w) s out ≡ pick (not x) (left (Refused BadBuffer) s out) (pick (not y) (left (Refused UnsoundStore) s out) o)
       go true true e = absurd (no-pass w (inodesIn s) (blocksIn s) (sym e))
-      go true false e = ap (λ (v : Refusal). left (Refused v) s out) (stop-is w UnsoundStore (sym e))
-      go false y e = ap (λ (v : Refusal). left (Refused v) s out) (stop-is w BadBuffer (sym e))
+      go true false e = let q : w ≡ UnsoundStore = cc in ap (λ (v : Refusal). left (Refused v) s out) q
+      go false y e = let q : w ≡ BadBuffer = cc in ap (λ (v : Refusal). left (Refused v) s out) q
 
 -- ---- a call returns: g is what the guard has answered, f the call by the store's counts, x what it leaves
 module _ (s out : List ℕ) (g : Guard) (e : g ≡ guardOf s) where
