@@ -24,9 +24,9 @@ use Rattle.files.specs.declared.SizePlan.{SizePlan}
 use Rattle.files.specs.declared.SizePlan.the-variants.{To, NoSize}
 use Rattle.files.specs.Plan.{lookUpPlan, readPlan, createPlan, writePlan, shortenPlan, linkPlan, unlinkPlan, renamePlan}
 use Rattle.files.specs.Plain.{Outcome, left, guarded, doLookUp, doRead, doCreate, doWrite, doShorten, doLink, doUnlink, doRename, plainLookUp, plainRead, plainCreate, plainWrite, plainShorten, plainLink, plainUnlink, plainRename, Call, lookUp, read, create, write, shorten, link, unlink, rename, plain}
-use Rattle.files.proofs.WriteLaws.{write-sound}
-use Rattle.files.proofs.ShortenLaws.{shorten-sound}
-use Rattle.files.proofs.PlanKeeps.{created-sound, linked-sound, unlinked-sound, renamed-sound, moved-sound}
+use Rattle.files.proofs.Kept.WriteLaws.{write-sound}
+use Rattle.files.proofs.Kept.ShortenLaws.{shorten-sound}
+use Rattle.files.proofs.Kept.PlanKeeps.{created-sound, linked-sound, unlinked-sound, renamed-sound, moved-sound}
 
 -- what a call leaves is sound
 abbrev Leaves : Outcome → Type 0

@@ -1,7 +1,7 @@
 use Prim.Native.Nat.{_<_}
 use native.Mathlib.Omega.{arith}
-use Rattle.files.proofs.RecordLaws.{used-is}
-use Rattle.files.proofs.GrowCodeLaws.{add-header, add-done}
+use Rattle.files.proofs.Stores.RecordLaws.{used-is}
+use Rattle.files.proofs.Steps.GrowCodeLaws.{add-header, add-done}
 use borrow.Author.Needs.{needs}
 use Rattle.files.proofs.content.add_block.Statement.{statement}
 use Rattle.files.proofs.content.add_block.Tie as tie

@@ -1,8 +1,9 @@
-use Prim.Native.Nat.{_-_, _≤_}
+use Prim.Native.Nat.{_≤_}
 use native.Mathlib.Omega.{arith}
-use Rattle.files.proofs.StoreLaws.{kind-some, kind-most, kind-fits, kind-size}
-use Rattle.files.proofs.ReadLaws.{file-fits}
-use Rattle.files.proofs.CutLaws.{free-few, inodes-few, cut-few, cut-header, cut-done}
+use Rattle.files.proofs.Stores.StoreLaws.{kind-some, kind-most, kind-fits, kind-size}
+use Rattle.files.proofs.Stores.FreeLaws.{few-free-inodes, few-free-blocks}
+use Rattle.files.proofs.Steps.ReadLaws.{file-fits}
+use Rattle.files.proofs.Steps.CutLaws.{cut-few, cut-header, cut-done}
 use borrow.Author.Needs.{needs}
 use Rattle.files.proofs.content.cut_to.Statement.{statement}
 use Rattle.files.proofs.content.cut_to.Tie as tie
@@ -48,8 +49,8 @@ more-free-requires c κs =
     let p = c .before .before .before .before .before .before .before .before .before .before .before .before .before .before .before .before .before .before .pre in
     let f = few (c .before .before .before .before .before .before .before .before .before .before .before .before) .1 in
     let h = cut-header _ _ _ _ _ _ _ (c .before .before .before .before .before .before .before .before .before .zero-rest .ensures) (c .before .before .before .write .ensures) (kind-some _ _ _ _ (p .2)) (kind-most _ _ _ _ (p .2)) in
-    let a = free-few _ (p .0) in
-    let b = inodes-few _ (p .0) in
+    let a = few-free-blocks _ (p .0) in
+    let b = few-free-inodes _ (p .0) in
     let g = kind-fits _ _ (p .0) (p .1) _ _ (p .2) .area in
     (search needs, rw h (omega arith), rw h (omega arith))
 

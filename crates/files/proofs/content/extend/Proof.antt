@@ -4,9 +4,9 @@ use native.Mathlib.Omega.{arith}
 use denote.Ref.{now}
 use Rattle.layout.specs.Block.{blocksUsed}
 use Rattle.layout.specs.Inode.{sizeOf}
-use Rattle.files.proofs.SizePlanLaws.{used-more}
-use Rattle.files.proofs.StoreLaws.{kind-fits}
-use Rattle.files.proofs.GrowCodeLaws.{none-more, more-few}
+use Rattle.files.proofs.Stores.StoreLaws.{kind-fits}
+use Rattle.files.proofs.Plans.SizePlanLaws.{used-more}
+use Rattle.files.proofs.Steps.GrowCodeLaws.{none-more, more-few}
 use borrow.Author.Needs.{needs}
 use Rattle.files.proofs.content.extend.Statement.{statement}
 use Rattle.files.proofs.content.extend.Tie as tie

@@ -3,14 +3,16 @@ use mathlib.Core.Path.{_≡_, sym, ap, _∙_}
 use native.Mathlib.Omega.{arith}
 use denote.Ref.{now}
 use Rattle.bounded.specs.declared.Found.the-variants.{At}
-use Rattle.layout.proofs.ViewLaws.{inode-fits}
 use Rattle.layout.specs.Header.{headerOf}
-use Rattle.layout.specs.Inode.{InodeFits, sizeOf}
-use Rattle.layout.specs.Block.{blocksUsed}
+use Rattle.layout.specs.Inode.{InodeFits}
+use Rattle.layout.specs.Block.{Sized}
 use Rattle.layout.specs.Free.{freeBlock}
-use Rattle.files.proofs.StoreLaws.{kind-fits, addresses-most}
-use Rattle.files.proofs.RecordLaws.{header-inode, used-is}
-use Rattle.files.proofs.GrowCodeLaws.{Turn, Growing, sized-same, free-range, sound-growing, turn-begin, turn-search, turn-some, turn-more, turn-end}
+use Rattle.layout.proofs.ViewLaws.{inode-fits}
+use Rattle.files.proofs.Stores.StoreLaws.{sized-at, kind-fits, addresses-most}
+use Rattle.files.proofs.Stores.RecordLaws.{header-inode, used-is}
+use Rattle.files.proofs.Stores.FreeLaws.{free-block}
+use Rattle.files.proofs.Kept.WriteLaws.{spare-of}
+use Rattle.files.proofs.Steps.GrowCodeLaws.{Turn, sized-same, turn-begin, turn-search, turn-some, turn-more, turn-end}
 use borrow.Author.Needs.{needs}
 use Rattle.files.proofs.content.grow.Statement.{statement}
 use Rattle.files.proofs.content.grow.Tie as tie
@@ -25,18 +27,18 @@ abbrev μ-loop : tie.MeasureT-loop
 fits : (c : tie.Start Inv-loop μ-loop) → InodeFits (now (c .args .s)) (c .args .n) (c .args .i)
 fits c = let p = c .pre .0 in kind-fits _ _ (p .0) (p .1) _ _ (p .3)
 
-grows : (c : tie.Start Inv-loop μ-loop) → let a = c .args in Growing (now (a .s)) (a .n) (a .b) (a .i) (blocksUsed (sizeOf (now (a .s)) (a .i))) (headerOf (now (a .s)) .«free_blocks»)
-grows c = let p = c .pre .0 in sound-growing _ _ _ _ _ (p .0) (p .1) (p .2) (p .3)
+sizes : (c : tie.Start Inv-loop μ-loop) → let a = c .args in Sized (now (a .s)) (a .n) (a .b)
+sizes c = let p = c .pre .0 in sized-at _ _ _ (p .0) (p .1) (p .2)
 
 few : (c : tie.After-blocks-used Inv-loop μ-loop) → c .blocks-used .result + c .before .before .before .before .before .args .m ≤ 12
 few c = let e = used-is _ _ _ _ (c .before .before .read .ensures) _ (c .blocks-used .ensures) in let p = c .before .before .before .before .before .pre .1 .1 in omega arith
 
 -- the block that a turn takes
 takes : (c : tie.After-next-unnamed Inv-loop μ-loop) → let a = c .before .before .before .before .before .before .before .before .before .before .before .before .args in freeBlock (c .before .before .before .loop .inv .store) (a .n) (a .b) ≡ At (c .next-unnamed .result)
-takes c = sym (turn-search _ _ _ _ _ _ _ _ _ _ _ (c .before .before .before .loop .inv) _ (c .before .before .before .before .before .named-blocks .ensures) (grows (c .before .before .before .before .before .before .before .before .before .before .before .before) .long .blocks)) ∙ c .next-unnamed .ensures
+takes c = sym (turn-search _ _ _ _ _ _ _ _ _ _ _ (c .before .before .before .loop .inv) _ (c .before .before .before .before .before .named-blocks .ensures) (sizes (c .before .before .before .before .before .before .before .before .before .before .before .before) .blocks)) ∙ c .next-unnamed .ensures
 
 bound : (c : tie.After-next-unnamed Inv-loop μ-loop) → (1 ≤ c .next-unnamed .result) × (c .next-unnamed .result ≤ c .before .before .before .before .before .before .before .before .before .before .before .before .args .b)
-bound c = free-range _ _ _ _ (takes c)
+bound c = let r = free-block _ _ _ _ (takes c) in (r .low, r .high)
 
 read-requires : tie.Need-read-requires Inv-loop μ-loop
 read-requires c κs = fits (c .before .before)
@@ -51,22 +53,22 @@ named-blocks-requires : tie.Need-named-blocks-requires Inv-loop μ-loop
 named-blocks-requires c κs = let p = c .before .before .before .before .before .before .pre .0 in let f = fits (c .before .before .before .before .before .before) in ((f .few, f .area), addresses-most _ _ (p .0) (p .1))
 
 loop-holds : tie.Need-loop-holds Inv-loop μ-loop
-loop-holds c = turn-begin _ _ _ _ _ _ _ (c .before .before .before .before .before .read .ensures) (c .before .before .before .blocks-used .ensures) (grows (c .before .before .before .before .before .before .before .before))
+loop-holds c = turn-begin _ _ _ _ _ _ _ (c .before .before .before .before .before .read .ensures) (c .before .before .before .blocks-used .ensures) (let p = c .before .before .before .before .before .before .before .before .pre in spare-of _ _ _ _ _ (p .0 .0) (p .0 .1) (p .0 .2) (p .0 .3) (p .1 .2) (p .1 .1))
 
 add-next-unnamed : tie.Need-add-next-unnamed Inv-loop μ-loop
 add-next-unnamed c = let l = c .before .before .loop .inv .last in search needs
 
 next-unnamed-requires : tie.Need-next-unnamed-requires Inv-loop μ-loop
 next-unnamed-requires c κs =
-    let g = grows (c .before .before .before .before .before .before .before .before .before .before .before) .long .blocks in
+    let g = sizes (c .before .before .before .before .before .before .before .before .before .before .before) .blocks in
     let h = c .before .before .loop .inv in
-    (g, λ e. turn-some _ _ _ _ _ _ _ _ _ _ _ h (omega arith) (c .before .before .before .before .before .before .before .before .before .before .before .pre .1 .2) (sym (turn-search _ _ _ _ _ _ _ _ _ _ _ h _ (c .before .before .before .before .named-blocks .ensures) g) ∙ e))
+    (g, λ e. turn-some _ _ _ _ _ _ _ _ _ _ _ h (omega arith) (sym (turn-search _ _ _ _ _ _ _ _ _ _ _ h _ (c .before .before .before .before .named-blocks .ensures) g) ∙ e))
 
 zero-block-requires : tie.Need-zero-block-requires Inv-loop μ-loop
-zero-block-requires c κs = let r = bound (c .before) in (sized-same _ _ _ _ (c .before .before .before .before .loop .inv .same) (grows (c .before .before .before .before .before .before .before .before .before .before .before .before .before) .long), r .0, r .1)
+zero-block-requires c κs = let r = bound (c .before) in (sized-same _ _ _ _ (c .before .before .before .before .loop .inv .same) (sizes (c .before .before .before .before .before .before .before .before .before .before .before .before .before)), r .0, r .1)
 
 cast-a : tie.Need-cast-a Inv-loop μ-loop
-cast-a c = let r = bound (c .before .before .before .before) .1 in let g = grows (c .before .before .before .before .before .before .before .before .before .before .before .before .before .before .before .before) .long .blocks in search needs
+cast-a c = let r = bound (c .before .before .before .before) .1 in let g = sizes (c .before .before .before .before .before .before .before .before .before .before .before .before .before .before .before .before) .blocks in search needs
 
 add-a : tie.Need-add-a Inv-loop μ-loop
 add-a c = let f = few (c .before .before .before .before .before .before .before .before .before .before .before) in search needs
@@ -84,7 +86,7 @@ loop-less : tie.Need-loop-less Inv-loop μ-loop
 loop-less c = search needs
 
 loop-again : tie.Need-loop-again Inv-loop μ-loop
-loop-again c = rw (c .before .before .zero-block .ensures) (turn-more _ _ _ _ _ _ _ _ _ _ _ (c .before .before .before .before .before .before .before .loop .inv) _ (takes (c .before .before .before .before)) (fits (c .before .before .before .before .before .before .before .before .before .before .before .before .before .before .before .before)) (omega arith) (few (c .before .before .before .before .before .before .before .before .before .before .before)))
+loop-again c = rw (c .before .before .zero-block .ensures) (turn-more _ _ _ _ _ _ _ _ _ _ _ (c .before .before .before .before .before .before .before .loop .inv) _ (takes (c .before .before .before .before)) (fits (c .before .before .before .before .before .before .before .before .before .before .before .before .before .before .before .before)) (omega arith))
 
 with-blocks-requires : tie.Need-with-blocks-requires Inv-loop μ-loop
 with-blocks-requires c κs = c .before .before .before .before .before .before .before .before .before .before .pre .1 .3

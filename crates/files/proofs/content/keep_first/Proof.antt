@@ -2,7 +2,7 @@ use Prim.Native.Nat.{_-_, _≤_}
 use mathlib.Core.Path.{_≡_, _∙_, ap}
 use native.Mathlib.Omega.{arith}
 use Rattle.files.specs.Content.{keepFirst}
-use Rattle.files.proofs.CutLaws.{keep-begin, keep-turn}
+use Rattle.files.proofs.Steps.CutLaws.{keep-begin, keep-turn}
 use borrow.Author.Needs.{needs}
 use Rattle.files.proofs.content.keep_first.Statement.{statement}
 use Rattle.files.proofs.content.keep_first.Tie as tie

@@ -4,9 +4,9 @@ use native.Mathlib.Omega.{arith}
 use borrow.Author.Tests.{eq-eqb, ne-eqb}
 use lib.ListN.{getD}
 use lib.Dec.{eqb}
-use Rattle.bounded.proofs.SearchLaws.{first-turn, first-found}
 use Rattle.bounded.specs.Search.{firstFrom}
-use Rattle.files.proofs.GrowCodeLaws.{search-left}
+use Rattle.bounded.proofs.SearchLaws.{first-turn, first-found}
+use Rattle.files.proofs.Steps.GrowCodeLaws.{search-left}
 use borrow.Author.Needs.{needs}
 use Rattle.files.proofs.content.next_unnamed.Statement.{statement}
 use Rattle.files.proofs.content.next_unnamed.Tie as tie

@@ -3,12 +3,12 @@ use mathlib.Core.Path.{_≡_, refl, ap, _∙_}
 use native.Mathlib.Omega.{arith}
 use denote.Ref.{now}
 use lib.ListN.{length}
-use Rattle.octets.proofs.PartLaws.{length-copied}
 use Rattle.octets.specs.Octets.{part}
+use Rattle.octets.proofs.PartLaws.{length-copied}
 use Rattle.files.specs.Content.{putFile}
 use Rattle.files.specs.Fits.{FileFits}
-use Rattle.files.proofs.ReadLaws.{byte-block, byte-inside}
-use Rattle.files.proofs.PutLaws.{put-begin, put-turn, put-end, fits-copied}
+use Rattle.files.proofs.Steps.ReadLaws.{byte-block, byte-inside}
+use Rattle.files.proofs.Steps.PutLaws.{put-begin, put-turn, put-end, fits-copied}
 use borrow.Author.Needs.{needs}
 use Rattle.files.proofs.content.put_file.Statement.{statement}
 use Rattle.files.proofs.content.put_file.Tie as tie

@@ -3,11 +3,11 @@ use mathlib.Core.Path.{_≡_, refl, ap, _∙_}
 use native.Mathlib.Omega.{arith}
 use denote.Ref.{now}
 use lib.ListN.{length}
-use Rattle.octets.proofs.PartLaws.{length-copied}
 use Rattle.octets.specs.Octets.{splice}
+use Rattle.octets.proofs.PartLaws.{length-copied}
 use Rattle.files.specs.Fits.{FileFits}
 use Rattle.files.specs.Content.{fileBytes}
-use Rattle.files.proofs.ReadLaws.{file-fits, byte-block, byte-inside, read-begin, read-turn}
+use Rattle.files.proofs.Steps.ReadLaws.{file-fits, byte-block, byte-inside, read-begin, read-turn}
 use borrow.Author.Needs.{needs}
 use Rattle.files.proofs.content.read_file.Statement.{statement}
 use Rattle.files.proofs.content.read_file.Tie as tie

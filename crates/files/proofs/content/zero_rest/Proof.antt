@@ -1,7 +1,7 @@
 use mathlib.Core.Path.{_∙_}
 use native.Mathlib.Omega.{arith}
-use Rattle.files.proofs.ReadLaws.{edge-block, edge-inside}
-use Rattle.files.proofs.CutLaws.{rest-none, rest-some}
+use Rattle.files.proofs.Steps.ReadLaws.{edge-block, edge-inside}
+use Rattle.files.proofs.Steps.CutLaws.{rest-none, rest-some}
 use borrow.Author.Needs.{needs}
 use Rattle.files.proofs.content.zero_rest.Statement.{statement}
 use Rattle.files.proofs.content.zero_rest.Tie as tie

@@ -1,26 +1,26 @@
-use Rattle.files.proofs.EnterLaws.{free-low, free-high, entered-fits, create-counts}
-use Rattle.files.proofs.StoreLaws.{kind-most}
-use Rattle.files.specs.Apply.{created}
-use Rattle.files.specs.Inode.{lessFree}
-use Rattle.layout.specs.Inode.{putInode}
-use Rattle.layout.specs.declared.inode.Inode.{Inode}
-use denote.Ref.{now}
-use native.Mathlib.Omega.{arith}
+use Prim.Native.Nat.{ℕ}
 use mathlib.Core.List.{List}
 use mathlib.Core.Path.{ap, ap₂, _∙_}
-use Prim.Native.Nat.{ℕ}
+use native.Mathlib.Omega.{arith}
+use Rattle.layout.specs.Inode.{putInode}
+use Rattle.layout.specs.declared.inode.Inode.{Inode}
+use Rattle.files.specs.Apply.{created}
+use Rattle.files.specs.Inode.{lessFree}
+use Rattle.files.proofs.Stores.StoreLaws.{kind-most}
+use Rattle.files.proofs.Stores.FreeLaws.{free-inode}
+use Rattle.files.proofs.Steps.EnterLaws.{entered-fits, create-counts}
 use borrow.Author.Needs.{needs}
 use Rattle.files.proofs.entries.create.Statement.{statement}
 use Rattle.files.proofs.entries.create.Tie as tie
 
 enter-requires : tie.Need-enter-requires
-enter-requires c κs = let p = c .before .before .before .pre in (p .0, (free-high _ _ _ (p .1 .0), p .1 .1))
+enter-requires c κs = let p = c .before .before .before .pre in (p .0, (free-inode _ _ _ (p .1 .0) .high, p .1 .1))
 
 new-inode-requires : tie.Need-new-inode-requires
 new-inode-requires c κs = let p = c .before .before .before .before .before .before .pre .0 in let a = kind-most _ _ _ _ (p .3) in let b = p .0 .framed .most-inodes in let e = p .1 in omega arith
 
 write-requires : tie.Need-write-requires
-write-requires c κs = let p = c .before .before .before .before .before .before .before .before .pre .0 in let f = c .before .before .before .before .before .before .before .before .pre .1 .0 in entered-fits _ _ _ _ _ (p .0) (p .1) (p .2) (p .3) (p .4) _ _ _ (c .before .before .before .before .enter .ensures) _ (free-low _ _ _ f) (free-high _ _ _ f)
+write-requires c κs = let p = c .before .before .before .before .before .before .before .before .pre .0 in let f = free-inode _ _ _ (c .before .before .before .before .before .before .before .before .pre .1 .0) in entered-fits _ _ _ _ _ (p .0) (p .1) (p .2) (p .3) (p .4) _ _ _ (c .before .before .before .before .enter .ensures) _ (f .low) (f .high)
 
 less-free-requires : tie.Need-less-free-requires
 less-free-requires c κs = let p = c .before .before .before .before .before .before .before .before .before .before .before .before .pre .0 in let z = create-counts _ _ _ _ _ (p .0) (p .1) (p .2) (p .3) (p .4) _ _ _ (c .before .before .before .before .before .before .before .before .enter .ensures) (c .before .before .before .before .before .before .before .before .before .before .before .before .pre .1 .0) (c .before .before .before .before .before .before .before .before .before .before .before .before .args .kind) _ (c .before .before .before .write .ensures ∙ ap (putInode _ _ _) (c .before .before .before .before .before .new-inode .ensures)) in (z .0, z .1, omega arith)
@@ -30,7 +30,7 @@ same-length c = search needs
 
 returns : tie.Need-returns
 unfolding created
-returns c = 
+returns c =
     let a = c .before .before .before .before .before .before .before .before .before .before .before .before .before .before .before .args in
     c .before .before .less-free .ensures
     ∙ ap (λ (t : List ℕ). lessFree t 1 0)

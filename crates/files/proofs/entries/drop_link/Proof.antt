@@ -1,6 +1,6 @@
-use Rattle.files.proofs.EnterLaws.{last-link, other-link}
+use mathlib.Core.Path.{_∙_}
 use native.Mathlib.Omega.{arith}
-use mathlib.Core.Path.{sym, _∙_}
+use Rattle.files.proofs.Steps.EnterLaws.{last-link, other-link}
 use borrow.Author.Needs.{needs}
 use Rattle.files.proofs.entries.drop_link.Statement.{statement}
 use Rattle.files.proofs.entries.drop_link.Tie as tie

@@ -1,10 +1,10 @@
-use Rattle.files.proofs.EnterLaws.{roomed, roomed-dir}
-use Rattle.files.specs.Apply.{enter}
-use Rattle.directory.specs.Slot.{putEntry}
-use denote.Ref.{now}
 use Prim.Native.Nat.{ℕ}
 use mathlib.Core.List.{List}
 use mathlib.Core.Path.{ap, _∙_}
+use denote.Ref.{now}
+use Rattle.directory.specs.Slot.{putEntry}
+use Rattle.files.specs.Apply.{enter}
+use Rattle.files.proofs.Steps.EnterLaws.{roomed, roomed-dir}
 use borrow.Author.Needs.{needs}
 use Rattle.files.proofs.entries.enter.Statement.{statement}
 use Rattle.files.proofs.entries.enter.Tie as tie
@@ -16,7 +16,7 @@ cast-put-entry : tie.Need-cast-put-entry
 cast-put-entry c = search needs
 
 put-entry-requires : tie.Need-put-entry-requires
-put-entry-requires c κs = 
+put-entry-requires c κs =
     let p = c .before .before .before .before .before .before .before .pre .0 in
     let q = c .before .before .before .make-room .ensures in
     (roomed-dir _ _ _ _ _ (p .0) (p .1) (p .2) (p .3) (p .4) _ q _ (p .3), roomed _ _ _ _ _ (p .0) (p .1) (p .2) (p .3) (p .4) _ q .slot, c .before .before .before .before .before .before .before .pre .1 .1)
@@ -26,7 +26,7 @@ same-length c = search needs
 
 returns : tie.Need-returns
 unfolding enter
-returns c = 
+returns c =
     let a = c .before .before .before .before .before .before .before .before .before .before .args in
     c .before .before .put-entry .ensures ∙ ap (λ (t : List ℕ). putEntry t (a .n) (a .d) (a .room .slot) (a .i) (now (a .name))) (c .before .before .before .before .before .before .make-room .ensures)
 

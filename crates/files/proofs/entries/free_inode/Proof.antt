@@ -1,12 +1,12 @@
-use Rattle.files.proofs.EnterLaws.{freed-counts, used-bound}
-use Rattle.files.specs.Inode.{moreFree}
-use Rattle.layout.specs.Block.{blocksUsed}
-use Rattle.layout.specs.Inode.{putInode}
-use denote.Ref.{now}
-use native.Mathlib.Omega.{arith}
+use Prim.Native.Nat.{ℕ}
 use mathlib.Core.List.{List}
 use mathlib.Core.Path.{ap, ap₂, _∙_}
-use Prim.Native.Nat.{ℕ}
+use native.Mathlib.Omega.{arith}
+use denote.Ref.{now}
+use Rattle.layout.specs.Block.{blocksUsed}
+use Rattle.layout.specs.Inode.{putInode}
+use Rattle.files.specs.Inode.{moreFree}
+use Rattle.files.proofs.Steps.EnterLaws.{freed-counts, used-bound}
 use borrow.Author.Needs.{needs}
 use Rattle.files.proofs.entries.free_inode.Statement.{statement}
 use Rattle.files.proofs.entries.free_inode.Tie as tie
@@ -30,13 +30,13 @@ cast-more-free : tie.Need-cast-more-free
 cast-more-free c = let u = used-bound (c .before .before .before .before .before .before .before .size .result) (omega arith) in let e = c .before .before .before .before .before .before .blocks-used .ensures in omega arith
 
 more-free-requires : tie.Need-more-free-requires
-more-free-requires c κs = let p = c .before .before .before .before .before .before .before .before .before .before .pre in let u = used-bound (c .before .before .before .before .before .before .before .size .result) (omega arith) in let e = c .before .before .before .before .before .before .blocks-used .ensures in freed-counts _ _ _ (p .0) (p .1) (p .2) _ (c .before .before .before .before .before .zero-inode .ensures) _ (c .before .before .before .write .ensures) _ (omega arith)
+more-free-requires c κs = let p = c .before .before .before .before .before .before .before .before .before .before .pre in let u = used-bound (c .before .before .before .before .before .before .before .size .result) (omega arith) in let e = c .before .before .before .before .before .before .blocks-used .ensures in freed-counts _ _ _ (p .0) (p .1) (p .2) _ _ (c .before .before .before .write .ensures) _ (omega arith)
 
 same-length : tie.Need-same-length
 same-length c = search needs
 
 returns : tie.Need-returns
-returns c = 
+returns c =
     let a = c .before .before .before .before .before .before .before .before .before .before .before .before .before .args in
     c .before .before .more-free .ensures
     ∙ ap₂ (λ (t : List ℕ) (m : ℕ). moreFree t 1 m)

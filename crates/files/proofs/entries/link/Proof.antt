@@ -1,12 +1,11 @@
-use Rattle.files.proofs.EnterLaws.{few-links, entered-fits, entered-links}
-use Rattle.files.proofs.StoreLaws.{kind-some, kind-most}
-use Rattle.files.specs.Apply.{linked}
-use Rattle.layout.specs.Inode.{linksOf, putLinks}
-use denote.Ref.{now}
-use native.Mathlib.Omega.{arith}
+use Prim.Native.Nat.{ℕ, _+_}
 use mathlib.Core.List.{List}
 use mathlib.Core.Path.{ap, ap₂, _∙_}
-use Prim.Native.Nat.{ℕ, _+_}
+use native.Mathlib.Omega.{arith}
+use Rattle.layout.specs.Inode.{linksOf, putLinks}
+use Rattle.files.specs.Apply.{linked}
+use Rattle.files.proofs.Stores.StoreLaws.{kind-some, kind-most}
+use Rattle.files.proofs.Steps.EnterLaws.{few-links, entered-fits, entered-links}
 use borrow.Author.Needs.{needs}
 use Rattle.files.proofs.entries.link.Statement.{statement}
 use Rattle.files.proofs.entries.link.Tie as tie
@@ -18,7 +17,7 @@ links-requires : tie.Need-links-requires
 links-requires c κs = let p = c .before .before .before .before .before .before .before .pre .0 in let f = c .before .before .before .before .before .before .before .pre .1 .0 in entered-fits _ _ _ _ _ (p .0) (p .1) (p .2) (p .3) (p .4) _ _ _ (c .before .before .before .enter .ensures) _ (kind-some _ _ _ _ f) (kind-most _ _ _ _ f)
 
 add-put-links : tie.Need-add-put-links
-add-put-links c = 
+add-put-links c =
     let p = c .before .before .before .before .before .before .before .before .before .pre .0 in
     let f = c .before .before .before .before .before .before .before .before .before .pre .1 .0 in
     let a = kind-most _ _ _ _ f in
@@ -35,7 +34,7 @@ same-length c = search needs
 
 returns : tie.Need-returns
 unfolding linked
-returns c = 
+returns c =
     let a = c .before .before .before .before .before .before .before .before .before .before .before .before .args in
     let e = c .before .before .before .before .before .before .before .before .enter .ensures in
     c .before .before .put-links .ensures

@@ -1,5 +1,5 @@
-use Rattle.files.proofs.EnterLaws.{room-none, room-some, room-takes}
 use mathlib.Core.Path.{_∙_}
+use Rattle.files.proofs.Steps.EnterLaws.{room-none, room-some, room-takes}
 use borrow.Author.Needs.{needs}
 use Rattle.files.proofs.entries.make_room.Statement.{statement}
 use Rattle.files.proofs.entries.make_room.Tie as tie

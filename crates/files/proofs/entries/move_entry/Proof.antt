@@ -1,12 +1,12 @@
-use Rattle.files.proofs.EnterLaws.{roomed-dir, roomed-slot, moving-dir, moving-slot, moving-fits}
-use Rattle.files.proofs.StoreLaws.{kind-most}
-use Rattle.files.specs.Apply.{setParent, moved}
-use Rattle.directory.specs.Slot.{putEntry, clearEntry}
-use denote.Ref.{now}
-use native.Mathlib.Omega.{arith}
+use Prim.Native.Nat.{ℕ}
 use mathlib.Core.List.{List}
 use mathlib.Core.Path.{ap, _∙_}
-use Prim.Native.Nat.{ℕ}
+use native.Mathlib.Omega.{arith}
+use denote.Ref.{now}
+use Rattle.directory.specs.Slot.{putEntry, clearEntry}
+use Rattle.files.specs.Apply.{setParent, moved}
+use Rattle.files.proofs.Stores.StoreLaws.{kind-most}
+use Rattle.files.proofs.Steps.EnterLaws.{roomed-dir, roomed-slot, moving-dir, moving-slot, moving-fits}
 use borrow.Author.Needs.{needs}
 use Rattle.files.proofs.entries.move_entry.Statement.{statement}
 use Rattle.files.proofs.entries.move_entry.Tie as tie
@@ -15,7 +15,7 @@ make-room-requires : tie.Need-make-room-requires
 make-room-requires c κs = search needs
 
 clear-entry-requires : tie.Need-clear-entry-requires
-clear-entry-requires c κs = 
+clear-entry-requires c κs =
     let p = c .before .before .before .before .before .before .before .pre .0 in
     let f = c .before .before .before .before .before .before .before .pre .1 in
     let q = c .before .before .before .make-room .ensures in
@@ -25,14 +25,14 @@ cast-put-entry : tie.Need-cast-put-entry
 cast-put-entry c = search needs
 
 put-entry-requires : tie.Need-put-entry-requires
-put-entry-requires c κs = 
+put-entry-requires c κs =
     let p = c .before .before .before .before .before .before .before .before .before .before .before .pre .0 in
     let q = c .before .before .before .before .before .before .before .make-room .ensures in
     let u = c .before .before .before .clear-entry .ensures in
     (moving-dir _ _ _ _ _ (p .0) (p .1) (p .2) (p .3) (p .4) _ q _ _ _ u, moving-slot _ _ _ _ _ (p .0) (p .1) (p .2) (p .3) (p .4) _ q _ _ _ u, c .before .before .before .before .before .before .before .before .before .before .before .pre .1 .4)
 
 set-parent-requires : tie.Need-set-parent-requires
-set-parent-requires c κs = 
+set-parent-requires c κs =
     let p = c .before .before .before .before .before .before .before .before .before .before .before .before .before .before .before .pre .0 in
     let f = c .before .before .before .before .before .before .before .before .before .before .before .before .before .before .before .pre .1 in
     let a = kind-most _ _ _ _ (p .3) in
@@ -45,7 +45,7 @@ same-length c = search needs
 
 returns : tie.Need-returns
 unfolding moved
-returns c = 
+returns c =
     let a = c .before .before .before .before .before .before .before .before .before .before .before .before .before .before .before .before .before .before .args in
     c .before .before .set-parent .ensures
     ∙ ap (λ (t : List ℕ). setParent t (a .n) (a .i) (a .e))

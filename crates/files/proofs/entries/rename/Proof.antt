@@ -1,4 +1,4 @@
-use Rattle.files.proofs.StoreLaws.{kind-dir}
+use Rattle.files.proofs.Stores.StoreLaws.{kind-dir}
 use borrow.Author.Needs.{needs}
 use Rattle.files.proofs.entries.rename.Statement.{statement}
 use Rattle.files.proofs.entries.rename.Tie as tie

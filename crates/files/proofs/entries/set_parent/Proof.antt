@@ -1,10 +1,9 @@
-use Rattle.files.proofs.EnterLaws.{parent-file, parent-directory}
-use Rattle.files.specs.Inode.{withParent}
+use mathlib.Core.Path.{sym, ap, _∙_}
+use denote.Ref.{now}
 use Rattle.layout.specs.Inode.{putAttributes}
 use Rattle.layout.specs.declared.inode.Inode.{Inode}
-use denote.Ref.{now}
-use mathlib.Core.Path.{sym, ap, _∙_}
-use Prim.Native.Nat.{ℕ}
+use Rattle.files.specs.Inode.{withParent}
+use Rattle.files.proofs.Steps.EnterLaws.{parent-file, parent-directory}
 use borrow.Author.Needs.{needs}
 use Rattle.files.proofs.entries.set_parent.Statement.{statement}
 use Rattle.files.proofs.entries.set_parent.Tie as tie
@@ -31,7 +30,7 @@ same-length-2 : tie.Need-same-length-2
 same-length-2 c = search needs
 
 returns-2 : tie.Need-returns-2
-returns-2 c = 
+returns-2 c =
     let a = c .before .before .before .before .before .before .before .before .before .before .before .args in
     c .before .before .write-attributes .ensures
     ∙ ap (putAttributes (now (a .s)) (a .i)) (c .before .before .before .before .with-parent .ensures ∙ ap (λ (v : Inode). withParent v (a .e)) (c .before .before .before .before .before .read .ensures))

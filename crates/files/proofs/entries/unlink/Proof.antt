@@ -1,9 +1,9 @@
-use Rattle.files.proofs.EnterLaws.{cleared}
-use Rattle.files.proofs.StoreLaws.{kind-dir}
-use Rattle.files.specs.Apply.{dropLink, unlinked}
+use Prim.Native.Nat.{ℕ}
 use mathlib.Core.List.{List}
 use mathlib.Core.Path.{ap, _∙_}
-use Prim.Native.Nat.{ℕ}
+use Rattle.files.specs.Apply.{dropLink, unlinked}
+use Rattle.files.proofs.Stores.StoreLaws.{kind-dir}
+use Rattle.files.proofs.Steps.EnterLaws.{cleared}
 use borrow.Author.Needs.{needs}
 use Rattle.files.proofs.entries.unlink.Statement.{statement}
 use Rattle.files.proofs.entries.unlink.Tie as tie

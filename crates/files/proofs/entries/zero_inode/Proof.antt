@@ -1,5 +1,5 @@
-use Rattle.files.specs.Inode.{zeroInode}
 use mathlib.Core.Path.{refl}
+use Rattle.files.specs.Inode.{zeroInode}
 use Rattle.files.proofs.entries.zero_inode.Statement.{statement}
 use Rattle.files.proofs.entries.zero_inode.Tie as tie
 

@@ -1,12 +1,12 @@
-use Rattle.files.proofs.CallLaws.{guard-unframed, guard-unsound, guard-sound}
-use Rattle.sound.proofs.CheckLaws.{read-inodes, read-blocks, framed-on, sound-on}
-use Rattle.sound.specs.Sound.{framedB}
-use Rattle.layout.specs.Sizes.{mostStoreBlocks}
-use Rattle.bounded.proofs.BoolLaws.{chain-on, chain-off}
-use denote.Ref.{now}
-use native.Mathlib.Omega.{arith}
 use mathlib.Core.Bool.{true}
-use mathlib.Core.Path.{_≡_, sym, _∙_}
+use mathlib.Core.Path.{_≡_, _∙_}
+use native.Mathlib.Omega.{arith}
+use denote.Ref.{now}
+use Rattle.bounded.proofs.BoolLaws.{chain-on, chain-off}
+use Rattle.layout.specs.Sizes.{mostStoreBlocks}
+use Rattle.sound.specs.Sound.{framedB}
+use Rattle.sound.proofs.CheckLaws.{read-inodes, read-blocks, framed-on, sound-on}
+use Rattle.files.proofs.Steps.CallLaws.{guard-unframed, guard-unsound, guard-sound}
 use borrow.Author.Needs.{needs}
 use Rattle.files.proofs.plain.guard.Statement.{statement}
 use Rattle.files.proofs.plain.guard.Tie as tie

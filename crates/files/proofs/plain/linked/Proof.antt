@@ -1,11 +1,11 @@
-use Rattle.files.proofs.PlanFacts.{links}
-use Rattle.files.specs.Plain.{left, doLink}
-use Rattle.names.proofs.NameLaws.{legal-bounds}
-use Rattle.answers.specs.declared.Answer.the-variants.{Done}
-use denote.Ref.{now}
 use Prim.Native.Nat.{ℕ}
 use mathlib.Core.List.{List, []}
 use mathlib.Core.Path.{sym, ap, _∙_}
+use denote.Ref.{now}
+use Rattle.names.proofs.NameLaws.{legal-bounds}
+use Rattle.answers.specs.declared.Answer.the-variants.{Done}
+use Rattle.files.specs.Plain.{left, doLink}
+use Rattle.files.proofs.Plans.PlanFacts.{links}
 use borrow.Author.Needs.{needs}
 use Rattle.files.proofs.plain.linked.Statement.{statement}
 use Rattle.files.proofs.plain.linked.Tie as tie
@@ -17,10 +17,10 @@ enum-known-room : tie.Need-enum-known-room
 enum-known-room c = search needs
 
 link-requires : tie.Need-link-requires
-link-requires c κs = 
+link-requires c κs =
     let p = c .before .before .before .before .before .before .before .before .pre in
     let f = links _ _ _ _ _ _ _ (sym (c .before .before .before .before .link-plan .ensures) ∙ c .before .before .room .given .1) in
-    ((p .0, p .1, p .2, f .directory, f .room), (f .file, legal-bounds _ (f .legal) .1))
+    ((p .0, p .1, p .2, f .new .directory, f .room), (f .file, legal-bounds _ (f .new .legal) .1))
 
 enum-known-why : tie.Need-enum-known-why
 enum-known-why c = search needs
@@ -29,7 +29,7 @@ same-length : tie.Need-same-length
 same-length c = search needs
 
 returns : tie.Need-returns
-returns c = 
+returns c =
     let a = c .before .before .before .before .before .before .before .before .before .before .before .args in
     ap (λ (t : List ℕ). left (Done 0) t []) (c .before .before .link .ensures)
     ∙ ap (doLink (now (a .s)) (a .n) (a .d) (now (a .name)) (a .i)) (sym (c .before .before .before .before .before .room .given .1) ∙ c .before .before .before .before .before .before .before .link-plan .ensures)
@@ -38,7 +38,7 @@ same-length-2 : tie.Need-same-length-2
 same-length-2 c = search needs
 
 returns-2 : tie.Need-returns-2
-returns-2 c = 
+returns-2 c =
     let a = c .before .before .before .before .before .before .before .args in
     ap (doLink (now (a .s)) (a .n) (a .d) (now (a .name)) (a .i)) (sym (c .before .why .given .1) ∙ c .before .before .before .link-plan .ensures)
 

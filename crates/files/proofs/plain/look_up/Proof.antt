@@ -1,10 +1,10 @@
-use Rattle.files.proofs.CallLaws.{passed, call-through, call-stopped}
-use Rattle.files.specs.Plain.{doLookUp, plainLookUp}
-use Rattle.files.specs.Plan.{lookUpPlan}
-use denote.Ref.{now}
+use Prim.Native.Nat.{ℕ}
 use mathlib.Core.List.{[]}
 use mathlib.Core.Path.{sym, _∙_}
-use Prim.Native.Nat.{ℕ}
+use denote.Ref.{now}
+use Rattle.files.specs.Plain.{doLookUp, plainLookUp}
+use Rattle.files.specs.Plan.{lookUpPlan}
+use Rattle.files.proofs.Steps.CallLaws.{passed, call-through, call-stopped}
 use borrow.Author.Needs.{needs}
 use Rattle.files.proofs.plain.look_up.Statement.{statement}
 use Rattle.files.proofs.plain.look_up.Tie as tie

@@ -1,7 +1,7 @@
-use Rattle.files.specs.Plain.{doLookUp}
-use denote.Ref.{now}
 use mathlib.Core.List.{[]}
 use mathlib.Core.Path.{sym, ap, _∙_}
+use denote.Ref.{now}
+use Rattle.files.specs.Plain.{doLookUp}
 use borrow.Author.Needs.{needs}
 use Rattle.files.proofs.plain.looked_up.Statement.{statement}
 use Rattle.files.proofs.plain.looked_up.Tie as tie

@@ -1,11 +1,11 @@
-use Rattle.files.proofs.PlanFacts.{creates}
-use Rattle.files.specs.Plain.{left, doCreate}
-use Rattle.names.proofs.NameLaws.{legal-bounds}
-use Rattle.answers.specs.declared.Answer.the-variants.{Done}
-use denote.Ref.{now}
 use Prim.Native.Nat.{ℕ}
 use mathlib.Core.List.{List, []}
 use mathlib.Core.Path.{sym, ap, _∙_}
+use denote.Ref.{now}
+use Rattle.names.proofs.NameLaws.{legal-bounds}
+use Rattle.answers.specs.declared.Answer.the-variants.{Done}
+use Rattle.files.specs.Plain.{left, doCreate}
+use Rattle.files.proofs.Plans.PlanFacts.{creates}
 use borrow.Author.Needs.{needs}
 use Rattle.files.proofs.plain.made.Statement.{statement}
 use Rattle.files.proofs.plain.made.Tie as tie
@@ -17,10 +17,10 @@ enum-known-i : tie.Need-enum-known-i
 enum-known-i c = search needs
 
 create-requires : tie.Need-create-requires
-create-requires c κs = 
+create-requires c κs =
     let p = c .before .before .before .before .before .before .before .before .pre in
     let f = creates _ _ _ _ _ _ _ (sym (c .before .before .before .before .create-plan .ensures) ∙ c .before .before .i .given .1) in
-    ((p .0, p .1, p .2, f .directory, f .room), (f .inode, legal-bounds _ (f .legal) .1))
+    ((p .0, p .1, p .2, f .new .directory, f .room), (f .inode, legal-bounds _ (f .new .legal) .1))
 
 enum-known-why : tie.Need-enum-known-why
 enum-known-why c = search needs
@@ -29,7 +29,7 @@ same-length : tie.Need-same-length
 same-length c = search needs
 
 returns : tie.Need-returns
-returns c = 
+returns c =
     let a = c .before .before .before .before .before .before .before .before .before .before .before .args in
     ap (λ (t : List ℕ). left (Done (c .before .before .before .before .before .i .given .0 .0)) t []) (c .before .before .create .ensures)
     ∙ ap (doCreate (now (a .s)) (a .n) (a .d) (now (a .name)) (a .kind)) (sym (c .before .before .before .before .before .i .given .1) ∙ c .before .before .before .before .before .before .before .create-plan .ensures)
@@ -38,7 +38,7 @@ same-length-2 : tie.Need-same-length-2
 same-length-2 c = search needs
 
 returns-2 : tie.Need-returns-2
-returns-2 c = 
+returns-2 c =
     let a = c .before .before .before .before .before .before .before .args in
     ap (doCreate (now (a .s)) (a .n) (a .d) (now (a .name)) (a .kind)) (sym (c .before .why .given .1) ∙ c .before .before .before .create-plan .ensures)
 

@@ -1,11 +1,10 @@
-use Rattle.files.proofs.PlanFacts.{Reads, reads}
-use Rattle.files.specs.Plain.{left, doRead}
-use Rattle.answers.specs.declared.Answer.the-variants.{Done}
-use lib.ListN.{length}
-use denote.Ref.{now}
-use mathlib.Core.List.{List}
+use mathlib.Core.Path.{sym, ap, _∙_}
 use native.Mathlib.Omega.{arith}
-use mathlib.Core.Path.{_≡_, sym, ap, _∙_}
+use denote.Ref.{now}
+use lib.ListN.{length}
+use Rattle.answers.specs.declared.Answer.the-variants.{Done}
+use Rattle.files.specs.Plain.{left, doRead}
+use Rattle.files.proofs.Plans.PlanFacts.{Reads, reads}
 use borrow.Author.Needs.{needs}
 use Rattle.files.proofs.plain.read_out.Statement.{statement}
 use Rattle.files.proofs.plain.read_out.Tie as tie

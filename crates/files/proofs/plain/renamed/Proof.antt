@@ -1,14 +1,14 @@
-use Rattle.files.proofs.StoreLaws.{found-some, found-most}
-use Rattle.files.proofs.PlanFacts.{renames, moves}
-use Rattle.files.specs.Plain.{left, doRename}
-use Rattle.directory.proofs.SlotLaws.{find-below}
-use Rattle.names.proofs.NameLaws.{legal-bounds}
-use Rattle.answers.specs.declared.Answer.the-variants.{Done}
-use denote.Ref.{now}
-use native.Mathlib.Omega.{arith}
 use Prim.Native.Nat.{ℕ}
 use mathlib.Core.List.{List, []}
-use mathlib.Core.Path.{_≡_, sym, ap, _∙_}
+use mathlib.Core.Path.{sym, ap, _∙_}
+use native.Mathlib.Omega.{arith}
+use denote.Ref.{now}
+use Rattle.names.proofs.NameLaws.{legal-bounds}
+use Rattle.directory.proofs.SlotLaws.{find-below}
+use Rattle.answers.specs.declared.Answer.the-variants.{Done}
+use Rattle.files.specs.Plain.{left, doRename}
+use Rattle.files.proofs.Plans.PlanFacts.{renames, moves}
+use Rattle.files.proofs.Kept.SlotPlaceLaws.{found-here}
 use borrow.Author.Needs.{needs}
 use Rattle.files.proofs.plain.renamed.Statement.{statement}
 use Rattle.files.proofs.plain.renamed.Tie as tie
@@ -23,25 +23,26 @@ enum-known-t : tie.Need-enum-known-t
 enum-known-t c = search needs
 
 rename-requires : tie.Need-rename-requires
-rename-requires c κs = 
+rename-requires c κs =
     let p = c .before .before .before .before .before .before .before .before .before .pre in
-    let f = renames _ _ _ _ _ _ _ _ _ (sym (c .before .before .before .before .rename-plan .ensures) ∙ c .before .before .t .given .1) .0 in
+    let g = renames _ _ _ _ _ _ _ _ _ (sym (c .before .before .before .before .rename-plan .ensures) ∙ c .before .before .t .given .1) .0 in
+    let f = g .entry in
     let e = f .inode in
-    let m = found-most _ _ (p .0) (p .1) _ _ _ (f .directory) (f .legal) (f .found) in
-    (p .0, p .1, f .directory, find-below _ _ _ _ _ (f .found), omega arith, legal-bounds _ (f .legal-new) .1)
+    let m = found-here _ _ (p .0) (p .1) _ _ _ (f .directory) (f .legal) (f .found) .high in
+    (p .0, p .1, f .directory, find-below _ _ _ _ _ (f .found), omega arith, legal-bounds _ (g .new .legal) .1)
 
 enum-known-t-2 : tie.Need-enum-known-t-2
 enum-known-t-2 c = search needs
 
 move-entry-requires : tie.Need-move-entry-requires
-move-entry-requires c κs = 
+move-entry-requires c κs =
     let p = c .before .before .before .before .before .before .before .before .before .pre in
     let g = moves _ _ _ _ _ _ _ _ _ _ (sym (c .before .before .before .before .rename-plan .ensures) ∙ c .before .before .t2 .given .1) in
-    let f = g .0 in
+    let f = g .0 .entry in
     let e = f .inode in
-    let l = found-some _ _ (p .0) (p .1) _ _ _ (f .directory) (f .legal) (f .found) in
-    let m = found-most _ _ (p .0) (p .1) _ _ _ (f .directory) (f .legal) (f .found) in
-    ((p .0, p .1, p .2, f .directory-new, g .1 .room), (f .directory, find-below _ _ _ _ _ (f .found), omega arith, omega arith, legal-bounds _ (f .legal-new) .1))
+    let l = found-here _ _ (p .0) (p .1) _ _ _ (f .directory) (f .legal) (f .found) .low in
+    let m = found-here _ _ (p .0) (p .1) _ _ _ (f .directory) (f .legal) (f .found) .high in
+    ((p .0, p .1, p .2, g .0 .new .directory, g .1 .room), (f .directory, find-below _ _ _ _ _ (f .found), omega arith, omega arith, legal-bounds _ (g .0 .new .legal) .1))
 
 enum-known-why : tie.Need-enum-known-why
 enum-known-why c = search needs
@@ -56,7 +57,7 @@ same-length-2 : tie.Need-same-length-2
 same-length-2 c = search needs
 
 returns-2 : tie.Need-returns-2
-returns-2 c = 
+returns-2 c =
     let a = c .before .before .before .before .before .before .before .before .before .before .before .before .args in
     ap (λ (t : List ℕ). left (Done 0) t []) (c .before .before .rename .ensures)
     ∙ ap (doRename (now (a .s)) (a .n) (a .d) (a .e) (now (a .other))) (sym (c .before .before .before .before .before .t .given .1) ∙ c .before .before .before .before .before .before .before .rename-plan .ensures)
@@ -65,7 +66,7 @@ same-length-3 : tie.Need-same-length-3
 same-length-3 c = search needs
 
 returns-3 : tie.Need-returns-3
-returns-3 c = 
+returns-3 c =
     let a = c .before .before .before .before .before .before .before .before .before .before .before .before .args in
     ap (λ (t : List ℕ). left (Done 0) t []) (c .before .before .move-entry .ensures)
     ∙ ap (doRename (now (a .s)) (a .n) (a .d) (a .e) (now (a .other))) (sym (c .before .before .before .before .before .t2 .given .1) ∙ c .before .before .before .before .before .before .before .rename-plan .ensures)

@@ -1,13 +1,12 @@
+use Prim.Native.Nat.{ℕ}
+use mathlib.Core.Path.{_≡_, subst, sym, ap, _∙_}
+use mathlib.Core.List.{List, []}
+use denote.Ref.{now}
+use Rattle.answers.specs.declared.Answer.the-variants.{Done}
 use Rattle.files.specs.Plan.{shortenPlan}
 use Rattle.files.specs.declared.SizePlan.the-variants.{To}
-use mathlib.Core.Path.{_≡_, subst}
-use Rattle.files.proofs.PlanFacts.{shortens}
 use Rattle.files.specs.Plain.{left, doShorten}
-use Rattle.answers.specs.declared.Answer.the-variants.{Done}
-use denote.Ref.{now}
-use Prim.Native.Nat.{ℕ}
-use mathlib.Core.List.{List, []}
-use mathlib.Core.Path.{sym, ap, _∙_}
+use Rattle.files.proofs.Plans.PlanFacts.{shortens}
 use borrow.Author.Needs.{needs}
 use Rattle.files.proofs.plain.shortened.Statement.{statement}
 use Rattle.files.proofs.plain.shortened.Tie as tie
@@ -19,7 +18,7 @@ enum-known-y : tie.Need-enum-known-y
 enum-known-y c = search needs
 
 shorten-file-requires : tie.Need-shorten-file-requires
-shorten-file-requires c κs = 
+shorten-file-requires c κs =
     let p = c .before .before .before .before .before .before .before .pre in
     let a = c .before .before .before .before .before .before .before .args in
     let e = sym (c .before .before .before .before .shorten-plan .ensures) ∙ c .before .before .y .given .1 in
@@ -33,7 +32,7 @@ same-length : tie.Need-same-length
 same-length c = search needs
 
 returns : tie.Need-returns
-returns c = 
+returns c =
     let a = c .before .before .before .before .before .before .before .before .before .before .args in
     ap (λ (t : List ℕ). left (Done (c .before .before .before .before .before .y .given .0 .0)) t []) (c .before .before .shorten-file .ensures)
     ∙ ap (doShorten (now (a .s)) (a .n) (a .i)) (sym (c .before .before .before .before .before .y .given .1) ∙ c .before .before .before .before .before .before .before .shorten-plan .ensures)

@@ -1,13 +1,13 @@
-use native.Mathlib.Omega.{arith}
-use Rattle.files.proofs.StoreLaws.{found-some, found-most}
-use Rattle.files.proofs.PlanFacts.{unlinks}
-use Rattle.files.specs.Plain.{left, doUnlink}
-use Rattle.directory.proofs.SlotLaws.{find-below}
-use Rattle.answers.specs.declared.Answer.the-variants.{Done}
-use denote.Ref.{now}
 use Prim.Native.Nat.{ℕ}
 use mathlib.Core.List.{List, []}
 use mathlib.Core.Path.{sym, ap, _∙_}
+use native.Mathlib.Omega.{arith}
+use denote.Ref.{now}
+use Rattle.directory.proofs.SlotLaws.{find-below}
+use Rattle.answers.specs.declared.Answer.the-variants.{Done}
+use Rattle.files.specs.Plain.{left, doUnlink}
+use Rattle.files.proofs.Plans.PlanFacts.{unlinks}
+use Rattle.files.proofs.Kept.SlotPlaceLaws.{found-here}
 use borrow.Author.Needs.{needs}
 use Rattle.files.proofs.plain.unlinked.Statement.{statement}
 use Rattle.files.proofs.plain.unlinked.Tie as tie
@@ -19,12 +19,12 @@ enum-known-t : tie.Need-enum-known-t
 enum-known-t c = search needs
 
 unlink-requires : tie.Need-unlink-requires
-unlink-requires c κs = 
+unlink-requires c κs =
     let p = c .before .before .before .before .before .before .before .before .pre in
-    let f = unlinks _ _ _ _ _ _ (sym (c .before .before .before .before .unlink-plan .ensures) ∙ c .before .before .t .given .1) in
+    let f = unlinks _ _ _ _ _ _ (sym (c .before .before .before .before .unlink-plan .ensures) ∙ c .before .before .t .given .1) .entry in
     let e = f .inode in
-    let l = found-some _ _ (p .0) (p .1) _ _ _ (f .directory) (f .legal) (f .found) in
-    let m = found-most _ _ (p .0) (p .1) _ _ _ (f .directory) (f .legal) (f .found) in
+    let l = found-here _ _ (p .0) (p .1) _ _ _ (f .directory) (f .legal) (f .found) .low in
+    let m = found-here _ _ (p .0) (p .1) _ _ _ (f .directory) (f .legal) (f .found) .high in
     (p .0, p .1, f .directory, find-below _ _ _ _ _ (f .found), omega arith, omega arith)
 
 enum-known-why : tie.Need-enum-known-why
@@ -34,7 +34,7 @@ same-length : tie.Need-same-length
 same-length c = search needs
 
 returns : tie.Need-returns
-returns c = 
+returns c =
     let a = c .before .before .before .before .before .before .before .before .before .before .before .args in
     ap (λ (t : List ℕ). left (Done 0) t []) (c .before .before .unlink .ensures)
     ∙ ap (doUnlink (now (a .s)) (a .n) (a .d)) (sym (c .before .before .before .before .before .t .given .1) ∙ c .before .before .before .before .before .before .before .unlink-plan .ensures)

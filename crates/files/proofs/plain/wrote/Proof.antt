@@ -1,9 +1,9 @@
-use Rattle.files.specs.Plain.{left, doWrite}
-use Rattle.answers.specs.declared.Answer.the-variants.{Done}
-use denote.Ref.{now}
 use Prim.Native.Nat.{ℕ}
 use mathlib.Core.List.{List, []}
 use mathlib.Core.Path.{sym, ap, _∙_}
+use denote.Ref.{now}
+use Rattle.answers.specs.declared.Answer.the-variants.{Done}
+use Rattle.files.specs.Plain.{left, doWrite}
 use borrow.Author.Needs.{needs}
 use Rattle.files.proofs.plain.wrote.Statement.{statement}
 use Rattle.files.proofs.plain.wrote.Tie as tie
@@ -24,7 +24,7 @@ same-length : tie.Need-same-length
 same-length c = search needs
 
 returns : tie.Need-returns
-returns c = 
+returns c =
     let a = c .before .before .before .before .before .before .before .before .before .before .before .args in
     ap (λ (t : List ℕ). left (Done (c .before .before .before .before .before .z .given .0 .0)) t []) (c .before .before .write-file .ensures)
     ∙ ap (doWrite (now (a .s)) (a .n) (a .b) (a .i) (a .o) (now (a .xs))) (sym (c .before .before .before .before .before .z .given .1) ∙ c .before .before .before .before .before .before .before .write-plan .ensures)
@@ -33,7 +33,7 @@ same-length-2 : tie.Need-same-length-2
 same-length-2 c = search needs
 
 returns-2 : tie.Need-returns-2
-returns-2 c = 
+returns-2 c =
     let a = c .before .before .before .before .before .before .before .args in
     ap (doWrite (now (a .s)) (a .n) (a .b) (a .i) (a .o) (now (a .xs))) (sym (c .before .why .given .1) ∙ c .before .before .before .write-plan .ensures)
 

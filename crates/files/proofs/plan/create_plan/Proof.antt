@@ -1,4 +1,3 @@
-use Rattle.files.proofs.StoreLaws.{kind-dir}
 use mathlib.Core.Path.{_≡_, sym, _∙_}
 use mathlib.Core.Bool.{true}
 use denote.Ref.{now}
@@ -8,7 +7,8 @@ use Rattle.names.specs.Name.{legalName}
 use Rattle.names.proofs.NameLaws.{legal-bounds}
 use Rattle.directory.specs.Slot.{findSlot}
 use Rattle.files.specs.Inode.{isDirectory}
-use Rattle.files.proofs.EntryPlanLaws.{create-illegal, create-wrong, create-taken, create-full, create-make, create-roomless}
+use Rattle.files.proofs.Stores.StoreLaws.{kind-dir}
+use Rattle.files.proofs.Plans.EntryPlanLaws.{create-illegal, create-wrong, create-taken, create-full, create-make, create-roomless}
 use borrow.Author.Needs.{needs}
 use Rattle.files.proofs.plan.create_plan.Statement.{statement}
 use Rattle.files.proofs.plan.create_plan.Tie as tie

@@ -1,14 +1,14 @@
-use Rattle.files.proofs.TakePlanLaws.{empty-read, none-more, none-stopped, none-done}
-use denote.Ref.{now}
 use Prim.Native.Nat.{_-_, _≤_}
 use mathlib.Core.Path.{_≡_}
 use mathlib.Core.Bool.{true}
 use native.Mathlib.Omega.{arith}
-use borrow.Author.Needs.{needs}
-use Rattle.octets.proofs.PartLaws.{length-cut}
+use denote.Ref.{now}
 use Rattle.bounded.specs.Below.{allBelow}
 use Rattle.bounded.proofs.BelowLaws.{all-none}
+use Rattle.octets.proofs.PartLaws.{length-cut}
 use Rattle.directory.specs.Slot.{slotEmpty}
+use Rattle.files.proofs.Plans.TakePlanLaws.{empty-read, none-more, none-stopped, none-done}
+use borrow.Author.Needs.{needs}
 use Rattle.files.proofs.plan.holds_none.Statement.{statement}
 use Rattle.files.proofs.plan.holds_none.Tie as tie
 

@@ -1,6 +1,6 @@
-use Rattle.files.proofs.TakePlanLaws.{below-file, below-directory}
-use Rattle.files.proofs.StoreLaws.{fits}
 use mathlib.Core.Path.{sym, _∙_}
+use Rattle.files.proofs.Stores.StoreLaws.{fits}
+use Rattle.files.proofs.Plans.TakePlanLaws.{below-file, below-directory}
 use borrow.Author.Needs.{needs}
 use Rattle.files.proofs.plan.is_below.Statement.{statement}
 use Rattle.files.proofs.plan.is_below.Tie as tie

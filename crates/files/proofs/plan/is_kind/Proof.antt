@@ -1,10 +1,10 @@
-use Rattle.files.proofs.StoreLaws.{kind-low, kind-high, kind-read}
+use Rattle.layout.proofs.inode.kind.Reads as kind-reads
+use Rattle.files.proofs.Stores.StoreLaws.{kind-low, kind-high, kind-read}
 use borrow.Author.Needs.{needs}
 use Rattle.files.proofs.plan.is_kind.Statement.{statement}
 use Rattle.files.proofs.plan.is_kind.Tie as tie
 use Rattle.files.proofs.plan.is_kind.Reads as reads
 use Rattle.files.proofs.plan.is_kind.Lts as lts
-use Rattle.layout.proofs.inode.kind.Reads as kind-reads
 
 -- src/plan.rt:37:9
 returns : tie.Need-returns

@@ -1,8 +1,8 @@
-use Rattle.files.proofs.StoreLaws.{fits}
-use Rattle.files.proofs.ParentLaws.{Climbing, climbing-start, climbing-found, climbing-root, climbing-turn, climbing-end}
-use borrow.Author.Needs.{needs}
-use native.Mathlib.Omega.{arith}
 use Prim.Native.Nat.{_-_}
+use native.Mathlib.Omega.{arith}
+use Rattle.files.proofs.Stores.StoreLaws.{fits}
+use Rattle.files.proofs.Plans.ParentLaws.{Climbing, climbing-start, climbing-found, climbing-root, climbing-turn, climbing-end}
+use borrow.Author.Needs.{needs}
 use Rattle.files.proofs.plan.leads_to.Statement.{statement}
 use Rattle.files.proofs.plan.leads_to.Tie as tie
 

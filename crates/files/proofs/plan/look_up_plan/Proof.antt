@@ -1,15 +1,15 @@
 use mathlib.Core.Path.{_≡_, sym, _∙_}
 use mathlib.Core.Bool.{true}
-use denote.Ref.{now}
 use borrow.Author.Tests.{not-true, not-false}
+use denote.Ref.{now}
 use Rattle.bounded.specs.declared.Found.the-variants.{At}
 use Rattle.names.specs.Name.{legalName}
 use Rattle.names.proofs.NameLaws.{legal-bounds}
 use Rattle.directory.specs.Slot.{findSlot}
 use Rattle.directory.proofs.SlotLaws.{find-below}
 use Rattle.files.specs.Inode.{isDirectory}
-use Rattle.files.proofs.StoreLaws.{kind-dir}
-use Rattle.files.proofs.SizePlanLaws.{look-illegal, look-wrong, look-absent, look-done}
+use Rattle.files.proofs.Stores.StoreLaws.{kind-dir}
+use Rattle.files.proofs.Plans.SizePlanLaws.{look-illegal, look-wrong, look-absent, look-done}
 use borrow.Author.Needs.{needs}
 use Rattle.files.proofs.plan.look_up_plan.Statement.{statement}
 use Rattle.files.proofs.plan.look_up_plan.Tie as tie

@@ -1,7 +1,7 @@
 use mathlib.Core.Path.{sym, _∙_}
 use borrow.Author.Tests.{not-true, not-false}
-use Rattle.files.proofs.StoreLaws.{kind-fits}
-use Rattle.files.proofs.SizePlanLaws.{read-wrong, read-past, read-done}
+use Rattle.files.proofs.Stores.StoreLaws.{kind-fits}
+use Rattle.files.proofs.Plans.SizePlanLaws.{read-wrong, read-past, read-done}
 use borrow.Author.Needs.{needs}
 use Rattle.files.proofs.plan.read_plan.Statement.{statement}
 use Rattle.files.proofs.plan.read_plan.Tie as tie

@@ -1,17 +1,18 @@
-use native.Mathlib.Omega.{arith}
-use Rattle.files.proofs.TakePlanLaws.{rename-illegal, rename-illegal-new, rename-wrong, rename-wrong-new, rename-absent, rename-there}
-use Rattle.files.proofs.StoreLaws.{kind-dir, found-some, found-most}
-use Rattle.files.specs.Inode.{isDirectory}
-use Rattle.files.specs.Plan.{inodeAt}
-use Rattle.directory.proofs.SlotLaws.{find-below}
-use Rattle.directory.specs.Slot.{findSlot}
-use Rattle.names.proofs.NameLaws.{legal-bounds}
-use Rattle.names.specs.Name.{legalName}
-use Rattle.bounded.proofs.BoolLaws.{chain-on, chain-off}
-use Rattle.bounded.specs.declared.Found.the-variants.{At}
-use denote.Ref.{now}
 use mathlib.Core.Bool.{true}
 use mathlib.Core.Path.{_≡_, sym, _∙_}
+use native.Mathlib.Omega.{arith}
+use denote.Ref.{now}
+use Rattle.bounded.specs.declared.Found.the-variants.{At}
+use Rattle.bounded.proofs.BoolLaws.{chain-on, chain-off}
+use Rattle.names.specs.Name.{legalName}
+use Rattle.names.proofs.NameLaws.{legal-bounds}
+use Rattle.directory.specs.Slot.{findSlot}
+use Rattle.directory.proofs.SlotLaws.{find-below}
+use Rattle.files.specs.Inode.{isDirectory}
+use Rattle.files.specs.Plan.{inodeAt}
+use Rattle.files.proofs.Stores.StoreLaws.{kind-dir}
+use Rattle.files.proofs.Plans.TakePlanLaws.{rename-illegal, rename-illegal-new, rename-wrong, rename-wrong-new, rename-absent, rename-there}
+use Rattle.files.proofs.Kept.SlotPlaceLaws.{found-here}
 use borrow.Author.Needs.{needs}
 use Rattle.files.proofs.plan.rename_plan.Statement.{statement}
 use Rattle.files.proofs.plan.rename_plan.Tie as tie
@@ -82,8 +83,8 @@ rename-to-requires c κs = let p = c .before .before .before .before .before .be
       p .2,
       is-dir-new (c .before .before .before .before .before),
       is-legal-new (c .before .before .before .before .before .before .before .before .before),
-      omega (arith, found-some _ _ (p .0) (p .1) _ _ _ (is-dir (c .before .before .before .before .before .before .before)) (is-legal (c .before .before .before .before .before .before .before .before .before .before .before)) (is-at (c .before)), e),
-      omega (arith, found-most _ _ (p .0) (p .1) _ _ _ (is-dir (c .before .before .before .before .before .before .before)) (is-legal (c .before .before .before .before .before .before .before .before .before .before .before)) (is-at (c .before)), e),
+      omega (arith, found-here _ _ (p .0) (p .1) _ _ _ (is-dir (c .before .before .before .before .before .before .before)) (is-legal (c .before .before .before .before .before .before .before .before .before .before .before)) (is-at (c .before)) .low, e),
+      omega (arith, found-here _ _ (p .0) (p .1) _ _ _ (is-dir (c .before .before .before .before .before .before .before)) (is-legal (c .before .before .before .before .before .before .before .before .before .before .before)) (is-at (c .before)) .high, e),
     )
 
 returns-6 : tie.Need-returns-6

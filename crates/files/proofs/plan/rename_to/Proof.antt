@@ -1,12 +1,10 @@
-use mathlib.Core.Path.{_≡_}
+use mathlib.Core.Path.{_≡_, sym, _∙_}
 use denote.Ref.{now}
 use Rattle.bounded.specs.declared.Found.the-variants.{Absent}
-use Rattle.directory.specs.Slot.{findSlot}
-use Rattle.files.proofs.TakePlanLaws.{to-same, to-taken, to-taken-there, to-rename, to-itself, to-move, to-roomless}
-use Rattle.files.proofs.StoreLaws.{kind-dir}
 use Rattle.names.proofs.NameLaws.{legal-bounds}
-use Rattle.bounded.proofs.BoolLaws.{chain-on, chain-off}
-use mathlib.Core.Path.{sym, _∙_}
+use Rattle.directory.specs.Slot.{findSlot}
+use Rattle.files.proofs.Stores.StoreLaws.{kind-dir}
+use Rattle.files.proofs.Plans.TakePlanLaws.{to-same, to-taken, to-taken-there, to-rename, to-itself, to-move, to-roomless}
 use borrow.Author.Needs.{needs}
 use Rattle.files.proofs.plan.rename_to.Statement.{statement}
 use Rattle.files.proofs.plan.rename_to.Tie as tie

@@ -1,12 +1,11 @@
-use Rattle.layout.specs.Inode.{directoryKind}
-use Rattle.files.proofs.StoreLaws.{kind-dir}
 use mathlib.Core.Path.{_≡_, sym, _∙_}
 use native.Mathlib.Omega.{arith}
 use denote.Ref.{now}
 use Rattle.bounded.specs.declared.Found.the-variants.{Absent}
+use Rattle.layout.specs.Inode.{directoryKind}
 use Rattle.directory.specs.Slot.{DirFits, emptySlot}
-use Rattle.files.proofs.StoreLaws.{addresses-most}
-use Rattle.files.proofs.EntryPlanLaws.{room-empty, room-none, room-blockless, room-more}
+use Rattle.files.proofs.Stores.StoreLaws.{kind-dir, addresses-most}
+use Rattle.files.proofs.Plans.EntryPlanLaws.{room-empty, room-none, room-blockless, room-more}
 use borrow.Author.Needs.{needs}
 use Rattle.files.proofs.plan.room_in.Statement.{statement}
 use Rattle.files.proofs.plan.room_in.Tie as tie

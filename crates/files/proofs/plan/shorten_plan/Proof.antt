@@ -1,7 +1,7 @@
 use mathlib.Core.Path.{sym, _∙_}
 use borrow.Author.Tests.{not-true, not-false}
-use Rattle.files.proofs.StoreLaws.{kind-fits}
-use Rattle.files.proofs.SizePlanLaws.{shorten-wrong, shorten-past, shorten-done}
+use Rattle.files.proofs.Stores.StoreLaws.{kind-fits}
+use Rattle.files.proofs.Plans.SizePlanLaws.{shorten-wrong, shorten-past, shorten-done}
 use borrow.Author.Needs.{needs}
 use Rattle.files.proofs.plan.shorten_plan.Statement.{statement}
 use Rattle.files.proofs.plan.shorten_plan.Tie as tie

@@ -1,18 +1,19 @@
 use Prim.Native.Nat.{_≤_}
-use native.Mathlib.Omega.{arith}
-use Rattle.files.proofs.TakePlanLaws.{unlink-illegal, unlink-wrong, unlink-absent, unlink-full, unlink-file, unlink-empty}
-use Rattle.files.proofs.StoreLaws.{fits, dir-of, kind-dir, found-some, found-most}
-use Rattle.files.specs.Inode.{isDirectory}
-use Rattle.files.specs.Plan.{inodeAt}
-use Rattle.directory.proofs.SlotLaws.{find-below}
-use Rattle.directory.specs.Slot.{findSlot}
-use Rattle.names.proofs.NameLaws.{legal-bounds}
-use Rattle.names.specs.Name.{legalName}
-use Rattle.bounded.proofs.BoolLaws.{chain-on, chain-off}
-use Rattle.bounded.specs.declared.Found.the-variants.{At}
-use denote.Ref.{now}
 use mathlib.Core.Bool.{true}
 use mathlib.Core.Path.{_≡_, sym, _∙_}
+use native.Mathlib.Omega.{arith}
+use denote.Ref.{now}
+use Rattle.bounded.specs.declared.Found.the-variants.{At}
+use Rattle.bounded.proofs.BoolLaws.{chain-on, chain-off}
+use Rattle.names.specs.Name.{legalName}
+use Rattle.names.proofs.NameLaws.{legal-bounds}
+use Rattle.directory.specs.Slot.{findSlot}
+use Rattle.directory.proofs.SlotLaws.{find-below}
+use Rattle.files.specs.Inode.{isDirectory}
+use Rattle.files.specs.Plan.{inodeAt}
+use Rattle.files.proofs.Stores.StoreLaws.{fits, dir-of, kind-dir}
+use Rattle.files.proofs.Plans.TakePlanLaws.{unlink-illegal, unlink-wrong, unlink-absent, unlink-full, unlink-file, unlink-empty}
+use Rattle.files.proofs.Kept.SlotPlaceLaws.{found-here}
 use borrow.Author.Needs.{needs}
 use Rattle.files.proofs.plan.unlink_plan.Statement.{statement}
 use Rattle.files.proofs.plan.unlink_plan.Tie as tie
@@ -32,13 +33,13 @@ some : (c : tie.After-slot-inode) → 1 ≤ c .slot-inode .result
 some c =
     let p = c .before .before .before .before .before .before .before .before .before .before .before .pre in
     let e : c .slot-inode .result ≡ inodeAt (now (c .before .before .before .before .before .before .before .before .before .before .before .args .s)) (c .before .before .before .before .before .before .before .before .before .before .before .args .n) (c .before .before .before .before .before .before .before .before .before .before .before .args .d) (c .before .before .t .given .0 .0) = c .slot-inode .ensures in
-    omega (arith, found-some _ _ (p .0) (p .1) _ _ _ (is-dir (c .before .before .before .before .before)) (is-legal (c .before .before .before .before .before .before .before)) (is-at (c .before)), e)
+    omega (arith, found-here _ _ (p .0) (p .1) _ _ _ (is-dir (c .before .before .before .before .before)) (is-legal (c .before .before .before .before .before .before .before)) (is-at (c .before)) .low, e)
 
 most : (c : tie.After-slot-inode) → c .slot-inode .result ≤ c .before .before .before .before .before .before .before .before .before .before .before .args .n
 most c =
     let p = c .before .before .before .before .before .before .before .before .before .before .before .pre in
     let e : c .slot-inode .result ≡ inodeAt (now (c .before .before .before .before .before .before .before .before .before .before .before .args .s)) (c .before .before .before .before .before .before .before .before .before .before .before .args .n) (c .before .before .before .before .before .before .before .before .before .before .before .args .d) (c .before .before .t .given .0 .0) = c .slot-inode .ensures in
-    omega (arith, found-most _ _ (p .0) (p .1) _ _ _ (is-dir (c .before .before .before .before .before)) (is-legal (c .before .before .before .before .before .before .before)) (is-at (c .before)), e)
+    omega (arith, found-here _ _ (p .0) (p .1) _ _ _ (is-dir (c .before .before .before .before .before)) (is-legal (c .before .before .before .before .before .before .before)) (is-at (c .before)) .high, e)
 
 legal-name-requires : tie.Need-legal-name-requires
 legal-name-requires c κs = search needs

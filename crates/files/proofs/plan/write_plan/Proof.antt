@@ -2,11 +2,11 @@ use Prim.Native.Nat.{_≤_}
 use mathlib.Core.Path.{_≡_, sym, _∙_}
 use mathlib.Core.Bool.{true}
 use native.Mathlib.Omega.{arith}
-use denote.Ref.{now}
 use borrow.Author.Tests.{not-true, not-false}
+use denote.Ref.{now}
 use Rattle.files.specs.Inode.{isFile}
-use Rattle.files.proofs.StoreLaws.{kind-fits, kind-size}
-use Rattle.files.proofs.SizePlanLaws.{used-more, write-wrong, write-off, write-long, write-full, write-done}
+use Rattle.files.proofs.Stores.StoreLaws.{kind-fits, kind-size}
+use Rattle.files.proofs.Plans.SizePlanLaws.{used-more, write-wrong, write-off, write-long, write-full, write-done}
 use borrow.Author.Needs.{needs}
 use Rattle.files.proofs.plan.write_plan.Statement.{statement}
 use Rattle.files.proofs.plan.write_plan.Tie as tie
