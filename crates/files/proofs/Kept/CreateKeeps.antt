@@ -31,7 +31,7 @@ use Rattle.files.proofs.Stores.FreeLaws.{free-inode}
 use Rattle.files.proofs.Stores.RecordLaws.{header-inode}
 use Rattle.files.proofs.Kept.ChangeLaws.{Filled, filled-then, names-filled}
 use Rattle.files.proofs.Kept.TreeLaws.{Tree, tree-create, one-same, one-other}
-use Rattle.files.proofs.Kept.SoundTreeLaws.{nodesOf, body-at, names-at, above-at, tree-at}
+use Rattle.files.proofs.Kept.SoundTreeLaws.{nodesOf, nodes-else, body-at, names-at, above-at, tree-at}
 use Rattle.files.proofs.Kept.EntryWriteLaws.{EntriesAlone, entries-stay, SlotIn, slot-in, place-below, put-alone, put-filled}
 use Rattle.files.proofs.Kept.SlotPlaceLaws.{absent-new, place-bare}
 use Rattle.files.proofs.Kept.StockLaws.{Stock, entries-stock, stock-sound}
@@ -154,7 +154,7 @@ module _ (s : List ℕ) (n d t i : ℕ) (k : Kind) (name : List ℕ) (h : Sound 
       let r = create-new in
       let f = free-inode s n i new .kind in
       tree-create n i (nodesOf s n) (nodesOf w n) (tree-at s n h x) (above-at s n h x) low high
-      (λ j l g z. o j l g z .kind) (λ j l g z. o j l g z .links) (λ j l g z. o j l g z .parent)
+      (nodes-else o)
       p d (place-below slot) (place-dir d t (slot .low) (slot .small)) (place-bare s n d t slot empty) (create-filled .names) (λ q l z. create-filled .others q l z .names)
       (slot .dir) f (body-at s n h x .inodes i low high .free f .0)
       (λ e. used (sym (r .kind) ∙ e)) (λ e. r .parent ∙ new-parent k d (sym (r .kind) ∙ e)) (r .links ∙ new-links k d)

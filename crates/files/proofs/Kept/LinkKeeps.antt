@@ -17,7 +17,7 @@ use Rattle.files.proofs.Stores.SameLaws.{OtherInodes, SameBody, same-bo
 use Rattle.files.proofs.Stores.StoreLaws.{kind-some, kind-most, kind-is, kind-fits}
 use Rattle.files.proofs.Kept.ChangeLaws.{Filled, filled-then, names-filled}
 use Rattle.files.proofs.Kept.TreeLaws.{Tree, tree-link}
-use Rattle.files.proofs.Kept.SoundTreeLaws.{nodesOf, body-at, names-at, above-at, tree-at}
+use Rattle.files.proofs.Kept.SoundTreeLaws.{nodesOf, nodes-else, body-at, names-at, above-at, tree-at}
 use Rattle.files.proofs.Kept.EntryWriteLaws.{EntriesAlone, entries-stay, SlotIn, slot-in, place-below, put-alone, put-filled}
 use Rattle.files.proofs.Kept.InodeWriteLaws.{Relinked, relinked-places, links-relinked}
 use Rattle.files.proofs.Kept.SlotPlaceLaws.{absent-new, place-bare}
@@ -78,7 +78,7 @@ module _ (s : List ℕ) (n d t i : ℕ) (name : List ℕ) (h : Sound mostStoreBl
   tree =
       let o = link-others in
       tree-link n i (nodesOf s n) (nodesOf w n) (tree-at s n h x) (above-at s n h x) low high
-      (λ j l r z. o j l r z .kind) (λ j l r z. o j l r z .links) (λ j l r z. o j l r z .parent) (link-body .kind) (parent ∙ alone .inodes i low high .parent)
+      (nodes-else o) (link-body .kind) (parent ∙ alone .inodes i low high .parent)
       p (place-below slot) (place-bare s n d t slot empty) (link-filled .names) (λ q l z. link-filled .others q l z .names)
       (kind-is s n fileKind i file) link-links
 

@@ -30,7 +30,7 @@ use Rattle.files.proofs.Stores.StoreLaws.{fits, kind-some, kind-most, k
 use Rattle.files.proofs.Plans.ParentLaws.{climb-step, past-root, zero-parent}
 use Rattle.files.proofs.Kept.ChangeLaws.{Emptied, Filled, filled-then, names-emptied, names-filled, new-emptied}
 use Rattle.files.proofs.Kept.TreeLaws.{Nodes, Tree, Dir, Above, parent-dir, tree-move}
-use Rattle.files.proofs.Kept.SoundTreeLaws.{nodesOf, body-at, names-at, above-at, tree-at}
+use Rattle.files.proofs.Kept.SoundTreeLaws.{nodesOf, nodes-else, body-at, names-at, above-at, tree-at}
 use Rattle.files.proofs.Kept.EntryWriteLaws.{EntriesAlone, entries-stay, SlotIn, slot-in, place-below, clear-alone, clear-emptied, put-alone, put-filled}
 use Rattle.files.proofs.Kept.InodeWriteLaws.{relinked-places, parent-relinked, parent-links, parent-put}
 use Rattle.files.proofs.Kept.SlotPlaceLaws.{EntryHere, entry-here, absent-new, place-bare}
@@ -202,7 +202,7 @@ module _ (s : List ℕ) (n d t i e u : ℕ) (other : List ℕ) (h : Sound mostSt
       let f = move-filled in
       let l = place-below (old .slot) in
       tree-move n i (nodesOf s n) (nodesOf w n) (tree-at s n h x) (above-at s n h x) low high
-      (λ j l r z. o j l r z .kind) (λ j l r z. o j l r z .links) (λ j l r z. o j l r z .parent)
+      (nodes-else o)
       p q e l (place-below target) (place-dir e u (target .low) (target .small))
       (old .names) (f .others p l other-place .names ∙ emptied .names) free (f .names) (λ r l y z. f .others r l z .names ∙ emptied .others r l y .names)
       (target .dir) (not-below s n i e h x low (old .not-root) into apart) (move-body .kind) move-links move-parent

@@ -16,7 +16,7 @@ use Rattle.files.specs.Plan.{inodeAt}
 use Rattle.files.specs.Apply.{renamed}
 use Rattle.files.proofs.Kept.ChangeLaws.{Filled, names-filled}
 use Rattle.files.proofs.Kept.TreeLaws.{Tree, tree-rename}
-use Rattle.files.proofs.Kept.SoundTreeLaws.{nodesOf, body-at, names-at, above-at, tree-at}
+use Rattle.files.proofs.Kept.SoundTreeLaws.{nodesOf, nodes-else, body-at, names-at, above-at, tree-at}
 use Rattle.files.proofs.Kept.EntryWriteLaws.{EntriesAlone, entries-stay, put-alone, put-filled}
 use Rattle.files.proofs.Kept.SlotPlaceLaws.{EntryHere, entry-here, absent-new}
 use Rattle.files.proofs.Kept.StockLaws.{entries-stock, stock-sound}
@@ -33,7 +33,7 @@ module _ (s : List ℕ) (n d t i : ℕ) (other : List ℕ) (h : Sound mostStoreB
   abbrev w : List ℕ
   w = putEntry s n d t i other
 
-  -- what it changes: entries rename-alone, and of them the one in slot t
+  -- what it changes: entries alone, and of them the one in slot t
   pub rename-alone : EntriesAlone s w n
   rename-alone = put-alone s s n d t h x (entries-stay s n) (old .slot) i other (old .low)
 
@@ -45,7 +45,7 @@ module _ (s : List ℕ) (n d t i : ℕ) (other : List ℕ) (h : Sound mostStoreB
       let a = rename-alone .inodes in
       let o = a i (old .low) (old .high) in
       tree-rename n i (nodesOf s n) (nodesOf w n) (tree-at s n h x) (above-at s n h x) (old .low) (old .high)
-      (λ j l m _. a j l m .kind) (λ j l m _. a j l m .links) (λ j l m _. a j l m .parent) (o .kind) (o .parent)
+      (nodes-else (λ j l m _. a j l m)) (o .kind) (o .parent)
       (λ q l. elim (ℕ-discrete q p) as (λ _. naming w n q ≡ naming s n q) [
         | yes e ↦ ap (naming w n) e ∙ rename-filled .names ∙ sym (old .names) ∙ ap (naming s n) (sym e)
         | no e ↦ rename-filled .others q l e .names

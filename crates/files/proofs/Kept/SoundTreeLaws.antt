@@ -13,11 +13,15 @@ use Rattle.sound.specs.Link.{LinkSound}
 use Rattle.sound.specs.Sound.{Sound, inodesIn, blocksIn}
 use Rattle.sound.proofs.PlaceLaws.{slot-is, naming-slot, naming-filled}
 use Rattle.files.proofs.Stores.KeepLaws.{Body, body-of}
+use Rattle.files.proofs.Stores.SameLaws.{OtherInodes}
 use Rattle.files.proofs.Kept.ChangeLaws.{NamesSound, names-of}
-use Rattle.files.proofs.Kept.TreeLaws.{Nodes, Tree, Above}
+use Rattle.files.proofs.Kept.TreeLaws.{Nodes, ElseNodes, Tree, Above}
 
 abbrev pub nodesOf : List ℕ → ℕ → Nodes
 nodesOf s n = record { kind = kindOf s; links = linksOf s; parent = parentOf s; naming = naming s n }
+
+pub nodes-else : {s t : List ℕ} {n i : ℕ} → OtherInodes s t n i → ElseNodes n i (nodesOf s n) (nodesOf t n)
+nodes-else o = record { kinds = λ j l m z. o j l m z .kind; links = λ j l m z. o j l m z .links; parents = λ j l m z. o j l m z .parent }
 
 -- ---- a sound store
 module _ (s : List ℕ) (n : ℕ) (h : Sound mostStoreBlocks false s) (x : n ≡ inodesIn s) where

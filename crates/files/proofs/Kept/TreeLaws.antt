@@ -67,6 +67,12 @@ ElseTo n i f g = (j : ℕ) → 1 ≤ j → j ≤ n → j ≢ i → g j ≡ f j
 abbrev pub ElseBelow : ℕ → ℕ → (ℕ → ℕ) → (ℕ → ℕ) → Type 0
 ElseBelow m p f g = (q : ℕ) → q < m → q ≢ p → g q ≡ f q
 
+-- every inode but i stays
+pub record ElseNodes (n i : ℕ) (v w : Nodes) : Type 0 where
+  pub kinds : ElseTo n i (v .kind) (w .kind)
+  pub links : ElseTo n i (v .links) (w .links)
+  pub parents : ElseTo n i (v .parent) (w .parent)
+
 -- ---- tallies
 pub one-same : (a b : ℕ) → a ≡ b → one (eqb a b) ≡ 1
 one-same a b e = ap one (eq-eqb a b e)
@@ -153,20 +159,19 @@ module _ (n : ℕ) (v : Nodes) (t : Tree n v) where
         leads-kept (Dir n v) (v .parent) up rootInode n (record { within = λ x e. (e .low, e .high); parent = parent-dir }) h (r .0) i d (r .1)
 
 -- ---- a change of one inode i and of places
-module _ (n i : ℕ) (v w : Nodes) (t : Tree n v) (a : Above n v) (low : 1 ≤ i) (high : i ≤ n)
-    (kinds : ElseTo n i (v .kind) (w .kind)) (linkss : ElseTo n i (v .links) (w .links)) (parents : ElseTo n i (v .parent) (w .parent)) where
+module _ (n i : ℕ) (v w : Nodes) (t : Tree n v) (a : Above n v) (low : 1 ≤ i) (high : i ≤ n) (same : ElseNodes n i v w) where
   -- a place that names the same inode, another than i
   names-else : (q : ℕ) → q < mostSlots * n → w .naming q ≡ v .naming q → 1 ≤ w .naming q → w .naming q ≢ i → Names n w (w .naming q) (dirOf q)
   names-else q l e o h =
       let r = t .names q l (omega arith) in
       let j = w .naming q in
       let g = r .high in
-      let b : w .kind j ≡ v .kind (v .naming q) = kinds j o (omega arith) h ∙ ap (v .kind) e in
+      let b : w .kind j ≡ v .kind (v .naming q) = same .kinds j o (omega arith) h ∙ ap (v .kind) e in
       record {
         high = omega arith;
         used = λ z. r .used (sym b ∙ z);
         not-root = λ z. r .not-root (sym e ∙ z);
-        parent = λ z. parents j o (omega arith) h ∙ ap (v .parent) e ∙ r .parent (sym b ∙ z);
+        parent = λ z. same .parents j o (omega arith) h ∙ ap (v .parent) e ∙ r .parent (sym b ∙ z);
       }
 
   -- an inode of the same kind and links that is met as often as before, where its directory leads up
@@ -188,19 +193,19 @@ module _ (n i : ℕ) (v w : Nodes) (t : Tree n v) (a : Above n v) (low : 1 ≤ i
   tree-else not-root names met leads here =
       let z : rootInode ≢ i = λ e. not-root (sym e) in
       record {
-        root = kinds rootInode (omega arith) (omega arith) z ∙ t .root;
-        root-parent = parents rootInode (omega arith) (omega arith) z ∙ t .root-parent;
+        root = same .kinds rootInode (omega arith) (omega arith) z ∙ t .root;
+        root-parent = same .parents rootInode (omega arith) (omega arith) z ∙ t .root-parent;
         names = names;
-        linked = λ j l m. each-inode (Linked n w) i j here (λ q. linked-same j l m (kinds j l m q) (linkss j l m q) (met j l q) (leads j l m q));
+        linked = λ j l m. each-inode (Linked n w) i j here (λ q. linked-same j l m (same .kinds j l m q) (same .links j l m q) (met j l q) (leads j l m q));
       }
 
   -- ---- i keeps its kind and its parent
   module _ (k : w .kind i ≡ v .kind i) (u : w .parent i ≡ v .parent i) where
     kind-all : SameTo n (v .kind) (w .kind)
-    kind-all j l m = elim (ℕ-discrete j i) as (λ _. w .kind j ≡ v .kind j) [ yes e ↦ ap (w .kind) e ∙ k ∙ ap (v .kind) (sym e) | no e ↦ kinds j l m e ]
+    kind-all j l m = elim (ℕ-discrete j i) as (λ _. w .kind j ≡ v .kind j) [ yes e ↦ ap (w .kind) e ∙ k ∙ ap (v .kind) (sym e) | no e ↦ same .kinds j l m e ]
 
     parent-all : SameTo n (v .parent) (w .parent)
-    parent-all j l m = elim (ℕ-discrete j i) as (λ _. w .parent j ≡ v .parent j) [ yes e ↦ ap (w .parent) e ∙ u ∙ ap (v .parent) (sym e) | no e ↦ parents j l m e ]
+    parent-all j l m = elim (ℕ-discrete j i) as (λ _. w .parent j ≡ v .parent j) [ yes e ↦ ap (w .parent) e ∙ u ∙ ap (v .parent) (sym e) | no e ↦ same .parents j l m e ]
 
     names-all : (d x : ℕ) → 1 ≤ x → Names n v x d → Names n w x d
     names-all d x o r =
@@ -301,7 +306,7 @@ module _ (n i : ℕ) (v w : Nodes) (t : Tree n v) (a : Above n v) (low : 1 ≤ i
       at q m o (no z) = let b = h q m z in names-else q m b o (λ x. unnamed q m (sym b ∙ x))
 
       leads-old : (j : ℕ) → Dir n v j → Leads (w .parent) rootInode j
-      leads-old j = leads-same n v t a (w .parent) (λ x b. parents x (b .low) (b .high) (λ z. let g = ap (v .kind) z in let o = b .kind in omega arith)) j
+      leads-old j = leads-same n v t a (w .parent) (λ x b. same .parents x (b .low) (b .high) (λ z. let g = ap (v .kind) z in let o = b .kind in omega arith)) j
 
   -- "unlink" of the last link: the place names nothing, and i, in which no entry stands, is free
   pub tree-last : (p : ℕ) → p < mostSlots * n → v .naming p ≡ i → w .naming p ≡ 0 → ElseBelow (mostSlots * n) p (v .naming) (w .naming)
@@ -341,7 +346,7 @@ module _ (n i : ℕ) (v w : Nodes) (t : Tree n v) (a : Above n v) (low : 1 ≤ i
       leads-old j b =
           let r = t .linked j (b .0 .low) (b .0 .high) .leads (b .0 .kind) in
           leads-kept Stays (v .parent) (w .parent) rootInode n (record { within = λ x y. (y .0 .low, y .0 .high); parent = stays })
-          (λ x y. parents x (y .0 .low) (y .0 .high) (y .1)) (r .0) j b (r .1)
+          (λ x y. same .parents x (y .0 .low) (y .0 .high) (y .1)) (r .0) j b (r .1)
 
   -- "move": place p names nothing, the empty place u of directory e names i, and a directory i has the parent e, to which it does not lead
   pub tree-move : (p u e : ℕ) → p < mostSlots * n → u < mostSlots * n → dirOf u ≡ e → v .naming p ≡ i → w .naming p ≡ 0 → v .naming u ≡ 0 → w .naming u ≡ i
@@ -400,18 +405,18 @@ module _ (n i : ℕ) (v w : Nodes) (t : Tree n v) (a : Above n v) (low : 1 ≤ i
           let o = t .linked e (above .low) (above .high) .leads dir in
           let r = leads-moved (v .parent) to i e (changed (v .parent) i e) rootInode (apart z) o j g in
           leads-kept (Dir n v) to (w .parent) rootInode n (record { within = λ x y. (y .low, y .high); parent = λ x y q. closed x y q (ℕ-discrete x i) })
-          (λ x y. same x y (ℕ-discrete x i)) (r .0) j b (r .1)
+          (λ x y. agree x y (ℕ-discrete x i)) (r .0) j b (r .1)
         where
           closed : (x : ℕ) → Dir n v x → (x ≡ rootInode → ⊥) → Dec (x ≡ i) → Dir n v (to x)
           closed x y q (yes s) = subst (Dir n v) (sym (ap to s ∙ upd-same (v .parent) i e)) above
           closed x y q (no s) = subst (Dir n v) (sym (upd-other (v .parent) i e x s)) (parent-dir n v t a x y q)
 
-          same : (x : ℕ) → Dir n v x → Dec (x ≡ i) → w .parent x ≡ to x
-          same x y (yes s) = ap (w .parent) s ∙ up z ∙ sym (upd-same (v .parent) i e) ∙ ap to (sym s)
-          same x y (no s) = parents x (y .low) (y .high) s ∙ sym (upd-other (v .parent) i e x s)
+          agree : (x : ℕ) → Dir n v x → Dec (x ≡ i) → w .parent x ≡ to x
+          agree x y (yes s) = ap (w .parent) s ∙ up z ∙ sym (upd-same (v .parent) i e) ∙ ap to (sym s)
+          agree x y (no s) = same .parents x (y .low) (y .high) s ∙ sym (upd-other (v .parent) i e x s)
 
       leads-old : (j : ℕ) → Dir n v j → Leads (w .parent) rootInode j
       leads-old j b = elim (ℕ-discrete (v .kind i) directoryKind) as (λ _. Leads (w .parent) rootInode j) [
         | yes z ↦ leads-dir z j b
-        | no z ↦ leads-same n v t a (w .parent) (λ x y. parents x (y .low) (y .high) (λ q. z (ap (v .kind) (sym q) ∙ y .kind))) j b
+        | no z ↦ leads-same n v t a (w .parent) (λ x y. same .parents x (y .low) (y .high) (λ q. z (ap (v .kind) (sym q) ∙ y .kind))) j b
       ]

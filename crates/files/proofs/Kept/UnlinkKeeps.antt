@@ -31,7 +31,7 @@ use Rattle.files.proofs.Stores.StoreLaws.{fits}
 use Rattle.files.proofs.Stores.RecordLaws.{header-inode}
 use Rattle.files.proofs.Kept.ChangeLaws.{Emptied, emptied-then, names-emptied}
 use Rattle.files.proofs.Kept.TreeLaws.{Tree, tree-less, tree-last, counted-some, one-other}
-use Rattle.files.proofs.Kept.SoundTreeLaws.{nodesOf, body-at, names-at, above-at, tree-at}
+use Rattle.files.proofs.Kept.SoundTreeLaws.{nodesOf, nodes-else, body-at, names-at, above-at, tree-at}
 use Rattle.files.proofs.Kept.EntryWriteLaws.{EntriesAlone, entries-stay, place-below, clear-alone, clear-emptied}
 use Rattle.files.proofs.Kept.InodeWriteLaws.{Relinked, relinked-places, links-relinked}
 use Rattle.files.proofs.Kept.SlotPlaceLaws.{EntryHere, entry-here}
@@ -115,7 +115,7 @@ module _ (s : List ℕ) (n d t i : ℕ) (h : Sound mostStoreBlocks false s) (x :
         let o = less-others in
         let e = links in
         tree-less n i (nodesOf s n) (nodesOf w n) (tree-at s n h x) (above-at s n h x) low high
-        (λ j l r z. o j l r z .kind) (λ j l r z. o j l r z .links) (λ j l r z. o j l r z .parent) (relinked .body .kind ∙ a .kind) (parent ∙ a .parent)
+        (nodes-else o) (relinked .body .kind ∙ a .kind) (parent ∙ a .parent)
         p below (old .names) (less-emptied .names) (λ q l z. less-emptied .others q l z .names) (omega arith)
         less-links
 
@@ -181,7 +181,7 @@ module _ (s : List ℕ) (n d t i : ℕ) (h : Sound mostStoreBlocks false s) (x :
         let c = counted-some n (nodesOf s n) (tree-at s n h x) p i below low (old .names) in
         let e = links in
         tree-last n i (nodesOf s n) (nodesOf z n) (tree-at s n h x) (above-at s n h x) low high
-        (λ j l r y. o j l r y .kind) (λ j l r y. o j l r y .links) (λ j l r y. o j l r y .parent)
+        (nodes-else o)
         p below (old .names) (last-emptied .names) (λ q l y. last-emptied .others q l y .names) (omega arith)
         (λ k q l e. naming-none s n q (unfilled s n i (holds k) q e)) (bared .new .kind) (bared .new .links)
 
