@@ -8,7 +8,8 @@ use native.Mathlib.Omega.{arith}
 use native.Mathlib.Numerals.{add-one}
 use borrow.Author.Tests.{le-leb, lt-leb, eq-eqb}
 use lib.Dec.{leb, eqb}
-use lib.ListN.{length, getD, set, replicate, length-replicate, replicate-append-replicate}
+use lib.ListN.{length, getD, set, take, replicate, length-replicate, replicate-append-replicate}
+use lib.Seq.{take-all}
 use Rattle.bounded.specs.Reflect.{Reflects}
 use Rattle.bounded.specs.Search.{pick}
 use Rattle.bounded.specs.Below.{allBelow}
@@ -111,3 +112,10 @@ pub fill-more : (s : List ℕ) (k v : ℕ) → set (splice s 0 (replicate k v)) 
 fill-more s k v =
     let z : k ≡ 0 + k = omega arith in
     ap (λ (j : ℕ). set (splice s 0 (replicate k v)) j v) z ∙ splice-snoc s 0 (replicate k v) k v (length-replicate k v) ∙ ap (splice s 0) (replicate-append-replicate k 1 v)
+
+-- ---- the front of a list
+pub front-all : (s : List ℕ) (k : ℕ) → length s ≤ k → s ≡ take k s
+front-all s k h = sym (take-all k s h)
+
+pub front-part : (s : List ℕ) (k : ℕ) → take (k - 0) s ≡ take k s
+front-part s k = let e : k - 0 ≡ k = omega arith in ap (λ (m : ℕ). take m s) e

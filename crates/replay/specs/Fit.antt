@@ -2,16 +2,10 @@
 use Prim.Native.Nat.{ℕ, _+_, _*_, _≤_}
 use mathlib.Core.Path.{_≡_}
 use Rattle.replay.specs.declared.buffers.Lengths.{Lengths}
-use Rattle.replay.specs.declared.buffers.Wanted.{Wanted}
-use Rattle.replay.specs.declared.buffers.Wanted.the-variants.{Fits, TooLong}
 use Rattle.replay.specs.declared.lines.State.{State}
 
 abbrev pub Fit : Lengths → ℕ → ℕ → ℕ → Type 0
 Fit l s i d = (l .store ≤ s) × (l .image ≤ i) × (l .desk ≤ d)
-
-abbrev pub FitIf : Wanted → ℕ → ℕ → ℕ → Type 0
-FitIf (Fits l) s i d = Fit l s i d
-FitIf TooLong s i d = 0 ≤ s
 
 -- the longest line that is printed, with p bytes of a read
 abbrev pub lineRoom : ℕ → ℕ

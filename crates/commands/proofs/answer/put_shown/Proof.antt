@@ -12,7 +12,7 @@ use Rattle.commands.proofs.answer.put_shown.Statement.{statement}
 use Rattle.commands.proofs.answer.put_shown.Tie as tie
 use Rattle.commands.proofs.answer.put_shown.Reads as reads
 use Rattle.commands.proofs.answer.put_shown.Lts as lts
-use Rattle.commands.proofs.answer.front.Reads as front-reads
+use Rattle.commands.proofs.bytes.front.Reads as front-reads
 use Rattle.commands.proofs.answer.put_numbered.Reads as put-numbered-reads
 use Rattle.commands.proofs.text.put.Reads as put-reads
 use Rattle.commands.proofs.text.put_bytes.Reads as put-bytes-reads

@@ -18,7 +18,7 @@ is-dash-requires c κs = search needs
 
 -- src/bytes.rt:80:9
 returns : tie.Need-returns
-returns c = (taken-dash _ _ (sym (c .before .is-dash .ensures) ∙ c .if1 .taken), omega arith)
+returns c = taken-dash _ _ (sym (c .before .is-dash .ensures) ∙ c .if1 .taken)
 
 -- src/bytes.rt:82:9
 is-hex-requires : tie.Need-is-hex-requires
@@ -26,11 +26,11 @@ is-hex-requires c κs = search needs
 
 -- src/bytes.rt:83:9
 returns-2 : tie.Need-returns-2
-returns-2 c = (taken-not _ _ (sym (c .before .before .before .is-dash .ensures) ∙ c .before .before .if1 .left) (chain-off _ _ (c .before .is-hex .ensures) (c .if2 .taken)), omega arith)
+returns-2 c = taken-not _ _ (sym (c .before .before .before .is-dash .ensures) ∙ c .before .before .if1 .left) (chain-off _ _ (c .before .is-hex .ensures) (c .if2 .taken))
 
 -- src/bytes.rt:87:9
 returns-3 : tie.Need-returns-3
-returns-3 c = (taken-long _ _ (sym (c .before .before .before .before .is-dash .ensures) ∙ c .before .before .before .if1 .left) (omega arith), omega arith)
+returns-3 c = taken-long _ _ (sym (c .before .before .before .before .is-dash .ensures) ∙ c .before .before .before .if1 .left) (omega arith)
 
 -- src/bytes.rt:89:5
 put-bytes-requires : tie.Need-put-bytes-requires
@@ -42,7 +42,7 @@ same-length c = search needs
 
 -- src/bytes.rt:75:1
 returns-4 : tie.Need-returns-4
-returns-4 c = (taken-all _ _ _ (sym (c .before .before .before .before .before .before .before .before .is-dash .ensures) ∙ c .before .before .before .before .before .before .before .if1 .left) (chain-on _ _ (c .before .before .before .before .before .before .is-hex .ensures) (c .before .before .before .before .before .if2 .left)) (omega arith) (c .before .before .put-bytes .ensures), omega arith)
+returns-4 c = taken-all _ _ _ (sym (c .before .before .before .before .before .before .before .before .is-dash .ensures) ∙ c .before .before .before .before .before .before .before .if1 .left) (chain-on _ _ (c .before .before .before .before .before .before .is-hex .ensures) (c .before .before .before .before .before .if2 .left)) (omega arith) (c .before .before .put-bytes .ensures)
 
 pub take-hex-spec : {M : Type 1} → statement M
 take-hex-spec =

@@ -1,11 +1,11 @@
 use denote.Ref.{now}
-use Rattle.commands.proofs.LineLaws.{front-all, front-part}
+use Rattle.commands.proofs.HexLaws.{front-all, front-part}
 use native.Mathlib.Omega.{arith}
 use borrow.Author.Needs.{needs}
-use Rattle.commands.proofs.answer.front.Statement.{statement}
-use Rattle.commands.proofs.answer.front.Tie as tie
-use Rattle.commands.proofs.answer.front.Reads as reads
-use Rattle.commands.proofs.answer.front.Lts as lts
+use Rattle.commands.proofs.bytes.front.Statement.{statement}
+use Rattle.commands.proofs.bytes.front.Tie as tie
+use Rattle.commands.proofs.bytes.front.Reads as reads
+use Rattle.commands.proofs.bytes.front.Lts as lts
 
 -- src/answer.rt:87:9
 returns : tie.Need-returns
