@@ -7,8 +7,6 @@ ghost use Rattle.answers.specs.Refusal.{refusalNumber};
 ghost use Rattle.answers.specs.Told.{told};
 ghost use Rattle.commands.specs.Text.{Put, decimalText, bytesText};
 ghost use Rattle.commands.specs.Line.{okText, toldText, replyText, sumsText, isError, ending, lineText};
-use answers::Answer;
-use answers::Refusal;
 use crate::Reply;
 use crate::Sums;
 use crate::bytes::front;
@@ -16,6 +14,8 @@ use crate::text::put;
 use crate::text::put_bytes;
 use crate::text::put_decimal;
 use crate::text::put_sum;
+use answers::Answer;
+use answers::Refusal;
 
 pub fn refusal_number(e: Refusal) -> usize
     ensures { λ r. ⌜ r ≡ refusalNumber e ⌝ }

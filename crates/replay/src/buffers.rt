@@ -1,7 +1,4 @@
 // The commands on whole buffers.
-ghost use mathlib.Core.Path.{_≡_};
-ghost use Prim.Native.Nat.{_+_, _*_, _≤_};
-ghost use lib.ListN.{length};
 ghost use Rattle.replay.specs.Fit.{Fit};
 use answers::Answer;
 use commands::Number;
@@ -42,8 +39,15 @@ fn fresh_desk(desk: &mut [u8], n: usize) -> Answer {
 }
 
 // Zeroed buffers, and the two layout calls.
-fn fresh(store: &mut [u8], image: &mut [u8], desk: &mut [u8], n: usize, b: usize, lengths: Lengths) -> Reply
-    requires { ⌜ Fit lengths (length (now store)) (length (now image)) (length (now desk)) ⌝ }
+fn fresh(
+    store: &mut [u8],
+    image: &mut [u8],
+    desk: &mut [u8],
+    n: usize,
+    b: usize,
+    lengths: Lengths,
+) -> Reply
+    requires { ⌜ Fit lengths (now store) (now image) (now desk) ⌝ }
 {
     let s = lengths.store;
     let i = lengths.image;
@@ -54,9 +58,17 @@ fn fresh(store: &mut [u8], image: &mut [u8], desk: &mut [u8], n: usize, b: usize
 }
 
 // Buffers for n inodes, b blocks and i blocks in the image; where they don't fit, the old ones stay.
-fn renewed(store: &mut [u8], image: &mut [u8], desk: &mut [u8], n: usize, b: usize, i: usize, kept: Step) -> Step
-    requires { ⌜ Fit (kept .lengths) (length (now store)) (length (now image)) (length (now desk)) ⌝ }
-    ensures { λ r. ⌜ Fit (r .lengths) (length (now (store .entry))) (length (now (image .entry))) (length (now (desk .entry))) ⌝ }
+fn renewed(
+    store: &mut [u8],
+    image: &mut [u8],
+    desk: &mut [u8],
+    n: usize,
+    b: usize,
+    i: usize,
+    kept: Step,
+) -> Step
+    requires { ⌜ Fit (kept .lengths) (now store) (now image) (now desk) ⌝ }
+    ensures { λ r. ⌜ Fit (r .lengths) (now (store .entry)) (now (image .entry)) (now (desk .entry)) ⌝ }
 {
     if MOST < n {
         return kept;
@@ -80,8 +92,8 @@ fn renewed(store: &mut [u8], image: &mut [u8], desk: &mut [u8], n: usize, b: usi
 }
 
 pub fn renew(cmd: &[u8], store: &mut [u8], image: &mut [u8], desk: &mut [u8], old: Lengths) -> Step
-    requires { ⌜ Fit old (length (now store)) (length (now image)) (length (now desk)) ⌝ }
-    ensures { λ r. ⌜ Fit (r .lengths) (length (now (store .entry))) (length (now (image .entry))) (length (now (desk .entry))) ⌝ }
+    requires { ⌜ Fit old (now store) (now image) (now desk) ⌝ }
+    ensures { λ r. ⌜ Fit (r .lengths) (now (store .entry)) (now (image .entry)) (now (desk .entry)) ⌝ }
 {
     let kept = Step {
         reply: Reply::Error,
