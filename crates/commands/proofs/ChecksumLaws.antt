@@ -1,10 +1,10 @@
 -- Laws of the checksum.
-use Prim.Native.Nat.{ℕ, zero, suc, _+_, _-_, _*_, _/_, _%_, _^_, _≤_, _<_}
-use mathlib.Core.Path.{_≡_, refl, sym, ap, _∙_}
+use Prim.Native.Nat.{ℕ, _+_, _-_, _*_, _/_, _%_, _^_}
+use mathlib.Core.Path.{_≡_, refl}
 use mathlib.Core.List.{List}
 use native.Mathlib.Omega.{arith}
 use native.Mathlib.Numerals.{add-one}
-use lib.ListN.{length, getD}
+use lib.ListN.{getD}
 use Rattle.commands.specs.Checksum.{basis, prime, mixed, sumTo, checksum}
 
 pub sum-none : (s : List ℕ) → basis ≡ sumTo s 0
@@ -27,5 +27,5 @@ parts h u l w b q r e f g = omega arith
 pub by-parts : (h : ℕ) → ((h % 16777216 * 1099511627776 + h / 4294967296 * 435 % 4294967296 * 4294967296) % 2 ^ 64 + h % 4294967296 * 435) % 2 ^ 64 ≡ h * prime % 2 ^ 64
 by-parts h =
     let e : h * prime ≡ (h % 16777216 * 1099511627776 + h / 4294967296 * 435 % 4294967296 * 4294967296) + h % 4294967296 * 435 + 18446744073709551616 * (h / 16777216 + h / 4294967296 * 435 / 4294967296)
-          = parts h (h / 4294967296) (h % 4294967296) (h / 16777216) (h % 16777216) (h / 4294967296 * 435 / 4294967296) (h / 4294967296 * 435 % 4294967296) (omega arith) (omega arith) (omega arith) in
+    = parts h (h / 4294967296) (h % 4294967296) (h / 16777216) (h % 16777216) (h / 4294967296 * 435 / 4294967296) (h / 4294967296 * 435 % 4294967296) (omega arith) (omega arith) (omega arith) in
     rw e (last (h % 16777216 * 1099511627776 + h / 4294967296 * 435 % 4294967296 * 4294967296) (h % 4294967296 * 435) (h / 16777216 + h / 4294967296 * 435 / 4294967296))

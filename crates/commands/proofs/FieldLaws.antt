@@ -1,5 +1,5 @@
 -- Laws of a search that answers the end where nothing passes, and of fields.
-use Prim.Native.Nat.{ℕ, zero, suc, _+_, _-_, _≤_, _<_}
+use Prim.Native.Nat.{ℕ, _+_, _-_, _≤_, _<_}
 use mathlib.Core.Path.{_≡_, refl, sym, ap, _∙_}
 use mathlib.Core.Bool.{Bool, true, false}
 use mathlib.Core.List.{List, []}
@@ -8,7 +8,6 @@ use native.Mathlib.Numerals.{add-one}
 use borrow.Author.Tests.{ne-eqb}
 use lib.Dec.{eqb}
 use lib.ListN.{length, getD, take, drop, List·getD-eq-default}
-use Rattle.bounded.specs.Search.{firstFrom, onFound}
 use Rattle.bounded.proofs.SearchLaws.{first-turn, first-found, first-end}
 use Rattle.bounded.proofs.BoolLaws.{and-false-r}
 use Rattle.octets.specs.Octets.{part}

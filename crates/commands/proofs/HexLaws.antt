@@ -1,26 +1,24 @@
 -- Laws of bytes in hex.
-use Prim.Native.Nat.{ℕ, zero, suc, _+_, _-_, _*_, _/_, _%_, _≤_, _<_}
+use Prim.Native.Nat.{ℕ, zero, suc, _+_, _-_, _/_, _%_, _≤_, _<_}
 use mathlib.Core.Path.{_≡_, refl, sym, ap, ap₂, _∙_}
-use mathlib.Core.Bool.{Bool, true, false, _&&_, _||_}
-use mathlib.Core.Logic.{_⊎_, inl, inr, ⊎-elim}
+use mathlib.Core.Bool.{true, false}
+use mathlib.Core.Logic.{_⊎_, ⊎-elim}
 use mathlib.Core.List.{List, [], _∷_, _++_}
 use native.Mathlib.Omega.{arith}
 use native.Mathlib.Numerals.{add-one}
-use borrow.Author.Tests.{le-leb, lt-leb, eq-eqb}
+use borrow.Author.Tests.{le-leb, lt-leb}
 use lib.Dec.{leb, eqb}
-use lib.ListN.{length, getD, set, replicate, length-replicate, replicate-append-replicate}
+use lib.ListN.{length, getD, set, take, replicate, length-replicate, replicate-append-replicate}
+use lib.Seq.{take-all}
 use Rattle.bounded.specs.Reflect.{Reflects}
-use Rattle.bounded.specs.Search.{pick}
-use Rattle.bounded.specs.Below.{allBelow}
 use Rattle.bounded.specs.Table.{table}
-use Rattle.bounded.proofs.BoolLaws.{and-true, and-left, and-right, and-false-r}
+use Rattle.bounded.proofs.BoolLaws.{and-right, and-false-r}
 use Rattle.bounded.proofs.BelowLaws.{all-at}
 use Rattle.bounded.proofs.ReflectLaws.{r-le, r-and, r-or, r-fails}
 use Rattle.bounded.proofs.TableLaws.{length-table}
 use Rattle.octets.specs.Octets.{splice}
 use Rattle.octets.proofs.PartLaws.{splice-snoc}
 use Rattle.commands.specs.Hex.{between, isHexDigit, hexValue, hexByte, isHex, hexBytes, taken, takeHex, isDash}
-use Rattle.commands.specs.declared.Hex.{Hex}
 use Rattle.commands.specs.declared.Hex.the-variants.{Bytes, NotHex}
 
 -- ---- digits
@@ -111,3 +109,10 @@ pub fill-more : (s : List ℕ) (k v : ℕ) → set (splice s 0 (replicate k v)) 
 fill-more s k v =
     let z : k ≡ 0 + k = omega arith in
     ap (λ (j : ℕ). set (splice s 0 (replicate k v)) j v) z ∙ splice-snoc s 0 (replicate k v) k v (length-replicate k v) ∙ ap (splice s 0) (replicate-append-replicate k 1 v)
+
+-- ---- the front of a list
+pub front-all : (s : List ℕ) (k : ℕ) → length s ≤ k → s ≡ take k s
+front-all s k h = sym (take-all k s h)
+
+pub front-part : (s : List ℕ) (k : ℕ) → take (k - 0) s ≡ take k s
+front-part s k = let e : k - 0 ≡ k = omega arith in ap (λ (m : ℕ). take m s) e

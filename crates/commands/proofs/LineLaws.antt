@@ -1,11 +1,9 @@
 -- Laws of an answer's line: the text of each case.
-use Prim.Native.Nat.{ℕ, _-_, _≤_}
-use mathlib.Core.Path.{_≡_, refl, sym, ap, ap₂, _∙_}
+use Prim.Native.Nat.{ℕ}
+use mathlib.Core.Path.{_≡_, refl}
 use mathlib.Core.Bool.{true, false}
 use mathlib.Core.List.{List, [], _∷_, _++_}
-use native.Mathlib.Omega.{arith}
-use lib.ListN.{length, take}
-use lib.Seq.{take-all}
+use lib.ListN.{take}
 use Rattle.answers.specs.declared.Answer.{Answer}
 use Rattle.answers.specs.declared.Answer.the-variants.{Done, Refused}
 use Rattle.answers.specs.declared.Refusal.{Refusal}
@@ -63,10 +61,3 @@ error-ending r w e = rw e refl
 pub sums-ending : (r : Reply) (w : Sums) → isError r ≡ false → sumsText w ≡ ending r w
 unfolding ending
 sums-ending r w e = rw e refl
-
--- ---- the front of a page
-pub front-all : (s : List ℕ) (k : ℕ) → length s ≤ k → s ≡ take k s
-front-all s k h = sym (take-all k s h)
-
-pub front-part : (s : List ℕ) (k : ℕ) → take (k - 0) s ≡ take k s
-front-part s k = let e : k - 0 ≡ k = omega arith in ap (λ (m : ℕ). take m s) e

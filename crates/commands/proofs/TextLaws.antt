@@ -1,9 +1,8 @@
 -- Laws of text put into a buffer, and of numbers as text.
 use Prim.Native.Nat.{ℕ, zero, suc, _+_, _-_, _*_, _/_, _%_, _^_, _≤_, _<_}
 use mathlib.Core.Path.{_≡_, refl, sym, ap, ap₂, _∙_}
-use mathlib.Core.Bool.{Bool, true, false}
 use mathlib.Core.List.{List, [], _∷_, _++_}
-use native.Mathlib.Nat.{pow-suc, pow-zero, pow-le-pow-right, one-le-pow}
+use native.Mathlib.Nat.{pow-suc, pow-le-pow-right, one-le-pow}
 use native.Mathlib.Decide.{decLt}
 use native.Mathlib.Numerals.{add-one}
 use native.Mathlib.Omega.{arith}
@@ -13,7 +12,7 @@ use lib.ListN.{length, getD, take, length-append}
 use lib.Seq.{take-suc, take-length}
 use Rattle.io.specs.Digits.{digits, glyph, Fewest}
 use Rattle.bounded.specs.Search.{pick}
-use Rattle.octets.specs.Octets.{part, splice, copied}
+use Rattle.octets.specs.Octets.{splice, copied}
 use Rattle.octets.proofs.PartLaws.{part-all, splice-append, length-splice}
 use Rattle.commands.specs.Text.{Put, places, decimalText, hexText, pairs, bytesText}
 
@@ -27,7 +26,7 @@ pub put-on : (s t u : List ℕ) (o e f : ℕ) (xs ys : List ℕ) → Put s o xs 
 put-on s t u o e f xs ys p q =
     record {
       ends = rw (length-append xs ys) (omega (arith, p .ends, q .ends));
-      holds = q .holds ∙ ap₂ (λ (l : List ℕ) (m : ℕ). splice l m ys) (p .holds) (p .ends) ∙ splice-append s o xs ys
+      holds = q .holds ∙ ap₂ (λ (l : List ℕ) (m : ℕ). splice l m ys) (p .holds) (p .ends) ∙ splice-append s o xs ys;
     }
 
 pub put-length : (s t : List ℕ) (o e : ℕ) (xs : List ℕ) → Put s o xs e t → length t ≡ length s
@@ -76,6 +75,7 @@ fewer (suc k) n h l =
   where
     down : (m : ℕ) → 1 < suc m → 10 ^ (suc (suc m) - 1) ≡ 10 ^ (suc m - 1) * 10
     down m g = let z : suc (suc m) - 1 ≡ suc (suc m - 1) = omega arith in ap (λ (x : ℕ). 10 ^ x) z ∙ pow-suc 10 (suc m - 1)
+
     go : 1 < suc k → 10 ^ (suc k - 1) ≤ n / 10
     go m = let e = down k m in let b : 10 ^ (suc (suc k) - 1) ≤ n = h .2 (omega arith) in omega arith
 

@@ -47,7 +47,3 @@ unfoldable pub takeHex : List ℕ → List ℕ → Taken
 takeHex s b =
     pick (isDash s) (taken (Bytes 0) b)
     (pick (isHex s && leb (length s / 2) (length b)) (taken (Bytes (length s / 2)) (splice b 0 (hexBytes s))) (taken NotHex b))
-
-abbrev pub hexCount : Hex → ℕ
-hexCount (Bytes n) = n
-hexCount NotHex = 0

@@ -7,14 +7,15 @@ ghost use Rattle.answers.specs.Refusal.{refusalNumber};
 ghost use Rattle.answers.specs.Told.{told};
 ghost use Rattle.commands.specs.Text.{Put, decimalText, bytesText};
 ghost use Rattle.commands.specs.Line.{okText, toldText, replyText, sumsText, isError, ending, lineText};
-use answers::Answer;
-use answers::Refusal;
 use crate::Reply;
 use crate::Sums;
+use crate::bytes::front;
 use crate::text::put;
 use crate::text::put_bytes;
 use crate::text::put_decimal;
 use crate::text::put_sum;
+use answers::Answer;
+use answers::Refusal;
 
 pub fn refusal_number(e: Refusal) -> usize
     ensures { λ r. ⌜ r ≡ refusalNumber e ⌝ }
@@ -77,16 +78,6 @@ fn put_laid(out: &mut [u8], o: usize, a: Answer, d: Answer) -> usize
 {
     let e = put_numbered(&mut *out, o, b"ok ", told_number(a));
     put_numbered(out, e, b" ", told_number(d))
-}
-
-// The first k bytes of s, or all.
-fn front(s: &[u8], k: usize) -> &[u8]
-    ensures { λ r. ⌜ now r ≡ take k (now (s .entry)) ⌝ }
-{
-    if s.len() < k {
-        return s;
-    }
-    &s[0..k]
 }
 
 fn put_shown(out: &mut [u8], o: usize, n: usize, k: usize, page: &[u8]) -> usize

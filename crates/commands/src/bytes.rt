@@ -2,9 +2,9 @@
 ghost use mathlib.Core.Path.{_≡_};
 ghost use mathlib.Core.Bool.{true};
 ghost use Prim.Native.Nat.{_+_, _*_, _/_, _<_, _≤_};
-ghost use lib.ListN.{length, replicate};
+ghost use lib.ListN.{length, replicate, take};
 ghost use Rattle.octets.specs.Octets.{splice};
-ghost use Rattle.commands.specs.Hex.{isHexDigit, hexValue, hexByte, isHex, isDash, hexBytes, taken, takeHex, hexCount};
+ghost use Rattle.commands.specs.Hex.{isHexDigit, hexValue, hexByte, isHex, isDash, hexBytes, taken, takeHex};
 use crate::Hex;
 
 fn is_hex_digit(x: u8) -> bool
@@ -74,7 +74,6 @@ fn put_bytes(s: &[u8], out: &mut [u8])
 // The bytes that s is in hex go to the front of out.
 pub fn take_hex(s: &[u8], out: &mut [u8]) -> Hex
     ensures { λ r. ⌜ taken r (now (out .exit)) ≡ takeHex (now (s .entry)) (now (out .entry)) ⌝ }
-    ensures { λ r. ⌜ hexCount r ≤ length (now (out .exit)) ⌝ }
 {
     if is_dash(s) {
         return Hex::Bytes(0);
@@ -98,4 +97,14 @@ pub fn fill(s: &mut [u8], k: usize, v: u8)
     for j in 0..k {
         s[j] = v;
     }
+}
+
+// The first k bytes of s, or all.
+pub fn front(s: &[u8], k: usize) -> &[u8]
+    ensures { λ r. ⌜ now r ≡ take k (now (s .entry)) ⌝ }
+{
+    if s.len() < k {
+        return s;
+    }
+    &s[0..k]
 }

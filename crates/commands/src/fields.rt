@@ -2,7 +2,7 @@
 ghost use mathlib.Core.Path.{_≡_};
 ghost use Prim.Native.Nat.{_+_, _<_, _≤_};
 ghost use lib.ListN.{length, take};
-ghost use Rattle.commands.specs.Fields.{isSpace, isArrow, commandEnd, fieldEnd, fieldStart, field, noMore};
+ghost use Rattle.commands.specs.Fields.{isArrow, commandEnd, fieldEnd, fieldStart, field, noMore};
 
 const SPACE: u8 = 32;
 

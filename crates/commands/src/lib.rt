@@ -1,9 +1,9 @@
 // Command lines and their answers: a line taken apart, and an answer as text. All on slices; what comes from outside may be any bytes.
+pub mod answer;
+pub mod bytes;
 pub mod checksum;
 pub mod fields;
-pub mod bytes;
 pub mod numbers;
-pub mod answer;
 pub mod text;
 pub mod words;
 

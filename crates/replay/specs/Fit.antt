@@ -1,25 +1,25 @@
--- The lengths of the three buffers stay within the program's arrays, and what is to be printed within its own.
+-- What holds between two bytes of the input: store, image and desk lie within the program's arrays, and so do the line and what is to be printed.
 use Prim.Native.Nat.{ℕ, _+_, _*_, _≤_}
 use mathlib.Core.Path.{_≡_}
+use mathlib.Core.List.{List}
+use lib.ListN.{length}
 use Rattle.replay.specs.declared.buffers.Lengths.{Lengths}
-use Rattle.replay.specs.declared.buffers.Wanted.{Wanted}
-use Rattle.replay.specs.declared.buffers.Wanted.the-variants.{Fits, TooLong}
 use Rattle.replay.specs.declared.lines.State.{State}
 
-abbrev pub Fit : Lengths → ℕ → ℕ → ℕ → Type 0
-Fit l s i d = (l .store ≤ s) × (l .image ≤ i) × (l .desk ≤ d)
+abbrev pub Fit : Lengths → List ℕ → List ℕ → List ℕ → Type 0
+Fit l store image desk = (l .store ≤ length store) × (l .image ≤ length image) × (l .desk ≤ length desk)
 
-abbrev pub FitIf : Wanted → ℕ → ℕ → ℕ → Type 0
-FitIf (Fits l) s i d = Fit l s i d
-FitIf TooLong s i d = 0 ≤ s
+-- the longest line has room, a read of a whole page's
+abbrev pub Room : List ℕ → List ℕ → Type 0
+Room page out = 98 + 2 * length page ≤ length out
 
--- the longest line that is printed, with p bytes of a read
-abbrev pub lineRoom : ℕ → ℕ
-lineRoom p = 98 + 2 * p
+-- between two lines
+abbrev pub Ready : State → List ℕ → List ℕ → List ℕ → List ℕ → List ℕ → Type 0
+Ready t store image desk page out = Fit (t .lengths) store image desk × (t .filled ≤ length out) × Room page out
 
--- between two lines: f bytes hold what is printed
-abbrev pub Ready : State → ℕ → ℕ → ℕ → ℕ → ℕ → Type 0
-Ready t s i d p f = Fit (t .lengths) s i d × (t .filled ≤ f) × (lineRoom p ≤ f)
+-- in a line
+abbrev pub Reading : State → List ℕ → List ℕ → List ℕ → List ℕ → List ℕ → List ℕ → Type 0
+Reading t store image desk page line out = Ready t store image desk page out × (t .used ≤ length line)
 
 -- the same buffers, and the same to print
 abbrev pub Kept : State → State → Type 0

@@ -1,8 +1,5 @@
 // The commands on whole buffers.
-ghost use mathlib.Core.Path.{_≡_};
-ghost use Prim.Native.Nat.{_+_, _*_, _≤_};
-ghost use lib.ListN.{length};
-ghost use Rattle.replay.specs.Fit.{Fit, FitIf};
+ghost use Rattle.replay.specs.Fit.{Fit};
 use answers::Answer;
 use commands::Number;
 use commands::Place;
@@ -26,43 +23,8 @@ pub struct Step {
     pub lengths: Lengths,
 }
 
-enum Wanted {
-    Fits(Lengths),
-    TooLong,
-}
-
 // No count beyond this one has a buffer here, and none up to it is a length that overflows.
 const MOST: usize = 65536;
-
-// The lengths of the buffers for n inodes, b blocks and i blocks in the image, where they fit.
-fn lengths_for(n: usize, b: usize, i: usize, store: &[u8], image: &[u8], desk: &[u8]) -> Wanted
-    ensures { λ r. ⌜ FitIf r (length (now (store .entry))) (length (now (image .entry))) (length (now (desk .entry))) ⌝ }
-{
-    if MOST < n {
-        return Wanted::TooLong;
-    }
-    if MOST < b {
-        return Wanted::TooLong;
-    }
-    if MOST < i {
-        return Wanted::TooLong;
-    }
-    let lengths = Lengths {
-        store: 16 + 32 * n + 64 * b,
-        image: 16 + 32 * n + 64 * i,
-        desk: 16 + 9 * n,
-    };
-    if store.len() < lengths.store {
-        return Wanted::TooLong;
-    }
-    if image.len() < lengths.image {
-        return Wanted::TooLong;
-    }
-    if desk.len() < lengths.desk {
-        return Wanted::TooLong;
-    }
-    Wanted::Fits(lengths)
-}
 
 fn fresh_store(store: &mut [u8], n: usize, b: usize) -> Answer {
     let k = store.len();
@@ -77,8 +39,15 @@ fn fresh_desk(desk: &mut [u8], n: usize) -> Answer {
 }
 
 // Zeroed buffers, and the two layout calls.
-fn fresh(store: &mut [u8], image: &mut [u8], desk: &mut [u8], n: usize, b: usize, lengths: Lengths) -> Reply
-    requires { ⌜ Fit lengths (length (now store)) (length (now image)) (length (now desk)) ⌝ }
+fn fresh(
+    store: &mut [u8],
+    image: &mut [u8],
+    desk: &mut [u8],
+    n: usize,
+    b: usize,
+    lengths: Lengths,
+) -> Reply
+    requires { ⌜ Fit lengths (now store) (now image) (now desk) ⌝ }
 {
     let s = lengths.store;
     let i = lengths.image;
@@ -88,10 +57,43 @@ fn fresh(store: &mut [u8], image: &mut [u8], desk: &mut [u8], n: usize, b: usize
     Reply::Laid(laid, fresh_desk(&mut desk[0..d], n))
 }
 
-// `new`: buffers that don't fit are refused, and the old ones stay.
+// Buffers for n inodes, b blocks and i blocks in the image; where they don't fit, the old ones stay.
+fn renewed(
+    store: &mut [u8],
+    image: &mut [u8],
+    desk: &mut [u8],
+    n: usize,
+    b: usize,
+    i: usize,
+    kept: Step,
+) -> Step
+    requires { ⌜ Fit (kept .lengths) (now store) (now image) (now desk) ⌝ }
+    ensures { λ r. ⌜ Fit (r .lengths) (now (store .entry)) (now (image .entry)) (now (desk .entry)) ⌝ }
+{
+    if MOST < n {
+        return kept;
+    }
+    if MOST < b {
+        return kept;
+    }
+    if MOST < i {
+        return kept;
+    }
+    let lengths = Lengths {
+        store: 16 + 32 * n + 64 * b,
+        image: 16 + 32 * n + 64 * i,
+        desk: 16 + 9 * n,
+    };
+    if store.len() < lengths.store || image.len() < lengths.image || desk.len() < lengths.desk {
+        return kept;
+    }
+    let reply = fresh(store, image, desk, n, b, lengths);
+    Step { reply, lengths }
+}
+
 pub fn renew(cmd: &[u8], store: &mut [u8], image: &mut [u8], desk: &mut [u8], old: Lengths) -> Step
-    requires { ⌜ Fit old (length (now store)) (length (now image)) (length (now desk)) ⌝ }
-    ensures { λ r. ⌜ Fit (r .lengths) (length (now (store .entry))) (length (now (image .entry))) (length (now (desk .entry))) ⌝ }
+    requires { ⌜ Fit old (now store) (now image) (now desk) ⌝ }
+    ensures { λ r. ⌜ Fit (r .lengths) (now (store .entry)) (now (image .entry)) (now (desk .entry)) ⌝ }
 {
     let kept = Step {
         reply: Reply::Error,
@@ -109,11 +111,7 @@ pub fn renew(cmd: &[u8], store: &mut [u8], image: &mut [u8], desk: &mut [u8], ol
     let Number::Value(i) = number(field(cmd, 3)) else {
         return kept;
     };
-    let Wanted::Fits(lengths) = lengths_for(n, b, i, &*store, &*image, &*desk) else {
-        return kept;
-    };
-    let reply = fresh(store, image, desk, n, b, lengths);
-    Step { reply, lengths }
+    renewed(store, image, desk, n, b, i, kept)
 }
 
 fn poke_in(buffer: &mut [u8], offset: usize, byte: usize) -> Reply {

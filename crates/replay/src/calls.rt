@@ -5,6 +5,7 @@ use commands::Number;
 use commands::Reply;
 use commands::Verb;
 use commands::bytes::fill;
+use commands::bytes::front;
 use commands::bytes::take_hex;
 use commands::fields::field;
 use commands::fields::no_more;
@@ -27,7 +28,7 @@ fn look_up(cmd: &[u8], store: &[u8]) -> Reply {
     let Hex::Bytes(n) = take_hex(field(cmd, 2), &mut name) else {
         return Reply::Error;
     };
-    Reply::Told(plain::look_up(store, dir, &name[0..n]))
+    Reply::Told(plain::look_up(store, dir, front(&name, n)))
 }
 
 fn create(cmd: &[u8], store: &mut [u8]) -> Reply {
@@ -43,10 +44,10 @@ fn create(cmd: &[u8], store: &mut [u8]) -> Reply {
     };
     let kind = field(cmd, 3);
     if is_word(kind, b"f") {
-        return Reply::Told(plain::create(store, dir, &name[0..n], Kind::File));
+        return Reply::Told(plain::create(store, dir, front(&name, n), Kind::File));
     }
     if is_word(kind, b"d") {
-        return Reply::Told(plain::create(store, dir, &name[0..n], Kind::Directory));
+        return Reply::Told(plain::create(store, dir, front(&name, n), Kind::Directory));
     }
     Reply::Error
 }
@@ -89,7 +90,7 @@ fn write(cmd: &[u8], store: &mut [u8]) -> Reply {
     let Hex::Bytes(n) = take_hex(field(cmd, 3), &mut bytes) else {
         return Reply::Error;
     };
-    Reply::Told(plain::write(store, inode, offset, &bytes[0..n]))
+    Reply::Told(plain::write(store, inode, offset, front(&bytes, n)))
 }
 
 fn shorten(cmd: &[u8], store: &mut [u8]) -> Reply {
@@ -119,7 +120,7 @@ fn link(cmd: &[u8], store: &mut [u8]) -> Reply {
     let Number::Value(inode) = number(field(cmd, 3)) else {
         return Reply::Error;
     };
-    Reply::Told(plain::link(store, dir, &name[0..n], inode))
+    Reply::Told(plain::link(store, dir, front(&name, n), inode))
 }
 
 fn unlink(cmd: &[u8], store: &mut [u8]) -> Reply {
@@ -133,7 +134,7 @@ fn unlink(cmd: &[u8], store: &mut [u8]) -> Reply {
     let Hex::Bytes(n) = take_hex(field(cmd, 2), &mut name) else {
         return Reply::Error;
     };
-    Reply::Told(plain::unlink(store, dir, &name[0..n]))
+    Reply::Told(plain::unlink(store, dir, front(&name, n)))
 }
 
 fn rename(cmd: &[u8], store: &mut [u8]) -> Reply {
@@ -154,7 +155,7 @@ fn rename(cmd: &[u8], store: &mut [u8]) -> Reply {
     let Hex::Bytes(m) = take_hex(field(cmd, 4), &mut to_name) else {
         return Reply::Error;
     };
-    Reply::Told(plain::rename(store, dir, &name[0..n], to_dir, &to_name[0..m]))
+    Reply::Told(plain::rename(store, dir, front(&name, n), to_dir, front(&to_name, m)))
 }
 
 pub fn call(verb: Verb, cmd: &[u8], store: &mut [u8], page: &mut [u8]) -> Reply {

@@ -1,8 +1,13 @@
 // Standard input, line by line.
 ghost use mathlib.Core.Path.{_≡_};
-ghost use Prim.Native.Nat.{_+_, _*_, _≤_};
+ghost use mathlib.Core.List.{[]};
+ghost use Prim.Native.Nat.{_+_, _≤_};
 ghost use lib.ListN.{length};
-ghost use Rattle.replay.specs.Fit.{Fit, lineRoom, Ready, Kept};
+ghost use Rattle.replay.specs.Fit.{Fit, Room, Ready, Reading, Kept};
+use crate::buffers;
+use crate::buffers::Lengths;
+use crate::buffers::Step;
+use crate::calls;
 use commands::Reply;
 use commands::Sums;
 use commands::Verb;
@@ -11,10 +16,6 @@ use commands::checksum::checksum;
 use commands::fields::command;
 use commands::fields::field;
 use commands::words::verb;
-use crate::buffers;
-use crate::buffers::Lengths;
-use crate::buffers::Step;
-use crate::calls;
 use libc::STDIN_FILENO;
 use libc::STDOUT_FILENO;
 
@@ -32,7 +33,7 @@ pub struct State {
 
 impl State {
     fn new() -> State
-        ensures { λ r. ⌜ Fit (r .lengths) 0 0 0 × (r .used ≡ 0) × (r .filled ≡ 0) ⌝ }
+        ensures { λ r. ⌜ Fit (r .lengths) [] [] [] × (r .used ≡ 0) × (r .filled ≡ 0) ⌝ }
     {
         State {
             lengths: Lengths {
@@ -70,7 +71,13 @@ impl State {
 }
 
 // Every command but `new`, on the buffers as long as they are.
-fn dispatch(cmd: &[u8], store: &mut [u8], image: &mut [u8], desk: &mut [u8], page: &mut [u8]) -> Reply {
+fn dispatch(
+    cmd: &[u8],
+    store: &mut [u8],
+    image: &mut [u8],
+    desk: &mut [u8],
+    page: &mut [u8],
+) -> Reply {
     let verb = verb(field(cmd, 0));
     match verb {
         Verb::Poke => buffers::poke(cmd, store, image, desk),
@@ -80,9 +87,16 @@ fn dispatch(cmd: &[u8], store: &mut [u8], image: &mut [u8], desk: &mut [u8], pag
     }
 }
 
-fn step(cmd: &[u8], store: &mut [u8], image: &mut [u8], desk: &mut [u8], page: &mut [u8], lengths: Lengths) -> Step
-    requires { ⌜ Fit lengths (length (now store)) (length (now image)) (length (now desk)) ⌝ }
-    ensures { λ r. ⌜ Fit (r .lengths) (length (now (store .entry))) (length (now (image .entry))) (length (now (desk .entry))) ⌝ }
+fn step(
+    cmd: &[u8],
+    store: &mut [u8],
+    image: &mut [u8],
+    desk: &mut [u8],
+    page: &mut [u8],
+    lengths: Lengths,
+) -> Step
+    requires { ⌜ Fit lengths (now store) (now image) (now desk) ⌝ }
+    ensures { λ r. ⌜ Fit (r .lengths) (now (store .entry)) (now (image .entry)) (now (desk .entry)) ⌝ }
 {
     let verb = verb(field(cmd, 0));
     if let Verb::New = verb {
@@ -91,7 +105,13 @@ fn step(cmd: &[u8], store: &mut [u8], image: &mut [u8], desk: &mut [u8], page: &
     let s = lengths.store;
     let i = lengths.image;
     let d = lengths.desk;
-    let reply = dispatch(cmd, &mut store[0..s], &mut image[0..i], &mut desk[0..d], page);
+    let reply = dispatch(
+        cmd,
+        &mut store[0..s],
+        &mut image[0..i],
+        &mut desk[0..d],
+        page,
+    );
     Step { reply, lengths }
 }
 
@@ -108,7 +128,7 @@ fn with_room(out: &[u8], filled: usize, room: usize) -> usize
 }
 
 fn sums(store: &[u8], image: &[u8], desk: &[u8], lengths: Lengths) -> Sums
-    requires { ⌜ Fit lengths (length (now store)) (length (now image)) (length (now desk)) ⌝ }
+    requires { ⌜ Fit lengths (now store) (now image) (now desk) ⌝ }
 {
     let s = lengths.store;
     let i = lengths.image;
@@ -120,14 +140,29 @@ fn sums(store: &[u8], image: &[u8], desk: &[u8], lengths: Lengths) -> Sums
     }
 }
 
-fn answer(line: &[u8], store: &mut [u8], image: &mut [u8], desk: &mut [u8], page: &mut [u8], out: &mut [u8], state: State) -> State
-    requires { ⌜ Ready state (length (now store)) (length (now image)) (length (now desk)) (length (now page)) (length (now out)) ⌝ }
-    ensures { λ r. ⌜ Ready r (length (now (store .entry))) (length (now (image .entry))) (length (now (desk .entry))) (length (now (page .entry))) (length (now (out .entry))) ⌝ }
+fn answer(
+    line: &[u8],
+    store: &mut [u8],
+    image: &mut [u8],
+    desk: &mut [u8],
+    page: &mut [u8],
+    out: &mut [u8],
+    state: State,
+) -> State
+    requires { ⌜ Ready state (now store) (now image) (now desk) (now page) (now out) ⌝ }
+    ensures { λ r. ⌜ Ready r (now (store .entry)) (now (image .entry)) (now (desk .entry)) (now (page .entry)) (now (out .entry)) ⌝ }
     ensures { λ r. ⌜ r .used ≡ 0 ⌝ }
 {
     let old = state.lengths;
     let room = 98 + 2 * page.len();
-    let step = step(command(line), &mut *store, &mut *image, &mut *desk, &mut *page, old);
+    let step = step(
+        command(line),
+        &mut *store,
+        &mut *image,
+        &mut *desk,
+        &mut *page,
+        old,
+    );
     let lengths = step.lengths;
     let reply = step.reply;
     let sums = sums(&*store, &*image, &*desk, lengths);
@@ -143,10 +178,17 @@ fn answer(line: &[u8], store: &mut [u8], image: &mut [u8], desk: &mut [u8], page
 }
 
 // A line that there was no room for is answered like an empty one.
-fn end_line(store: &mut [u8], image: &mut [u8], desk: &mut [u8], page: &mut [u8], line: &[u8], out: &mut [u8], state: State) -> State
-    requires { ⌜ Ready state (length (now store)) (length (now image)) (length (now desk)) (length (now page)) (length (now out)) ⌝ }
-    requires { ⌜ state .used ≤ length (now line) ⌝ }
-    ensures { λ r. ⌜ Ready r (length (now (store .entry))) (length (now (image .entry))) (length (now (desk .entry))) (length (now (page .entry))) (length (now (out .entry))) ⌝ }
+fn end_line(
+    store: &mut [u8],
+    image: &mut [u8],
+    desk: &mut [u8],
+    page: &mut [u8],
+    line: &[u8],
+    out: &mut [u8],
+    state: State,
+) -> State
+    requires { ⌜ Reading state (now store) (now image) (now desk) (now page) (now line) (now out) ⌝ }
+    ensures { λ r. ⌜ Ready r (now (store .entry)) (now (image .entry)) (now (desk .entry)) (now (page .entry)) (now (out .entry)) ⌝ }
     ensures { λ r. ⌜ r .used ≡ 0 ⌝ }
 {
     let used = state.used;
@@ -157,11 +199,18 @@ fn end_line(store: &mut [u8], image: &mut [u8], desk: &mut [u8], page: &mut [u8]
 }
 
 // One byte of the input.
-fn take_byte(b: u8, store: &mut [u8], image: &mut [u8], desk: &mut [u8], page: &mut [u8], line: &mut [u8], out: &mut [u8], state: State) -> State
-    requires { ⌜ Ready state (length (now store)) (length (now image)) (length (now desk)) (length (now page)) (length (now out)) ⌝ }
-    requires { ⌜ state .used ≤ length (now line) ⌝ }
-    ensures { λ r. ⌜ Ready r (length (now (store .entry))) (length (now (image .entry))) (length (now (desk .entry))) (length (now (page .entry))) (length (now (out .entry))) ⌝ }
-    ensures { λ r. ⌜ r .used ≤ length (now (line .entry)) ⌝ }
+fn take_byte(
+    b: u8,
+    store: &mut [u8],
+    image: &mut [u8],
+    desk: &mut [u8],
+    page: &mut [u8],
+    line: &mut [u8],
+    out: &mut [u8],
+    state: State,
+) -> State
+    requires { ⌜ Reading state (now store) (now image) (now desk) (now page) (now line) (now out) ⌝ }
+    ensures { λ r. ⌜ Reading r (now (store .entry)) (now (image .entry)) (now (desk .entry)) (now (page .entry)) (now (line .entry)) (now (out .entry)) ⌝ }
 {
     if b == NEWLINE {
         return end_line(store, image, desk, page, &*line, out, state);
@@ -174,25 +223,47 @@ fn take_byte(b: u8, store: &mut [u8], image: &mut [u8], desk: &mut [u8], page: &
     state.too_long()
 }
 
-fn take_piece(piece: &[u8], store: &mut [u8], image: &mut [u8], desk: &mut [u8], page: &mut [u8], line: &mut [u8], out: &mut [u8], state: State) -> State
-    requires { ⌜ Ready state (length (now store)) (length (now image)) (length (now desk)) (length (now page)) (length (now out)) ⌝ }
-    requires { ⌜ state .used ≤ length (now line) ⌝ }
-    ensures { λ r. ⌜ Ready r (length (now (store .entry))) (length (now (image .entry))) (length (now (desk .entry))) (length (now (page .entry))) (length (now (out .entry))) ⌝ }
-    ensures { λ r. ⌜ r .used ≤ length (now (line .entry)) ⌝ }
+fn take_piece(
+    piece: &[u8],
+    store: &mut [u8],
+    image: &mut [u8],
+    desk: &mut [u8],
+    page: &mut [u8],
+    line: &mut [u8],
+    out: &mut [u8],
+    state: State,
+) -> State
+    requires { ⌜ Reading state (now store) (now image) (now desk) (now page) (now line) (now out) ⌝ }
+    ensures { λ r. ⌜ Reading r (now (store .entry)) (now (image .entry)) (now (desk .entry)) (now (page .entry)) (now (line .entry)) (now (out .entry)) ⌝ }
 {
     let mut s = state;
     for k in 0..piece.len() {
-        s = take_byte(piece[k], &mut *store, &mut *image, &mut *desk, &mut *page, &mut *line, &mut *out, s);
+        s = take_byte(
+            piece[k],
+            &mut *store,
+            &mut *image,
+            &mut *desk,
+            &mut *page,
+            &mut *line,
+            &mut *out,
+            s,
+        );
     }
     s
 }
 
 // What one read gives.
-fn take_some(store: &mut [u8], image: &mut [u8], desk: &mut [u8], page: &mut [u8], line: &mut [u8], out: &mut [u8], state: State) -> State
-    requires { ⌜ Ready state (length (now store)) (length (now image)) (length (now desk)) (length (now page)) (length (now out)) ⌝ }
-    requires { ⌜ state .used ≤ length (now line) ⌝ }
-    ensures { λ r. ⌜ Ready r (length (now (store .entry))) (length (now (image .entry))) (length (now (desk .entry))) (length (now (page .entry))) (length (now (out .entry))) ⌝ }
-    ensures { λ r. ⌜ r .used ≤ length (now (line .entry)) ⌝ }
+fn take_some(
+    store: &mut [u8],
+    image: &mut [u8],
+    desk: &mut [u8],
+    page: &mut [u8],
+    line: &mut [u8],
+    out: &mut [u8],
+    state: State,
+) -> State
+    requires { ⌜ Reading state (now store) (now image) (now desk) (now page) (now line) (now out) ⌝ }
+    ensures { λ r. ⌜ Reading r (now (store .entry)) (now (image .entry)) (now (desk .entry)) (now (page .entry)) (now (line .entry)) (now (out .entry)) ⌝ }
 {
     let mut piece = io::large_buffer();
     let got = libc::read(STDIN_FILENO, &mut piece);
@@ -204,25 +275,46 @@ fn take_some(store: &mut [u8], image: &mut [u8], desk: &mut [u8], page: &mut [u8
 }
 
 // The whole input. Nothing says that an input ends, so the turns are counted down from a number that no run uses up.
-fn take_all(store: &mut [u8], image: &mut [u8], desk: &mut [u8], page: &mut [u8], line: &mut [u8], out: &mut [u8], state: State) -> State
-    requires { ⌜ Ready state (length (now store)) (length (now image)) (length (now desk)) (length (now page)) (length (now out)) ⌝ }
-    requires { ⌜ state .used ≤ length (now line) ⌝ }
-    ensures { λ r. ⌜ Ready r (length (now (store .entry))) (length (now (image .entry))) (length (now (desk .entry))) (length (now (page .entry))) (length (now (out .entry))) ⌝ }
-    ensures { λ r. ⌜ r .used ≤ length (now (line .entry)) ⌝ }
+fn take_all(
+    store: &mut [u8],
+    image: &mut [u8],
+    desk: &mut [u8],
+    page: &mut [u8],
+    line: &mut [u8],
+    out: &mut [u8],
+    state: State,
+) -> State
+    requires { ⌜ Reading state (now store) (now image) (now desk) (now page) (now line) (now out) ⌝ }
+    ensures { λ r. ⌜ Reading r (now (store .entry)) (now (image .entry)) (now (desk .entry)) (now (page .entry)) (now (line .entry)) (now (out .entry)) ⌝ }
 {
     let mut s = state;
     let mut turns = u64::MAX;
     while turns > 0 && s.open {
-        s = take_some(&mut *store, &mut *image, &mut *desk, &mut *page, &mut *line, &mut *out, s);
+        s = take_some(
+            &mut *store,
+            &mut *image,
+            &mut *desk,
+            &mut *page,
+            &mut *line,
+            &mut *out,
+            s,
+        );
         turns -= 1;
     }
     s
 }
 
 // A last line may lack its newline.
-fn end_input(store: &mut [u8], image: &mut [u8], desk: &mut [u8], page: &mut [u8], line: &[u8], out: &mut [u8], state: State) -> State
-    requires { ⌜ Ready state (length (now store)) (length (now image)) (length (now desk)) (length (now page)) (length (now out)) ⌝ }
-    requires { ⌜ state .used ≤ length (now line) ⌝ }
+fn end_input(
+    store: &mut [u8],
+    image: &mut [u8],
+    desk: &mut [u8],
+    page: &mut [u8],
+    line: &[u8],
+    out: &mut [u8],
+    state: State,
+) -> State
+    requires { ⌜ Reading state (now store) (now image) (now desk) (now page) (now line) (now out) ⌝ }
     ensures { λ r. ⌜ r .filled ≤ length (now (out .entry)) ⌝ }
 {
     if state.used == 0 {
@@ -231,10 +323,25 @@ fn end_input(store: &mut [u8], image: &mut [u8], desk: &mut [u8], page: &mut [u8
     end_line(store, image, desk, page, line, out, state)
 }
 
-pub fn replay(store: &mut [u8], image: &mut [u8], desk: &mut [u8], page: &mut [u8], line: &mut [u8], out: &mut [u8])
-    requires { ⌜ lineRoom (length (now page)) ≤ length (now out) ⌝ }
+pub fn replay(
+    store: &mut [u8],
+    image: &mut [u8],
+    desk: &mut [u8],
+    page: &mut [u8],
+    line: &mut [u8],
+    out: &mut [u8],
+)
+    requires { ⌜ Room (now page) (now out) ⌝ }
 {
-    let s = take_all(&mut *store, &mut *image, &mut *desk, &mut *page, &mut *line, &mut *out, State::new());
+    let s = take_all(
+        &mut *store,
+        &mut *image,
+        &mut *desk,
+        &mut *page,
+        &mut *line,
+        &mut *out,
+        State::new(),
+    );
     let s = end_input(store, image, desk, page, &*line, &mut *out, s);
     let filled = s.filled;
     io::write_all(STDOUT_FILENO, &out[0..filled]);

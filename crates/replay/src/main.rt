@@ -11,5 +11,12 @@ fn main() {
     let mut page = io::buffer();
     let mut line = io::large_buffer();
     let mut out = io::large_buffer();
-    lines::replay(&mut store, &mut image, &mut desk, &mut page, &mut line, &mut out);
+    lines::replay(
+        &mut store,
+        &mut image,
+        &mut desk,
+        &mut page,
+        &mut line,
+        &mut out,
+    );
 }

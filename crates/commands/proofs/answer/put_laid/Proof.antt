@@ -8,45 +8,34 @@ use mathlib.Core.Path.{ap₂}
 use borrow.Author.Needs.{needs}
 use Rattle.commands.proofs.answer.put_laid.Statement.{statement}
 use Rattle.commands.proofs.answer.put_laid.Tie as tie
-use Rattle.commands.proofs.answer.put_laid.Reads as reads
-use Rattle.commands.proofs.answer.put_laid.Lts as lts
-use Rattle.commands.proofs.answer.put_numbered.Reads as put-numbered-reads
-use Rattle.commands.proofs.answer.told_number.Reads as told-number-reads
 
--- src/answer.rt:78:40
 slice-aggregate-put-numbered : tie.Need-slice-aggregate-put-numbered
 slice-aggregate-put-numbered c = search needs
 
--- src/answer.rt:78:48
 told-number-requires : tie.Need-told-number-requires
 told-number-requires c κs = search needs
 
--- src/answer.rt:78:9
 put-numbered-requires : tie.Need-put-numbered-requires
 put-numbered-requires c κs = search needs
 
--- src/answer.rt:79:26
 slice-aggregate-put-numbered-2 : tie.Need-slice-aggregate-put-numbered-2
 slice-aggregate-put-numbered-2 c = search needs
 
--- src/answer.rt:79:32
 told-number-requires-2 : tie.Need-told-number-requires-2
 told-number-requires-2 c κs = search needs
 
--- src/answer.rt:79:5
 put-numbered-requires-2 : tie.Need-put-numbered-requires-2
 put-numbered-requires-2 c κs = search needs
 
--- src/answer.rt:73:1
 same-length : tie.Need-same-length
 same-length c = search needs
 
--- src/answer.rt:73:1
 returns : tie.Need-returns
 returns c = (
-    put-same _ _ _ _ _ _ (ap₂ (λ (x y : ℕ). (okText ++ decimalText x) ++ (32 ∷ decimalText y)) (c .before .before .before .before .before .before .before .before .before .told-number .ensures) (c .before .before .before .told-number2 .ensures))
-    (put-on _ _ _ _ _ _ _ _ (c .before .before .before .before .before .before .before .before .put-numbered .ensures .0) (c .before .before .put-numbered2 .ensures .0)),
-    omega (arith, c .before .before .before .before .before .before .before .before .put-numbered .ensures .1, c .before .before .put-numbered2 .ensures .1))
+  put-same _ _ _ _ _ _ (ap₂ (λ (x y : ℕ). (okText ++ decimalText x) ++ (32 ∷ decimalText y)) (c .before .before .before .before .before .before .before .before .before .told-number .ensures) (c .before .before .before .told-number2 .ensures))
+      (put-on _ _ _ _ _ _ _ _ (c .before .before .before .before .before .before .before .before .put-numbered .ensures .0) (c .before .before .put-numbered2 .ensures .0)),
+  omega (arith, c .before .before .before .before .before .before .before .before .put-numbered .ensures .1, c .before .before .put-numbered2 .ensures .1),
+)
 
 pub put-laid-spec : {M : Type 1} → statement M
 put-laid-spec =

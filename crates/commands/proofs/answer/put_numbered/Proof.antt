@@ -3,24 +3,16 @@ use native.Mathlib.Omega.{arith}
 use borrow.Author.Needs.{needs}
 use Rattle.commands.proofs.answer.put_numbered.Statement.{statement}
 use Rattle.commands.proofs.answer.put_numbered.Tie as tie
-use Rattle.commands.proofs.answer.put_numbered.Reads as reads
-use Rattle.commands.proofs.answer.put_numbered.Lts as lts
-use Rattle.commands.proofs.text.put.Reads as put-reads
-use Rattle.commands.proofs.text.put_decimal.Reads as put-decimal-reads
 
--- src/answer.rt:58:9
 put-requires : tie.Need-put-requires
 put-requires c κs = search needs
 
--- src/answer.rt:59:5
 put-decimal-requires : tie.Need-put-decimal-requires
 put-decimal-requires c κs = search needs
 
--- src/answer.rt:53:1
 same-length : tie.Need-same-length
 same-length c = search needs
 
--- src/answer.rt:53:1
 returns : tie.Need-returns
 returns c = (put-on _ _ _ _ _ _ _ _ (c .before .before .before .before .before .before .put .ensures) (c .before .before .put-decimal .ensures .0), omega (arith, c .before .before .before .before .before .before .put .ensures .ends, c .before .before .put-decimal .ensures .1))
 

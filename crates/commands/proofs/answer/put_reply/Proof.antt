@@ -4,138 +4,100 @@ use native.Mathlib.Omega.{arith}
 use borrow.Author.Needs.{needs}
 use Rattle.commands.proofs.answer.put_reply.Statement.{statement}
 use Rattle.commands.proofs.answer.put_reply.Tie as tie
-use Rattle.commands.proofs.answer.put_reply.Reads as reads
-use Rattle.commands.proofs.answer.put_reply.Lts as lts
-use Rattle.commands.proofs.answer.put_laid.Reads as put-laid-reads
-use Rattle.commands.proofs.answer.put_shown.Reads as put-shown-reads
-use Rattle.commands.proofs.answer.put_told.Reads as put-told-reads
-use Rattle.commands.proofs.text.put.Reads as put-reads
 
--- src/answer.rt:109:29
 enum-told : tie.Need-enum-told
 enum-told c = search needs
 
--- src/answer.rt:109:37
 slice-aggregate-put : tie.Need-slice-aggregate-put
 slice-aggregate-put c = search needs
 
--- src/answer.rt:109:25
 put-requires : tie.Need-put-requires
 put-requires c κs = search needs
 
--- src/answer.rt:110:29
 enum-told-2 : tie.Need-enum-told-2
 enum-told-2 c = search needs
 
--- src/answer.rt:110:37
 slice-aggregate-put-2 : tie.Need-slice-aggregate-put-2
 slice-aggregate-put-2 c = search needs
 
--- src/answer.rt:110:25
 put-requires-2 : tie.Need-put-requires-2
 put-requires-2 c κs = search needs
 
--- src/answer.rt:111:27
 enum-told-3 : tie.Need-enum-told-3
 enum-told-3 c = search needs
 
--- src/answer.rt:111:35
 slice-aggregate-put-3 : tie.Need-slice-aggregate-put-3
 slice-aggregate-put-3 c = search needs
 
--- src/answer.rt:111:23
 put-requires-3 : tie.Need-put-requires-3
 put-requires-3 c κs = search needs
 
--- src/answer.rt:112:26
 enum-told-4 : tie.Need-enum-told-4
 enum-told-4 c = search needs
 
--- src/answer.rt:112:34
 slice-aggregate-put-4 : tie.Need-slice-aggregate-put-4
 slice-aggregate-put-4 c = search needs
 
--- src/answer.rt:112:22
 put-requires-4 : tie.Need-put-requires-4
 put-requires-4 c κs = search needs
 
--- src/answer.rt:113:21
 enum-known-reply : tie.Need-enum-known-reply
 enum-known-reply c = search needs
 
--- src/answer.rt:113:27
 put-told-requires : tie.Need-put-told-requires
 put-told-requires c κs = search needs
 
--- src/answer.rt:114:21
 enum-known-reply-2 : tie.Need-enum-known-reply-2
 enum-known-reply-2 c = search needs
 
--- src/answer.rt:114:30
 put-laid-requires : tie.Need-put-laid-requires
 put-laid-requires c κs = search needs
 
--- src/answer.rt:115:22
 enum-known-reply-3 : tie.Need-enum-known-reply-3
 enum-known-reply-3 c = search needs
 
--- src/answer.rt:115:31
 put-shown-requires : tie.Need-put-shown-requires
 put-shown-requires c κs = search needs
 
--- src/answer.rt:103:1
 same-length : tie.Need-same-length
 same-length c = search needs
 
--- src/answer.rt:103:1
 returns : tie.Need-returns
 returns c = (put-same _ _ _ _ _ _ (error-text _ _ (c .before .before .before .before .before .enum-told .given .1)) (c .before .before .put .ensures), omega (arith, c .before .before .put .ensures .ends))
 
--- src/answer.rt:103:1
 same-length-2 : tie.Need-same-length-2
 same-length-2 c = search needs
 
--- src/answer.rt:103:1
 returns-2 : tie.Need-returns-2
 returns-2 c = (put-same _ _ _ _ _ _ (plain-text _ _ (c .before .before .before .before .before .enum-told2 .given .1)) (c .before .before .put2 .ensures), omega (arith, c .before .before .put2 .ensures .ends))
 
--- src/answer.rt:103:1
 same-length-3 : tie.Need-same-length-3
 same-length-3 c = search needs
 
--- src/answer.rt:103:1
 returns-3 : tie.Need-returns-3
 returns-3 c = (put-same _ _ _ _ _ _ (yes-text _ _ (c .before .before .before .before .before .enum-told3 .given .1)) (c .before .before .put3 .ensures), omega (arith, c .before .before .put3 .ensures .ends))
 
--- src/answer.rt:103:1
 same-length-4 : tie.Need-same-length-4
 same-length-4 c = search needs
 
--- src/answer.rt:103:1
 returns-4 : tie.Need-returns-4
 returns-4 c = (put-same _ _ _ _ _ _ (no-text _ _ (c .before .before .before .before .before .enum-told4 .given .1)) (c .before .before .put4 .ensures), omega (arith, c .before .before .put4 .ensures .ends))
 
--- src/answer.rt:103:1
 same-length-5 : tie.Need-same-length-5
 same-length-5 c = search needs
 
--- src/answer.rt:103:1
 returns-5 : tie.Need-returns-5
 returns-5 c = (put-same _ _ _ _ _ _ (told-text _ _ _ (c .before .before .before .before .before .reply .given .1)) (c .before .before .put-told .ensures .0), omega (arith, c .before .before .put-told .ensures .1))
 
--- src/answer.rt:103:1
 same-length-6 : tie.Need-same-length-6
 same-length-6 c = search needs
 
--- src/answer.rt:103:1
 returns-6 : tie.Need-returns-6
 returns-6 c = (put-same _ _ _ _ _ _ (laid-text _ _ _ _ (c .before .before .before .before .before .reply2 .given .1)) (c .before .before .put-laid .ensures .0), omega (arith, c .before .before .put-laid .ensures .1))
 
--- src/answer.rt:103:1
 same-length-7 : tie.Need-same-length-7
 same-length-7 c = search needs
 
--- src/answer.rt:103:1
 returns-7 : tie.Need-returns-7
 returns-7 c = (put-same _ _ _ _ _ _ (shown-text _ _ _ _ (c .before .before .before .before .before .reply3 .given .1)) (c .before .before .put-shown .ensures .0), omega (arith, c .before .before .put-shown .ensures .1))
 

@@ -4,49 +4,37 @@ use Rattle.commands.specs.Line.{sumsText}
 use borrow.Author.Needs.{needs}
 use Rattle.commands.proofs.answer.put_sums.Statement.{statement}
 use Rattle.commands.proofs.answer.put_sums.Tie as tie
-use Rattle.commands.proofs.answer.put_sums.Reads as reads
-use Rattle.commands.proofs.answer.put_sums.Lts as lts
-use Rattle.commands.proofs.text.put.Reads as put-reads
-use Rattle.commands.proofs.text.put_sum.Reads as put-sum-reads
 
--- src/answer.rt:123:31
 slice-aggregate-put : tie.Need-slice-aggregate-put
 slice-aggregate-put c = search needs
 
--- src/answer.rt:123:9
 put-requires : tie.Need-put-requires
 put-requires c κs = search needs
 
--- src/answer.rt:124:9
 put-sum-requires : tie.Need-put-sum-requires
 put-sum-requires c κs = search needs
 
--- src/answer.rt:125:9
 put-sum-requires-2 : tie.Need-put-sum-requires-2
 put-sum-requires-2 c κs = search needs
 
--- src/answer.rt:126:9
 put-sum-requires-3 : tie.Need-put-sum-requires-3
 put-sum-requires-3 c κs = search needs
 
--- src/answer.rt:127:17
 slice-aggregate-put-2 : tie.Need-slice-aggregate-put-2
 slice-aggregate-put-2 c = search needs
 
--- src/answer.rt:127:5
 put-requires-2 : tie.Need-put-requires-2
 put-requires-2 c κs = search needs
 
--- src/answer.rt:119:1
 same-length : tie.Need-same-length
 same-length c = search needs
 
--- src/answer.rt:119:1
 returns : tie.Need-returns
 unfolding sumsText
 returns c = (
-    put-on _ _ _ _ _ _ _ _ (c .before .before .before .before .before .before .before .before .before .before .before .before .before .before .before .before .before .before .before .put .ensures) (put-on _ _ _ _ _ _ _ _ (put-on _ _ _ _ _ _ _ _ (c .before .before .before .before .before .before .before .before .before .before .before .before .before .before .before .put-sum .ensures .0) (put-on _ _ _ _ _ _ _ _ (c .before .before .before .before .before .before .before .before .before .before .before .put-sum2 .ensures .0) (c .before .before .before .before .before .before .before .put-sum3 .ensures .0))) (c .before .before .put2 .ensures)),
-    omega (arith, c .before .before .before .before .before .before .before .before .before .before .before .before .before .before .before .before .before .before .before .put .ensures .ends, c .before .before .before .before .before .before .before .before .before .before .before .before .before .before .before .put-sum .ensures .1, c .before .before .before .before .before .before .before .before .before .before .before .put-sum2 .ensures .1, c .before .before .before .before .before .before .before .put-sum3 .ensures .1, c .before .before .put2 .ensures .ends))
+  put-on _ _ _ _ _ _ _ _ (c .before .before .before .before .before .before .before .before .before .before .before .before .before .before .before .before .before .before .before .put .ensures) (put-on _ _ _ _ _ _ _ _ (put-on _ _ _ _ _ _ _ _ (c .before .before .before .before .before .before .before .before .before .before .before .before .before .before .before .put-sum .ensures .0) (put-on _ _ _ _ _ _ _ _ (c .before .before .before .before .before .before .before .before .before .before .before .put-sum2 .ensures .0) (c .before .before .before .before .before .before .before .put-sum3 .ensures .0))) (c .before .before .put2 .ensures)),
+  omega (arith, c .before .before .before .before .before .before .before .before .before .before .before .before .before .before .before .before .before .before .before .put .ensures .ends, c .before .before .before .before .before .before .before .before .before .before .before .before .before .before .before .put-sum .ensures .1, c .before .before .before .before .before .before .before .before .before .before .before .put-sum2 .ensures .1, c .before .before .before .before .before .before .before .put-sum3 .ensures .1, c .before .before .put2 .ensures .ends),
+)
 
 pub put-sums-spec : {M : Type 1} → statement M
 put-sums-spec =

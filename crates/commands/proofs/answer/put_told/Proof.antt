@@ -4,52 +4,37 @@ use native.Mathlib.Omega.{arith}
 use borrow.Author.Needs.{needs}
 use Rattle.commands.proofs.answer.put_told.Statement.{statement}
 use Rattle.commands.proofs.answer.put_told.Tie as tie
-use Rattle.commands.proofs.answer.put_told.Reads as reads
-use Rattle.commands.proofs.answer.put_told.Lts as lts
-use Rattle.commands.proofs.answer.put_numbered.Reads as put-numbered-reads
-use Rattle.commands.proofs.answer.refusal_number.Reads as refusal-number-reads
 
--- src/answer.rt:68:22
 enum-known-a : tie.Need-enum-known-a
 enum-known-a c = search needs
 
--- src/answer.rt:68:49
 slice-aggregate-put-numbered : tie.Need-slice-aggregate-put-numbered
 slice-aggregate-put-numbered c = search needs
 
--- src/answer.rt:68:28
 put-numbered-requires : tie.Need-put-numbered-requires
 put-numbered-requires c κs = search needs
 
--- src/answer.rt:69:25
 enum-known-a-2 : tie.Need-enum-known-a-2
 enum-known-a-2 c = search needs
 
--- src/answer.rt:69:52
 slice-aggregate-put-numbered-2 : tie.Need-slice-aggregate-put-numbered-2
 slice-aggregate-put-numbered-2 c = search needs
 
--- src/answer.rt:69:60
 refusal-number-requires : tie.Need-refusal-number-requires
 refusal-number-requires c κs = search needs
 
--- src/answer.rt:69:31
 put-numbered-requires-2 : tie.Need-put-numbered-requires-2
 put-numbered-requires-2 c κs = search needs
 
--- src/answer.rt:62:1
 same-length : tie.Need-same-length
 same-length c = search needs
 
--- src/answer.rt:62:1
 returns : tie.Need-returns
 returns c = (put-same _ _ _ _ _ _ (done-text _ _ (c .before .before .before .before .before .before .a .given .1)) (c .before .before .put-numbered .ensures .0), omega (arith, c .before .before .put-numbered .ensures .1))
 
--- src/answer.rt:62:1
 same-length-2 : tie.Need-same-length-2
 same-length-2 c = search needs
 
--- src/answer.rt:62:1
 returns-2 : tie.Need-returns-2
 returns-2 c = (put-same _ _ _ _ _ _ (refused-text _ _ _ (c .before .before .before .before .before .before .before .a2 .given .1) (c .before .before .before .refusal-number .ensures)) (c .before .before .put-numbered2 .ensures .0), omega (arith, c .before .before .put-numbered2 .ensures .1))
 

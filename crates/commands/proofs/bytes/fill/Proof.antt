@@ -7,8 +7,6 @@ use Prim.Native.Nat.{ℕ, _-_, _≤_}
 use mathlib.Core.Path.{_≡_, refl, ap, _∙_}
 use Rattle.commands.proofs.bytes.fill.Statement.{statement}
 use Rattle.commands.proofs.bytes.fill.Tie as tie
-use Rattle.commands.proofs.bytes.fill.Reads as reads
-use Rattle.commands.proofs.bytes.fill.Lts as lts
 
 abbrev Inv-loop : tie.InvT-loop
 Inv-loop s₀ k v j₀ s j = (j ≤ k) × (length s ≡ length s₀) × (s ≡ splice s₀ 0 (replicate j v))
@@ -16,31 +14,24 @@ Inv-loop s₀ k v j₀ s j = (j ≤ k) × (length s ≡ length s₀) × (s ≡ s
 abbrev μ-loop : tie.MeasureT-loop
 μ-loop s₀ k v j₀ s j = k - j
 
--- src/bytes.rt:98:5
 loop-holds : tie.Need-loop-holds Inv-loop μ-loop
 loop-holds c = (omega arith, refl, fill-none _ (c .args .v))
 
--- src/bytes.rt:99:9
 slice-write-s : tie.Need-slice-write-s Inv-loop μ-loop
 slice-write-s c = omega arith
 
--- src/bytes.rt:98:9
 add-j : tie.Need-add-j Inv-loop μ-loop
 add-j c = omega arith
 
--- src/bytes.rt:98:5
 loop-less : tie.Need-loop-less Inv-loop μ-loop
 loop-less c = omega arith
 
--- src/bytes.rt:98:5
 loop-again : tie.Need-loop-again Inv-loop μ-loop
 loop-again c = let i = c .before .loop in let a = c .before .before .args in (omega arith, rw length-set (i .inv .1), rw (i .inv .2) (fill-more (now (a .s)) (i .j) (a .v)))
 
--- src/bytes.rt:94:1
 same-length : tie.Need-same-length Inv-loop μ-loop
 same-length c = c .before .loop .inv .1
 
--- src/bytes.rt:94:1
 returns : tie.Need-returns Inv-loop μ-loop
 returns c = let i = c .before .loop in let a = c .before .before .args in let e : i .j ≡ a .k = omega arith in i .inv .2 ∙ ap (λ (n : ℕ). splice (now (a .s)) 0 (replicate n (a .v))) e
 

@@ -6,47 +6,34 @@ use mathlib.Core.Path.{ap₂}
 use borrow.Author.Needs.{needs}
 use Rattle.commands.proofs.bytes.hex_byte.Statement.{statement}
 use Rattle.commands.proofs.bytes.hex_byte.Tie as tie
-use Rattle.commands.proofs.bytes.hex_byte.Reads as reads
-use Rattle.commands.proofs.bytes.hex_byte.Lts as lts
-use Rattle.commands.proofs.bytes.hex_value.Reads as hex-value-reads
 
--- src/bytes.rt:62:22
 mul-hex-value : tie.Need-mul-hex-value
 mul-hex-value c = search needs
 
--- src/bytes.rt:62:20
 shared-slice-read-hex-value : tie.Need-shared-slice-read-hex-value
 shared-slice-read-hex-value c = search needs
 
--- src/bytes.rt:62:10
 hex-value-requires : tie.Need-hex-value-requires
 hex-value-requires c κs = digit-at _ _ (c .before .before .pre .0) (omega arith)
 
--- src/bytes.rt:62:5
 mul-result : tie.Need-mul-result
 mul-result c = search needs
 
--- src/bytes.rt:62:44
 mul-hex-value-2 : tie.Need-mul-hex-value-2
 mul-hex-value-2 c = search needs
 
--- src/bytes.rt:62:44
 add-hex-value : tie.Need-add-hex-value
 add-hex-value c = search needs
 
--- src/bytes.rt:62:42
 shared-slice-read-hex-value-2 : tie.Need-shared-slice-read-hex-value-2
 shared-slice-read-hex-value-2 c = search needs
 
--- src/bytes.rt:62:32
 hex-value-requires-2 : tie.Need-hex-value-requires-2
 hex-value-requires-2 c κs = digit-at _ _ (c .before .before .before .before .pre .0) (omega arith)
 
--- src/bytes.rt:62:5
 add-result : tie.Need-add-result
 add-result c = search needs
 
--- src/bytes.rt:58:1
 returns : tie.Need-returns
 unfolding hexByte
 returns c = ap₂ (λ (x y : ℕ). 16 * x + y) (c .before .before .hex-value .ensures .0) (c .hex-value2 .ensures .0)

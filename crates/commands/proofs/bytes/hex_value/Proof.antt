@@ -3,30 +3,22 @@ use native.Mathlib.Omega.{arith}
 use borrow.Author.Needs.{needs}
 use Rattle.commands.proofs.bytes.hex_value.Statement.{statement}
 use Rattle.commands.proofs.bytes.hex_value.Tie as tie
-use Rattle.commands.proofs.bytes.hex_value.Reads as reads
-use Rattle.commands.proofs.bytes.hex_value.Lts as lts
 
--- src/bytes.rt:24:16
 sub-result : tie.Need-sub-result
 sub-result c = low (c .before .args .x) (c .before .pre) (omega arith)
 
--- src/bytes.rt:24:9
 returns : tie.Need-returns
 returns c = (low-value (c .before .args .x) (omega arith), omega arith)
 
--- src/bytes.rt:27:16
 sub-result-2 : tie.Need-sub-result-2
 sub-result-2 c = search needs
 
--- src/bytes.rt:27:9
 returns-2 : tie.Need-returns-2
 returns-2 c = (mid-value (c .before .before .args .x) (omega arith) (omega arith), omega arith)
 
--- src/bytes.rt:29:5
 sub-result-3 : tie.Need-sub-result-3
 sub-result-3 c = omega (arith, high (c .before .before .args .x) (c .before .before .pre) (omega arith))
 
--- src/bytes.rt:19:1
 returns-3 : tie.Need-returns-3
 returns-3 c = (high-value (c .before .before .args .x) (omega arith), omega (arith, top (c .before .before .args .x) (c .before .before .pre)))
 

@@ -5,19 +5,14 @@ use mathlib.Core.Path.{refl, sym}
 use borrow.Author.Needs.{needs}
 use Rattle.commands.proofs.bytes.is_dash.Statement.{statement}
 use Rattle.commands.proofs.bytes.is_dash.Tie as tie
-use Rattle.commands.proofs.bytes.is_dash.Reads as reads
-use Rattle.commands.proofs.bytes.is_dash.Lts as lts
 
--- src/bytes.rt:53:9
 returns : tie.Need-returns
 unfolding isDash
 returns c = sym (and-false-l _ _ (ne-eqb _ 1 (c .if1 .taken)))
 
--- src/bytes.rt:55:5
 shared-slice-read-result : tie.Need-shared-slice-read-result
 shared-slice-read-result c = search needs
 
--- src/bytes.rt:49:1
 returns-2 : tie.Need-returns-2
 unfolding isDash
 returns-2 c = chain-end _ _ _ (eq-eqb _ 1 (c .before .if1 .left)) refl

@@ -7,12 +7,9 @@ use borrow.Author.Tests.{eq-eqb, ne-eqb, le-leb, lt-leb}
 use native.Mathlib.Omega.{arith}
 use Prim.Native.Nat.{ℕ, _-_, _%_, _≤_}
 use mathlib.Core.Bool.{true}
-use mathlib.Core.Path.{_≡_, refl, sym, ap, _∙_}
+use mathlib.Core.Path.{_≡_, sym}
 use Rattle.commands.proofs.bytes.is_hex.Statement.{statement}
 use Rattle.commands.proofs.bytes.is_hex.Tie as tie
-use Rattle.commands.proofs.bytes.is_hex.Reads as reads
-use Rattle.commands.proofs.bytes.is_hex.Lts as lts
-use Rattle.commands.proofs.bytes.is_hex_digit.Reads as is-hex-digit-reads
 
 abbrev Inv-loop : tie.InvT-loop
 Inv-loop s k₀ k-end k = (k ≤ length s) × (1 ≤ length s) × (length s % 2 ≡ 0) × (allBelow (λ (j : ℕ). isHexDigit (getD s j 0)) k ≡ true)
@@ -20,46 +17,36 @@ Inv-loop s k₀ k-end k = (k ≤ length s) × (1 ≤ length s) × (length s % 2 
 abbrev μ-loop : tie.MeasureT-loop
 μ-loop s k₀ k-end k = k-end - k
 
--- src/bytes.rt:36:9
 returns : tie.Need-returns Inv-loop μ-loop
 unfolding isHex
 returns c = sym (and-false-l _ _ (lt-leb 1 _ (c .if1 .taken)))
 
--- src/bytes.rt:39:9
 returns-2 : tie.Need-returns-2 Inv-loop μ-loop
 unfolding isHex
 returns-2 c = chain-end _ _ _ (le-leb 1 _ (c .before .if1 .left)) (sym (and-false-l _ _ (ne-eqb _ 0 (c .if2 .taken))))
 
--- src/bytes.rt:41:5
 loop-holds : tie.Need-loop-holds Inv-loop μ-loop
 loop-holds c = (omega arith, omega arith, c .if2 .left, all-none _)
 
--- src/bytes.rt:42:26
 shared-slice-read-is-hex-digit : tie.Need-shared-slice-read-is-hex-digit Inv-loop μ-loop
 shared-slice-read-is-hex-digit c = omega arith
 
--- src/bytes.rt:42:13
 is-hex-digit-requires : tie.Need-is-hex-digit-requires Inv-loop μ-loop
 is-hex-digit-requires c κs = tt
 
--- src/bytes.rt:43:13
 returns-3 : tie.Need-returns-3 Inv-loop μ-loop
 unfolding isHex
 returns-3 c = let i = c .before .before .before .before .loop in chain-end _ _ _ (le-leb 1 _ (i .inv .1)) (chain-end _ _ _ (eq-eqb _ 0 (i .inv .2)) (all-stopped _ _ (i .k) (omega arith) (chain-off _ _ (c .before .is-hex-digit .ensures) (c .if3 .taken))))
 
--- src/bytes.rt:41:9
 add-k : tie.Need-add-k Inv-loop μ-loop
 add-k c = omega arith
 
--- src/bytes.rt:41:5
 loop-less : tie.Need-loop-less Inv-loop μ-loop
 loop-less c = omega arith
 
--- src/bytes.rt:41:5
 loop-again : tie.Need-loop-again Inv-loop μ-loop
 loop-again c = let i = c .before .before .before .before .loop in (omega arith, i .inv .1, i .inv .2, all-more _ (i .k) (i .inv .3) (chain-on _ _ (c .before .is-hex-digit .ensures) (c .if3 .left)))
 
--- src/bytes.rt:32:1
 returns-4 : tie.Need-returns-4 Inv-loop μ-loop
 unfolding isHex
 returns-4 c = let i = c .before .loop in chain-end _ _ _ (le-leb 1 _ (i .inv .1)) (chain-end _ _ _ (eq-eqb _ 0 (i .inv .2)) (all-done _ _ (i .k) (omega arith) (omega arith) (i .inv .3)))

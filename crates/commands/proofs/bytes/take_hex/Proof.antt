@@ -1,48 +1,34 @@
 use Rattle.commands.proofs.HexLaws.{taken-dash, taken-not, taken-long, taken-all}
 use Rattle.bounded.proofs.BoolLaws.{chain-on, chain-off}
-use denote.Ref.{now}
 use native.Mathlib.Omega.{arith}
-use mathlib.Core.Path.{_≡_, sym, ap, _∙_}
+use mathlib.Core.Path.{sym, _∙_}
 use borrow.Author.Needs.{needs}
 use Rattle.commands.proofs.bytes.take_hex.Statement.{statement}
 use Rattle.commands.proofs.bytes.take_hex.Tie as tie
-use Rattle.commands.proofs.bytes.take_hex.Reads as reads
-use Rattle.commands.proofs.bytes.take_hex.Lts as lts
-use Rattle.commands.proofs.bytes.is_dash.Reads as is-dash-reads
-use Rattle.commands.proofs.bytes.is_hex.Reads as is-hex-reads
-use Rattle.commands.proofs.bytes.put_bytes.Reads as put-bytes-reads
 
--- src/bytes.rt:79:8
 is-dash-requires : tie.Need-is-dash-requires
 is-dash-requires c κs = search needs
 
--- src/bytes.rt:80:9
 returns : tie.Need-returns
-returns c = (taken-dash _ _ (sym (c .before .is-dash .ensures) ∙ c .if1 .taken), omega arith)
+returns c = taken-dash _ _ (sym (c .before .is-dash .ensures) ∙ c .if1 .taken)
 
--- src/bytes.rt:82:9
 is-hex-requires : tie.Need-is-hex-requires
 is-hex-requires c κs = search needs
 
--- src/bytes.rt:83:9
 returns-2 : tie.Need-returns-2
-returns-2 c = (taken-not _ _ (sym (c .before .before .before .is-dash .ensures) ∙ c .before .before .if1 .left) (chain-off _ _ (c .before .is-hex .ensures) (c .if2 .taken)), omega arith)
+returns-2 c = taken-not _ _ (sym (c .before .before .before .is-dash .ensures) ∙ c .before .before .if1 .left) (chain-off _ _ (c .before .is-hex .ensures) (c .if2 .taken))
 
--- src/bytes.rt:87:9
 returns-3 : tie.Need-returns-3
-returns-3 c = (taken-long _ _ (sym (c .before .before .before .before .is-dash .ensures) ∙ c .before .before .before .if1 .left) (omega arith), omega arith)
+returns-3 c = taken-long _ _ (sym (c .before .before .before .before .is-dash .ensures) ∙ c .before .before .before .if1 .left) (omega arith)
 
--- src/bytes.rt:89:5
 put-bytes-requires : tie.Need-put-bytes-requires
 put-bytes-requires c κs = (chain-on _ _ (c .before .before .before .is-hex .ensures) (c .before .before .if2 .left), omega arith)
 
--- src/bytes.rt:75:1
 same-length : tie.Need-same-length
 same-length c = search needs
 
--- src/bytes.rt:75:1
 returns-4 : tie.Need-returns-4
-returns-4 c = (taken-all _ _ _ (sym (c .before .before .before .before .before .before .before .before .is-dash .ensures) ∙ c .before .before .before .before .before .before .before .if1 .left) (chain-on _ _ (c .before .before .before .before .before .before .is-hex .ensures) (c .before .before .before .before .before .if2 .left)) (omega arith) (c .before .before .put-bytes .ensures), omega arith)
+returns-4 c = taken-all _ _ _ (sym (c .before .before .before .before .before .before .before .before .is-dash .ensures) ∙ c .before .before .before .before .before .before .before .if1 .left) (chain-on _ _ (c .before .before .before .before .before .before .is-hex .ensures) (c .before .before .before .before .before .if2 .left)) (omega arith) (c .before .before .put-bytes .ensures)
 
 pub take-hex-spec : {M : Type 1} → statement M
 take-hex-spec =

@@ -4,12 +4,9 @@ use denote.Ref.{now}
 use lib.ListN.{length}
 use native.Mathlib.Omega.{arith}
 use Prim.Native.Nat.{_-_, _≤_}
-use mathlib.Core.Path.{_≡_, refl, sym, ap, _∙_}
+use mathlib.Core.Path.{_≡_, ap, _∙_}
 use Rattle.commands.proofs.checksum.checksum.Statement.{statement}
 use Rattle.commands.proofs.checksum.checksum.Tie as tie
-use Rattle.commands.proofs.checksum.checksum.Reads as reads
-use Rattle.commands.proofs.checksum.checksum.Lts as lts
-use Rattle.commands.proofs.checksum.mix.Reads as mix-reads
 
 abbrev Inv-loop : tie.InvT-loop
 Inv-loop s h₀ k₀ k-end h k = (k ≤ length s) × (h ≡ sumTo s k)
@@ -17,31 +14,24 @@ Inv-loop s h₀ k₀ k-end h k = (k ≤ length s) × (h ≡ sumTo s k)
 abbrev μ-loop : tie.MeasureT-loop
 μ-loop s h₀ k₀ k-end h k = k-end - k
 
--- src/checksum.rt:35:5
 loop-holds : tie.Need-loop-holds Inv-loop μ-loop
 loop-holds c = (omega arith, sum-none _)
 
--- src/checksum.rt:36:20
 shared-slice-read-mix : tie.Need-shared-slice-read-mix Inv-loop μ-loop
 shared-slice-read-mix c = omega arith
 
--- src/checksum.rt:36:9
 mix-requires : tie.Need-mix-requires Inv-loop μ-loop
 mix-requires c κs = tt
 
--- src/checksum.rt:35:9
 add-k : tie.Need-add-k Inv-loop μ-loop
 add-k c = omega arith
 
--- src/checksum.rt:35:5
 loop-less : tie.Need-loop-less Inv-loop μ-loop
 loop-less c = omega arith
 
--- src/checksum.rt:35:5
 loop-again : tie.Need-loop-again Inv-loop μ-loop
 loop-again c = let i = c .before .before .before .loop in (omega arith, c .mix .ensures ∙ sum-more _ (i .k) (i .h) (i .inv .1))
 
--- src/checksum.rt:31:1
 returns : tie.Need-returns Inv-loop μ-loop
 unfolding checksum
 returns c = let i = c .before .loop in let e : i .k ≡ length (now (c .before .before .before .args .s)) = omega arith in i .inv .1 ∙ ap (sumTo (now (c .before .before .before .args .s))) e

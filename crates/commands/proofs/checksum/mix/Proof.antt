@@ -1,24 +1,17 @@
 use Rattle.commands.specs.Checksum.{prime, mixed}
 use lib.Bits.{bitXor}
 use Prim.Native.Nat.{ℕ, _%_, _^_, _*_}
-use mathlib.Core.Path.{_≡_, refl, sym, ap, _∙_}
+use mathlib.Core.Path.{ap, _∙_}
 use borrow.Author.Needs.{needs}
 use Rattle.commands.proofs.checksum.mix.Statement.{statement}
 use Rattle.commands.proofs.checksum.mix.Tie as tie
-use Rattle.commands.proofs.checksum.mix.Reads as reads
-use Rattle.commands.proofs.checksum.mix.Lts as lts
-use Rattle.commands.proofs.checksum.times_prime.Reads as times-prime-reads
-use Rattle.commands.proofs.checksum.wide.Reads as wide-reads
 
--- src/checksum.rt:28:21
 wide-requires : tie.Need-wide-requires
 wide-requires c κs = search needs
 
--- src/checksum.rt:28:5
 times-prime-requires : tie.Need-times-prime-requires
 times-prime-requires c κs = search needs
 
--- src/checksum.rt:25:1
 returns : tie.Need-returns
 unfolding mixed
 returns c = c .times-prime .ensures ∙ ap (λ (x : ℕ). bitXor (c .before .before .args .h) x * prime % 2 ^ 64) (c .before .wide .ensures)

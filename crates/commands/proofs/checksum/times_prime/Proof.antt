@@ -1,38 +1,28 @@
 use Rattle.commands.proofs.ChecksumLaws.{by-parts}
-use Prim.Native.Nat.{ℕ, _+_, _%_, _^_, _*_, _/_}
-use mathlib.Core.Path.{_≡_, refl, sym, ap, _∙_}
+use Prim.Native.Nat.{ℕ, _+_, _%_, _^_, _*_}
+use mathlib.Core.Path.{ap, _∙_}
 use borrow.Author.Needs.{needs}
 use Rattle.commands.proofs.checksum.times_prime.Statement.{statement}
 use Rattle.commands.proofs.checksum.times_prime.Tie as tie
-use Rattle.commands.proofs.checksum.times_prime.Reads as reads
-use Rattle.commands.proofs.checksum.times_prime.Lts as lts
-use Rattle.std.proofs.num.wrapping_add_u64.Reads as wrapping-add-u64-reads
 
--- src/checksum.rt:13:19
 mul-shifted : tie.Need-mul-shifted
 mul-shifted c = search needs
 
--- src/checksum.rt:14:16
 mul-high : tie.Need-mul-high
 mul-high c = search needs
 
--- src/checksum.rt:14:16
 mul-high-2 : tie.Need-mul-high-2
 mul-high-2 c = search needs
 
--- src/checksum.rt:15:15
 mul-low : tie.Need-mul-low
 mul-low c = search needs
 
--- src/checksum.rt:16:32
 wrapping-add-u64-requires : tie.Need-wrapping-add-u64-requires
 wrapping-add-u64-requires c κs = search needs
 
--- src/checksum.rt:16:5
 wrapping-add-u64-requires-2 : tie.Need-wrapping-add-u64-requires-2
 wrapping-add-u64-requires-2 c κs = search needs
 
--- src/checksum.rt:10:1
 returns : tie.Need-returns
 returns c = c .wrapping-add-u642 .ensures ∙ ap (λ (x : ℕ). (x + c .before .before .args .h % 4294967296 * 435) % 2 ^ 64) (c .before .wrapping-add-u64 .ensures) ∙ by-parts (c .before .before .args .h)
 

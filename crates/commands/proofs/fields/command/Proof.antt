@@ -7,27 +7,19 @@ use mathlib.Core.Path.{_≡_, ap}
 use borrow.Author.Needs.{needs}
 use Rattle.commands.proofs.fields.command.Statement.{statement}
 use Rattle.commands.proofs.fields.command.Tie as tie
-use Rattle.commands.proofs.fields.command.Reads as reads
-use Rattle.commands.proofs.fields.command.Lts as lts
-use Rattle.commands.proofs.fields.command_end.Reads as command-end-reads
 
--- src/fields.rt:48:9
 command-end-requires : tie.Need-command-end-requires
 command-end-requires c κs = search needs
 
--- src/fields.rt:49:5
 sub-result : tie.Need-sub-result
 sub-result c = search needs
 
--- src/fields.rt:49:5
 part-result-start : tie.Need-part-result-start
 part-result-start c = search needs
 
--- src/fields.rt:49:5
 part-result-end : tie.Need-part-result-end
 part-result-end c = search needs
 
--- src/fields.rt:45:1
 returns : tie.Need-returns
 returns c = let e : c .before .command-end .result - 0 ≡ commandEnd (now (c .before .before .before .args .s)) = omega arith in ap (λ (m : ℕ). take m (now (c .before .before .before .args .s))) e
 

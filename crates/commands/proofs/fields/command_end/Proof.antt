@@ -2,13 +2,10 @@ use Rattle.commands.proofs.FieldLaws.{place-found, place-turn, place-en
 use Rattle.commands.specs.Fields.{isArrow, commandEnd, placeFrom}
 use lib.ListN.{length}
 use native.Mathlib.Omega.{arith}
-use Prim.Native.Nat.{_-_, _≤_}
+use Prim.Native.Nat.{_-_}
 use mathlib.Core.Path.{_≡_, refl, sym, _∙_}
 use Rattle.commands.proofs.fields.command_end.Statement.{statement}
 use Rattle.commands.proofs.fields.command_end.Tie as tie
-use Rattle.commands.proofs.fields.command_end.Reads as reads
-use Rattle.commands.proofs.fields.command_end.Lts as lts
-use Rattle.commands.proofs.fields.is_arrow.Reads as is-arrow-reads
 
 abbrev Inv-loop : tie.InvT-loop
 Inv-loop s k₀ k-end k = commandEnd s ≡ placeFrom (isArrow s) k (length s)
@@ -16,32 +13,25 @@ Inv-loop s k₀ k-end k = commandEnd s ≡ placeFrom (isArrow s) k (length s)
 abbrev μ-loop : tie.MeasureT-loop
 μ-loop s k₀ k-end k = k-end - k
 
--- src/fields.rt:36:5
 loop-holds : tie.Need-loop-holds Inv-loop μ-loop
 unfolding commandEnd
 loop-holds c = refl
 
--- src/fields.rt:37:12
 is-arrow-requires : tie.Need-is-arrow-requires Inv-loop μ-loop
 is-arrow-requires c κs = omega arith
 
--- src/fields.rt:38:13
 returns : tie.Need-returns Inv-loop μ-loop
 returns c = let i = c .before .before .before .loop in (sym (i .inv ∙ place-found _ (i .k) _ (omega arith) (sym (c .before .is-arrow .ensures) ∙ c .if1 .taken)), omega arith)
 
--- src/fields.rt:36:9
 add-k : tie.Need-add-k Inv-loop μ-loop
 add-k c = omega arith
 
--- src/fields.rt:36:5
 loop-less : tie.Need-loop-less Inv-loop μ-loop
 loop-less c = omega arith
 
--- src/fields.rt:36:5
 loop-again : tie.Need-loop-again Inv-loop μ-loop
 loop-again c = let i = c .before .before .before .loop in i .inv ∙ place-turn _ (i .k) _ (omega arith) (sym (c .before .is-arrow .ensures) ∙ c .if1 .left)
 
--- src/fields.rt:33:1
 returns-2 : tie.Need-returns-2 Inv-loop μ-loop
 returns-2 c = let i = c .before .loop in (sym (i .inv ∙ place-end _ (i .k) _ (omega arith)), omega arith)
 

@@ -2,12 +2,10 @@ use Rattle.commands.proofs.FieldLaws.{place-found, place-turn, place-en
 use Rattle.commands.specs.Fields.{isSpace, fieldEnd}
 use borrow.Author.Tests.{eq-eqb, ne-eqb}
 use native.Mathlib.Omega.{arith}
-use Prim.Native.Nat.{_-_, _≤_}
+use Prim.Native.Nat.{_-_}
 use mathlib.Core.Path.{_≡_, refl, sym, _∙_}
 use Rattle.commands.proofs.fields.field_end.Statement.{statement}
 use Rattle.commands.proofs.fields.field_end.Tie as tie
-use Rattle.commands.proofs.fields.field_end.Reads as reads
-use Rattle.commands.proofs.fields.field_end.Lts as lts
 
 abbrev Inv-loop : tie.InvT-loop
 Inv-loop s o k₀ k-end k = fieldEnd s o ≡ fieldEnd s k
@@ -15,33 +13,26 @@ Inv-loop s o k₀ k-end k = fieldEnd s o ≡ fieldEnd s k
 abbrev μ-loop : tie.MeasureT-loop
 μ-loop s o k₀ k-end k = k-end - k
 
--- src/fields.rt:55:5
 loop-holds : tie.Need-loop-holds Inv-loop μ-loop
 loop-holds c = refl
 
--- src/fields.rt:56:12
 shared-slice-read-if1 : tie.Need-shared-slice-read-if1 Inv-loop μ-loop
 shared-slice-read-if1 c = omega arith
 
--- src/fields.rt:57:13
 returns : tie.Need-returns Inv-loop μ-loop
 unfolding fieldEnd isSpace
 returns c = let i = c .before .before .before .loop in (sym (i .inv ∙ place-found _ (i .k) _ (omega arith) (eq-eqb _ 32 (c .if1 .taken))), omega arith)
 
--- src/fields.rt:55:9
 add-k : tie.Need-add-k Inv-loop μ-loop
 add-k c = omega arith
 
--- src/fields.rt:55:5
 loop-less : tie.Need-loop-less Inv-loop μ-loop
 loop-less c = omega arith
 
--- src/fields.rt:55:5
 loop-again : tie.Need-loop-again Inv-loop μ-loop
 unfolding fieldEnd isSpace
 loop-again c = let i = c .before .before .before .loop in i .inv ∙ place-turn _ (i .k) _ (omega arith) (ne-eqb _ 32 (c .if1 .left))
 
--- src/fields.rt:52:1
 returns-2 : tie.Need-returns-2 Inv-loop μ-loop
 unfolding fieldEnd
 returns-2 c = let i = c .before .loop in (sym (i .inv ∙ place-end _ (i .k) _ (omega arith)), omega arith)

@@ -1,15 +1,12 @@
 use Rattle.commands.proofs.FieldLaws.{start-none, start-more}
-use Rattle.commands.specs.Fields.{fieldStart, fieldEnd}
+use Rattle.commands.specs.Fields.{fieldStart}
 use denote.Ref.{now}
 use borrow.Author.Needs.{needs}
 use native.Mathlib.Omega.{arith}
-use Prim.Native.Nat.{ℕ, _-_, _+_, _≤_}
-use mathlib.Core.Path.{_≡_, refl, ap, _∙_}
+use Prim.Native.Nat.{_-_, _≤_}
+use mathlib.Core.Path.{_≡_, ap, _∙_}
 use Rattle.commands.proofs.fields.field_start.Statement.{statement}
 use Rattle.commands.proofs.fields.field_start.Tie as tie
-use Rattle.commands.proofs.fields.field_start.Reads as reads
-use Rattle.commands.proofs.fields.field_start.Lts as lts
-use Rattle.commands.proofs.fields.field_end.Reads as field-end-reads
 
 abbrev Inv-loop : tie.InvT-loop
 Inv-loop s k o₀ j₀ o j = (j ≤ k) × (o ≡ fieldStart s j)
@@ -17,31 +14,24 @@ Inv-loop s k o₀ j₀ o j = (j ≤ k) × (o ≡ fieldStart s j)
 abbrev μ-loop : tie.MeasureT-loop
 μ-loop s k o₀ j₀ o j = k - j
 
--- src/fields.rt:67:5
 loop-holds : tie.Need-loop-holds Inv-loop μ-loop
 loop-holds c = (omega arith, start-none _)
 
--- src/fields.rt:68:13
 field-end-requires : tie.Need-field-end-requires Inv-loop μ-loop
 field-end-requires c κs = tt
 
--- src/fields.rt:68:13
 add-o : tie.Need-add-o Inv-loop μ-loop
 add-o c = search needs
 
--- src/fields.rt:67:9
 add-j : tie.Need-add-j Inv-loop μ-loop
 add-j c = omega arith
 
--- src/fields.rt:67:5
 loop-less : tie.Need-loop-less Inv-loop μ-loop
 loop-less c = omega arith
 
--- src/fields.rt:67:5
 loop-again : tie.Need-loop-again Inv-loop μ-loop
 loop-again c = let i = c .before .before .loop in (omega arith, start-more _ (i .j) (i .o) _ (i .inv .1) (c .field-end .ensures .0))
 
--- src/fields.rt:63:1
 returns : tie.Need-returns Inv-loop μ-loop
 returns c = let e : c .before .loop .j ≡ c .before .before .before .args .k = omega arith in c .before .loop .inv .1 ∙ ap (fieldStart (now (c .before .before .before .args .s))) e
 

@@ -2,17 +2,13 @@ use Rattle.commands.proofs.NumberLaws.{decimal-more, is-digit, low-no-d
 use Rattle.commands.specs.Number.{largest, isDigit, decimal}
 use Rattle.bounded.proofs.BelowLaws.{all-none, all-more}
 use Rattle.bounded.specs.Below.{allBelow}
-use denote.Ref.{now}
 use lib.ListN.{length}
 use native.Mathlib.Omega.{arith}
 use Prim.Native.Nat.{_-_, _≤_, min}
 use mathlib.Core.Bool.{true}
-use mathlib.Core.Path.{_≡_, refl, sym, ap, _∙_}
+use mathlib.Core.Path.{_≡_, _∙_}
 use Rattle.commands.proofs.numbers.number.Statement.{statement}
 use Rattle.commands.proofs.numbers.number.Tie as tie
-use Rattle.commands.proofs.numbers.number.Reads as reads
-use Rattle.commands.proofs.numbers.number.Lts as lts
-use Rattle.commands.proofs.numbers.with_digit.Reads as with-digit-reads
 
 abbrev Inv-loop : tie.InvT-loop
 Inv-loop s v₀ k₀ k-end v k = (k ≤ length s) × (1 ≤ length s) × (allBelow (isDigit s) k ≡ true) × (v ≡ min (decimal s k) largest)
@@ -20,44 +16,34 @@ Inv-loop s v₀ k₀ k-end v k = (k ≤ length s) × (1 ≤ length s) × (allBel
 abbrev μ-loop : tie.MeasureT-loop
 μ-loop s v₀ k₀ k-end v k = k-end - k
 
--- src/numbers.rt:35:9
 returns : tie.Need-returns Inv-loop μ-loop
 returns c = none-empty _ (c .if1 .taken)
 
--- src/numbers.rt:38:5
 loop-holds : tie.Need-loop-holds Inv-loop μ-loop
 unfolding decimal
 loop-holds c = (omega arith, omega arith, all-none _, omega arith)
 
--- src/numbers.rt:39:17
 shared-slice-read-x : tie.Need-shared-slice-read-x Inv-loop μ-loop
 shared-slice-read-x c = omega arith
 
--- src/numbers.rt:41:13
 returns-2 : tie.Need-returns-2 Inv-loop μ-loop
 returns-2 c = let i = c .before .before .before .loop in none-stopped _ (i .k) (omega arith) (low-no-digit _ _ (c .if2 .taken))
 
--- src/numbers.rt:44:13
 returns-3 : tie.Need-returns-3 Inv-loop μ-loop
 returns-3 c = let i = c .before .before .before .before .loop in none-stopped _ (i .k) (omega arith) (high-no-digit _ _ (c .if3 .taken))
 
--- src/numbers.rt:46:9
 with-digit-requires : tie.Need-with-digit-requires Inv-loop μ-loop
 with-digit-requires c κs = omega arith
 
--- src/numbers.rt:38:9
 add-k : tie.Need-add-k Inv-loop μ-loop
 add-k c = omega arith
 
--- src/numbers.rt:38:5
 loop-less : tie.Need-loop-less Inv-loop μ-loop
 loop-less c = omega arith
 
--- src/numbers.rt:38:5
 loop-again : tie.Need-loop-again Inv-loop μ-loop
 loop-again c = let i = c .before .before .before .before .before .loop in (omega arith, omega arith, all-more _ (i .k) (i .inv .2) (is-digit _ (i .k) (omega arith) (omega arith)), c .with-digit .ensures ∙ decimal-more _ (i .k) (i .v) (i .inv .3))
 
--- src/numbers.rt:31:1
 returns-4 : tie.Need-returns-4 Inv-loop μ-loop
 returns-4 c = let i = c .before .loop in value-done _ (i .k) (i .v) (i .inv .1) (omega arith) (i .inv .2) (i .inv .3)
 

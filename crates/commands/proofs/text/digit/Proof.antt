@@ -4,22 +4,16 @@ use borrow.Author.Tests.{lt-ltb, le-ltb}
 use borrow.Author.Needs.{needs}
 use Rattle.commands.proofs.text.digit.Statement.{statement}
 use Rattle.commands.proofs.text.digit.Tie as tie
-use Rattle.commands.proofs.text.digit.Reads as reads
-use Rattle.commands.proofs.text.digit.Lts as lts
 
--- src/text.rt:45:17
 add-result : tie.Need-add-result
 add-result c = search needs
 
--- src/text.rt:45:33
 add-result-2 : tie.Need-add-result-2
 add-result-2 c = search needs
 
--- src/text.rt:41:1
 returns : tie.Need-returns
 returns c = rw (lt-ltb (c .before .args .d) 10 (omega arith)) refl
 
--- src/text.rt:41:1
 returns-2 : tie.Need-returns-2
 returns-2 c = rw (le-ltb (c .before .args .d) 10 (omega arith)) refl
 

@@ -4,36 +4,25 @@ use Rattle.commands.proofs.TextLaws.{put-same, no-bytes, some-bytes, le
 use borrow.Author.Needs.{needs}
 use Rattle.commands.proofs.text.put_bytes.Statement.{statement}
 use Rattle.commands.proofs.text.put_bytes.Tie as tie
-use Rattle.commands.proofs.text.put_bytes.Reads as reads
-use Rattle.commands.proofs.text.put_bytes.Lts as lts
-use Rattle.commands.proofs.text.put.Reads as put-reads
-use Rattle.commands.proofs.text.put_pairs.Reads as put-pairs-reads
 
--- src/text.rt:72:28
 slice-aggregate-put : tie.Need-slice-aggregate-put
 slice-aggregate-put c = search needs
 
--- src/text.rt:72:9
 put-requires : tie.Need-put-requires
 put-requires c κs = search needs
 
--- src/text.rt:72:9
 same-length : tie.Need-same-length
 same-length c = search needs
 
--- src/text.rt:72:9
 returns : tie.Need-returns
 returns c = (put-same _ _ _ _ _ _ (no-bytes (now (c .before .before .before .before .before .before .before .before .args .bytes)) (c .before .before .before .before .before .if1 .taken)) (c .before .before .put .ensures), omega (arith, c .before .before .put .ensures .ends))
 
--- src/text.rt:74:5
 put-pairs-requires : tie.Need-put-pairs-requires
 put-pairs-requires c κs = search needs
 
--- src/text.rt:67:1
 same-length-2 : tie.Need-same-length-2
 same-length-2 c = search needs
 
--- src/text.rt:67:1
 returns-2 : tie.Need-returns-2
 returns-2 c = (put-same _ _ _ _ _ _ (some-bytes (now (c .before .before .before .before .before .before .before .args .bytes)) (c .before .before .before .before .if1 .left)) (c .before .before .put-pairs .ensures), omega (arith, c .before .before .put-pairs .ensures .ends, length-pairs (now (c .before .before .before .before .before .before .before .args .bytes))))
 

@@ -1,36 +1,25 @@
 use Rattle.commands.proofs.TextLaws.{put-same, decimal-digits, decimal-short}
-use lib.ListN.{length}
-use mathlib.Core.Path.{_≡_, refl, ap, _∙_}
+use mathlib.Core.Path.{_∙_}
 use native.Mathlib.Omega.{arith}
 use borrow.Author.Needs.{needs}
 use Rattle.commands.proofs.text.put_decimal.Statement.{statement}
 use Rattle.commands.proofs.text.put_decimal.Tie as tie
-use Rattle.commands.proofs.text.put_decimal.Reads as reads
-use Rattle.commands.proofs.text.put_decimal.Lts as lts
-use Rattle.commands.proofs.text.put.Reads as put-reads
-use Rattle.io.proofs.decimal.Reads as decimal-reads
 
--- src/text.rt:25:9
 decimal-requires : tie.Need-decimal-requires
 decimal-requires c κs = search needs
 
--- src/text.rt:26:17
 array-share-prefix-digits : tie.Need-array-share-prefix-digits
 array-share-prefix-digits c = search needs
 
--- src/text.rt:26:17
 slice-aggregate-put : tie.Need-slice-aggregate-put
 slice-aggregate-put c = search needs
 
--- src/text.rt:26:5
 put-requires : tie.Need-put-requires
 put-requires c κs = omega (arith, decimal-short (c .before .before .before .before .before .args .n) (c .before .before .decimal .result) (omega arith) (c .before .before .decimal .ensures .1 .0), c .before .before .decimal .ensures .0 .1)
 
--- src/text.rt:19:1
 same-length : tie.Need-same-length
 same-length c = search needs
 
--- src/text.rt:19:1
 returns : tie.Need-returns
 returns c = let d = c .before .before .before .before .before .decimal in (put-same _ _ _ _ _ _ (d .ensures .1 .1 ∙ decimal-digits (c .before .before .before .before .before .before .before .before .args .n) (d .result) (omega arith) (d .ensures .1 .0)) (c .before .before .put .ensures), omega (arith, decimal-short (c .before .before .before .before .before .before .before .before .args .n) (d .result) (omega arith) (d .ensures .1 .0), d .ensures .0 .1, c .before .before .put .ensures .ends))
 

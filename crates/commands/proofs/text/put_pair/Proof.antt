@@ -5,32 +5,22 @@ use mathlib.Core.Path.{ap₂}
 use borrow.Author.Needs.{needs}
 use Rattle.commands.proofs.text.put_pair.Statement.{statement}
 use Rattle.commands.proofs.text.put_pair.Tie as tie
-use Rattle.commands.proofs.text.put_pair.Reads as reads
-use Rattle.commands.proofs.text.put_pair.Lts as lts
-use Rattle.commands.proofs.text.digit.Reads as digit-reads
-use Rattle.commands.proofs.text.put.Reads as put-reads
 
--- src/text.rt:51:17
 digit-requires : tie.Need-digit-requires
 digit-requires c κs = search needs
 
--- src/text.rt:51:32
 digit-requires-2 : tie.Need-digit-requires-2
 digit-requires-2 c κs = search needs
 
--- src/text.rt:52:17
 slice-aggregate-put : tie.Need-slice-aggregate-put
 slice-aggregate-put c = search needs
 
--- src/text.rt:52:5
 put-requires : tie.Need-put-requires
 put-requires c κs = search needs
 
--- src/text.rt:47:1
 same-length : tie.Need-same-length
 same-length c = search needs
 
--- src/text.rt:47:1
 returns : tie.Need-returns
 returns c = put-same _ _ _ _ _ _ (ap₂ (λ (x y : ℕ). x ∷ (y ∷ [])) (c .before .before .before .before .before .before .digit .ensures) (c .before .before .before .before .before .digit2 .ensures)) (c .before .before .put .ensures)
 

@@ -1,16 +1,12 @@
-use mathlib.Core.List.{[]}
 use Rattle.commands.proofs.TextLaws.{put-same, put-on, put-length, pairs-more, pairs-all, no-pairs}
 use Rattle.commands.specs.Text.{Put, pairs}
 use denote.Ref.{now}
 use lib.ListN.{length, take}
 use native.Mathlib.Omega.{arith}
-use Prim.Native.Nat.{ℕ, _+_, _-_, _*_, _≤_}
+use Prim.Native.Nat.{_+_, _-_, _*_, _≤_}
 use mathlib.Core.Path.{_≡_, refl, _∙_}
 use Rattle.commands.proofs.text.put_pairs.Statement.{statement}
 use Rattle.commands.proofs.text.put_pairs.Tie as tie
-use Rattle.commands.proofs.text.put_pairs.Reads as reads
-use Rattle.commands.proofs.text.put_pairs.Lts as lts
-use Rattle.commands.proofs.text.put_pair.Reads as put-pair-reads
 
 abbrev Inv-loop : tie.InvT-loop
 Inv-loop out₀ o bytes e₀ k₀ k-end out e k = (k ≤ length bytes) × (e ≡ o + 2 * k) × (length out ≡ length out₀) × Put out₀ o (pairs (take k bytes)) e out
@@ -18,39 +14,32 @@ Inv-loop out₀ o bytes e₀ k₀ k-end out e k = (k ≤ length bytes) × (e ≡
 abbrev μ-loop : tie.MeasureT-loop
 μ-loop out₀ o bytes e₀ k₀ k-end out e k = k-end - k
 
--- src/text.rt:60:5
 loop-holds : tie.Need-loop-holds Inv-loop μ-loop
 loop-holds c = (omega arith, omega arith, refl, no-pairs _ _ (now (c .before .before .args .bytes)))
 
--- src/text.rt:61:36
 shared-slice-read-put-pair : tie.Need-shared-slice-read-put-pair Inv-loop μ-loop
 shared-slice-read-put-pair c = omega arith
 
--- src/text.rt:61:9
 put-pair-requires : tie.Need-put-pair-requires Inv-loop μ-loop
 put-pair-requires c κs = omega arith
 
--- src/text.rt:60:9
 add-k : tie.Need-add-k Inv-loop μ-loop
 add-k c = omega arith
 
--- src/text.rt:60:5
 loop-less : tie.Need-loop-less Inv-loop μ-loop
 loop-less c = omega arith
 
--- src/text.rt:60:5
 loop-again : tie.Need-loop-again Inv-loop μ-loop
 loop-again c = let i = c .before .before .before .before .before .before .loop in (
-    omega arith,
-    omega (arith, c .before .before .put-pair .ensures .ends),
-    put-length _ _ _ _ _ (c .before .before .put-pair .ensures) ∙ i .inv .2,
-    put-same _ _ _ _ _ _ (pairs-more (now (c .before .before .before .before .before .before .before .before .before .args .bytes)) (i .k) (omega arith)) (put-on _ _ _ _ _ _ _ _ (i .inv .3) (c .before .before .put-pair .ensures)))
+  omega arith,
+  omega (arith, c .before .before .put-pair .ensures .ends),
+  put-length _ _ _ _ _ (c .before .before .put-pair .ensures) ∙ i .inv .2,
+  put-same _ _ _ _ _ _ (pairs-more (now (c .before .before .before .before .before .before .before .before .before .args .bytes)) (i .k) (omega arith)) (put-on _ _ _ _ _ _ _ _ (i .inv .3) (c .before .before .put-pair .ensures)),
+)
 
--- src/text.rt:55:1
 same-length : tie.Need-same-length Inv-loop μ-loop
 same-length c = c .before .loop .inv .2
 
--- src/text.rt:55:1
 returns : tie.Need-returns Inv-loop μ-loop
 returns c = let i = c .before .loop in put-same _ _ _ _ _ _ (pairs-all (now (c .before .before .before .before .args .bytes)) (i .k) (omega arith)) (i .inv .3)
 

@@ -1,48 +1,35 @@
 use Rattle.commands.proofs.TextLaws.{put-same, put-on, hex-sixteen, sum-text}
-use lib.ListN.{length}
-use mathlib.Core.Path.{_≡_, refl, ap, _∙_}
 use native.Mathlib.Omega.{arith}
 use borrow.Author.Needs.{needs}
 use Rattle.commands.proofs.text.put_sum.Statement.{statement}
 use Rattle.commands.proofs.text.put_sum.Tie as tie
-use Rattle.commands.proofs.text.put_sum.Reads as reads
-use Rattle.commands.proofs.text.put_sum.Lts as lts
-use Rattle.commands.proofs.text.put.Reads as put-reads
-use Rattle.io.proofs.hex.Reads as hex-reads
 
--- src/text.rt:36:9
 hex-requires : tie.Need-hex-requires
 hex-requires c κs = search needs
 
--- src/text.rt:37:31
 slice-aggregate-put : tie.Need-slice-aggregate-put
 slice-aggregate-put c = search needs
 
--- src/text.rt:37:9
 put-requires : tie.Need-put-requires
 put-requires c κs = search needs
 
--- src/text.rt:38:17
 array-share-prefix-digits : tie.Need-array-share-prefix-digits
 array-share-prefix-digits c = search needs
 
--- src/text.rt:38:17
 slice-aggregate-put-2 : tie.Need-slice-aggregate-put-2
 slice-aggregate-put-2 c = search needs
 
--- src/text.rt:38:5
 put-requires-2 : tie.Need-put-requires-2
 put-requires-2 c κs = omega (arith, hex-sixteen (c .before .before .before .before .before .before .before .before .before .before .args .n) (c .before .before .before .before .before .before .before .hex .result) (omega arith) (c .before .before .before .before .before .before .before .hex .ensures .1 .0), c .before .before .before .before .before .before .before .hex .ensures .0 .1, c .before .before .before .before .put .ensures .ends)
 
--- src/text.rt:30:1
 same-length : tie.Need-same-length
 same-length c = search needs
 
--- src/text.rt:30:1
 returns : tie.Need-returns
 returns c = let d = c .before .before .before .before .before .before .before .before .before .before .hex in let e = hex-sixteen (c .before .before .before .before .before .before .before .before .before .before .before .before .before .args .n) (d .result) (omega arith) (d .ensures .1 .0) in (
-    put-same _ _ _ _ _ _ (sum-text (c .before .before .before .before .before .before .before .before .before .before .before .before .before .args .n) (d .result) _ e (d .ensures .1 .1)) (put-on _ _ _ _ _ _ _ _ (c .before .before .before .before .before .before .before .put .ensures) (c .before .before .put2 .ensures)),
-    omega (arith, e, d .ensures .0 .1, c .before .before .before .before .before .before .before .put .ensures .ends, c .before .before .put2 .ensures .ends))
+  put-same _ _ _ _ _ _ (sum-text (c .before .before .before .before .before .before .before .before .before .before .before .before .before .args .n) (d .result) _ e (d .ensures .1 .1)) (put-on _ _ _ _ _ _ _ _ (c .before .before .before .before .before .before .before .put .ensures) (c .before .before .put2 .ensures)),
+  omega (arith, e, d .ensures .0 .1, c .before .before .before .before .before .before .before .put .ensures .ends, c .before .before .put2 .ensures .ends),
+)
 
 pub put-sum-spec : {M : Type 1} → statement M
 put-sum-spec =

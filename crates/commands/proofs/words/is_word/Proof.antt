@@ -8,11 +8,9 @@ use borrow.Author.Tests.{eq-eqb, ne-eqb}
 use native.Mathlib.Omega.{arith}
 use Prim.Native.Nat.{ℕ, _-_, _≤_}
 use mathlib.Core.Bool.{true}
-use mathlib.Core.Path.{_≡_, refl, sym, ap, _∙_}
+use mathlib.Core.Path.{_≡_, sym}
 use Rattle.commands.proofs.words.is_word.Statement.{statement}
 use Rattle.commands.proofs.words.is_word.Tie as tie
-use Rattle.commands.proofs.words.is_word.Reads as reads
-use Rattle.commands.proofs.words.is_word.Lts as lts
 
 abbrev Inv-loop : tie.InvT-loop
 Inv-loop s w k₀ k-end k = (k ≤ length w) × (length s ≡ length w) × (allBelow (λ (j : ℕ). eqb (getD s j 0) (getD w j 0)) k ≡ true)
@@ -20,41 +18,32 @@ Inv-loop s w k₀ k-end k = (k ≤ length w) × (length s ≡ length w) × (allB
 abbrev μ-loop : tie.MeasureT-loop
 μ-loop s w k₀ k-end k = k-end - k
 
--- src/words.rt:12:9
 returns : tie.Need-returns Inv-loop μ-loop
 unfolding isWord
 returns c = sym (and-false-l _ _ (ne-eqb _ _ (c .if1 .taken)))
 
--- src/words.rt:14:5
 loop-holds : tie.Need-loop-holds Inv-loop μ-loop
 loop-holds c = (omega arith, c .if1 .left, all-none _)
 
--- src/words.rt:15:12
 shared-slice-read-if2 : tie.Need-shared-slice-read-if2 Inv-loop μ-loop
 shared-slice-read-if2 c = omega arith
 
--- src/words.rt:15:20
 shared-slice-read-if2-2 : tie.Need-shared-slice-read-if2-2 Inv-loop μ-loop
 shared-slice-read-if2-2 c = omega arith
 
--- src/words.rt:16:13
 returns-2 : tie.Need-returns-2 Inv-loop μ-loop
 unfolding isWord
 returns-2 c = let i = c .before .before .before .before .loop in chain-end _ _ _ (eq-eqb _ _ (i .inv .1)) (all-stopped _ _ (i .k) (omega arith) (ne-eqb _ _ (c .if2 .taken)))
 
--- src/words.rt:14:9
 add-k : tie.Need-add-k Inv-loop μ-loop
 add-k c = omega arith
 
--- src/words.rt:14:5
 loop-less : tie.Need-loop-less Inv-loop μ-loop
 loop-less c = omega arith
 
--- src/words.rt:14:5
 loop-again : tie.Need-loop-again Inv-loop μ-loop
 loop-again c = let i = c .before .before .before .before .loop in (omega arith, i .inv .1, all-more _ (i .k) (i .inv .2) (eq-eqb _ _ (c .if2 .left)))
 
--- src/words.rt:8:1
 returns-3 : tie.Need-returns-3 Inv-loop μ-loop
 unfolding isWord
 returns-3 c = let i = c .before .loop in chain-end _ _ _ (eq-eqb _ _ (i .inv .1)) (all-done _ _ (i .k) (omega arith) (omega arith) (i .inv .2))

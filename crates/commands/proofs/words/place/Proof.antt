@@ -3,50 +3,37 @@ use mathlib.Core.Path.{sym, _∙_, refl}
 use borrow.Author.Needs.{needs}
 use Rattle.commands.proofs.words.place.Statement.{statement}
 use Rattle.commands.proofs.words.place.Tie as tie
-use Rattle.commands.proofs.words.place.Reads as reads
-use Rattle.commands.proofs.words.place.Lts as lts
-use Rattle.commands.proofs.words.is_word.Reads as is-word-reads
 
--- src/words.rt:75:19
 slice-aggregate-is-word : tie.Need-slice-aggregate-is-word
 slice-aggregate-is-word c = search needs
 
--- src/words.rt:75:8
 is-word-requires : tie.Need-is-word-requires
 is-word-requires c κs = search needs
 
--- src/words.rt:76:9
 returns : tie.Need-returns
 unfolding placeOf
 returns c = rw (sym (c .before .is-word .ensures) ∙ c .if1 .taken) refl
 
--- src/words.rt:78:19
 slice-aggregate-is-word-2 : tie.Need-slice-aggregate-is-word-2
 slice-aggregate-is-word-2 c = search needs
 
--- src/words.rt:78:8
 is-word-requires-2 : tie.Need-is-word-requires-2
 is-word-requires-2 c κs = search needs
 
--- src/words.rt:79:9
 returns-2 : tie.Need-returns-2
 unfolding placeOf
 returns-2 c = rw (sym (c .before .before .before .before .is-word .ensures) ∙ c .before .before .before .if1 .left, sym (c .before .is-word2 .ensures) ∙ c .if2 .taken) refl
 
--- src/words.rt:81:19
 slice-aggregate-is-word-3 : tie.Need-slice-aggregate-is-word-3
 slice-aggregate-is-word-3 c = search needs
 
--- src/words.rt:81:8
 is-word-requires-3 : tie.Need-is-word-requires-3
 is-word-requires-3 c κs = search needs
 
--- src/words.rt:82:9
 returns-3 : tie.Need-returns-3
 unfolding placeOf
 returns-3 c = rw (sym (c .before .before .before .before .before .before .before .is-word .ensures) ∙ c .before .before .before .before .before .before .if1 .left, sym (c .before .before .before .before .is-word2 .ensures) ∙ c .before .before .before .if2 .left, sym (c .before .is-word3 .ensures) ∙ c .if3 .taken) refl
 
--- src/words.rt:72:1
 returns-4 : tie.Need-returns-4
 unfolding placeOf
 returns-4 c = rw (sym (c .before .before .before .before .before .before .before .is-word .ensures) ∙ c .before .before .before .before .before .before .if1 .left, sym (c .before .before .before .before .is-word2 .ensures) ∙ c .before .before .before .if2 .left, sym (c .before .is-word3 .ensures) ∙ c .if3 .left) refl

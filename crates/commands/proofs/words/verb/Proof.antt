@@ -3,68 +3,50 @@ use mathlib.Core.Path.{refl, sym, _∙_}
 use borrow.Author.Needs.{needs}
 use Rattle.commands.proofs.words.verb.Statement.{statement}
 use Rattle.commands.proofs.words.verb.Tie as tie
-use Rattle.commands.proofs.words.verb.Reads as reads
-use Rattle.commands.proofs.words.verb.Lts as lts
-use Rattle.commands.proofs.words.file_verb.Reads as file-verb-reads
-use Rattle.commands.proofs.words.is_word.Reads as is-word-reads
 
--- src/words.rt:26:19
 slice-aggregate-is-word : tie.Need-slice-aggregate-is-word
 slice-aggregate-is-word c = search needs
 
--- src/words.rt:26:8
 is-word-requires : tie.Need-is-word-requires
 is-word-requires c κs = search needs
 
--- src/words.rt:27:9
 returns : tie.Need-returns
 unfolding verbOf
 returns c = rw (sym (c .before .is-word .ensures) ∙ c .if1 .taken) refl
 
--- src/words.rt:29:19
 slice-aggregate-is-word-2 : tie.Need-slice-aggregate-is-word-2
 slice-aggregate-is-word-2 c = search needs
 
--- src/words.rt:29:8
 is-word-requires-2 : tie.Need-is-word-requires-2
 is-word-requires-2 c κs = search needs
 
--- src/words.rt:30:9
 returns-2 : tie.Need-returns-2
 unfolding verbOf
 returns-2 c = rw (sym (c .before .before .before .before .is-word .ensures) ∙ c .before .before .before .if1 .left, sym (c .before .is-word2 .ensures) ∙ c .if2 .taken) refl
 
--- src/words.rt:32:19
 slice-aggregate-is-word-3 : tie.Need-slice-aggregate-is-word-3
 slice-aggregate-is-word-3 c = search needs
 
--- src/words.rt:32:8
 is-word-requires-3 : tie.Need-is-word-requires-3
 is-word-requires-3 c κs = search needs
 
--- src/words.rt:33:9
 returns-3 : tie.Need-returns-3
 unfolding verbOf
 returns-3 c = rw (sym (c .before .before .before .before .before .before .before .is-word .ensures) ∙ c .before .before .before .before .before .before .if1 .left, sym (c .before .before .before .before .is-word2 .ensures) ∙ c .before .before .before .if2 .left, sym (c .before .is-word3 .ensures) ∙ c .if3 .taken) refl
 
--- src/words.rt:35:19
 slice-aggregate-is-word-4 : tie.Need-slice-aggregate-is-word-4
 slice-aggregate-is-word-4 c = search needs
 
--- src/words.rt:35:8
 is-word-requires-4 : tie.Need-is-word-requires-4
 is-word-requires-4 c κs = search needs
 
--- src/words.rt:36:9
 returns-4 : tie.Need-returns-4
 unfolding verbOf
 returns-4 c = rw (sym (c .before .before .before .before .before .before .before .before .before .before .is-word .ensures) ∙ c .before .before .before .before .before .before .before .before .before .if1 .left, sym (c .before .before .before .before .before .before .before .is-word2 .ensures) ∙ c .before .before .before .before .before .before .if2 .left, sym (c .before .before .before .before .is-word3 .ensures) ∙ c .before .before .before .if3 .left, sym (c .before .is-word4 .ensures) ∙ c .if4 .taken) refl
 
--- src/words.rt:38:5
 file-verb-requires : tie.Need-file-verb-requires
 file-verb-requires c κs = search needs
 
--- src/words.rt:23:1
 returns-5 : tie.Need-returns-5
 unfolding verbOf
 returns-5 c = rw (sym (c .before .before .before .before .before .before .before .before .before .before .before .is-word .ensures) ∙ c .before .before .before .before .before .before .before .before .before .before .if1 .left, sym (c .before .before .before .before .before .before .before .before .is-word2 .ensures) ∙ c .before .before .before .before .before .before .before .if2 .left, sym (c .before .before .before .before .before .is-word3 .ensures) ∙ c .before .before .before .before .if3 .left, sym (c .before .before .is-word4 .ensures) ∙ c .before .if4 .left) (c .file-verb .ensures)

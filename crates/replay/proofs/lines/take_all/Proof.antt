@@ -1,96 +1,74 @@
-use Rattle.replay.specs.Fit.{Ready}
+use Rattle.replay.specs.Fit.{Reading}
 use lib.ListN.{length}
 use borrow.Author.Needs.{needs}
 use native.Mathlib.Omega.{arith}
-use Prim.Native.Nat.{ℕ, _-_, _≤_}
-use mathlib.Core.Path.{_≡_, refl}
+use Prim.Native.Nat.{_-_, _≤_}
+use mathlib.Core.Path.{_≡_}
 use Rattle.replay.proofs.lines.take_all.Statement.{statement}
 use Rattle.replay.proofs.lines.take_all.Tie as tie
-use Rattle.replay.proofs.lines.take_all.Reads as reads
-use Rattle.replay.proofs.lines.take_all.Lts as lts
-use Rattle.replay.proofs.lines.take_some.Reads as take-some-reads
 
 abbrev Inv-loop : tie.InvT-loop
-Inv-loop store₀ image₀ desk₀ page₀ line₀ out₀ s₀ turns₀ store image desk page line out s turns = 
+Inv-loop store₀ image₀ desk₀ page₀ line₀ out₀ s₀ turns₀ store image desk page line out s turns =
     (length store ≡ length store₀) × (length image ≡ length image₀) × (length desk ≡ length desk₀) × (length page ≡ length page₀)
-    × (length line ≡ length line₀) × (length out ≡ length out₀) × Ready s (length store₀) (length image₀) (length desk₀) (length page₀) (length out₀) × (s .used ≤ length line₀)
+    × (length line ≡ length line₀) × (length out ≡ length out₀) × Reading s store₀ image₀ desk₀ page₀ line₀ out₀
 
 abbrev μ-loop : tie.MeasureT-loop
 μ-loop store₀ image₀ desk₀ page₀ line₀ out₀ s₀ turns₀ store image desk page line out s turns = turns
 
--- src/lines.rt:214:5
 loop-holds : tie.Need-loop-holds Inv-loop μ-loop
 loop-holds c = search needs
 
--- src/lines.rt:215:9
 take-some-requires : tie.Need-take-some-requires Inv-loop μ-loop
 take-some-requires c κs = search needs
 
--- src/lines.rt:216:9
 sub-turns : tie.Need-sub-turns Inv-loop μ-loop
 sub-turns c = omega arith
 
--- src/lines.rt:214:5
 loop-less : tie.Need-loop-less Inv-loop μ-loop
 loop-less c = omega arith
 
--- src/lines.rt:214:5
 loop-again : tie.Need-loop-again Inv-loop μ-loop
 loop-again c = search needs
 
--- src/lines.rt:206:1
 same-length : tie.Need-same-length Inv-loop μ-loop
 same-length c = search needs
 
--- src/lines.rt:206:1
 same-length-2 : tie.Need-same-length-2 Inv-loop μ-loop
 same-length-2 c = search needs
 
--- src/lines.rt:206:1
 same-length-3 : tie.Need-same-length-3 Inv-loop μ-loop
 same-length-3 c = search needs
 
--- src/lines.rt:206:1
 same-length-4 : tie.Need-same-length-4 Inv-loop μ-loop
 same-length-4 c = search needs
 
--- src/lines.rt:206:1
 same-length-5 : tie.Need-same-length-5 Inv-loop μ-loop
 same-length-5 c = search needs
 
--- src/lines.rt:206:1
 same-length-6 : tie.Need-same-length-6 Inv-loop μ-loop
 same-length-6 c = search needs
 
--- src/lines.rt:206:1
 returns : tie.Need-returns Inv-loop μ-loop
 returns c = search needs
 
--- src/lines.rt:206:1
 same-length-7 : tie.Need-same-length-7 Inv-loop μ-loop
 same-length-7 c = search needs
 
--- src/lines.rt:206:1
 same-length-8 : tie.Need-same-length-8 Inv-loop μ-loop
 same-length-8 c = search needs
 
--- src/lines.rt:206:1
 same-length-9 : tie.Need-same-length-9 Inv-loop μ-loop
 same-length-9 c = search needs
 
--- src/lines.rt:206:1
 same-length-10 : tie.Need-same-length-10 Inv-loop μ-loop
 same-length-10 c = search needs
 
--- src/lines.rt:206:1
 same-length-11 : tie.Need-same-length-11 Inv-loop μ-loop
 same-length-11 c = search needs
 
--- src/lines.rt:206:1
 same-length-12 : tie.Need-same-length-12 Inv-loop μ-loop
 same-length-12 c = search needs
 
--- src/lines.rt:206:1
 returns-2 : tie.Need-returns-2 Inv-loop μ-loop
 returns-2 c = search needs
 

@@ -1,72 +1,56 @@
-use Rattle.replay.specs.Fit.{Ready}
+use Rattle.replay.specs.Fit.{Reading}
 use lib.ListN.{length}
 use borrow.Author.Needs.{needs}
 use native.Mathlib.Omega.{arith}
-use Prim.Native.Nat.{ℕ, _-_, _≤_}
-use mathlib.Core.Path.{_≡_, refl}
+use Prim.Native.Nat.{_-_, _≤_}
+use mathlib.Core.Path.{_≡_}
 use Rattle.replay.proofs.lines.take_piece.Statement.{statement}
 use Rattle.replay.proofs.lines.take_piece.Tie as tie
-use Rattle.replay.proofs.lines.take_piece.Reads as reads
-use Rattle.replay.proofs.lines.take_piece.Lts as lts
-use Rattle.replay.proofs.lines.take_byte.Reads as take-byte-reads
 
 abbrev Inv-loop : tie.InvT-loop
-Inv-loop piece store₀ image₀ desk₀ page₀ line₀ out₀ s₀ k₀ k-end store image desk page line out s k = 
+Inv-loop piece store₀ image₀ desk₀ page₀ line₀ out₀ s₀ k₀ k-end store image desk page line out s k =
     (k ≤ length piece) × (length store ≡ length store₀) × (length image ≡ length image₀) × (length desk ≡ length desk₀) × (length page ≡ length page₀)
-    × (length line ≡ length line₀) × (length out ≡ length out₀) × Ready s (length store₀) (length image₀) (length desk₀) (length page₀) (length out₀) × (s .used ≤ length line₀)
+    × (length line ≡ length line₀) × (length out ≡ length out₀) × Reading s store₀ image₀ desk₀ page₀ line₀ out₀
 
 abbrev μ-loop : tie.MeasureT-loop
 μ-loop piece store₀ image₀ desk₀ page₀ line₀ out₀ s₀ k₀ k-end store image desk page line out s k = k-end - k
 
--- src/lines.rt:183:5
 loop-holds : tie.Need-loop-holds Inv-loop μ-loop
 loop-holds c = search needs
 
--- src/lines.rt:184:23
 shared-slice-read-take-byte : tie.Need-shared-slice-read-take-byte Inv-loop μ-loop
 shared-slice-read-take-byte c = omega arith
 
--- src/lines.rt:184:9
 take-byte-requires : tie.Need-take-byte-requires Inv-loop μ-loop
 take-byte-requires c κs = search needs
 
--- src/lines.rt:183:9
 add-k : tie.Need-add-k Inv-loop μ-loop
 add-k c = omega (arith, c .before .before .before .before .before .before .before .before .before .before .before .before .before .before .before .before .before .before .before .before .before .before .before .before .before .before .before .before .before .good .0 .0)
 
--- src/lines.rt:183:5
 loop-less : tie.Need-loop-less Inv-loop μ-loop
 loop-less c = omega arith
 
--- src/lines.rt:183:5
 loop-again : tie.Need-loop-again Inv-loop μ-loop
 loop-again c = search needs
 
--- src/lines.rt:176:1
 same-length : tie.Need-same-length Inv-loop μ-loop
 same-length c = search needs
 
--- src/lines.rt:176:1
 same-length-2 : tie.Need-same-length-2 Inv-loop μ-loop
 same-length-2 c = search needs
 
--- src/lines.rt:176:1
 same-length-3 : tie.Need-same-length-3 Inv-loop μ-loop
 same-length-3 c = search needs
 
--- src/lines.rt:176:1
 same-length-4 : tie.Need-same-length-4 Inv-loop μ-loop
 same-length-4 c = search needs
 
--- src/lines.rt:176:1
 same-length-5 : tie.Need-same-length-5 Inv-loop μ-loop
 same-length-5 c = search needs
 
--- src/lines.rt:176:1
 same-length-6 : tie.Need-same-length-6 Inv-loop μ-loop
 same-length-6 c = search needs
 
--- src/lines.rt:176:1
 returns : tie.Need-returns Inv-loop μ-loop
 returns c = search needs
 

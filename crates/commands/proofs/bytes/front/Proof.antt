@@ -1,29 +1,22 @@
 use denote.Ref.{now}
-use Rattle.commands.proofs.LineLaws.{front-all, front-part}
+use Rattle.commands.proofs.HexLaws.{front-all, front-part}
 use native.Mathlib.Omega.{arith}
 use borrow.Author.Needs.{needs}
-use Rattle.commands.proofs.answer.front.Statement.{statement}
-use Rattle.commands.proofs.answer.front.Tie as tie
-use Rattle.commands.proofs.answer.front.Reads as reads
-use Rattle.commands.proofs.answer.front.Lts as lts
+use Rattle.commands.proofs.bytes.front.Statement.{statement}
+use Rattle.commands.proofs.bytes.front.Tie as tie
 
--- src/answer.rt:87:9
 returns : tie.Need-returns
 returns c = front-all _ (c .before .args .k) (omega arith)
 
--- src/answer.rt:89:5
 sub-result : tie.Need-sub-result
 sub-result c = search needs
 
--- src/answer.rt:89:5
 part-result-start : tie.Need-part-result-start
 part-result-start c = search needs
 
--- src/answer.rt:89:5
 part-result-end : tie.Need-part-result-end
 part-result-end c = search needs
 
--- src/answer.rt:83:1
 returns-2 : tie.Need-returns-2
 returns-2 c = front-part (now (c .before .before .args .s)) (c .before .before .args .k)
 
