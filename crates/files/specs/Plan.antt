@@ -96,15 +96,21 @@ unlinkPlan s n d name =
 unfoldable pub isBelow : List ℕ → ℕ → ℕ → ℕ → Bool
 isBelow s n i e = eqb (kindOf s i) directoryKind && leadsB (parentOf s) i n e
 
--- rename of the entry in slot t of d, which names i, to another in e: 7, 10, 12, 13.
--- "A rename within a directory keeps its slot and its mark; to the same name it changes nothing." "A new name that is taken refuses."
-unfoldable pub renameTo : List ℕ → ℕ → ℕ → ℕ → ℕ → ℕ → ℕ → List ℕ → RenamePlan
-renameTo s n b d t i e other =
-    pick (eqb d e)
-    (onFound (findSlot s n e other) (λ u. pick (eqb u t) Same (NoRename NameTaken)) (Rename t i))
-    (onFound (findSlot s n e other) (λ u. NoRename NameTaken)
+-- the entry in slot t, which names i, is to have another name in its directory e: 7.
+-- "A rename within a directory keeps its slot and its mark; to the same name it changes nothing."
+abbrev pub renameWithin : List ℕ → ℕ → ℕ → ℕ → ℕ → List ℕ → RenamePlan
+renameWithin s n t i e other = onFound (findSlot s n e other) (λ u. pick (eqb u t) Same (NoRename NameTaken)) (Rename t i)
+
+-- it is to go to another directory e: 7, 10, 12, 13; "A new name that is taken refuses."
+abbrev pub moveTo : List ℕ → ℕ → ℕ → ℕ → ℕ → ℕ → List ℕ → RenamePlan
+moveTo s n b t i e other =
+    onFound (findSlot s n e other) (λ u. NoRename NameTaken)
     (pick (isBelow s n i e) (NoRename IntoItself)
-    (onRoom (roomIn s n b e) (λ r. Move t i r) NoRename)))
+    (onRoom (roomIn s n b e) (λ r. Move t i r) NoRename))
+
+-- from directory d
+unfoldable pub renameTo : List ℕ → ℕ → ℕ → ℕ → ℕ → ℕ → ℕ → List ℕ → RenamePlan
+renameTo s n b d t i e other = pick (eqb d e) (renameWithin s n t i e other) (moveTo s n b t i e other)
 
 -- rename: 4, 5, 6, 7, 10, 12, 13
 unfoldable pub renamePlan : List ℕ → ℕ → ℕ → ℕ → List ℕ → ℕ → List ℕ → RenamePlan

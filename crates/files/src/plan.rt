@@ -6,12 +6,12 @@ ghost use lib.ListN.{length};
 ghost use Rattle.bounded.specs.Climb.{leadsB};
 ghost use Rattle.layout.specs.Sizes.{mostStoreBlocks};
 ghost use Rattle.layout.specs.Inode.{parentOf};
-ghost use Rattle.names.specs.Name.{legalName};
+ghost use Rattle.names.specs.Name.{nameBytes};
 ghost use Rattle.directory.specs.Slot.{DirFits};
 ghost use Rattle.sound.specs.Sound.{Sound, inodesIn, blocksIn};
-ghost use Rattle.files.specs.Inode.{isKind, isFile, isDirectory};
+ghost use Rattle.files.specs.Inode.{isKind, isDirectory};
 ghost use Rattle.files.specs.Room.{roomIn};
-ghost use Rattle.files.specs.Plan.{inodeAt, lookUpPlan, readPlan, createPlan, writePlan, shortenPlan, linkPlan, holdsNone, unlinkPlan, isBelow, renameTo, renamePlan};
+ghost use Rattle.files.specs.Plan.{lookUpPlan, readPlan, createPlan, writePlan, shortenPlan, linkPlan, holdsNone, unlinkPlan, isBelow, renameWithin, moveTo, renamePlan};
 use crate::CreatePlan;
 use crate::LinkPlan;
 use crate::RenamePlan;
@@ -62,7 +62,7 @@ pub fn look_up_plan(s: &[u8], n: usize, d: usize, name: &[u8]) -> SizePlan
     SizePlan::To(directory::slot_inode(s, n, d, t) as usize)
 }
 
-fn lesser(a: usize, b: usize) -> usize
+pub fn lesser(a: usize, b: usize) -> usize
     ensures { λ r. ⌜ r ≡ min a b ⌝ }
 {
     if a < b { a } else { b }
@@ -125,7 +125,7 @@ pub fn write_plan(s: &[u8], n: usize, i: usize, o: usize, k: usize) -> SizePlan
 }
 
 // Where an entry more in directory d goes.
-pub fn room_in(s: &[u8], n: usize, b: usize, d: usize) -> RoomPlan
+fn room_in(s: &[u8], n: usize, b: usize, d: usize) -> RoomPlan
     requires { ⌜ Sound mostStoreBlocks false (now s) × (n ≡ inodesIn (now s)) × (b ≡ blocksIn (now s)) × (isDirectory (now s) n d ≡ true) ⌝ }
     ensures { λ r. ⌜ r ≡ roomIn (now (s .entry)) n b d ⌝ }
 {
@@ -155,9 +155,9 @@ pub fn create_plan(s: &[u8], n: usize, b: usize, d: usize, name: &[u8]) -> Creat
     if !is_kind(s, n, DIRECTORY, d) {
         return CreatePlan::NoCreate(Refusal::WrongInode);
     }
-    if let Found::At(_) = directory::find_slot(s, n, d, name) {
+    let Found::Absent = directory::find_slot(s, n, d, name) else {
         return CreatePlan::NoCreate(Refusal::NameTaken);
-    }
+    };
     let Found::At(i) = free::free_inode(s, n) else {
         return CreatePlan::NoCreate(Refusal::NoInode);
     };
@@ -180,9 +180,9 @@ pub fn link_plan(s: &[u8], n: usize, b: usize, d: usize, name: &[u8], i: usize) 
     if !is_kind(s, n, FILE, i) {
         return LinkPlan::NoLink(Refusal::WrongInode);
     }
-    if let Found::At(_) = directory::find_slot(s, n, d, name) {
+    let Found::Absent = directory::find_slot(s, n, d, name) else {
         return LinkPlan::NoLink(Refusal::NameTaken);
-    }
+    };
     match room_in(s, n, b, d) {
         RoomPlan::Has(room) => LinkPlan::Add(room),
         RoomPlan::NoRoom(why) => LinkPlan::NoLink(why),
@@ -253,31 +253,28 @@ fn is_below(s: &[u8], n: usize, i: usize, e: usize) -> bool
     leads_to(s, n, i, e)
 }
 
-// The entry in slot t of d, which names i, is to have another name in e.
-fn rename_to(
-    s: &[u8],
-    n: usize,
-    b: usize,
-    d: usize,
-    t: usize,
-    i: usize,
-    e: usize,
-    other: &[u8],
-) -> RenamePlan
-    requires { ⌜ Sound mostStoreBlocks false (now s) × (n ≡ inodesIn (now s)) × (b ≡ blocksIn (now s)) × (isDirectory (now s) n e ≡ true) × (legalName (now other) ≡ true) × (1 ≤ i) × (i ≤ n) ⌝ }
-    ensures { λ r. ⌜ r ≡ renameTo (now (s .entry)) n b d t i e (now (other .entry)) ⌝ }
+// The entry in slot t, which names i, is to have another name in its directory e.
+fn rename_within(s: &[u8], n: usize, t: usize, i: usize, e: usize, other: &[u8]) -> RenamePlan
+    requires { ⌜ DirFits (now s) n e × (length (now other) ≤ nameBytes) ⌝ }
+    ensures { λ r. ⌜ r ≡ renameWithin (now (s .entry)) n t i e (now (other .entry)) ⌝ }
 {
-    if let Found::At(u) = directory::find_slot(s, n, e, other) {
-        if d == e {
-            if u == t {
-                return RenamePlan::Same;
-            }
-        }
-        return RenamePlan::NoRename(Refusal::NameTaken);
-    }
-    if d == e {
+    let Found::At(u) = directory::find_slot(s, n, e, other) else {
         return RenamePlan::Rename(t, i);
+    };
+    if u == t {
+        return RenamePlan::Same;
     }
+    RenamePlan::NoRename(Refusal::NameTaken)
+}
+
+// It is to go to another directory e.
+fn move_to(s: &[u8], n: usize, b: usize, t: usize, i: usize, e: usize, other: &[u8]) -> RenamePlan
+    requires { ⌜ Sound mostStoreBlocks false (now s) × (n ≡ inodesIn (now s)) × (b ≡ blocksIn (now s)) × (isDirectory (now s) n e ≡ true) × (length (now other) ≤ nameBytes) × (1 ≤ i) × (i ≤ n) ⌝ }
+    ensures { λ r. ⌜ r ≡ moveTo (now (s .entry)) n b t i e (now (other .entry)) ⌝ }
+{
+    let Found::Absent = directory::find_slot(s, n, e, other) else {
+        return RenamePlan::NoRename(Refusal::NameTaken);
+    };
     if is_below(s, n, i, e) {
         return RenamePlan::NoRename(Refusal::IntoItself);
     }
@@ -315,5 +312,8 @@ pub fn rename_plan(
         return RenamePlan::NoRename(Refusal::NameAbsent);
     };
     let i = directory::slot_inode(s, n, d, t) as usize;
-    rename_to(s, n, b, d, t, i, e, other)
+    if d == e {
+        return rename_within(s, n, t, i, e, other);
+    }
+    move_to(s, n, b, t, i, e, other)
 }

@@ -30,7 +30,7 @@ use Rattle.files.specs.declared.RenamePlan.the-variants.{Same, Rename, M
 use Rattle.files.specs.declared.SizePlan.the-variants.{To, NoSize}
 use Rattle.files.specs.Inode.{isFile, isDirectory}
 use Rattle.files.specs.Room.{roomIn, onRoom}
-use Rattle.files.specs.Plan.{inodeAt, readPlan, createPlan, writePlan, shortenPlan, linkPlan, holdsNone, unlinkPlan, isBelow, renameTo, renamePlan}
+use Rattle.files.specs.Plan.{inodeAt, readPlan, createPlan, writePlan, shortenPlan, linkPlan, holdsNone, unlinkPlan, isBelow, renameWithin, moveTo, renameTo, renamePlan}
 
 -- ---- a choice whose outcome is known, and cannot have come from one of its branches
 module _ {A : Type 0} where
@@ -187,13 +187,7 @@ same-or-no-move false w t i r h = no-move w t i r h
 
 -- within a directory, and to another
 module _ (s : List ℕ) (n b d t i e : ℕ) (other : List ℕ) where
-  abbrev within : RenamePlan
-  within = onFound (findSlot s n e other) (λ u. pick (eqb u t) Same (NoRename NameTaken)) (Rename t i)
-
-  abbrev away : RenamePlan
-  away = onFound (findSlot s n e other) (λ u. NoRename NameTaken) (pick (isBelow s n i e) (NoRename IntoItself) (onRoom (roomIn s n b e) (λ r. Move t i r) NoRename))
-
-  away-no-rename : (u j : ℕ) → away ≡ Rename u j → ⊥
+  away-no-rename : (u j : ℕ) → moveTo s n b t i e other ≡ Rename u j → ⊥
   away-no-rename u j h =
       let z = Rename u j in
       let a = found-none (findSlot s n e other) _ _ z h (λ v. no-rename _ u j) in
@@ -205,7 +199,7 @@ module _ (s : List ℕ) (n b d t i e : ℕ) (other : List ℕ) where
   unfolding renameTo
   to-renames u j h = go (eqb d e) refl h
     where
-      go : (c : Bool) → eqb d e ≡ c → pick c within away ≡ Rename u j → (d ≡ e) × (findSlot s n e other ≡ Absent) × (t ≡ u) × (i ≡ j)
+      go : (c : Bool) → eqb d e ≡ c → pick c (renameWithin s n t i e other) (moveTo s n b t i e other) ≡ Rename u j → (d ≡ e) × (findSlot s n e other ≡ Absent) × (t ≡ u) × (i ≡ j)
       go true q g =
           let a = found-none (findSlot s n e other) (λ v. pick (eqb v t) Same (NoRename NameTaken)) (Rename t i) (Rename u j) g (λ v. same-or-no-rename (eqb v t) NameTaken u j) in
           (eqb-true d e q, a .0, cc (a .1), cc (a .1))
@@ -215,7 +209,7 @@ module _ (s : List ℕ) (n b d t i e : ℕ) (other : List ℕ) where
   unfolding renameTo
   to-moves u j r h = go (eqb d e) refl h
     where
-      go : (c : Bool) → eqb d e ≡ c → pick c within away ≡ Move u j r → Moves s n b d e i r × (findSlot s n e other ≡ Absent) × (t ≡ u) × (i ≡ j)
+      go : (c : Bool) → eqb d e ≡ c → pick c (renameWithin s n t i e other) (moveTo s n b t i e other) ≡ Move u j r → Moves s n b d e i r × (findSlot s n e other ≡ Absent) × (t ≡ u) × (i ≡ j)
       go true q g =
           let a = found-none (findSlot s n e other) (λ v. pick (eqb v t) Same (NoRename NameTaken)) (Rename t i) (Move u j r) g (λ v. same-or-no-move (eqb v t) NameTaken u j r) in
           absurd (rename-not-move t i u j r (a .1))

@@ -27,7 +27,7 @@ use Rattle.files.specs.declared.RenamePlan.{RenamePlan}
 use Rattle.files.specs.declared.RenamePlan.the-variants.{Same, Rename, Move, NoRename}
 use Rattle.files.specs.Inode.{isDirectory}
 use Rattle.files.specs.Room.{roomIn}
-use Rattle.files.specs.Plan.{inodeAt, holdsNone, unlinkPlan, isBelow, renameTo, renamePlan}
+use Rattle.files.specs.Plan.{inodeAt, holdsNone, unlinkPlan, isBelow, renameWithin, moveTo, renameTo, renamePlan}
 
 -- the test of slot t's bytes, as the code cuts them out at o
 pub empty-read : (s : List ℕ) (n d t o : ℕ) (r : Bool) → o ≡ slotAt s n d t → r ≡ isEmpty (take (o + 16 - o) (drop o s)) → r ≡ slotEmpty s n d t
@@ -101,38 +101,32 @@ module _ (s : List ℕ) (n i e : ℕ) where
   unfolding isBelow
   below-directory r g q = rw (eq-eqb (kindOf s i) directoryKind g) q
 
--- ---- rename of the entry in slot t of d, which names i, to another in e
-module _ (s : List ℕ) (n b d t i e : ℕ) (other : List ℕ) where
-  pub to-same : (u : ℕ) → findSlot s n e other ≡ At u → d ≡ e → u ≡ t → Same ≡ renameTo s n b d t i e other
-  unfolding renameTo
-  to-same u f q r = rw (eq-eqb d e q, f, eq-eqb u t r)
+-- ---- the entry in slot t, which names i, is to have another name in its directory e
+module _ (s : List ℕ) (n t i e : ℕ) (other : List ℕ) where
+  pub within-new : findSlot s n e other ≡ Absent → Rename t i ≡ renameWithin s n t i e other
+  within-new f = rw f
 
-  pub to-taken : (u : ℕ) → findSlot s n e other ≡ At u → d ≡ e → (u ≡ t → ⊥) → NoRename NameTaken ≡ renameTo s n b d t i e other
-  unfolding renameTo
-  to-taken u f q r = rw (eq-eqb d e q, f, ne-eqb u t r)
+  pub within-same : (u : ℕ) → findSlot s n e other ≡ At u → u ≡ t → Same ≡ renameWithin s n t i e other
+  within-same u f r = rw (f, eq-eqb u t r)
 
-  pub to-taken-there : (u : ℕ) → findSlot s n e other ≡ At u → (d ≡ e → ⊥) → NoRename NameTaken ≡ renameTo s n b d t i e other
-  unfolding renameTo
-  to-taken-there u f q = rw (ne-eqb d e q, f)
+  pub within-taken : (u : ℕ) → findSlot s n e other ≡ At u → (u ≡ t → ⊥) → NoRename NameTaken ≡ renameWithin s n t i e other
+  within-taken u f r = rw (f, ne-eqb u t r)
+
+-- ---- it is to go to another directory e
+module _ (s : List ℕ) (n b t i e : ℕ) (other : List ℕ) where
+  pub move-taken : (u : ℕ) → findSlot s n e other ≡ At u → NoRename NameTaken ≡ moveTo s n b t i e other
+  move-taken u f = rw f
 
   module _ (f : findSlot s n e other ≡ Absent) where
-    pub to-rename : d ≡ e → Rename t i ≡ renameTo s n b d t i e other
-    unfolding renameTo
-    to-rename q = rw (eq-eqb d e q, f)
+    pub move-itself : isBelow s n i e ≡ true → NoRename IntoItself ≡ moveTo s n b t i e other
+    move-itself g = rw (f, g)
 
-    module _ (q : d ≡ e → ⊥) where
-      pub to-itself : isBelow s n i e ≡ true → NoRename IntoItself ≡ renameTo s n b d t i e other
-      unfolding renameTo
-      to-itself g = rw (ne-eqb d e q, f, g)
+    module _ (g : isBelow s n i e ≡ false) where
+      pub move-room : (r : Room) → roomIn s n b e ≡ Has r → Move t i r ≡ moveTo s n b t i e other
+      move-room r h = rw (f, g, h)
 
-      module _ (g : isBelow s n i e ≡ false) where
-        pub to-move : (r : Room) → roomIn s n b e ≡ Has r → Move t i r ≡ renameTo s n b d t i e other
-        unfolding renameTo
-        to-move r h = rw (ne-eqb d e q, f, g, h)
-
-        pub to-roomless : (w : Refusal) → roomIn s n b e ≡ NoRoom w → NoRename w ≡ renameTo s n b d t i e other
-        unfolding renameTo
-        to-roomless w h = rw (ne-eqb d e q, f, g, h)
+      pub move-roomless : (w : Refusal) → roomIn s n b e ≡ NoRoom w → NoRename w ≡ moveTo s n b t i e other
+      move-roomless w h = rw (f, g, h)
 
 -- ---- rename
 module _ (s : List ℕ) (n b d e : ℕ) (name other : List ℕ) where
@@ -160,6 +154,15 @@ module _ (s : List ℕ) (n b d e : ℕ) (name other : List ℕ) where
           unfolding renamePlan
           rename-absent f = rw (l, m, k, j, f)
 
-          pub rename-there : (t i : ℕ) (r : RenamePlan) → findSlot s n d name ≡ At t → i ≡ inodeAt s n d t → r ≡ renameTo s n b d t i e other → r ≡ renamePlan s n b d name e other
-          unfolding renamePlan
-          rename-there t i r f q h = rw (l, m, k, j, f) (h ∙ ap (λ (x : ℕ). renameTo s n b d t x e other) q)
+          module _ (t i : ℕ) (r : RenamePlan) (f : findSlot s n d name ≡ At t) (q : i ≡ inodeAt s n d t) where
+            rename-there : r ≡ renameTo s n b d t i e other → r ≡ renamePlan s n b d name e other
+            unfolding renamePlan
+            rename-there h = rw (l, m, k, j, f) (h ∙ ap (λ (x : ℕ). renameTo s n b d t x e other) q)
+
+            pub rename-here : d ≡ e → r ≡ renameWithin s n t i e other → r ≡ renamePlan s n b d name e other
+            unfolding renameTo
+            rename-here g h = rename-there (rw (eq-eqb d e g) h)
+
+            pub rename-away : (d ≡ e → ⊥) → r ≡ moveTo s n b t i e other → r ≡ renamePlan s n b d name e other
+            unfolding renameTo
+            rename-away g h = rename-there (rw (ne-eqb d e g) h)

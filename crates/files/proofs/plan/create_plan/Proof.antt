@@ -20,8 +20,8 @@ is-legal c = chain-on _ _ (c .before .legal-name .ensures) (c .if1 .left)
 is-dir : (c : tie.Else2) → isDirectory (now (c .before .before .before .before .before .before .args .s)) (c .before .before .before .before .before .before .args .n) (c .before .before .before .before .before .before .args .d) ≡ true
 is-dir c = chain-on _ _ (c .before .is-kind .ensures) (c .if2 .left)
 
-not-there : (c : tie.After-enum-told2) → findSlot (now (c .before .before .before .before .before .before .before .before .before .args .s)) (c .before .before .before .before .before .before .before .before .before .args .n) (c .before .before .before .before .before .before .before .before .before .args .d) (now (c .before .before .before .before .before .before .before .before .before .args .name)) ≡ Absent
-not-there c = sym (c .before .before .find-slot .ensures) ∙ c .enum-told2 .given .1
+not-there : (c : tie.After-enum-told) → findSlot (now (c .before .before .before .before .before .before .before .before .before .args .s)) (c .before .before .before .before .before .before .before .before .before .args .n) (c .before .before .before .before .before .before .before .before .before .args .d) (now (c .before .before .before .before .before .before .before .before .before .args .name)) ≡ Absent
+not-there c = sym (c .before .before .find-slot .ensures) ∙ c .enum-told .given .1
 
 legal-name-requires : tie.Need-legal-name-requires
 legal-name-requires c κs = search needs
@@ -42,7 +42,7 @@ enum-told : tie.Need-enum-told
 enum-told c = search needs
 
 returns-3 : tie.Need-returns-3
-returns-3 c = create-taken _ _ _ _ _ (is-legal (c .before .before .before .before .before)) (is-dir (c .before .before .before)) _ (sym (c .before .before .find-slot .ensures) ∙ c .enum-told .given .1)
+returns-3 c = create-taken _ _ _ _ _ (is-legal (c .before .before .before .before .before)) (is-dir (c .before .before .before)) _ (sym (c .before .before .find-slot .ensures) ∙ c .enum-told2 .given .1)
 
 enum-told-2 : tie.Need-enum-told-2
 enum-told-2 c = search needs
@@ -84,8 +84,8 @@ create-plan-spec =
     returns-2
     find-slot-requires
     enum-told
-    returns-3
     enum-told-2
+    returns-3
     free-inode-requires
     enum-known-i
     enum-told-3

@@ -23,8 +23,8 @@ is-dir c = chain-on _ _ (c .before .is-kind .ensures) (c .if2 .left)
 is-file : (c : tie.Else3) → isFile (now (c .before .before .before .before .before .before .before .before .args .s)) (c .before .before .before .before .before .before .before .before .args .n) (c .before .before .before .before .before .before .before .before .args .i) ≡ true
 is-file c = chain-on _ _ (c .before .is-kind2 .ensures) (c .if3 .left)
 
-not-there : (c : tie.After-enum-told2) → findSlot (now (c .before .before .before .before .before .before .before .before .before .before .before .args .s)) (c .before .before .before .before .before .before .before .before .before .before .before .args .n) (c .before .before .before .before .before .before .before .before .before .before .before .args .d) (now (c .before .before .before .before .before .before .before .before .before .before .before .args .name)) ≡ Absent
-not-there c = sym (c .before .before .find-slot .ensures) ∙ c .enum-told2 .given .1
+not-there : (c : tie.After-enum-told) → findSlot (now (c .before .before .before .before .before .before .before .before .before .before .before .args .s)) (c .before .before .before .before .before .before .before .before .before .before .before .args .n) (c .before .before .before .before .before .before .before .before .before .before .before .args .d) (now (c .before .before .before .before .before .before .before .before .before .before .before .args .name)) ≡ Absent
+not-there c = sym (c .before .before .find-slot .ensures) ∙ c .enum-told .given .1
 
 legal-name-requires : tie.Need-legal-name-requires
 legal-name-requires c κs = search needs
@@ -51,7 +51,7 @@ enum-told : tie.Need-enum-told
 enum-told c = search needs
 
 returns-4 : tie.Need-returns-4
-returns-4 c = link-taken _ _ _ _ _ _ (is-legal (c .before .before .before .before .before .before .before)) (is-dir (c .before .before .before .before .before)) (is-file (c .before .before .before)) _ (sym (c .before .before .find-slot .ensures) ∙ c .enum-told .given .1)
+returns-4 c = link-taken _ _ _ _ _ _ (is-legal (c .before .before .before .before .before .before .before)) (is-dir (c .before .before .before .before .before)) (is-file (c .before .before .before)) _ (sym (c .before .before .find-slot .ensures) ∙ c .enum-told2 .given .1)
 
 enum-told-2 : tie.Need-enum-told-2
 enum-told-2 c = search needs
@@ -83,8 +83,8 @@ link-plan-spec =
     returns-3
     find-slot-requires
     enum-told
-    returns-4
     enum-told-2
+    returns-4
     room-in-requires
     enum-known-room
     enum-known-why

@@ -11,7 +11,7 @@ use Rattle.directory.proofs.SlotLaws.{find-below}
 use Rattle.files.specs.Inode.{isDirectory}
 use Rattle.files.specs.Plan.{inodeAt}
 use Rattle.files.proofs.Stores.StoreLaws.{kind-dir}
-use Rattle.files.proofs.Plans.TakePlanLaws.{rename-illegal, rename-illegal-new, rename-wrong, rename-wrong-new, rename-absent, rename-there}
+use Rattle.files.proofs.Plans.TakePlanLaws.{rename-illegal, rename-illegal-new, rename-wrong, rename-wrong-new, rename-absent, rename-here, rename-away}
 use Rattle.files.proofs.Kept.SlotPlaceLaws.{found-here}
 use borrow.Author.Needs.{needs}
 use Rattle.files.proofs.plan.rename_plan.Statement.{statement}
@@ -75,20 +75,28 @@ slot-inode-requires c κs = let p = c .before .before .before .before .before .b
 cast-i : tie.Need-cast-i
 cast-i c = search needs
 
-rename-to-requires : tie.Need-rename-to-requires
-rename-to-requires c κs = let p = c .before .before .before .before .before .before .before .before .before .before .before .before .before .before .before .before .pre in
-    let e : c .slot-inode .result ≡ inodeAt (now (c .before .before .before .before .before .before .before .before .before .before .before .before .before .before .before .before .args .s)) (c .before .before .before .before .before .before .before .before .before .before .before .before .before .before .before .before .args .n) (c .before .before .before .before .before .before .before .before .before .before .before .before .before .before .before .before .args .d) (c .before .before .t .given .0 .0) = c .slot-inode .ensures in (
-      p .0,
-      p .1,
-      p .2,
-      is-dir-new (c .before .before .before .before .before),
-      is-legal-new (c .before .before .before .before .before .before .before .before .before),
-      omega (arith, found-here _ _ (p .0) (p .1) _ _ _ (is-dir (c .before .before .before .before .before .before .before)) (is-legal (c .before .before .before .before .before .before .before .before .before .before .before)) (is-at (c .before)) .low, e),
-      omega (arith, found-here _ _ (p .0) (p .1) _ _ _ (is-dir (c .before .before .before .before .before .before .before)) (is-legal (c .before .before .before .before .before .before .before .before .before .before .before)) (is-at (c .before)) .high, e),
-    )
+rename-within-requires : tie.Need-rename-within-requires
+rename-within-requires c κs =
+    let p = c .before .before .before .before .before .before .before .before .before .before .before .before .before .before .before .before .before .pre in
+    (kind-dir _ _ (p .0) (p .1) _ _ (is-dir-new (c .before .before .before .before .before .before)), legal-bounds _ (is-legal-new (c .before .before .before .before .before .before .before .before .before .before)) .1)
 
 returns-6 : tie.Need-returns-6
-returns-6 c = rename-there _ _ _ _ _ _ _ (is-legal (c .before .before .before .before .before .before .before .before .before .before .before .before)) (is-legal-new (c .before .before .before .before .before .before .before .before .before .before)) (is-dir (c .before .before .before .before .before .before .before .before)) (is-dir-new (c .before .before .before .before .before .before)) _ _ _ (is-at (c .before .before)) (c .before .slot-inode .ensures) (c .rename-to .ensures)
+returns-6 c =
+    rename-here _ _ _ _ _ _ _ (is-legal (c .before .before .before .before .before .before .before .before .before .before .before .before .before)) (is-legal-new (c .before .before .before .before .before .before .before .before .before .before .before)) (is-dir (c .before .before .before .before .before .before .before .before .before)) (is-dir-new (c .before .before .before .before .before .before .before)) _ _ _
+    (is-at (c .before .before .before)) (c .before .before .slot-inode .ensures) (c .before .if5 .taken) (c .rename-within .ensures)
+
+move-to-requires : tie.Need-move-to-requires
+move-to-requires c κs =
+    let p = c .before .before .before .before .before .before .before .before .before .before .before .before .before .before .before .before .before .pre in
+    let a = c .before .before .before .before .before .before .before .before .before .before .before .before .before .before .before .before .before .args in
+    let f = found-here _ _ (p .0) (p .1) _ _ _ (is-dir (c .before .before .before .before .before .before .before .before)) (is-legal (c .before .before .before .before .before .before .before .before .before .before .before .before)) (is-at (c .before .before)) in
+    let e : c .before .slot-inode .result ≡ inodeAt (now (a .s)) (a .n) (a .d) (c .before .before .before .t .given .0 .0) = c .before .slot-inode .ensures in
+    (p .0, p .1, p .2, is-dir-new (c .before .before .before .before .before .before), legal-bounds _ (is-legal-new (c .before .before .before .before .before .before .before .before .before .before)) .1, omega (arith, f .low, e), omega (arith, f .high, e))
+
+returns-7 : tie.Need-returns-7
+returns-7 c =
+    rename-away _ _ _ _ _ _ _ (is-legal (c .before .before .before .before .before .before .before .before .before .before .before .before .before)) (is-legal-new (c .before .before .before .before .before .before .before .before .before .before .before)) (is-dir (c .before .before .before .before .before .before .before .before .before)) (is-dir-new (c .before .before .before .before .before .before .before)) _ _ _
+    (is-at (c .before .before .before)) (c .before .before .slot-inode .ensures) (c .before .if5 .left) (c .move-to .ensures)
 
 pub rename-plan-spec : {M : Type 1} → statement M
 rename-plan-spec =
@@ -108,5 +116,7 @@ rename-plan-spec =
     returns-5
     slot-inode-requires
     cast-i
-    rename-to-requires
-    returns-6)
+    rename-within-requires
+    returns-6
+    move-to-requires
+    returns-7)
