@@ -44,6 +44,7 @@ use Rattle.files.specs.Inode.{isFile, isDirectory}
 use Rattle.files.specs.Plan.{inodeAt, holdsNone, isBelow, lookUpPlan, readPlan, createPlan, writePlan, shortenPlan, linkPlan, unlinkPlan, renameTo, renamePlan}
 use Rattle.files.specs.Plain.{Call, lookUp, read, create, write, shorten, link, unlink, rename, plainLookUp, plainRead, plainCreate, plainWrite, plainShorten, plainLink, plainUnlink, plainRename, plain}
 use Rattle.files.specs.Plain as files
+use Rattle.files.proofs.PlainLaws.{guarded-is}
 use Rattle.checkpoint.specs.Fit.{deskFramed, imageAllowed, isRunning, notesFit}
 use Rattle.checkpoint.specs.Busy.{isLocked, busyOne, busyTwo, busyMove}
 use Rattle.checkpoint.specs.Copier.{Step, lock, copy, close, finish, full, stepOf}
@@ -171,10 +172,12 @@ record Plainly (s : List ℕ) (o : files.Outcome) : Type 0 where
 low : (a : Answer) → refusalOf a ≤ 2 → Deskless a
 low a h = record { third = λ e. omega arith; fourteenth = λ e. omega arith; fifteenth = λ e. omega arith; sixteenth = λ e. omega arith }
 
-plain-guarded : (s out : List ℕ) (o : files.Outcome) → Ordinary o → Plainly s (files.guarded s out o)
-unfolding files.guarded
-plain-guarded s out o h = go (framedB mostStoreBlocks s) (isSound Store s) refl refl
+plain-guarded : (s out : List ℕ) (f : ℕ → ℕ → files.Outcome) → Ordinary (f (inodesIn s) (blocksIn s)) → Plainly s (files.guarded s out f)
+plain-guarded s out f h = rw (guarded-is s out f) (go (framedB mostStoreBlocks s) (isSound Store s) refl refl)
   where
+    o : files.Outcome
+    o = f (inodesIn s) (blocksIn s)
+
     go : (a b : Bool) → framedB mostStoreBlocks s ≡ a → isSound Store s ≡ b
         → Plainly s (pick (not a) (files.left (Refused BadBuffer) s out) (pick (not b) (files.left (Refused UnsoundStore) s out) o))
     go false b p q = record {
@@ -197,14 +200,14 @@ plain-guarded s out o h = go (framedB mostStoreBlocks s) (isSound Store s) refl 
 
 plainly : (c : Call) (s : List ℕ) → Plainly s (plain c s)
 unfolding plainLookUp plainRead plainCreate plainWrite plainShorten plainLink plainUnlink plainRename
-plainly (lookUp d name) s = plain-guarded s [] (files.doLookUp s [] (lookUpPlan s (inodesIn s) d name)) (look-up-ordinary s [] (inodesIn s) d name)
-plainly (read i o out) s = plain-guarded s out (files.doRead s (inodesIn s) i o out (readPlan s (inodesIn s) i o (length out))) (read-ordinary s (inodesIn s) i o out (length out))
-plainly (create d name k) s = plain-guarded s [] (files.doCreate s (inodesIn s) d name k (createPlan s (inodesIn s) (blocksIn s) d name)) (create-ordinary s (inodesIn s) (blocksIn s) d name k)
-plainly (write i o xs) s = plain-guarded s [] (files.doWrite s (inodesIn s) (blocksIn s) i o xs (writePlan s (inodesIn s) i o (length xs))) (write-ordinary s (inodesIn s) (blocksIn s) i o xs (length xs))
-plainly (shorten i z) s = plain-guarded s [] (files.doShorten s (inodesIn s) i (shortenPlan s (inodesIn s) i z)) (shorten-ordinary s (inodesIn s) i z)
-plainly (link d name i) s = plain-guarded s [] (files.doLink s (inodesIn s) d name i (linkPlan s (inodesIn s) (blocksIn s) d name i)) (link-ordinary s (inodesIn s) (blocksIn s) d name i)
-plainly (unlink d name) s = plain-guarded s [] (files.doUnlink s (inodesIn s) d (unlinkPlan s (inodesIn s) d name)) (unlink-ordinary s (inodesIn s) d name)
-plainly (rename d name e other) s = plain-guarded s [] (files.doRename s (inodesIn s) d e other (renamePlan s (inodesIn s) (blocksIn s) d name e other)) (rename-ordinary s (inodesIn s) (blocksIn s) d name e other)
+plainly (lookUp d name) s = plain-guarded s [] _ (look-up-ordinary s [] (inodesIn s) d name)
+plainly (read i o out) s = plain-guarded s out _ (read-ordinary s (inodesIn s) i o out (length out))
+plainly (create d name k) s = plain-guarded s [] _ (create-ordinary s (inodesIn s) (blocksIn s) d name k)
+plainly (write i o xs) s = plain-guarded s [] _ (write-ordinary s (inodesIn s) (blocksIn s) i o xs (length xs))
+plainly (shorten i z) s = plain-guarded s [] _ (shorten-ordinary s (inodesIn s) i z)
+plainly (link d name i) s = plain-guarded s [] _ (link-ordinary s (inodesIn s) (blocksIn s) d name i)
+plainly (unlink d name) s = plain-guarded s [] _ (unlink-ordinary s (inodesIn s) d name)
+plainly (rename d name e other) s = plain-guarded s [] _ (rename-ordinary s (inodesIn s) (blocksIn s) d name e other)
 
 -- the plain store answers neither 3 nor 14 to 16
 pub plain-never : (c : Call) (s : List ℕ) → Deskless (plain c s .answer)
@@ -222,11 +225,16 @@ between-unless : (w : World) (b : Bool) (o : Outcome) (p : files.Outcome) → (b
 between-unless w true o p r x y = busy (r refl) refl
 between-unless w false o p r x y = same x y
 
-between-guarded : (w : World) (out : List ℕ) (o : Outcome) (p : files.Outcome) → Between w o p
-    → Between w (guarded (w .store) (w .image) (w .desk) o) (files.guarded (w .store) out p)
-unfolding guarded files.guarded
-between-guarded w out o p h = go (framedB mostStoreBlocks (w .store)) (deskFramed (w .desk)) (isSound Store (w .store)) (notesFit (w .store) (w .image) (w .desk)) refl refl refl refl
+between-guarded : (w : World) (out : List ℕ) (o : Outcome) (f : ℕ → ℕ → files.Outcome) → Between w o (f (inodesIn (w .store)) (blocksIn (w .store)))
+    → Between w (guarded (w .store) (w .image) (w .desk) o) (files.guarded (w .store) out f)
+unfolding guarded
+between-guarded w out o f h =
+    rw (guarded-is (w .store) out f)
+    (go (framedB mostStoreBlocks (w .store)) (deskFramed (w .desk)) (isSound Store (w .store)) (notesFit (w .store) (w .image) (w .desk)) refl refl refl refl)
   where
+    p : files.Outcome
+    p = f (inodesIn (w .store)) (blocksIn (w .store))
+
     go : (a b c d : Bool) → framedB mostStoreBlocks (w .store) ≡ a → deskFramed (w .desk) ≡ b → isSound Store (w .store) ≡ c → notesFit (w .store) (w .image) (w .desk) ≡ d
         → Between w
         (pick (not (a && b)) (refuse BadBuffer (w .store) (w .image) (w .desk)) (pick (not c) (refuse UnsoundStore (w .store) (w .image) (w .desk)) (pick (not d) (refuse BadDesk (w .store) (w .image) (w .desk)) o)))
@@ -330,9 +338,8 @@ as-plain c w h = elim (between c w) [
 ]
 
 -- a plain call that is no read has no out-buffer
-none-guarded : (s : List ℕ) (o : files.Outcome) → o .out ≡ [] → files.guarded s [] o .out ≡ []
-unfolding files.guarded
-none-guarded s o h = by-pick P (not (framedB mostStoreBlocks s)) refl (by-pick P (not (isSound Store s)) refl h)
+none-guarded : (s : List ℕ) (f : ℕ → ℕ → files.Outcome) → f (inodesIn s) (blocksIn s) .out ≡ [] → files.guarded s [] f .out ≡ []
+none-guarded s f h = rw (guarded-is s [] f) (by-pick P (not (framedB mostStoreBlocks s)) refl (by-pick P (not (isSound Store s)) refl h))
   where
     P : files.Outcome → Type 0
     P x = x .out ≡ []

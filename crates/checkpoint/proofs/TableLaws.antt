@@ -47,7 +47,7 @@ use Rattle.files.specs.Inode.{isFile, isDirectory}
 use Rattle.files.specs.Room.{room, roomIn, onRoom}
 use Rattle.files.specs.Plan.{holdsNone, isBelow, lookUpPlan, readPlan, createPlan, writePlan, shortenPlan, linkPlan, unlinkPlan, renameTo, renamePlan}
 use Rattle.files.specs.Plain.{plainLookUp, plainRead, doLookUp, doRead, guarded as plainGuarded, Outcome as PlainOutcome}
-use Rattle.files.proofs.PlainLaws.{never}
+use Rattle.files.proofs.PlainLaws.{never, guarded-is}
 use Rattle.checkpoint.specs.Fit.{deskFramed, imageAllowed, isRunning, notesFit}
 use Rattle.checkpoint.specs.Busy.{busyOne, busyTwo, busyMove}
 use Rattle.checkpoint.specs.Notes.{isCopied}
@@ -108,11 +108,10 @@ by-guards s m d o q =
     (by-pick h (not (notesFit s m d)) _ _ refl q))
 
 -- 1 and 2 of a call on the store alone
-by-store : (s out : List ℕ) (o : PlainOutcome) {rs : List Row} {a : Answer} → Gives (o .answer) rs a → Gives (plainGuarded s out o .answer) (storeRows s rs) a
-unfolding plainGuarded
-by-store s out o q =
+by-store : (s out : List ℕ) (f : ℕ → ℕ → PlainOutcome) {rs : List Row} {a : Answer} → Gives (f (inodesIn s) (blocksIn s) .answer) rs a → Gives (plainGuarded s out f .answer) (storeRows s rs) a
+by-store s out f q =
     let h : PlainOutcome → Answer = λ z. z .answer in
-    by-pick h (not (framedB mostStoreBlocks s)) _ _ refl (by-pick h (not (isSound Store s)) _ _ refl q)
+    rw (guarded-is s out f) (by-pick h (not (framedB mostStoreBlocks s)) _ _ refl (by-pick h (not (isSound Store s)) _ _ refl q))
 
 -- no condition is left
 by-none : {x : ℕ} → Gives (Done x) [] (Done x)

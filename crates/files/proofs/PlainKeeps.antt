@@ -24,6 +24,7 @@ use Rattle.files.specs.declared.SizePlan.{SizePlan}
 use Rattle.files.specs.declared.SizePlan.the-variants.{To, NoSize}
 use Rattle.files.specs.Plan.{lookUpPlan, readPlan, createPlan, writePlan, shortenPlan, linkPlan, unlinkPlan, renamePlan}
 use Rattle.files.specs.Plain.{Outcome, left, guarded, doLookUp, doRead, doCreate, doWrite, doShorten, doLink, doUnlink, doRename, plainLookUp, plainRead, plainCreate, plainWrite, plainShorten, plainLink, plainUnlink, plainRename, Call, lookUp, read, create, write, shorten, link, unlink, rename, plain}
+use Rattle.files.proofs.PlainLaws.{guarded-is}
 use Rattle.files.proofs.Kept.WriteLaws.{write-sound}
 use Rattle.files.proofs.Kept.ShortenLaws.{shorten-sound}
 use Rattle.files.proofs.Kept.PlanKeeps.{created-sound, linked-sound, unlinked-sound, renamed-sound, moved-sound}
@@ -75,11 +76,10 @@ module _ (s : List ℕ) (h : Sound mostStoreBlocks false s) where
   rename-leaves d name e other (NoRename w) q = h
 
   -- ---- behind the guards
-  guarded-leaves : (out : List ℕ) (o : Outcome) → Leaves o → Leaves (guarded s out o)
-  unfolding guarded
-  guarded-leaves out o g = go (framedB mostStoreBlocks s) (isSound Store s)
+  guarded-leaves : (out : List ℕ) (f : ℕ → ℕ → Outcome) → Leaves (f n b) → Leaves (guarded s out f)
+  guarded-leaves out f g = rw (guarded-is s out f) (go (framedB mostStoreBlocks s) (isSound Store s))
     where
-      go : (x y : Bool) → Leaves (pick (not x) (left (Refused BadBuffer) s out) (pick (not y) (left (Refused UnsoundStore) s out) o))
+      go : (x y : Bool) → Leaves (pick (not x) (left (Refused BadBuffer) s out) (pick (not y) (left (Refused UnsoundStore) s out) (f n b)))
       go true true = g
       go true false = h
       go false y = h

@@ -1,6 +1,6 @@
 -- "a refused call changes nothing": what a refused call of the plain store leaves.
 use Prim.Native.Nat.{ℕ}
-use mathlib.Core.Path.{_≡_, ap}
+use mathlib.Core.Path.{_≡_, refl, ap}
 use mathlib.Core.Bool.{Bool, true, false, not}
 use mathlib.Core.List.{List, []}
 use native.Mathlib.Omega.{arith}
@@ -24,6 +24,8 @@ use Rattle.files.specs.declared.LinkPlan.the-variants.{Add, NoLink}
 use Rattle.files.specs.declared.UnlinkPlan.the-variants.{Take, NoUnlink}
 use Rattle.files.specs.declared.RenamePlan.the-variants.{Same, Rename, Move, NoRename}
 use Rattle.files.specs.declared.SizePlan.the-variants.{To, NoSize}
+use Rattle.files.specs.declared.Guard.the-variants.{Pass, Stop}
+use Rattle.files.specs.Guard.{guardOf, onGuard}
 use Rattle.files.specs.Plan.{lookUpPlan, readPlan, createPlan, writePlan, shortenPlan, linkPlan, unlinkPlan, renamePlan}
 use Rattle.files.specs.Plain.{Outcome, left, guarded, doLookUp, doRead, doCreate, doWrite, doShorten, doLink, doUnlink, doRename, plainLookUp, plainRead, plainCreate, plainWrite, plainShorten, plainLink, plainUnlink, plainRename, Call, lookUp, read, create, write, shorten, link, unlink, rename, plain}
 
@@ -46,10 +48,22 @@ module _ (s out : List ℕ) where
   keeps-pick true o p f g = f
   keeps-pick false o p f g = g
 
-  pub keeps-guarded : (o : Outcome) → Keeps s out o → Keeps s out (guarded s out o)
-  unfolding guarded
-  keeps-guarded o f =
-      keeps-pick (not (framedB mostStoreBlocks s)) _ _ (keeps-refused BadBuffer) (keeps-pick (not (isSound Store s)) _ _ (keeps-refused UnsoundStore) f)
+  -- the guards as a chain of tests
+  pub guarded-is : (f : ℕ → ℕ → Outcome)
+      → guarded s out f ≡ pick (not (framedB mostStoreBlocks s)) (left (Refused BadBuffer) s out) (pick (not (isSound Store s)) (left (Refused UnsoundStore) s out) (f (inodesIn s) (blocksIn s)))
+  unfolding guarded guardOf
+  guarded-is f = go (framedB mostStoreBlocks s) (isSound Store s)
+    where
+      go : (x y : Bool) → onGuard (pick (not x) (Stop BadBuffer) (pick (not y) (Stop UnsoundStore) (Pass (inodesIn s) (blocksIn s)))) f (λ e. left (Refused e) s out)
+          ≡ pick (not x) (left (Refused BadBuffer) s out) (pick (not y) (left (Refused UnsoundStore) s out) (f (inodesIn s) (blocksIn s)))
+      go true true = refl
+      go true false = refl
+      go false y = refl
+
+  pub keeps-guarded : (f : ℕ → ℕ → Outcome) → Keeps s out (f (inodesIn s) (blocksIn s)) → Keeps s out (guarded s out f)
+  keeps-guarded f k =
+      rw (guarded-is f)
+      (keeps-pick (not (framedB mostStoreBlocks s)) _ _ (keeps-refused BadBuffer) (keeps-pick (not (isSound Store s)) _ _ (keeps-refused UnsoundStore) k))
 
 -- ---- what each plan leaves
 module _ (s : List ℕ) where

@@ -1,14 +1,8 @@
 -- The plain store of demand 3: bytes alone, "with no copy running and no desk to look at; a refused call changes nothing".
 use Prim.Native.Nat.{ℕ}
-use mathlib.Core.Bool.{not}
 use mathlib.Core.List.{List, []}
 use lib.ListN.{length}
-use Rattle.bounded.specs.Search.{pick}
 use Rattle.octets.specs.Octets.{splice}
-use Rattle.layout.specs.Sizes.{mostStoreBlocks}
-use Rattle.sound.specs.Sound.{framedB, isSound, inodesIn, blocksIn}
-use Rattle.sound.specs.declared.Form.the-variants.{Store}
-use Rattle.answers.specs.declared.Refusal.the-variants.{BadBuffer, UnsoundStore}
 use Rattle.answers.specs.declared.Answer.{Answer}
 use Rattle.answers.specs.Told.{Told, told}
 use Rattle.answers.specs.declared.Answer.the-variants.{Done, Refused}
@@ -24,6 +18,7 @@ use Rattle.files.specs.declared.UnlinkPlan.the-variants.{Take, NoUnlink}
 use Rattle.files.specs.declared.RenamePlan.the-variants.{Same, Rename, Move, NoRename}
 use Rattle.files.specs.declared.SizePlan.the-variants.{To, NoSize}
 use Rattle.files.specs.Content.{fileBytes}
+use Rattle.files.specs.Guard.{guardOf, onGuard}
 use Rattle.files.specs.Plan.{lookUpPlan, readPlan, createPlan, writePlan, shortenPlan, linkPlan, unlinkPlan, renamePlan}
 use Rattle.files.specs.Apply.{created, written, shortened, linked, unlinked, renamed, moved}
 
@@ -46,11 +41,8 @@ abbrev pub shown : Outcome → Shown
 shown o = record { answer = told (o .answer); store = o .store; out = o .out }
 
 -- refusals 1 and 2 come before all others
-unfoldable pub guarded : List ℕ → List ℕ → Outcome → Outcome
-guarded s out o =
-    pick (not (framedB mostStoreBlocks s)) (left (Refused BadBuffer) s out)
-    (pick (not (isSound Store s)) (left (Refused UnsoundStore) s out)
-    o)
+unfoldable pub guarded : List ℕ → List ℕ → (ℕ → ℕ → Outcome) → Outcome
+guarded s out call = onGuard (guardOf s) call (λ e. left (Refused e) s out)
 
 -- ---- what a plan does: to the store s, with the out-buffer out
 abbrev pub doLookUp : List ℕ → List ℕ → SizePlan → Outcome
@@ -88,30 +80,30 @@ doRename s n d e other (Rename t i) = left (Done 0) (renamed s n d other t i) []
 doRename s n d e other (Move t i r) = left (Done 0) (moved s n d e other t i r) []
 doRename s n d e other (NoRename f) = left (Refused f) s []
 
--- ---- the calls, on a store s: n and b are the counts that its header tells
+-- ---- the calls, on a store s of n inodes and b blocks
 unfoldable pub plainLookUp : List ℕ → ℕ → List ℕ → Outcome
-plainLookUp s d name = guarded s [] (doLookUp s [] (lookUpPlan s (inodesIn s) d name))
+plainLookUp s d name = guarded s [] (λ n b. doLookUp s [] (lookUpPlan s n d name))
 
 unfoldable pub plainRead : List ℕ → ℕ → ℕ → List ℕ → Outcome
-plainRead s i o out = guarded s out (doRead s (inodesIn s) i o out (readPlan s (inodesIn s) i o (length out)))
+plainRead s i o out = guarded s out (λ n b. doRead s n i o out (readPlan s n i o (length out)))
 
 unfoldable pub plainCreate : List ℕ → ℕ → List ℕ → Kind → Outcome
-plainCreate s d name k = guarded s [] (doCreate s (inodesIn s) d name k (createPlan s (inodesIn s) (blocksIn s) d name))
+plainCreate s d name k = guarded s [] (λ n b. doCreate s n d name k (createPlan s n b d name))
 
 unfoldable pub plainWrite : List ℕ → ℕ → ℕ → List ℕ → Outcome
-plainWrite s i o xs = guarded s [] (doWrite s (inodesIn s) (blocksIn s) i o xs (writePlan s (inodesIn s) i o (length xs)))
+plainWrite s i o xs = guarded s [] (λ n b. doWrite s n b i o xs (writePlan s n i o (length xs)))
 
 unfoldable pub plainShorten : List ℕ → ℕ → ℕ → Outcome
-plainShorten s i z = guarded s [] (doShorten s (inodesIn s) i (shortenPlan s (inodesIn s) i z))
+plainShorten s i z = guarded s [] (λ n b. doShorten s n i (shortenPlan s n i z))
 
 unfoldable pub plainLink : List ℕ → ℕ → List ℕ → ℕ → Outcome
-plainLink s d name i = guarded s [] (doLink s (inodesIn s) d name i (linkPlan s (inodesIn s) (blocksIn s) d name i))
+plainLink s d name i = guarded s [] (λ n b. doLink s n d name i (linkPlan s n b d name i))
 
 unfoldable pub plainUnlink : List ℕ → ℕ → List ℕ → Outcome
-plainUnlink s d name = guarded s [] (doUnlink s (inodesIn s) d (unlinkPlan s (inodesIn s) d name))
+plainUnlink s d name = guarded s [] (λ n b. doUnlink s n d (unlinkPlan s n d name))
 
 unfoldable pub plainRename : List ℕ → ℕ → List ℕ → ℕ → List ℕ → Outcome
-plainRename s d name e other = guarded s [] (doRename s (inodesIn s) d e other (renamePlan s (inodesIn s) (blocksIn s) d name e other))
+plainRename s d name e other = guarded s [] (λ n b. doRename s n d e other (renamePlan s n b d name e other))
 
 -- a file call with its arguments; a read has its out-buffer as it comes in
 pub data Call : Type 0 where

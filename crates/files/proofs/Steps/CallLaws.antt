@@ -41,11 +41,10 @@ pub record Passed (s : List ℕ) (n b : ℕ) : Type 0 where
   pub sound : Sound mostStoreBlocks false s
   pub inodes : n ≡ inodesIn s
   pub blocks : b ≡ blocksIn s
-  pub calls : (out : List ℕ) (o : Outcome) → guarded s out o ≡ o
 
 module _ (s : List ℕ) where
   pub passed : (n b : ℕ) → guardOf s ≡ Pass n b → Passed s n b
-  unfolding guardOf guarded
+  unfolding guardOf
   passed n b e =
       let z = Pass n b in
       let a = pick-not (framedB mostStoreBlocks s) (Stop _) _ z e (no-pass _ n b) in
@@ -54,25 +53,14 @@ module _ (s : List ℕ) where
         sound = is-sound Store s .to (c .0);
         inodes = cc (c .1);
         blocks = cc (c .1);
-        calls = λ out o. rw (a .0, c .0) refl;
       }
 
-  pub stopped : (w : Refusal) (out : List ℕ) (o : Outcome) → guardOf s ≡ Stop w → left (Refused w) s out ≡ guarded s out o
-  unfolding guardOf guarded
-  stopped w out o = go (framedB mostStoreBlocks s) (isSound Store s)
-    where
-      go : (x y : Bool) → pick (not x) (Stop BadBuffer) (pick (not y) (Stop UnsoundStore) (Pass (inodesIn s) (blocksIn s))) ≡ Stop w
-          → left (Refused w) s out ≡ pick (not x) (left (Refused BadBuffer) s out) (pick (not y) (left (Refused UnsoundStore) s out) o)
-      go true true e = absurd (no-pass w (inodesIn s) (blocksIn s) (sym e))
-      go true false e = let q : w ≡ UnsoundStore = cc in ap (λ (v : Refusal). left (Refused v) s out) q
-      go false y e = let q : w ≡ BadBuffer = cc in ap (λ (v : Refusal). left (Refused v) s out) q
-
 -- ---- a call returns: g is what the guard has answered, f the call by the store's counts, x what it leaves
-module _ (s out : List ℕ) (g : Guard) (e : g ≡ guardOf s) where
-  pub call-through : (n b : ℕ) (f : ℕ → ℕ → Outcome) (x : Outcome) → g ≡ Pass n b → x ≡ f n b → shown x ≡ shown (guarded s out (f (inodesIn s) (blocksIn s)))
-  call-through n b f x h q =
-      let p = passed s n b (sym e ∙ h) in
-      ap shown (q ∙ ap₂ f (p .inodes) (p .blocks) ∙ sym (p .calls out (f (inodesIn s) (blocksIn s))))
+module _ (s out : List ℕ) (g : Guard) (e : g ≡ guardOf s) (f : ℕ → ℕ → Outcome) where
+  pub call-through : (n b : ℕ) (x : Outcome) → g ≡ Pass n b → x ≡ f n b → shown x ≡ shown (guarded s out f)
+  unfolding guarded
+  call-through n b x h q = let p = sym e ∙ h in rw p (ap shown q)
 
-  pub call-stopped : (w : Refusal) (o : Outcome) → g ≡ Stop w → shown (left (Refused w) s out) ≡ shown (guarded s out o)
-  call-stopped w o h = ap shown (stopped s w out o (sym e ∙ h))
+  pub call-stopped : (w : Refusal) → g ≡ Stop w → shown (left (Refused w) s out) ≡ shown (guarded s out f)
+  unfolding guarded
+  call-stopped w h = let p = sym e ∙ h in rw p refl

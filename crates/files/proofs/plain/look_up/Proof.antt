@@ -23,7 +23,7 @@ enum-known-why c = search needs
 
 returns : tie.Need-returns
 unfolding plainLookUp
-returns c = let a = c .before .before .before .before .before .before .before .args in call-through _ _ _ (c .before .before .before .before .guard .ensures) _ _ (λ (n b : ℕ). doLookUp (now (a .store)) [] (lookUpPlan (now (a .store)) n (a .dir) (now (a .name)))) _ (c .before .before .n .given .1) (c .looked-up .ensures)
+returns c = let a = c .before .before .before .before .before .before .before .args in call-through _ _ _ (c .before .before .before .before .guard .ensures) (λ (n b : ℕ). doLookUp (now (a .store)) [] (lookUpPlan (now (a .store)) n (a .dir) (now (a .name)))) _ _ _ (c .before .before .n .given .1) (c .looked-up .ensures)
 
 returns-2 : tie.Need-returns-2
 unfolding plainLookUp

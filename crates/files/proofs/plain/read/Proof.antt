@@ -26,7 +26,7 @@ same-length c = search needs
 
 returns : tie.Need-returns
 unfolding plainRead
-returns c = let a = c .before .before .before .before .before .before .before .before .before .before .args in call-through _ _ _ (c .before .before .before .before .before .before .before .guard .ensures) _ _ (λ (n b : ℕ). doRead (now (a .store)) n (a .inode) (a .offset) (now (a .out)) (readPlan (now (a .store)) n (a .inode) (a .offset) (length (now (a .out))))) _ (c .before .before .before .before .before .n .given .1) (c .before .before .read-out .ensures)
+returns c = let a = c .before .before .before .before .before .before .before .before .before .before .args in call-through _ _ _ (c .before .before .before .before .before .before .before .guard .ensures) (λ (n b : ℕ). doRead (now (a .store)) n (a .inode) (a .offset) (now (a .out)) (readPlan (now (a .store)) n (a .inode) (a .offset) (length (now (a .out))))) _ _ _ (c .before .before .before .before .before .n .given .1) (c .before .before .read-out .ensures)
 
 returns-2 : tie.Need-returns-2
 unfolding plainRead

@@ -25,7 +25,7 @@ same-length c = search needs
 
 returns : tie.Need-returns
 unfolding plainRename
-returns c = let a = c .before .before .before .before .before .before .before .before .before .before .before .before .args in call-through _ _ _ (c .before .before .before .before .before .before .before .guard .ensures) _ _ (λ (n b : ℕ). doRename (now (a .store)) n (a .dir) (a .to-dir) (now (a .to-name)) (renamePlan (now (a .store)) n b (a .dir) (now (a .name)) (a .to-dir) (now (a .to-name)))) _ (c .before .before .before .before .before .n .given .1) (c .before .before .renamed .ensures)
+returns c = let a = c .before .before .before .before .before .before .before .before .before .before .before .before .args in call-through _ _ _ (c .before .before .before .before .before .before .before .guard .ensures) (λ (n b : ℕ). doRename (now (a .store)) n (a .dir) (a .to-dir) (now (a .to-name)) (renamePlan (now (a .store)) n b (a .dir) (now (a .name)) (a .to-dir) (now (a .to-name)))) _ _ _ (c .before .before .before .before .before .n .given .1) (c .before .before .renamed .ensures)
 
 same-length-2 : tie.Need-same-length-2
 same-length-2 c = search needs

@@ -25,7 +25,7 @@ same-length c = search needs
 
 returns : tie.Need-returns
 unfolding plainShorten
-returns c = let a = c .before .before .before .before .before .before .before .before .before .before .args in call-through _ _ _ (c .before .before .before .before .before .before .before .guard .ensures) _ _ (λ (n b : ℕ). doShorten (now (a .store)) n (a .inode) (shortenPlan (now (a .store)) n (a .inode) (a .length))) _ (c .before .before .before .before .before .n .given .1) (c .before .before .shortened .ensures)
+returns c = let a = c .before .before .before .before .before .before .before .before .before .before .args in call-through _ _ _ (c .before .before .before .before .before .before .before .guard .ensures) (λ (n b : ℕ). doShorten (now (a .store)) n (a .inode) (shortenPlan (now (a .store)) n (a .inode) (a .length))) _ _ _ (c .before .before .before .before .before .n .given .1) (c .before .before .shortened .ensures)
 
 same-length-2 : tie.Need-same-length-2
 same-length-2 c = search needs

@@ -26,7 +26,7 @@ same-length c = search needs
 
 returns : tie.Need-returns
 unfolding plainWrite
-returns c = let a = c .before .before .before .before .before .before .before .before .before .before .before .args in call-through _ _ _ (c .before .before .before .before .before .before .before .guard .ensures) _ _ (λ (n b : ℕ). doWrite (now (a .store)) n b (a .inode) (a .offset) (now (a .bytes)) (writePlan (now (a .store)) n (a .inode) (a .offset) (length (now (a .bytes))))) _ (c .before .before .before .before .before .n .given .1) (c .before .before .wrote .ensures)
+returns c = let a = c .before .before .before .before .before .before .before .before .before .before .before .args in call-through _ _ _ (c .before .before .before .before .before .before .before .guard .ensures) (λ (n b : ℕ). doWrite (now (a .store)) n b (a .inode) (a .offset) (now (a .bytes)) (writePlan (now (a .store)) n (a .inode) (a .offset) (length (now (a .bytes))))) _ _ _ (c .before .before .before .before .before .n .given .1) (c .before .before .wrote .ensures)
 
 same-length-2 : tie.Need-same-length-2
 same-length-2 c = search needs
