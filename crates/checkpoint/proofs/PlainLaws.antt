@@ -33,12 +33,12 @@ use Rattle.files.specs.declared.CreatePlan.{CreatePlan}
 use Rattle.files.specs.declared.LinkPlan.{LinkPlan}
 use Rattle.files.specs.declared.UnlinkPlan.{UnlinkPlan}
 use Rattle.files.specs.declared.RenamePlan.{RenamePlan}
-use Rattle.files.specs.declared.SizePlan.{SizePlan}
+use Rattle.files.specs.declared.NumberPlan.{NumberPlan}
 use Rattle.files.specs.declared.CreatePlan.the-variants.{Make, NoCreate}
 use Rattle.files.specs.declared.LinkPlan.the-variants.{Add, NoLink}
 use Rattle.files.specs.declared.UnlinkPlan.the-variants.{Take, NoUnlink}
 use Rattle.files.specs.declared.RenamePlan.the-variants.{Same, Rename, Move, NoRename}
-use Rattle.files.specs.declared.SizePlan.the-variants.{To, NoSize}
+use Rattle.files.specs.declared.NumberPlan.the-variants.{To, NoNumber}
 use Rattle.files.specs.Room.{roomIn, onRoom}
 use Rattle.files.specs.Inode.{isFile, isDirectory}
 use Rattle.files.specs.Plan.{inodeAt, holdsNone, isBelow, lookUpPlan, readPlan, createPlan, writePlan, shortenPlan, linkPlan, unlinkPlan, renameTo, renamePlan}
@@ -81,7 +81,7 @@ Ordinary o = ordinary (refusalOf (o .answer)) ≡ true
 look-up-ordinary : (s out : List ℕ) (n d : ℕ) (name : List ℕ) → Ordinary (files.doLookUp s out (lookUpPlan s n d name))
 unfolding lookUpPlan
 look-up-ordinary s out n d name =
-    let P : SizePlan → Type 0 = λ x. Ordinary (files.doLookUp s out x) in
+    let P : NumberPlan → Type 0 = λ x. Ordinary (files.doLookUp s out x) in
     by-pick P (not (legalName name)) refl
     (by-pick P (not (isDirectory s n d)) refl
     (by-found P (findSlot s n d name) (λ t. refl) refl))
@@ -89,7 +89,7 @@ look-up-ordinary s out n d name =
 read-ordinary : (s : List ℕ) (n i o : ℕ) (out : List ℕ) (k : ℕ) → Ordinary (files.doRead s n i o out (readPlan s n i o k))
 unfolding readPlan
 read-ordinary s n i o out k =
-    let P : SizePlan → Type 0 = λ x. Ordinary (files.doRead s n i o out x) in
+    let P : NumberPlan → Type 0 = λ x. Ordinary (files.doRead s n i o out x) in
     by-pick P (not (isFile s n i)) refl (by-pick P (ltb (sizeOf s i) o) refl refl)
 
 create-ordinary : (s : List ℕ) (n b d : ℕ) (name : List ℕ) (k : Kind) → Ordinary (files.doCreate s n d name k (createPlan s n b d name))
@@ -105,7 +105,7 @@ create-ordinary s n b d name k =
 write-ordinary : (s : List ℕ) (n b i o : ℕ) (xs : List ℕ) (k : ℕ) → Ordinary (files.doWrite s n b i o xs (writePlan s n i o k))
 unfolding writePlan
 write-ordinary s n b i o xs k =
-    let P : SizePlan → Type 0 = λ x. Ordinary (files.doWrite s n b i o xs x) in
+    let P : NumberPlan → Type 0 = λ x. Ordinary (files.doWrite s n b i o xs x) in
     by-pick P (not (isFile s n i)) refl
     (by-pick P (ltb (sizeOf s i) o || ltb mostFileBytes (o + k)) refl
     (by-pick P (ltb (headerOf s .«free_blocks») (blocksUsed (max (sizeOf s i) (o + k)) - blocksUsed (sizeOf s i))) refl
@@ -114,7 +114,7 @@ write-ordinary s n b i o xs k =
 shorten-ordinary : (s : List ℕ) (n i z : ℕ) → Ordinary (files.doShorten s n i (shortenPlan s n i z))
 unfolding shortenPlan
 shorten-ordinary s n i z =
-    let P : SizePlan → Type 0 = λ x. Ordinary (files.doShorten s n i x) in
+    let P : NumberPlan → Type 0 = λ x. Ordinary (files.doShorten s n i x) in
     by-pick P (not (isFile s n i)) refl (by-pick P (ltb (sizeOf s i) z) refl refl)
 
 link-ordinary : (s : List ℕ) (n b d : ℕ) (name : List ℕ) (i : ℕ) → Ordinary (files.doLink s n d name i (linkPlan s n b d name i))
@@ -269,17 +269,17 @@ between-write : (w : World) (i o : ℕ) (xs : List ℕ) → Between w (liveWrite
 unfolding liveWrite plainWrite
 between-write w i o xs = between-guarded w [] _ _ (go (writePlan (w .store) (inodesIn (w .store)) i o (length xs)))
   where
-    go : (x : SizePlan) → Between w (doWrite (w .store) (w .image) (w .desk) (inodesIn (w .store)) (blocksIn (w .store)) i o xs x) (files.doWrite (w .store) (inodesIn (w .store)) (blocksIn (w .store)) i o xs x)
+    go : (x : NumberPlan) → Between w (doWrite (w .store) (w .image) (w .desk) (inodesIn (w .store)) (blocksIn (w .store)) i o xs x) (files.doWrite (w .store) (inodesIn (w .store)) (blocksIn (w .store)) i o xs x)
     go (To z) = between-unless w (busyOne (w .desk) i) _ _ (busy-one (w .desk) i) refl refl
-    go (NoSize f) = same refl refl
+    go (NoNumber f) = same refl refl
 
 between-shorten : (w : World) (i z : ℕ) → Between w (liveShorten (w .store) (w .image) (w .desk) i z) (plainShorten (w .store) i z)
 unfolding liveShorten plainShorten
 between-shorten w i z = between-guarded w [] _ _ (go (shortenPlan (w .store) (inodesIn (w .store)) i z))
   where
-    go : (x : SizePlan) → Between w (doShorten (w .store) (w .image) (w .desk) (inodesIn (w .store)) i x) (files.doShorten (w .store) (inodesIn (w .store)) i x)
+    go : (x : NumberPlan) → Between w (doShorten (w .store) (w .image) (w .desk) (inodesIn (w .store)) i x) (files.doShorten (w .store) (inodesIn (w .store)) i x)
     go (To y) = between-unless w (busyOne (w .desk) i) _ _ (busy-one (w .desk) i) refl refl
-    go (NoSize f) = same refl refl
+    go (NoNumber f) = same refl refl
 
 between-link : (w : World) (e : ℕ) (name : List ℕ) (i : ℕ) → Between w (liveLink (w .store) (w .image) (w .desk) e name i) (plainLink (w .store) e name i)
 unfolding liveLink plainLink
@@ -344,21 +344,21 @@ none-guarded s f h = rw (guarded-is s [] f) (by-pick P (not (framedB mostStoreBl
     P : files.Outcome → Type 0
     P x = x .out ≡ []
 
-none-look-up : (s : List ℕ) (x : SizePlan) → files.doLookUp s [] x .out ≡ []
+none-look-up : (s : List ℕ) (x : NumberPlan) → files.doLookUp s [] x .out ≡ []
 none-look-up s (To i) = refl
-none-look-up s (NoSize e) = refl
+none-look-up s (NoNumber e) = refl
 
 none-create : (s : List ℕ) (n d : ℕ) (name : List ℕ) (k : Kind) (x : CreatePlan) → files.doCreate s n d name k x .out ≡ []
 none-create s n d name k (Make i r) = refl
 none-create s n d name k (NoCreate e) = refl
 
-none-write : (s : List ℕ) (n b i o : ℕ) (xs : List ℕ) (x : SizePlan) → files.doWrite s n b i o xs x .out ≡ []
+none-write : (s : List ℕ) (n b i o : ℕ) (xs : List ℕ) (x : NumberPlan) → files.doWrite s n b i o xs x .out ≡ []
 none-write s n b i o xs (To z) = refl
-none-write s n b i o xs (NoSize e) = refl
+none-write s n b i o xs (NoNumber e) = refl
 
-none-shorten : (s : List ℕ) (n i : ℕ) (x : SizePlan) → files.doShorten s n i x .out ≡ []
+none-shorten : (s : List ℕ) (n i : ℕ) (x : NumberPlan) → files.doShorten s n i x .out ≡ []
 none-shorten s n i (To z) = refl
-none-shorten s n i (NoSize e) = refl
+none-shorten s n i (NoNumber e) = refl
 
 none-link : (s : List ℕ) (n d : ℕ) (name : List ℕ) (i : ℕ) (x : LinkPlan) → files.doLink s n d name i x .out ≡ []
 none-link s n d name i (Add r) = refl

@@ -37,12 +37,12 @@ use Rattle.files.specs.declared.CreatePlan.{CreatePlan}
 use Rattle.files.specs.declared.LinkPlan.{LinkPlan}
 use Rattle.files.specs.declared.UnlinkPlan.{UnlinkPlan}
 use Rattle.files.specs.declared.RenamePlan.{RenamePlan}
-use Rattle.files.specs.declared.SizePlan.{SizePlan}
+use Rattle.files.specs.declared.NumberPlan.{NumberPlan}
 use Rattle.files.specs.declared.CreatePlan.the-variants.{Make, NoCreate}
 use Rattle.files.specs.declared.LinkPlan.the-variants.{Add, NoLink}
 use Rattle.files.specs.declared.UnlinkPlan.the-variants.{Take, NoUnlink}
 use Rattle.files.specs.declared.RenamePlan.the-variants.{Same, Rename, Move, NoRename}
-use Rattle.files.specs.declared.SizePlan.the-variants.{To, NoSize}
+use Rattle.files.specs.declared.NumberPlan.the-variants.{To, NoNumber}
 use Rattle.files.specs.Inode.{isFile, isDirectory}
 use Rattle.files.specs.Room.{room, roomIn, onRoom}
 use Rattle.files.specs.Plan.{holdsNone, isBelow, lookUpPlan, readPlan, createPlan, writePlan, shortenPlan, linkPlan, unlinkPlan, renameTo, renamePlan}
@@ -125,7 +125,7 @@ module _ (s : List ℕ) where
   pub look-up-table : (e : ℕ) (name : List ℕ) → plainLookUp s e name .answer ≡ firstOf (lookUpTable s e name) (Done (inodeFor s e name))
   unfolding plainLookUp lookUpPlan lookUpTable
   look-up-table e name =
-      let h : SizePlan → Answer = λ p. doLookUp s [] p .answer in
+      let h : NumberPlan → Answer = λ p. doLookUp s [] p .answer in
       give _ (lookUpTable s e name) _
       (by-store s [] _
       (by-pick h (not (legalName name)) _ _ refl
@@ -135,7 +135,7 @@ module _ (s : List ℕ) where
   pub read-table : (i o : ℕ) (out : List ℕ) → plainRead s i o out .answer ≡ firstOf (readTable s i o) (Done (min (length out) (sizeOf s i - o)))
   unfolding plainRead readPlan readTable
   read-table i o out =
-      let h : SizePlan → Answer = λ p. doRead s (inodesIn s) i o out p .answer in
+      let h : NumberPlan → Answer = λ p. doRead s (inodesIn s) i o out p .answer in
       give _ (readTable s i o) _
       (by-store s out _
       (by-pick h (not (isFile s (inodesIn s) i)) _ _ refl
@@ -203,7 +203,7 @@ module _ (s m d : List ℕ) where
   pub write-table : (i o : ℕ) (xs : List ℕ) → liveWrite s m d i o xs .answer ≡ firstOf (writeTable s m d i o xs) (Done (max (sizeOf s i) (o + length xs)))
   unfolding liveWrite writePlan writeTable
   write-table i o xs =
-      let h : SizePlan → Answer = λ p. doWrite s m d (inodesIn s) (blocksIn s) i o xs p .answer in
+      let h : NumberPlan → Answer = λ p. doWrite s m d (inodesIn s) (blocksIn s) i o xs p .answer in
       give _ (writeTable s m d i o xs) _
       (by-guards s m d _
       (by-pick h (not (isFile s (inodesIn s) i)) _ _ refl
@@ -214,7 +214,7 @@ module _ (s m d : List ℕ) where
   pub shorten-table : (i z : ℕ) → liveShorten s m d i z .answer ≡ firstOf (shortenTable s m d i z) (Done z)
   unfolding liveShorten shortenPlan shortenTable
   shorten-table i z =
-      let h : SizePlan → Answer = λ p. doShorten s m d (inodesIn s) i p .answer in
+      let h : NumberPlan → Answer = λ p. doShorten s m d (inodesIn s) i p .answer in
       give _ (shortenTable s m d i z) _
       (by-guards s m d _
       (by-pick h (not (isFile s (inodesIn s) i)) _ _ refl
@@ -501,13 +501,13 @@ module _ (s m d : List ℕ) where
   keeps-create e name k (Make i r) = keeps-unless (busyOne d e) i _ _ _
   keeps-create e name k (NoCreate f) = keeps-refused f
 
-  keeps-write : (i o : ℕ) (xs : List ℕ) (p : SizePlan) → Keeps s m d (doWrite s m d (inodesIn s) (blocksIn s) i o xs p)
+  keeps-write : (i o : ℕ) (xs : List ℕ) (p : NumberPlan) → Keeps s m d (doWrite s m d (inodesIn s) (blocksIn s) i o xs p)
   keeps-write i o xs (To z) = keeps-unless (busyOne d i) z _ _ _
-  keeps-write i o xs (NoSize f) = keeps-refused f
+  keeps-write i o xs (NoNumber f) = keeps-refused f
 
-  keeps-shorten : (i : ℕ) (p : SizePlan) → Keeps s m d (doShorten s m d (inodesIn s) i p)
+  keeps-shorten : (i : ℕ) (p : NumberPlan) → Keeps s m d (doShorten s m d (inodesIn s) i p)
   keeps-shorten i (To z) = keeps-unless (busyOne d i) z _ _ _
-  keeps-shorten i (NoSize f) = keeps-refused f
+  keeps-shorten i (NoNumber f) = keeps-refused f
 
   keeps-link : (e : ℕ) (name : List ℕ) (i : ℕ) (p : LinkPlan) → Keeps s m d (doLink s m d (inodesIn s) e name i p)
   keeps-link e name i (Add r) = keeps-unless (busyTwo d e i) 0 _ _ _

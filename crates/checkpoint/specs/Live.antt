@@ -17,12 +17,12 @@ use Rattle.files.specs.declared.CreatePlan.{CreatePlan}
 use Rattle.files.specs.declared.LinkPlan.{LinkPlan}
 use Rattle.files.specs.declared.UnlinkPlan.{UnlinkPlan}
 use Rattle.files.specs.declared.RenamePlan.{RenamePlan}
-use Rattle.files.specs.declared.SizePlan.{SizePlan}
+use Rattle.files.specs.declared.NumberPlan.{NumberPlan}
 use Rattle.files.specs.declared.CreatePlan.the-variants.{Make, NoCreate}
 use Rattle.files.specs.declared.LinkPlan.the-variants.{Add, NoLink}
 use Rattle.files.specs.declared.UnlinkPlan.the-variants.{Take, NoUnlink}
 use Rattle.files.specs.declared.RenamePlan.the-variants.{Same, Rename, Move, NoRename}
-use Rattle.files.specs.declared.SizePlan.the-variants.{To, NoSize}
+use Rattle.files.specs.declared.NumberPlan.the-variants.{To, NoNumber}
 use Rattle.files.specs.Plan.{createPlan, writePlan, shortenPlan, linkPlan, unlinkPlan, renamePlan}
 use Rattle.files.specs.Apply.{created, written, shortened, linked, unlinked, renamed, moved}
 use Rattle.checkpoint.specs.declared.Status.{Status}
@@ -63,13 +63,13 @@ abbrev pub doCreate : List ℕ → List ℕ → List ℕ → ℕ → ℕ → Lis
 doCreate s m d n e name k (Make i r) = unless (busyOne d e) s m d (left (Done i) (created s n e name k i r) m (noteMade d n e (r .slot)))
 doCreate s m d n e name k (NoCreate f) = refuse f s m d
 
-abbrev pub doWrite : List ℕ → List ℕ → List ℕ → ℕ → ℕ → ℕ → ℕ → List ℕ → SizePlan → Outcome
+abbrev pub doWrite : List ℕ → List ℕ → List ℕ → ℕ → ℕ → ℕ → ℕ → List ℕ → NumberPlan → Outcome
 doWrite s m d n b i o xs (To z) = unless (busyOne d i) s m d (left (Done z) (written s n b i o xs z) m d)
-doWrite s m d n b i o xs (NoSize f) = refuse f s m d
+doWrite s m d n b i o xs (NoNumber f) = refuse f s m d
 
-abbrev pub doShorten : List ℕ → List ℕ → List ℕ → ℕ → ℕ → SizePlan → Outcome
+abbrev pub doShorten : List ℕ → List ℕ → List ℕ → ℕ → ℕ → NumberPlan → Outcome
 doShorten s m d n i (To z) = unless (busyOne d i) s m d (left (Done z) (shortened s n i z) m d)
-doShorten s m d n i (NoSize f) = refuse f s m d
+doShorten s m d n i (NoNumber f) = refuse f s m d
 
 abbrev pub doLink : List ℕ → List ℕ → List ℕ → ℕ → ℕ → List ℕ → ℕ → LinkPlan → Outcome
 doLink s m d n e name i (Add r) = unless (busyTwo d e i) s m d (left (Done 0) (linked s n e name i r) m (noteMade d n e (r .slot)))

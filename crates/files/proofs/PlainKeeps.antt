@@ -20,8 +20,8 @@ use Rattle.files.specs.declared.UnlinkPlan.{UnlinkPlan}
 use Rattle.files.specs.declared.UnlinkPlan.the-variants.{Take, NoUnlink}
 use Rattle.files.specs.declared.RenamePlan.{RenamePlan}
 use Rattle.files.specs.declared.RenamePlan.the-variants.{Same, Rename, Move, NoRename}
-use Rattle.files.specs.declared.SizePlan.{SizePlan}
-use Rattle.files.specs.declared.SizePlan.the-variants.{To, NoSize}
+use Rattle.files.specs.declared.NumberPlan.{NumberPlan}
+use Rattle.files.specs.declared.NumberPlan.the-variants.{To, NoNumber}
 use Rattle.files.specs.Plan.{lookUpPlan, readPlan, createPlan, writePlan, shortenPlan, linkPlan, unlinkPlan, renamePlan}
 use Rattle.files.specs.Plain.{Outcome, left, guarded, doLookUp, doRead, doCreate, doWrite, doShorten, doLink, doUnlink, doRename, plainLookUp, plainRead, plainCreate, plainWrite, plainShorten, plainLink, plainUnlink, plainRename, Call, lookUp, read, create, write, shorten, link, unlink, rename, plain}
 use Rattle.files.proofs.PlainLaws.{guarded-is}
@@ -41,25 +41,25 @@ module _ (s : List ℕ) (h : Sound mostStoreBlocks false s) where
   b = blocksIn s
 
   -- ---- by what the plan is
-  look-up-leaves : (out : List ℕ) (p : SizePlan) → Leaves (doLookUp s out p)
+  look-up-leaves : (out : List ℕ) (p : NumberPlan) → Leaves (doLookUp s out p)
   look-up-leaves out (To i) = h
-  look-up-leaves out (NoSize e) = h
+  look-up-leaves out (NoNumber e) = h
 
-  read-leaves : (i o : ℕ) (out : List ℕ) (p : SizePlan) → Leaves (doRead s n i o out p)
+  read-leaves : (i o : ℕ) (out : List ℕ) (p : NumberPlan) → Leaves (doRead s n i o out p)
   read-leaves i o out (To k) = h
-  read-leaves i o out (NoSize e) = h
+  read-leaves i o out (NoNumber e) = h
 
   create-leaves : (d : ℕ) (name : List ℕ) (k : Kind) (p : CreatePlan) → createPlan s n b d name ≡ p → Leaves (doCreate s n d name k p)
   create-leaves d name k (Make i r) e = created-sound s n b h refl refl d name k i r e
   create-leaves d name k (NoCreate w) e = h
 
-  write-leaves : (i o : ℕ) (xs : List ℕ) (p : SizePlan) → writePlan s n i o (length xs) ≡ p → Leaves (doWrite s n b i o xs p)
+  write-leaves : (i o : ℕ) (xs : List ℕ) (p : NumberPlan) → writePlan s n i o (length xs) ≡ p → Leaves (doWrite s n b i o xs p)
   write-leaves i o xs (To z) e = write-sound s n b i o xs z h refl refl e
-  write-leaves i o xs (NoSize w) e = h
+  write-leaves i o xs (NoNumber w) e = h
 
-  shorten-leaves : (i z : ℕ) (p : SizePlan) → shortenPlan s n i z ≡ p → Leaves (doShorten s n i p)
+  shorten-leaves : (i z : ℕ) (p : NumberPlan) → shortenPlan s n i z ≡ p → Leaves (doShorten s n i p)
   shorten-leaves i z (To y) e = shorten-sound s n b i z y h refl refl e
-  shorten-leaves i z (NoSize w) e = h
+  shorten-leaves i z (NoNumber w) e = h
 
   link-leaves : (d : ℕ) (name : List ℕ) (i : ℕ) (p : LinkPlan) → linkPlan s n b d name i ≡ p → Leaves (doLink s n d name i p)
   link-leaves d name i (Add r) e = linked-sound s n b h refl refl d name i r e

@@ -18,12 +18,12 @@ use Rattle.files.specs.declared.CreatePlan.{CreatePlan}
 use Rattle.files.specs.declared.LinkPlan.{LinkPlan}
 use Rattle.files.specs.declared.UnlinkPlan.{UnlinkPlan}
 use Rattle.files.specs.declared.RenamePlan.{RenamePlan}
-use Rattle.files.specs.declared.SizePlan.{SizePlan}
+use Rattle.files.specs.declared.NumberPlan.{NumberPlan}
 use Rattle.files.specs.declared.CreatePlan.the-variants.{Make, NoCreate}
 use Rattle.files.specs.declared.LinkPlan.the-variants.{Add, NoLink}
 use Rattle.files.specs.declared.UnlinkPlan.the-variants.{Take, NoUnlink}
 use Rattle.files.specs.declared.RenamePlan.the-variants.{Same, Rename, Move, NoRename}
-use Rattle.files.specs.declared.SizePlan.the-variants.{To, NoSize}
+use Rattle.files.specs.declared.NumberPlan.the-variants.{To, NoNumber}
 use Rattle.files.specs.declared.Guard.the-variants.{Pass, Stop}
 use Rattle.files.specs.Guard.{guardOf, onGuard}
 use Rattle.files.specs.Plan.{lookUpPlan, readPlan, createPlan, writePlan, shortenPlan, linkPlan, unlinkPlan, renamePlan}
@@ -67,25 +67,25 @@ module _ (s out : List ℕ) where
 
 -- ---- what each plan leaves
 module _ (s : List ℕ) where
-  keeps-look-up : (out : List ℕ) (p : SizePlan) → Keeps s out (doLookUp s out p)
+  keeps-look-up : (out : List ℕ) (p : NumberPlan) → Keeps s out (doLookUp s out p)
   keeps-look-up out (To i) = keeps-done s out i s out
-  keeps-look-up out (NoSize f) = keeps-refused s out f
+  keeps-look-up out (NoNumber f) = keeps-refused s out f
 
-  keeps-read : (n i o : ℕ) (out : List ℕ) (p : SizePlan) → Keeps s out (doRead s n i o out p)
+  keeps-read : (n i o : ℕ) (out : List ℕ) (p : NumberPlan) → Keeps s out (doRead s n i o out p)
   keeps-read n i o out (To k) = keeps-done s out k s _
-  keeps-read n i o out (NoSize f) = keeps-refused s out f
+  keeps-read n i o out (NoNumber f) = keeps-refused s out f
 
   keeps-create : (n d : ℕ) (name : List ℕ) (k : Kind) (p : CreatePlan) → Keeps s [] (doCreate s n d name k p)
   keeps-create n d name k (Make i r) = keeps-done s [] i _ []
   keeps-create n d name k (NoCreate f) = keeps-refused s [] f
 
-  keeps-write : (n b i o : ℕ) (xs : List ℕ) (p : SizePlan) → Keeps s [] (doWrite s n b i o xs p)
+  keeps-write : (n b i o : ℕ) (xs : List ℕ) (p : NumberPlan) → Keeps s [] (doWrite s n b i o xs p)
   keeps-write n b i o xs (To z) = keeps-done s [] z _ []
-  keeps-write n b i o xs (NoSize f) = keeps-refused s [] f
+  keeps-write n b i o xs (NoNumber f) = keeps-refused s [] f
 
-  keeps-shorten : (n i : ℕ) (p : SizePlan) → Keeps s [] (doShorten s n i p)
+  keeps-shorten : (n i : ℕ) (p : NumberPlan) → Keeps s [] (doShorten s n i p)
   keeps-shorten n i (To z) = keeps-done s [] z _ []
-  keeps-shorten n i (NoSize f) = keeps-refused s [] f
+  keeps-shorten n i (NoNumber f) = keeps-refused s [] f
 
   keeps-link : (n d : ℕ) (name : List ℕ) (i : ℕ) (p : LinkPlan) → Keeps s [] (doLink s n d name i p)
   keeps-link n d name i (Add r) = keeps-done s [] 0 _ []

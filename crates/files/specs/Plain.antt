@@ -11,12 +11,12 @@ use Rattle.files.specs.declared.CreatePlan.{CreatePlan}
 use Rattle.files.specs.declared.LinkPlan.{LinkPlan}
 use Rattle.files.specs.declared.UnlinkPlan.{UnlinkPlan}
 use Rattle.files.specs.declared.RenamePlan.{RenamePlan}
-use Rattle.files.specs.declared.SizePlan.{SizePlan}
+use Rattle.files.specs.declared.NumberPlan.{NumberPlan}
 use Rattle.files.specs.declared.CreatePlan.the-variants.{Make, NoCreate}
 use Rattle.files.specs.declared.LinkPlan.the-variants.{Add, NoLink}
 use Rattle.files.specs.declared.UnlinkPlan.the-variants.{Take, NoUnlink}
 use Rattle.files.specs.declared.RenamePlan.the-variants.{Same, Rename, Move, NoRename}
-use Rattle.files.specs.declared.SizePlan.the-variants.{To, NoSize}
+use Rattle.files.specs.declared.NumberPlan.the-variants.{To, NoNumber}
 use Rattle.files.specs.Content.{fileBytes}
 use Rattle.files.specs.Guard.{guardOf, onGuard}
 use Rattle.files.specs.Plan.{lookUpPlan, readPlan, createPlan, writePlan, shortenPlan, linkPlan, unlinkPlan, renamePlan}
@@ -45,26 +45,26 @@ unfoldable pub guarded : List ℕ → List ℕ → (ℕ → ℕ → Outcome) →
 guarded s out call = onGuard (guardOf s) call (λ e. left (Refused e) s out)
 
 -- ---- what a plan does: to the store s, with the out-buffer out
-abbrev pub doLookUp : List ℕ → List ℕ → SizePlan → Outcome
+abbrev pub doLookUp : List ℕ → List ℕ → NumberPlan → Outcome
 doLookUp s out (To i) = left (Done i) s out
-doLookUp s out (NoSize e) = left (Refused e) s out
+doLookUp s out (NoNumber e) = left (Refused e) s out
 
 -- "other out-bytes stay"
-abbrev pub doRead : List ℕ → ℕ → ℕ → ℕ → List ℕ → SizePlan → Outcome
+abbrev pub doRead : List ℕ → ℕ → ℕ → ℕ → List ℕ → NumberPlan → Outcome
 doRead s n i o out (To k) = left (Done k) s (splice out 0 (fileBytes s n i o k))
-doRead s n i o out (NoSize e) = left (Refused e) s out
+doRead s n i o out (NoNumber e) = left (Refused e) s out
 
 abbrev pub doCreate : List ℕ → ℕ → ℕ → List ℕ → Kind → CreatePlan → Outcome
 doCreate s n d name k (Make i r) = left (Done i) (created s n d name k i r) []
 doCreate s n d name k (NoCreate e) = left (Refused e) s []
 
-abbrev pub doWrite : List ℕ → ℕ → ℕ → ℕ → ℕ → List ℕ → SizePlan → Outcome
+abbrev pub doWrite : List ℕ → ℕ → ℕ → ℕ → ℕ → List ℕ → NumberPlan → Outcome
 doWrite s n b i o xs (To z) = left (Done z) (written s n b i o xs z) []
-doWrite s n b i o xs (NoSize e) = left (Refused e) s []
+doWrite s n b i o xs (NoNumber e) = left (Refused e) s []
 
-abbrev pub doShorten : List ℕ → ℕ → ℕ → SizePlan → Outcome
+abbrev pub doShorten : List ℕ → ℕ → ℕ → NumberPlan → Outcome
 doShorten s n i (To z) = left (Done z) (shortened s n i z) []
-doShorten s n i (NoSize e) = left (Refused e) s []
+doShorten s n i (NoNumber e) = left (Refused e) s []
 
 abbrev pub doLink : List ℕ → ℕ → ℕ → List ℕ → ℕ → LinkPlan → Outcome
 doLink s n d name i (Add r) = left (Done 0) (linked s n d name i r) []

@@ -19,12 +19,12 @@ use Rattle.files.specs.declared.CreatePlan.{CreatePlan}
 use Rattle.files.specs.declared.LinkPlan.{LinkPlan}
 use Rattle.files.specs.declared.UnlinkPlan.{UnlinkPlan}
 use Rattle.files.specs.declared.RenamePlan.{RenamePlan}
-use Rattle.files.specs.declared.SizePlan.{SizePlan}
+use Rattle.files.specs.declared.NumberPlan.{NumberPlan}
 use Rattle.files.specs.declared.CreatePlan.the-variants.{Make, NoCreate}
 use Rattle.files.specs.declared.LinkPlan.the-variants.{Add, NoLink}
 use Rattle.files.specs.declared.UnlinkPlan.the-variants.{Take, NoUnlink}
 use Rattle.files.specs.declared.RenamePlan.the-variants.{Same, Rename, Move, NoRename}
-use Rattle.files.specs.declared.SizePlan.the-variants.{To, NoSize}
+use Rattle.files.specs.declared.NumberPlan.the-variants.{To, NoNumber}
 use Rattle.files.specs.Inode.{isFile, isDirectory}
 use Rattle.files.specs.Room.{roomIn, onRoom}
 
@@ -33,17 +33,17 @@ abbrev pub inodeAt : List ℕ → ℕ → ℕ → ℕ → ℕ
 inodeAt s n d t = entryInode (entryOf s n d t)
 
 -- look up: 4, 5, 6
-unfoldable pub lookUpPlan : List ℕ → ℕ → ℕ → List ℕ → SizePlan
+unfoldable pub lookUpPlan : List ℕ → ℕ → ℕ → List ℕ → NumberPlan
 lookUpPlan s n d name =
-    pick (not (legalName name)) (NoSize IllegalName)
-    (pick (not (isDirectory s n d)) (NoSize WrongInode)
-    (onFound (findSlot s n d name) (λ t. To (inodeAt s n d t)) (NoSize NameAbsent)))
+    pick (not (legalName name)) (NoNumber IllegalName)
+    (pick (not (isDirectory s n d)) (NoNumber WrongInode)
+    (onFound (findSlot s n d name) (λ t. To (inodeAt s n d t)) (NoNumber NameAbsent)))
 
 -- read: 5, 9; "the smaller of the out-buffer's length and the bytes left"
-unfoldable pub readPlan : List ℕ → ℕ → ℕ → ℕ → ℕ → SizePlan
+unfoldable pub readPlan : List ℕ → ℕ → ℕ → ℕ → ℕ → NumberPlan
 readPlan s n i o k =
-    pick (not (isFile s n i)) (NoSize WrongInode)
-    (pick (ltb (sizeOf s i) o) (NoSize PastEnd)
+    pick (not (isFile s n i)) (NoNumber WrongInode)
+    (pick (ltb (sizeOf s i) o) (NoNumber PastEnd)
     (To (min k (sizeOf s i - o))))
 
 -- create: 4, 5, 7, 11, 12, 13
@@ -56,19 +56,19 @@ createPlan s n b d name =
     (NoCreate NoInode))))
 
 -- write of k bytes at o: 5, 9, 12; the new size
-unfoldable pub writePlan : List ℕ → ℕ → ℕ → ℕ → ℕ → SizePlan
+unfoldable pub writePlan : List ℕ → ℕ → ℕ → ℕ → ℕ → NumberPlan
 writePlan s n i o k =
     let z = max (sizeOf s i) (o + k) in
-    pick (not (isFile s n i)) (NoSize WrongInode)
-    (pick (ltb (sizeOf s i) o || ltb mostFileBytes (o + k)) (NoSize PastEnd)
-    (pick (ltb (headerOf s .«free_blocks») (blocksUsed z - blocksUsed (sizeOf s i))) (NoSize NoBlocks)
+    pick (not (isFile s n i)) (NoNumber WrongInode)
+    (pick (ltb (sizeOf s i) o || ltb mostFileBytes (o + k)) (NoNumber PastEnd)
+    (pick (ltb (headerOf s .«free_blocks») (blocksUsed z - blocksUsed (sizeOf s i))) (NoNumber NoBlocks)
     (To z)))
 
 -- shorten to z: 5, 9
-unfoldable pub shortenPlan : List ℕ → ℕ → ℕ → ℕ → SizePlan
+unfoldable pub shortenPlan : List ℕ → ℕ → ℕ → ℕ → NumberPlan
 shortenPlan s n i z =
-    pick (not (isFile s n i)) (NoSize WrongInode)
-    (pick (ltb (sizeOf s i) z) (NoSize PastEnd)
+    pick (not (isFile s n i)) (NoNumber WrongInode)
+    (pick (ltb (sizeOf s i) z) (NoNumber PastEnd)
     (To z))
 
 -- link: 4, 5, 7, 12, 13

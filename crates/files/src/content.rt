@@ -12,7 +12,7 @@ ghost use Rattle.layout.specs.Header.{headerOf};
 ghost use Rattle.layout.specs.Inode.{InodeFits, sizeOf};
 ghost use Rattle.layout.specs.Block.{Sized, blocksUsed, kthBlock};
 ghost use Rattle.sound.specs.Sound.{Sound, inodesIn, blocksIn};
-ghost use Rattle.files.specs.declared.SizePlan.the-variants.{To};
+ghost use Rattle.files.specs.declared.NumberPlan.the-variants.{To};
 ghost use Rattle.files.specs.Inode.{isFile, withBlocks, lessFree, moreFree};
 ghost use Rattle.files.specs.Fits.{byteAt, FileFits};
 ghost use Rattle.files.specs.Content.{fileBytes, putFile, addBlock, addBlocks, putSize, zeroRest, keepFirst, cutTo};

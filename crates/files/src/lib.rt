@@ -43,10 +43,10 @@ pub enum RenamePlan {
     NoRename(Refusal),
 }
 
-// Write and shorten: the new size. Read: the count. Look up: the inode.
-pub enum SizePlan {
+// Look up: the inode. Read: the count. Write and shorten: the new size.
+pub enum NumberPlan {
     To(usize),
-    NoSize(Refusal),
+    NoNumber(Refusal),
 }
 
 // What a created inode is to be.

@@ -13,7 +13,7 @@ use crate::Guard;
 use crate::Kind;
 use crate::LinkPlan;
 use crate::RenamePlan;
-use crate::SizePlan;
+use crate::NumberPlan;
 use crate::UnlinkPlan;
 use crate::content;
 use crate::entries;
@@ -39,13 +39,13 @@ pub fn guard(s: &[u8]) -> Guard
 }
 
 // ---- look up
-fn looked_up(s: &[u8], n: usize, d: usize, name: &[u8]) -> Answer
+fn do_look_up(s: &[u8], n: usize, d: usize, name: &[u8]) -> Answer
     requires { ⌜ Sound mostStoreBlocks false (now s) × (n ≡ inodesIn (now s)) ⌝ }
     ensures { λ r. ⌜ left r (now (s .entry)) [] ≡ doLookUp (now (s .entry)) [] (lookUpPlan (now (s .entry)) n d (now (name .entry))) ⌝ }
 {
     match plan::look_up_plan(s, n, d, name) {
-        SizePlan::To(i) => Answer::Done(i),
-        SizePlan::NoSize(why) => Answer::Refused(why),
+        NumberPlan::To(i) => Answer::Done(i),
+        NumberPlan::NoNumber(why) => Answer::Refused(why),
     }
 }
 
@@ -53,22 +53,22 @@ pub fn look_up(store: &[u8], dir: usize, name: &[u8]) -> Answer
     ensures { λ r. ⌜ shown (left r (now (store .entry)) []) ≡ shown (plainLookUp (now (store .entry)) dir (now (name .entry))) ⌝ }
 {
     match guard(store) {
-        Guard::Pass(n, _) => looked_up(store, n, dir, name),
+        Guard::Pass(n, _) => do_look_up(store, n, dir, name),
         Guard::Stop(why) => Answer::Refused(why),
     }
 }
 
 // ---- read
-fn read_out(s: &[u8], n: usize, i: usize, o: usize, out: &mut [u8]) -> Answer
+fn do_read(s: &[u8], n: usize, i: usize, o: usize, out: &mut [u8]) -> Answer
     requires { ⌜ Sound mostStoreBlocks false (now s) × (n ≡ inodesIn (now s)) ⌝ }
     ensures { λ r. ⌜ left r (now (s .entry)) (now (out .exit)) ≡ doRead (now (s .entry)) n i o (now (out .entry)) (readPlan (now (s .entry)) n i o (length (now (out .entry)))) ⌝ }
 {
     match plan::read_plan(s, n, i, o, out.len()) {
-        SizePlan::To(count) => {
+        NumberPlan::To(count) => {
             content::read_file(s, n, i, o, count, &mut *out);
             Answer::Done(count)
         }
-        SizePlan::NoSize(why) => Answer::Refused(why),
+        NumberPlan::NoNumber(why) => Answer::Refused(why),
     }
 }
 
@@ -76,13 +76,13 @@ pub fn read(store: &[u8], inode: usize, offset: usize, out: &mut [u8]) -> Answer
     ensures { λ r. ⌜ shown (left r (now (store .entry)) (now (out .exit))) ≡ shown (plainRead (now (store .entry)) inode offset (now (out .entry))) ⌝ }
 {
     match guard(store) {
-        Guard::Pass(n, _) => read_out(store, n, inode, offset, &mut *out),
+        Guard::Pass(n, _) => do_read(store, n, inode, offset, &mut *out),
         Guard::Stop(why) => Answer::Refused(why),
     }
 }
 
 // ---- create
-fn made(s: &mut [u8], n: usize, b: usize, d: usize, name: &[u8], kind: Kind) -> Answer
+fn do_create(s: &mut [u8], n: usize, b: usize, d: usize, name: &[u8], kind: Kind) -> Answer
     requires { ⌜ Sound mostStoreBlocks false (now s) × (n ≡ inodesIn (now s)) × (b ≡ blocksIn (now s)) ⌝ }
     ensures { λ r. ⌜ left r (now (s .exit)) [] ≡ doCreate (now (s .entry)) n d (now (name .entry)) kind (createPlan (now (s .entry)) n b d (now (name .entry))) ⌝ }
 {
@@ -99,22 +99,22 @@ pub fn create(store: &mut [u8], dir: usize, name: &[u8], kind: Kind) -> Answer
     ensures { λ r. ⌜ shown (left r (now (store .exit)) []) ≡ shown (plainCreate (now (store .entry)) dir (now (name .entry)) kind) ⌝ }
 {
     match guard(store) {
-        Guard::Pass(n, b) => made(&mut *store, n, b, dir, name, kind),
+        Guard::Pass(n, b) => do_create(&mut *store, n, b, dir, name, kind),
         Guard::Stop(why) => Answer::Refused(why),
     }
 }
 
 // ---- write
-fn wrote(s: &mut [u8], n: usize, b: usize, i: usize, o: usize, xs: &[u8]) -> Answer
+fn do_write(s: &mut [u8], n: usize, b: usize, i: usize, o: usize, xs: &[u8]) -> Answer
     requires { ⌜ Sound mostStoreBlocks false (now s) × (n ≡ inodesIn (now s)) × (b ≡ blocksIn (now s)) ⌝ }
     ensures { λ r. ⌜ left r (now (s .exit)) [] ≡ doWrite (now (s .entry)) n b i o (now (xs .entry)) (writePlan (now (s .entry)) n i o (length (now (xs .entry)))) ⌝ }
 {
     match plan::write_plan(s, n, i, o, xs.len()) {
-        SizePlan::To(z) => {
+        NumberPlan::To(z) => {
             content::write_file(&mut *s, n, b, i, o, xs, z);
             Answer::Done(z)
         }
-        SizePlan::NoSize(why) => Answer::Refused(why),
+        NumberPlan::NoNumber(why) => Answer::Refused(why),
     }
 }
 
@@ -122,22 +122,22 @@ pub fn write(store: &mut [u8], inode: usize, offset: usize, bytes: &[u8]) -> Ans
     ensures { λ r. ⌜ shown (left r (now (store .exit)) []) ≡ shown (plainWrite (now (store .entry)) inode offset (now (bytes .entry))) ⌝ }
 {
     match guard(store) {
-        Guard::Pass(n, b) => wrote(&mut *store, n, b, inode, offset, bytes),
+        Guard::Pass(n, b) => do_write(&mut *store, n, b, inode, offset, bytes),
         Guard::Stop(why) => Answer::Refused(why),
     }
 }
 
 // ---- shorten
-fn shortened(s: &mut [u8], n: usize, i: usize, z: usize) -> Answer
+fn do_shorten(s: &mut [u8], n: usize, i: usize, z: usize) -> Answer
     requires { ⌜ Sound mostStoreBlocks false (now s) × (n ≡ inodesIn (now s)) ⌝ }
     ensures { λ r. ⌜ left r (now (s .exit)) [] ≡ doShorten (now (s .entry)) n i (shortenPlan (now (s .entry)) n i z) ⌝ }
 {
     match plan::shorten_plan(s, n, i, z) {
-        SizePlan::To(y) => {
+        NumberPlan::To(y) => {
             content::shorten_file(&mut *s, n, i, y);
             Answer::Done(y)
         }
-        SizePlan::NoSize(why) => Answer::Refused(why),
+        NumberPlan::NoNumber(why) => Answer::Refused(why),
     }
 }
 
@@ -145,13 +145,13 @@ pub fn shorten(store: &mut [u8], inode: usize, length: usize) -> Answer
     ensures { λ r. ⌜ shown (left r (now (store .exit)) []) ≡ shown (plainShorten (now (store .entry)) inode length) ⌝ }
 {
     match guard(store) {
-        Guard::Pass(n, _) => shortened(&mut *store, n, inode, length),
+        Guard::Pass(n, _) => do_shorten(&mut *store, n, inode, length),
         Guard::Stop(why) => Answer::Refused(why),
     }
 }
 
 // ---- link
-fn linked(s: &mut [u8], n: usize, b: usize, d: usize, name: &[u8], i: usize) -> Answer
+fn do_link(s: &mut [u8], n: usize, b: usize, d: usize, name: &[u8], i: usize) -> Answer
     requires { ⌜ Sound mostStoreBlocks false (now s) × (n ≡ inodesIn (now s)) × (b ≡ blocksIn (now s)) ⌝ }
     ensures { λ r. ⌜ left r (now (s .exit)) [] ≡ doLink (now (s .entry)) n d (now (name .entry)) i (linkPlan (now (s .entry)) n b d (now (name .entry)) i) ⌝ }
 {
@@ -168,13 +168,13 @@ pub fn link(store: &mut [u8], dir: usize, name: &[u8], inode: usize) -> Answer
     ensures { λ r. ⌜ shown (left r (now (store .exit)) []) ≡ shown (plainLink (now (store .entry)) dir (now (name .entry)) inode) ⌝ }
 {
     match guard(store) {
-        Guard::Pass(n, b) => linked(&mut *store, n, b, dir, name, inode),
+        Guard::Pass(n, b) => do_link(&mut *store, n, b, dir, name, inode),
         Guard::Stop(why) => Answer::Refused(why),
     }
 }
 
 // ---- unlink
-fn unlinked(s: &mut [u8], n: usize, d: usize, name: &[u8]) -> Answer
+fn do_unlink(s: &mut [u8], n: usize, d: usize, name: &[u8]) -> Answer
     requires { ⌜ Sound mostStoreBlocks false (now s) × (n ≡ inodesIn (now s)) ⌝ }
     ensures { λ r. ⌜ left r (now (s .exit)) [] ≡ doUnlink (now (s .entry)) n d (unlinkPlan (now (s .entry)) n d (now (name .entry))) ⌝ }
 {
@@ -191,13 +191,13 @@ pub fn unlink(store: &mut [u8], dir: usize, name: &[u8]) -> Answer
     ensures { λ r. ⌜ shown (left r (now (store .exit)) []) ≡ shown (plainUnlink (now (store .entry)) dir (now (name .entry))) ⌝ }
 {
     match guard(store) {
-        Guard::Pass(n, _) => unlinked(&mut *store, n, dir, name),
+        Guard::Pass(n, _) => do_unlink(&mut *store, n, dir, name),
         Guard::Stop(why) => Answer::Refused(why),
     }
 }
 
 // ---- rename
-fn renamed(s: &mut [u8], n: usize, b: usize, d: usize, name: &[u8], e: usize, other: &[u8]) -> Answer
+fn do_rename(s: &mut [u8], n: usize, b: usize, d: usize, name: &[u8], e: usize, other: &[u8]) -> Answer
     requires { ⌜ Sound mostStoreBlocks false (now s) × (n ≡ inodesIn (now s)) × (b ≡ blocksIn (now s)) ⌝ }
     ensures { λ r. ⌜ left r (now (s .exit)) [] ≡ doRename (now (s .entry)) n d e (now (other .entry)) (renamePlan (now (s .entry)) n b d (now (name .entry)) e (now (other .entry))) ⌝ }
 {
@@ -219,7 +219,7 @@ pub fn rename(store: &mut [u8], dir: usize, name: &[u8], to_dir: usize, to_name:
     ensures { λ r. ⌜ shown (left r (now (store .exit)) []) ≡ shown (plainRename (now (store .entry)) dir (now (name .entry)) «to_dir» (now («to_name» .entry))) ⌝ }
 {
     match guard(store) {
-        Guard::Pass(n, b) => renamed(&mut *store, n, b, dir, name, to_dir, to_name),
+        Guard::Pass(n, b) => do_rename(&mut *store, n, b, dir, name, to_dir, to_name),
         Guard::Stop(why) => Answer::Refused(why),
     }
 }

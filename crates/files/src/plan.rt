@@ -17,7 +17,7 @@ use crate::LinkPlan;
 use crate::RenamePlan;
 use crate::Room;
 use crate::RoomPlan;
-use crate::SizePlan;
+use crate::NumberPlan;
 use crate::UnlinkPlan;
 use answers::Refusal;
 use bounded::Found;
@@ -46,20 +46,20 @@ fn is_kind(s: &[u8], n: usize, kind: u8, i: usize) -> bool
     inode::kind(s, n, i) == kind
 }
 
-pub fn look_up_plan(s: &[u8], n: usize, d: usize, name: &[u8]) -> SizePlan
+pub fn look_up_plan(s: &[u8], n: usize, d: usize, name: &[u8]) -> NumberPlan
     requires { ⌜ Sound mostStoreBlocks false (now s) × (n ≡ inodesIn (now s)) ⌝ }
     ensures { λ r. ⌜ r ≡ lookUpPlan (now (s .entry)) n d (now (name .entry)) ⌝ }
 {
     if !names::legal_name(name) {
-        return SizePlan::NoSize(Refusal::IllegalName);
+        return NumberPlan::NoNumber(Refusal::IllegalName);
     }
     if !is_kind(s, n, DIRECTORY, d) {
-        return SizePlan::NoSize(Refusal::WrongInode);
+        return NumberPlan::NoNumber(Refusal::WrongInode);
     }
     let Found::At(t) = directory::find_slot(s, n, d, name) else {
-        return SizePlan::NoSize(Refusal::NameAbsent);
+        return NumberPlan::NoNumber(Refusal::NameAbsent);
     };
-    SizePlan::To(directory::slot_inode(s, n, d, t) as usize)
+    NumberPlan::To(directory::slot_inode(s, n, d, t) as usize)
 }
 
 pub fn lesser(a: usize, b: usize) -> usize
@@ -75,53 +75,53 @@ fn greater(a: usize, b: usize) -> usize
 }
 
 // A read at o into a buffer of k bytes.
-pub fn read_plan(s: &[u8], n: usize, i: usize, o: usize, k: usize) -> SizePlan
+pub fn read_plan(s: &[u8], n: usize, i: usize, o: usize, k: usize) -> NumberPlan
     requires { ⌜ Sound mostStoreBlocks false (now s) × (n ≡ inodesIn (now s)) ⌝ }
     ensures { λ r. ⌜ r ≡ readPlan (now (s .entry)) n i o k ⌝ }
 {
     if !is_kind(s, n, FILE, i) {
-        return SizePlan::NoSize(Refusal::WrongInode);
+        return NumberPlan::NoNumber(Refusal::WrongInode);
     }
     let size = inode::size(s, n, i) as usize;
     if size < o {
-        return SizePlan::NoSize(Refusal::PastEnd);
+        return NumberPlan::NoNumber(Refusal::PastEnd);
     }
-    SizePlan::To(lesser(k, size - o))
+    NumberPlan::To(lesser(k, size - o))
 }
 
-pub fn shorten_plan(s: &[u8], n: usize, i: usize, z: usize) -> SizePlan
+pub fn shorten_plan(s: &[u8], n: usize, i: usize, z: usize) -> NumberPlan
     requires { ⌜ Sound mostStoreBlocks false (now s) × (n ≡ inodesIn (now s)) ⌝ }
     ensures { λ r. ⌜ r ≡ shortenPlan (now (s .entry)) n i z ⌝ }
 {
     if !is_kind(s, n, FILE, i) {
-        return SizePlan::NoSize(Refusal::WrongInode);
+        return NumberPlan::NoNumber(Refusal::WrongInode);
     }
     if (inode::size(s, n, i) as usize) < z {
-        return SizePlan::NoSize(Refusal::PastEnd);
+        return NumberPlan::NoNumber(Refusal::PastEnd);
     }
-    SizePlan::To(z)
+    NumberPlan::To(z)
 }
 
 // A write of k bytes at o.
-pub fn write_plan(s: &[u8], n: usize, i: usize, o: usize, k: usize) -> SizePlan
+pub fn write_plan(s: &[u8], n: usize, i: usize, o: usize, k: usize) -> NumberPlan
     requires { ⌜ Sound mostStoreBlocks false (now s) × (n ≡ inodesIn (now s)) ⌝ }
     ensures { λ r. ⌜ r ≡ writePlan (now (s .entry)) n i o k ⌝ }
 {
     if !is_kind(s, n, FILE, i) {
-        return SizePlan::NoSize(Refusal::WrongInode);
+        return NumberPlan::NoNumber(Refusal::WrongInode);
     }
     let size = inode::size(s, n, i) as usize;
     if size < o {
-        return SizePlan::NoSize(Refusal::PastEnd);
+        return NumberPlan::NoNumber(Refusal::PastEnd);
     }
     if MOST_FILE_BYTES - o < k {
-        return SizePlan::NoSize(Refusal::PastEnd);
+        return NumberPlan::NoNumber(Refusal::PastEnd);
     }
     let end = greater(size, o + k);
     if (Header::read(s).free_blocks as usize) < blocks_used(end) - blocks_used(size) {
-        return SizePlan::NoSize(Refusal::NoBlocks);
+        return NumberPlan::NoNumber(Refusal::NoBlocks);
     }
-    SizePlan::To(end)
+    NumberPlan::To(end)
 }
 
 // Where an entry more in directory d goes.

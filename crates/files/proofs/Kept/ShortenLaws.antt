@@ -20,7 +20,7 @@ use Rattle.layout.specs.Block.{blockAt, blockOf, blocksUsed, kthBlock, putInBlo
 use Rattle.layout.proofs.ViewLaws.{inode-fits}
 use Rattle.directory.specs.Slot.{DirFits}
 use Rattle.sound.specs.Sound.{Sound, inodesIn, blocksIn}
-use Rattle.files.specs.declared.SizePlan.the-variants.{To}
+use Rattle.files.specs.declared.NumberPlan.the-variants.{To}
 use Rattle.files.specs.Inode.{withBlocks}
 use Rattle.files.specs.Content.{fileByte, zeroRest, keepFirst, cutTo}
 use Rattle.files.specs.Plan.{shortenPlan}

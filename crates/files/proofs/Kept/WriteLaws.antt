@@ -17,7 +17,7 @@ use Rattle.layout.specs.Inode.{kindOf, linksOf, sizeOf, parentOf, inodeOf, free
 use Rattle.layout.specs.Block.{blockOf, blocksUsed, kthBlock, putInBlock}
 use Rattle.layout.specs.Free.{freeBlock}
 use Rattle.sound.specs.Sound.{Sound, inodesIn, blocksIn}
-use Rattle.files.specs.declared.SizePlan.the-variants.{To}
+use Rattle.files.specs.declared.NumberPlan.the-variants.{To}
 use Rattle.files.specs.Inode.{isFile, withSize}
 use Rattle.files.specs.Content.{fileByte, putFile, addBlock, addBlocks, putSize}
 use Rattle.files.specs.Plan.{writePlan}

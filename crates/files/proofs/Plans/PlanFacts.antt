@@ -27,7 +27,7 @@ use Rattle.files.specs.declared.LinkPlan.the-variants.{Add, NoLink}
 use Rattle.files.specs.declared.UnlinkPlan.the-variants.{Take, NoUnlink}
 use Rattle.files.specs.declared.RenamePlan.{RenamePlan}
 use Rattle.files.specs.declared.RenamePlan.the-variants.{Same, Rename, Move, NoRename}
-use Rattle.files.specs.declared.SizePlan.the-variants.{To, NoSize}
+use Rattle.files.specs.declared.NumberPlan.the-variants.{To, NoNumber}
 use Rattle.files.specs.Inode.{isFile, isDirectory}
 use Rattle.files.specs.Room.{roomIn, onRoom}
 use Rattle.files.specs.Plan.{inodeAt, readPlan, createPlan, writePlan, shortenPlan, linkPlan, holdsNone, unlinkPlan, isBelow, renameWithin, moveTo, renameTo, renamePlan}
@@ -256,7 +256,7 @@ module _ (s : List ℕ) (n b d : ℕ) (name : List ℕ) (e : ℕ) (other : List 
       (a .2 t i (c .1) (c .2) (c .3), subst (λ (j : ℕ). Moves s n b d e j r) (c .3) (c .0))
 
 -- ---- read, write and shorten
-no-size : (e : Refusal) (z : ℕ) → NoSize e ≡ To z → ⊥
+no-size : (e : Refusal) (z : ℕ) → NoNumber e ≡ To z → ⊥
 no-size e z h = let y : _≡_ {A = ℕ} 0 1 = cc in absurd (omega arith)
 
 pub record Reads (s : List ℕ) (n i o k m : ℕ) : Type 0 where
@@ -267,8 +267,8 @@ pub record Reads (s : List ℕ) (n i o k m : ℕ) : Type 0 where
 pub reads : (s : List ℕ) (n i o k m : ℕ) → readPlan s n i o k ≡ To m → Reads s n i o k m
 unfolding readPlan
 reads s n i o k m e =
-    let a = pick-not (isFile s n i) (NoSize _) _ (To m) e (no-size _ m) in
-    let c = pick-else (ltb (sizeOf s i) o) (NoSize _) _ (To m) (a .1) (no-size _ m) in
+    let a = pick-not (isFile s n i) (NoNumber _) _ (To m) e (no-size _ m) in
+    let c = pick-else (ltb (sizeOf s i) o) (NoNumber _) _ (To m) (a .1) (no-size _ m) in
     record { file = a .0; inside = ltb-false (sizeOf s i) o (c .0); count = cc (c .1) }
 
 pub record Shortens (s : List ℕ) (n i z y : ℕ) : Type 0 where
@@ -279,8 +279,8 @@ pub record Shortens (s : List ℕ) (n i z y : ℕ) : Type 0 where
 pub shortens : (s : List ℕ) (n i z y : ℕ) → shortenPlan s n i z ≡ To y → Shortens s n i z y
 unfolding shortenPlan
 shortens s n i z y e =
-    let a = pick-not (isFile s n i) (NoSize _) _ (To y) e (no-size _ y) in
-    let c = pick-else (ltb (sizeOf s i) z) (NoSize _) _ (To y) (a .1) (no-size _ y) in
+    let a = pick-not (isFile s n i) (NoNumber _) _ (To y) e (no-size _ y) in
+    let c = pick-else (ltb (sizeOf s i) z) (NoNumber _) _ (To y) (a .1) (no-size _ y) in
     record { file = a .0; inside = ltb-false (sizeOf s i) z (c .0); size = cc (c .1) }
 
 pub record Writes (s : List ℕ) (n i o k z : ℕ) : Type 0 where
@@ -293,9 +293,9 @@ pub record Writes (s : List ℕ) (n i o k z : ℕ) : Type 0 where
 pub writes : (s : List ℕ) (n i o k z : ℕ) → writePlan s n i o k ≡ To z → Writes s n i o k z
 unfolding writePlan
 writes s n i o k z e =
-    let a = pick-not (isFile s n i) (NoSize _) _ (To z) e (no-size _ z) in
-    let c = pick-else (ltb (sizeOf s i) o || ltb mostFileBytes (o + k)) (NoSize _) _ (To z) (a .1) (no-size _ z) in
-    let f = pick-else (ltb (headerOf s .«free_blocks») (blocksUsed (max (sizeOf s i) (o + k)) - blocksUsed (sizeOf s i))) (NoSize _) _ (To z) (c .1) (no-size _ z) in
+    let a = pick-not (isFile s n i) (NoNumber _) _ (To z) e (no-size _ z) in
+    let c = pick-else (ltb (sizeOf s i) o || ltb mostFileBytes (o + k)) (NoNumber _) _ (To z) (a .1) (no-size _ z) in
+    let f = pick-else (ltb (headerOf s .«free_blocks») (blocksUsed (max (sizeOf s i) (o + k)) - blocksUsed (sizeOf s i))) (NoNumber _) _ (To z) (c .1) (no-size _ z) in
     let q : max (sizeOf s i) (o + k) ≡ z = cc (f .1) in
     record {
       file = a .0;

@@ -17,7 +17,7 @@ use Rattle.names.specs.Entry.{entryFor}
 use Rattle.directory.specs.Slot.{DirFits, slots, entryOf, findSlot}
 use Rattle.directory.proofs.SlotLaws.{slot-fits, few-slots, entry-put}
 use Rattle.answers.specs.declared.Refusal.the-variants.{PastEnd}
-use Rattle.files.specs.declared.SizePlan.the-variants.{To, NoSize}
+use Rattle.files.specs.declared.NumberPlan.the-variants.{To, NoNumber}
 use Rattle.files.specs.declared.RenamePlan.the-variants.{Rename}
 use Rattle.files.specs.Inode.{isFile, isDirectory}
 use Rattle.files.specs.Plan.{inodeAt, writePlan, renameTo, renamePlan}
@@ -31,11 +31,11 @@ module _ (s : List ℕ) (n i o k : ℕ) (f : isFile s n i ≡ true) where
   unfolding writePlan
   write-passes a b c = rw (f, le-ltb (sizeOf s i) o a, le-ltb mostFileBytes (o + k) b, le-ltb (headerOf s .«free_blocks») (blocksUsed (max (sizeOf s i) (o + k)) - blocksUsed (sizeOf s i)) c)
 
-  pub write-past : sizeOf s i < o → writePlan s n i o k ≡ NoSize PastEnd
+  pub write-past : sizeOf s i < o → writePlan s n i o k ≡ NoNumber PastEnd
   unfolding writePlan
   write-past a = rw (f, lt-ltb (sizeOf s i) o a)
 
-  pub write-beyond : mostFileBytes < o + k → writePlan s n i o k ≡ NoSize PastEnd
+  pub write-beyond : mostFileBytes < o + k → writePlan s n i o k ≡ NoNumber PastEnd
   unfolding writePlan
   write-beyond b = rw (f, or-r (ltb (sizeOf s i) o) (ltb mostFileBytes (o + k)) (lt-ltb mostFileBytes (o + k) b))
 

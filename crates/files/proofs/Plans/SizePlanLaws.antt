@@ -14,22 +14,22 @@ use Rattle.layout.specs.Block.{blocksUsed}
 use Rattle.names.specs.Name.{legalName}
 use Rattle.directory.specs.Slot.{findSlot}
 use Rattle.answers.specs.declared.Refusal.the-variants.{IllegalName, WrongInode, NameAbsent, PastEnd, NoBlocks}
-use Rattle.files.specs.declared.SizePlan.the-variants.{To, NoSize}
+use Rattle.files.specs.declared.NumberPlan.the-variants.{To, NoNumber}
 use Rattle.files.specs.Inode.{isFile, isDirectory}
 use Rattle.files.specs.Plan.{inodeAt, lookUpPlan, readPlan, writePlan, shortenPlan}
 use Rattle.files.proofs.Plans.PlanLaws.{write-passes, write-past, write-beyond}
 
 -- ---- look up
 module _ (s : List ℕ) (n d : ℕ) (name : List ℕ) where
-  pub look-illegal : legalName name ≡ false → NoSize IllegalName ≡ lookUpPlan s n d name
+  pub look-illegal : legalName name ≡ false → NoNumber IllegalName ≡ lookUpPlan s n d name
   unfolding lookUpPlan
   look-illegal a = rw a
 
-  pub look-wrong : legalName name ≡ true → isDirectory s n d ≡ false → NoSize WrongInode ≡ lookUpPlan s n d name
+  pub look-wrong : legalName name ≡ true → isDirectory s n d ≡ false → NoNumber WrongInode ≡ lookUpPlan s n d name
   unfolding lookUpPlan
   look-wrong a b = rw (a, b)
 
-  pub look-absent : legalName name ≡ true → isDirectory s n d ≡ true → findSlot s n d name ≡ Absent → NoSize NameAbsent ≡ lookUpPlan s n d name
+  pub look-absent : legalName name ≡ true → isDirectory s n d ≡ true → findSlot s n d name ≡ Absent → NoNumber NameAbsent ≡ lookUpPlan s n d name
   unfolding lookUpPlan
   look-absent a b f = rw (a, b, f)
 
@@ -39,11 +39,11 @@ module _ (s : List ℕ) (n d : ℕ) (name : List ℕ) where
 
 -- ---- read of k bytes at o; x is the size that the code has read
 module _ (s : List ℕ) (n i o k : ℕ) where
-  pub read-wrong : isFile s n i ≡ false → NoSize WrongInode ≡ readPlan s n i o k
+  pub read-wrong : isFile s n i ≡ false → NoNumber WrongInode ≡ readPlan s n i o k
   unfolding readPlan
   read-wrong f = rw f
 
-  pub read-past : (x : ℕ) → isFile s n i ≡ true → x ≡ sizeOf s i → x < o → NoSize PastEnd ≡ readPlan s n i o k
+  pub read-past : (x : ℕ) → isFile s n i ≡ true → x ≡ sizeOf s i → x < o → NoNumber PastEnd ≡ readPlan s n i o k
   unfolding readPlan
   read-past x f e l = rw (f, lt-ltb (sizeOf s i) o (omega arith))
 
@@ -53,11 +53,11 @@ module _ (s : List ℕ) (n i o k : ℕ) where
 
 -- ---- shorten to z
 module _ (s : List ℕ) (n i z : ℕ) where
-  pub shorten-wrong : isFile s n i ≡ false → NoSize WrongInode ≡ shortenPlan s n i z
+  pub shorten-wrong : isFile s n i ≡ false → NoNumber WrongInode ≡ shortenPlan s n i z
   unfolding shortenPlan
   shorten-wrong f = rw f
 
-  pub shorten-past : (x : ℕ) → isFile s n i ≡ true → x ≡ sizeOf s i → x < z → NoSize PastEnd ≡ shortenPlan s n i z
+  pub shorten-past : (x : ℕ) → isFile s n i ≡ true → x ≡ sizeOf s i → x < z → NoNumber PastEnd ≡ shortenPlan s n i z
   unfolding shortenPlan
   shorten-past x f e l = rw (f, lt-ltb (sizeOf s i) z (omega arith))
 
@@ -71,15 +71,15 @@ unfolding blocksUsed
 used-more a b l = omega arith
 
 module _ (s : List ℕ) (n i o k : ℕ) where
-  pub write-wrong : isFile s n i ≡ false → NoSize WrongInode ≡ writePlan s n i o k
+  pub write-wrong : isFile s n i ≡ false → NoNumber WrongInode ≡ writePlan s n i o k
   unfolding writePlan
   write-wrong f = rw f
 
   module _ (x : ℕ) (f : isFile s n i ≡ true) (e : x ≡ sizeOf s i) where
-    pub write-off : x < o → NoSize PastEnd ≡ writePlan s n i o k
+    pub write-off : x < o → NoNumber PastEnd ≡ writePlan s n i o k
     write-off l = sym (write-past s n i o k f (omega arith))
 
-    pub write-long : 768 - o < k → NoSize PastEnd ≡ writePlan s n i o k
+    pub write-long : 768 - o < k → NoNumber PastEnd ≡ writePlan s n i o k
     write-long l = sym (write-beyond s n i o k f (omega arith))
 
     -- z is the new size, q the header, u and v the blocks that z and x use
@@ -93,7 +93,7 @@ module _ (s : List ℕ) (n i o k : ℕ) where
       free : q .«free_blocks» ≡ headerOf s .«free_blocks»
       free = ap (λ (y : Header). y .«free_blocks») g
 
-      pub write-full : q .«free_blocks» < u - v → NoSize NoBlocks ≡ writePlan s n i o k
+      pub write-full : q .«free_blocks» < u - v → NoNumber NoBlocks ≡ writePlan s n i o k
       unfolding writePlan
       write-full y =
           let y2 = subst (λ (j : ℕ). headerOf s .«free_blocks» < j) more (subst (λ (j : ℕ). j < u - v) free y) in

@@ -14,8 +14,8 @@ guard-requires c κs = search needs
 enum-known-n : tie.Need-enum-known-n
 enum-known-n c = search needs
 
-linked-requires : tie.Need-linked-requires
-linked-requires c κs = let p = passed _ _ _ (sym (c .before .before .before .before .guard .ensures) ∙ c .before .before .n .given .1) in (p .sound, p .inodes, p .blocks)
+do-link-requires : tie.Need-do-link-requires
+do-link-requires c κs = let p = passed _ _ _ (sym (c .before .before .before .before .guard .ensures) ∙ c .before .before .n .given .1) in (p .sound, p .inodes, p .blocks)
 
 enum-known-why : tie.Need-enum-known-why
 enum-known-why c = search needs
@@ -25,7 +25,7 @@ same-length c = search needs
 
 returns : tie.Need-returns
 unfolding plainLink
-returns c = let a = c .before .before .before .before .before .before .before .before .before .before .before .args in call-through _ _ _ (c .before .before .before .before .before .before .before .guard .ensures) (λ (n b : ℕ). doLink (now (a .store)) n (a .dir) (now (a .name)) (a .inode) (linkPlan (now (a .store)) n b (a .dir) (now (a .name)) (a .inode))) _ _ _ (c .before .before .before .before .before .n .given .1) (c .before .before .linked .ensures)
+returns c = let a = c .before .before .before .before .before .before .before .before .before .before .before .args in call-through _ _ _ (c .before .before .before .before .before .before .before .guard .ensures) (λ (n b : ℕ). doLink (now (a .store)) n (a .dir) (now (a .name)) (a .inode) (linkPlan (now (a .store)) n b (a .dir) (now (a .name)) (a .inode))) _ _ _ (c .before .before .before .before .before .n .given .1) (c .before .before .do-link .ensures)
 
 same-length-2 : tie.Need-same-length-2
 same-length-2 c = search needs
@@ -40,7 +40,7 @@ link-spec =
     (tie.spec
     guard-requires
     enum-known-n
-    linked-requires
+    do-link-requires
     enum-known-why
     same-length
     returns

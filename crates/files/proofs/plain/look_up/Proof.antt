@@ -15,15 +15,15 @@ guard-requires c κs = search needs
 enum-known-n : tie.Need-enum-known-n
 enum-known-n c = search needs
 
-looked-up-requires : tie.Need-looked-up-requires
-looked-up-requires c κs = let p = passed _ _ _ (sym (c .before .before .before .guard .ensures) ∙ c .before .n .given .1) in (p .sound, p .inodes)
+do-look-up-requires : tie.Need-do-look-up-requires
+do-look-up-requires c κs = let p = passed _ _ _ (sym (c .before .before .before .guard .ensures) ∙ c .before .n .given .1) in (p .sound, p .inodes)
 
 enum-known-why : tie.Need-enum-known-why
 enum-known-why c = search needs
 
 returns : tie.Need-returns
 unfolding plainLookUp
-returns c = let a = c .before .before .before .before .before .before .before .args in call-through _ _ _ (c .before .before .before .before .guard .ensures) (λ (n b : ℕ). doLookUp (now (a .store)) [] (lookUpPlan (now (a .store)) n (a .dir) (now (a .name)))) _ _ _ (c .before .before .n .given .1) (c .looked-up .ensures)
+returns c = let a = c .before .before .before .before .before .before .before .args in call-through _ _ _ (c .before .before .before .before .guard .ensures) (λ (n b : ℕ). doLookUp (now (a .store)) [] (lookUpPlan (now (a .store)) n (a .dir) (now (a .name)))) _ _ _ (c .before .before .n .given .1) (c .do-look-up .ensures)
 
 returns-2 : tie.Need-returns-2
 unfolding plainLookUp
@@ -32,4 +32,4 @@ returns-2 c = call-stopped _ _ _ (c .before .before .before .guard .ensures) _ _
 pub look-up-spec : {M : Type 1} → statement M
 look-up-spec =
     tie.close
-    (tie.spec guard-requires enum-known-n looked-up-requires enum-known-why returns returns-2)
+    (tie.spec guard-requires enum-known-n do-look-up-requires enum-known-why returns returns-2)

@@ -15,8 +15,8 @@ guard-requires c κs = search needs
 enum-known-n : tie.Need-enum-known-n
 enum-known-n c = search needs
 
-read-out-requires : tie.Need-read-out-requires
-read-out-requires c κs = let p = passed _ _ _ (sym (c .before .before .before .before .guard .ensures) ∙ c .before .before .n .given .1) in (p .sound, p .inodes)
+do-read-requires : tie.Need-do-read-requires
+do-read-requires c κs = let p = passed _ _ _ (sym (c .before .before .before .before .guard .ensures) ∙ c .before .before .n .given .1) in (p .sound, p .inodes)
 
 enum-known-why : tie.Need-enum-known-why
 enum-known-why c = search needs
@@ -26,7 +26,7 @@ same-length c = search needs
 
 returns : tie.Need-returns
 unfolding plainRead
-returns c = let a = c .before .before .before .before .before .before .before .before .before .before .args in call-through _ _ _ (c .before .before .before .before .before .before .before .guard .ensures) (λ (n b : ℕ). doRead (now (a .store)) n (a .inode) (a .offset) (now (a .out)) (readPlan (now (a .store)) n (a .inode) (a .offset) (length (now (a .out))))) _ _ _ (c .before .before .before .before .before .n .given .1) (c .before .before .read-out .ensures)
+returns c = let a = c .before .before .before .before .before .before .before .before .before .before .args in call-through _ _ _ (c .before .before .before .before .before .before .before .guard .ensures) (λ (n b : ℕ). doRead (now (a .store)) n (a .inode) (a .offset) (now (a .out)) (readPlan (now (a .store)) n (a .inode) (a .offset) (length (now (a .out))))) _ _ _ (c .before .before .before .before .before .n .given .1) (c .before .before .do-read .ensures)
 
 returns-2 : tie.Need-returns-2
 unfolding plainRead
@@ -38,7 +38,7 @@ read-spec =
     (tie.spec
     guard-requires
     enum-known-n
-    read-out-requires
+    do-read-requires
     enum-known-why
     same-length
     returns

@@ -14,8 +14,8 @@ guard-requires c κs = search needs
 enum-known-n : tie.Need-enum-known-n
 enum-known-n c = search needs
 
-renamed-requires : tie.Need-renamed-requires
-renamed-requires c κs = let p = passed _ _ _ (sym (c .before .before .before .before .guard .ensures) ∙ c .before .before .n .given .1) in (p .sound, p .inodes, p .blocks)
+do-rename-requires : tie.Need-do-rename-requires
+do-rename-requires c κs = let p = passed _ _ _ (sym (c .before .before .before .before .guard .ensures) ∙ c .before .before .n .given .1) in (p .sound, p .inodes, p .blocks)
 
 enum-known-why : tie.Need-enum-known-why
 enum-known-why c = search needs
@@ -25,7 +25,7 @@ same-length c = search needs
 
 returns : tie.Need-returns
 unfolding plainRename
-returns c = let a = c .before .before .before .before .before .before .before .before .before .before .before .before .args in call-through _ _ _ (c .before .before .before .before .before .before .before .guard .ensures) (λ (n b : ℕ). doRename (now (a .store)) n (a .dir) (a .to-dir) (now (a .to-name)) (renamePlan (now (a .store)) n b (a .dir) (now (a .name)) (a .to-dir) (now (a .to-name)))) _ _ _ (c .before .before .before .before .before .n .given .1) (c .before .before .renamed .ensures)
+returns c = let a = c .before .before .before .before .before .before .before .before .before .before .before .before .args in call-through _ _ _ (c .before .before .before .before .before .before .before .guard .ensures) (λ (n b : ℕ). doRename (now (a .store)) n (a .dir) (a .to-dir) (now (a .to-name)) (renamePlan (now (a .store)) n b (a .dir) (now (a .name)) (a .to-dir) (now (a .to-name)))) _ _ _ (c .before .before .before .before .before .n .given .1) (c .before .before .do-rename .ensures)
 
 same-length-2 : tie.Need-same-length-2
 same-length-2 c = search needs
@@ -40,7 +40,7 @@ rename-spec =
     (tie.spec
     guard-requires
     enum-known-n
-    renamed-requires
+    do-rename-requires
     enum-known-why
     same-length
     returns

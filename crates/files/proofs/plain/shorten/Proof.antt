@@ -14,8 +14,8 @@ guard-requires c κs = search needs
 enum-known-n : tie.Need-enum-known-n
 enum-known-n c = search needs
 
-shortened-requires : tie.Need-shortened-requires
-shortened-requires c κs = let p = passed _ _ _ (sym (c .before .before .before .before .guard .ensures) ∙ c .before .before .n .given .1) in (p .sound, p .inodes)
+do-shorten-requires : tie.Need-do-shorten-requires
+do-shorten-requires c κs = let p = passed _ _ _ (sym (c .before .before .before .before .guard .ensures) ∙ c .before .before .n .given .1) in (p .sound, p .inodes)
 
 enum-known-why : tie.Need-enum-known-why
 enum-known-why c = search needs
@@ -25,7 +25,7 @@ same-length c = search needs
 
 returns : tie.Need-returns
 unfolding plainShorten
-returns c = let a = c .before .before .before .before .before .before .before .before .before .before .args in call-through _ _ _ (c .before .before .before .before .before .before .before .guard .ensures) (λ (n b : ℕ). doShorten (now (a .store)) n (a .inode) (shortenPlan (now (a .store)) n (a .inode) (a .length))) _ _ _ (c .before .before .before .before .before .n .given .1) (c .before .before .shortened .ensures)
+returns c = let a = c .before .before .before .before .before .before .before .before .before .before .args in call-through _ _ _ (c .before .before .before .before .before .before .before .guard .ensures) (λ (n b : ℕ). doShorten (now (a .store)) n (a .inode) (shortenPlan (now (a .store)) n (a .inode) (a .length))) _ _ _ (c .before .before .before .before .before .n .given .1) (c .before .before .do-shorten .ensures)
 
 same-length-2 : tie.Need-same-length-2
 same-length-2 c = search needs
@@ -40,7 +40,7 @@ shorten-spec =
     (tie.spec
     guard-requires
     enum-known-n
-    shortened-requires
+    do-shorten-requires
     enum-known-why
     same-length
     returns

@@ -14,8 +14,8 @@ guard-requires c κs = search needs
 enum-known-n : tie.Need-enum-known-n
 enum-known-n c = search needs
 
-unlinked-requires : tie.Need-unlinked-requires
-unlinked-requires c κs = let p = passed _ _ _ (sym (c .before .before .before .before .guard .ensures) ∙ c .before .before .n .given .1) in (p .sound, p .inodes)
+do-unlink-requires : tie.Need-do-unlink-requires
+do-unlink-requires c κs = let p = passed _ _ _ (sym (c .before .before .before .before .guard .ensures) ∙ c .before .before .n .given .1) in (p .sound, p .inodes)
 
 enum-known-why : tie.Need-enum-known-why
 enum-known-why c = search needs
@@ -25,7 +25,7 @@ same-length c = search needs
 
 returns : tie.Need-returns
 unfolding plainUnlink
-returns c = let a = c .before .before .before .before .before .before .before .before .before .before .before .args in call-through _ _ _ (c .before .before .before .before .before .before .before .guard .ensures) (λ (n b : ℕ). doUnlink (now (a .store)) n (a .dir) (unlinkPlan (now (a .store)) n (a .dir) (now (a .name)))) _ _ _ (c .before .before .before .before .before .n .given .1) (c .before .before .unlinked .ensures)
+returns c = let a = c .before .before .before .before .before .before .before .before .before .before .before .args in call-through _ _ _ (c .before .before .before .before .before .before .before .guard .ensures) (λ (n b : ℕ). doUnlink (now (a .store)) n (a .dir) (unlinkPlan (now (a .store)) n (a .dir) (now (a .name)))) _ _ _ (c .before .before .before .before .before .n .given .1) (c .before .before .do-unlink .ensures)
 
 same-length-2 : tie.Need-same-length-2
 same-length-2 c = search needs
@@ -40,7 +40,7 @@ unlink-spec =
     (tie.spec
     guard-requires
     enum-known-n
-    unlinked-requires
+    do-unlink-requires
     enum-known-why
     same-length
     returns

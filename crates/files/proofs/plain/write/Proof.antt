@@ -15,8 +15,8 @@ guard-requires c κs = search needs
 enum-known-n : tie.Need-enum-known-n
 enum-known-n c = search needs
 
-wrote-requires : tie.Need-wrote-requires
-wrote-requires c κs = let p = passed _ _ _ (sym (c .before .before .before .before .guard .ensures) ∙ c .before .before .n .given .1) in (p .sound, p .inodes, p .blocks)
+do-write-requires : tie.Need-do-write-requires
+do-write-requires c κs = let p = passed _ _ _ (sym (c .before .before .before .before .guard .ensures) ∙ c .before .before .n .given .1) in (p .sound, p .inodes, p .blocks)
 
 enum-known-why : tie.Need-enum-known-why
 enum-known-why c = search needs
@@ -26,7 +26,7 @@ same-length c = search needs
 
 returns : tie.Need-returns
 unfolding plainWrite
-returns c = let a = c .before .before .before .before .before .before .before .before .before .before .before .args in call-through _ _ _ (c .before .before .before .before .before .before .before .guard .ensures) (λ (n b : ℕ). doWrite (now (a .store)) n b (a .inode) (a .offset) (now (a .bytes)) (writePlan (now (a .store)) n (a .inode) (a .offset) (length (now (a .bytes))))) _ _ _ (c .before .before .before .before .before .n .given .1) (c .before .before .wrote .ensures)
+returns c = let a = c .before .before .before .before .before .before .before .before .before .before .before .args in call-through _ _ _ (c .before .before .before .before .before .before .before .guard .ensures) (λ (n b : ℕ). doWrite (now (a .store)) n b (a .inode) (a .offset) (now (a .bytes)) (writePlan (now (a .store)) n (a .inode) (a .offset) (length (now (a .bytes))))) _ _ _ (c .before .before .before .before .before .n .given .1) (c .before .before .do-write .ensures)
 
 same-length-2 : tie.Need-same-length-2
 same-length-2 c = search needs
@@ -41,7 +41,7 @@ write-spec =
     (tie.spec
     guard-requires
     enum-known-n
-    wrote-requires
+    do-write-requires
     enum-known-why
     same-length
     returns

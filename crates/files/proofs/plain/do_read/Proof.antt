@@ -6,8 +6,8 @@ use Rattle.answers.specs.declared.Answer.the-variants.{Done}
 use Rattle.files.specs.Plain.{left, doRead}
 use Rattle.files.proofs.Plans.PlanFacts.{Reads, reads}
 use borrow.Author.Needs.{needs}
-use Rattle.files.proofs.plain.read_out.Statement.{statement}
-use Rattle.files.proofs.plain.read_out.Tie as tie
+use Rattle.files.proofs.plain.do_read.Statement.{statement}
+use Rattle.files.proofs.plain.do_read.Tie as tie
 
 -- what the plan has passed
 planned : (c : tie.After-known-told) → Reads (now (c .before .before .before .before .before .before .args .s)) (c .before .before .before .before .before .before .args .n) (c .before .before .before .before .before .before .args .i) (c .before .before .before .before .before .before .args .o) (length (now (c .before .before .before .before .before .before .args .out))) (c .before .count .given .0 .0)
@@ -34,8 +34,8 @@ returns c = let a = c .before .before .before .before .before .before .before .b
 returns-2 : tie.Need-returns-2
 returns-2 c = let a = c .before .before .before .before .before .before .args in ap (doRead (now (a .s)) (a .n) (a .i) (a .o) (now (a .out))) (sym (c .before .why .given .1) ∙ c .before .before .before .read-plan .ensures)
 
-pub read-out-spec : {M : Type 1} → statement M
-read-out-spec =
+pub do-read-spec : {M : Type 1} → statement M
+do-read-spec =
     tie.close
     (tie.spec
     read-plan-requires

@@ -3,8 +3,8 @@ use mathlib.Core.Path.{sym, ap, _∙_}
 use denote.Ref.{now}
 use Rattle.files.specs.Plain.{doLookUp}
 use borrow.Author.Needs.{needs}
-use Rattle.files.proofs.plain.looked_up.Statement.{statement}
-use Rattle.files.proofs.plain.looked_up.Tie as tie
+use Rattle.files.proofs.plain.do_look_up.Statement.{statement}
+use Rattle.files.proofs.plain.do_look_up.Tie as tie
 
 look-up-plan-requires : tie.Need-look-up-plan-requires
 look-up-plan-requires c κs = search needs
@@ -21,6 +21,6 @@ returns c = ap (doLookUp (now (c .before .before .before .before .before .before
 returns-2 : tie.Need-returns-2
 returns-2 c = ap (doLookUp (now (c .before .before .before .before .before .before .args .s)) []) (sym (c .before .why .given .1) ∙ c .before .before .before .look-up-plan .ensures)
 
-pub looked-up-spec : {M : Type 1} → statement M
-looked-up-spec =
+pub do-look-up-spec : {M : Type 1} → statement M
+do-look-up-spec =
     tie.close (tie.spec look-up-plan-requires enum-known-i enum-known-why returns returns-2)

@@ -10,8 +10,8 @@ use Rattle.files.specs.Plain.{left, doRename}
 use Rattle.files.proofs.Plans.PlanFacts.{renames, moves}
 use Rattle.files.proofs.Kept.SlotPlaceLaws.{found-here}
 use borrow.Author.Needs.{needs}
-use Rattle.files.proofs.plain.renamed.Statement.{statement}
-use Rattle.files.proofs.plain.renamed.Tie as tie
+use Rattle.files.proofs.plain.do_rename.Statement.{statement}
+use Rattle.files.proofs.plain.do_rename.Tie as tie
 
 rename-plan-requires : tie.Need-rename-plan-requires
 rename-plan-requires c κs = search needs
@@ -77,8 +77,8 @@ same-length-4 c = search needs
 returns-4 : tie.Need-returns-4
 returns-4 c = let a = c .before .before .before .before .before .before .before .before .args in ap (doRename (now (a .s)) (a .n) (a .d) (a .e) (now (a .other))) (sym (c .before .why .given .1) ∙ c .before .before .before .rename-plan .ensures)
 
-pub renamed-spec : {M : Type 1} → statement M
-renamed-spec =
+pub do-rename-spec : {M : Type 1} → statement M
+do-rename-spec =
     tie.close
     (tie.spec
     rename-plan-requires

@@ -7,8 +7,8 @@ use Rattle.answers.specs.declared.Answer.the-variants.{Done}
 use Rattle.files.specs.Plain.{left, doCreate}
 use Rattle.files.proofs.Plans.PlanFacts.{creates}
 use borrow.Author.Needs.{needs}
-use Rattle.files.proofs.plain.made.Statement.{statement}
-use Rattle.files.proofs.plain.made.Tie as tie
+use Rattle.files.proofs.plain.do_create.Statement.{statement}
+use Rattle.files.proofs.plain.do_create.Tie as tie
 
 create-plan-requires : tie.Need-create-plan-requires
 create-plan-requires c κs = search needs
@@ -42,8 +42,8 @@ returns-2 c =
     let a = c .before .before .before .before .before .before .before .args in
     ap (doCreate (now (a .s)) (a .n) (a .d) (now (a .name)) (a .kind)) (sym (c .before .why .given .1) ∙ c .before .before .before .create-plan .ensures)
 
-pub made-spec : {M : Type 1} → statement M
-made-spec =
+pub do-create-spec : {M : Type 1} → statement M
+do-create-spec =
     tie.close
     (tie.spec
     create-plan-requires

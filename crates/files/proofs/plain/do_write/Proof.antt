@@ -5,8 +5,8 @@ use denote.Ref.{now}
 use Rattle.answers.specs.declared.Answer.the-variants.{Done}
 use Rattle.files.specs.Plain.{left, doWrite}
 use borrow.Author.Needs.{needs}
-use Rattle.files.proofs.plain.wrote.Statement.{statement}
-use Rattle.files.proofs.plain.wrote.Tie as tie
+use Rattle.files.proofs.plain.do_write.Statement.{statement}
+use Rattle.files.proofs.plain.do_write.Tie as tie
 
 write-plan-requires : tie.Need-write-plan-requires
 write-plan-requires c κs = search needs
@@ -37,8 +37,8 @@ returns-2 c =
     let a = c .before .before .before .before .before .before .before .args in
     ap (doWrite (now (a .s)) (a .n) (a .b) (a .i) (a .o) (now (a .xs))) (sym (c .before .why .given .1) ∙ c .before .before .before .write-plan .ensures)
 
-pub wrote-spec : {M : Type 1} → statement M
-wrote-spec =
+pub do-write-spec : {M : Type 1} → statement M
+do-write-spec =
     tie.close
     (tie.spec
     write-plan-requires

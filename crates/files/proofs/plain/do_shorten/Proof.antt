@@ -4,12 +4,12 @@ use mathlib.Core.List.{List, []}
 use denote.Ref.{now}
 use Rattle.answers.specs.declared.Answer.the-variants.{Done}
 use Rattle.files.specs.Plan.{shortenPlan}
-use Rattle.files.specs.declared.SizePlan.the-variants.{To}
+use Rattle.files.specs.declared.NumberPlan.the-variants.{To}
 use Rattle.files.specs.Plain.{left, doShorten}
 use Rattle.files.proofs.Plans.PlanFacts.{shortens}
 use borrow.Author.Needs.{needs}
-use Rattle.files.proofs.plain.shortened.Statement.{statement}
-use Rattle.files.proofs.plain.shortened.Tie as tie
+use Rattle.files.proofs.plain.do_shorten.Statement.{statement}
+use Rattle.files.proofs.plain.do_shorten.Tie as tie
 
 shorten-plan-requires : tie.Need-shorten-plan-requires
 shorten-plan-requires c κs = search needs
@@ -43,8 +43,8 @@ same-length-2 c = search needs
 returns-2 : tie.Need-returns-2
 returns-2 c = let a = c .before .before .before .before .before .before .args in ap (doShorten (now (a .s)) (a .n) (a .i)) (sym (c .before .why .given .1) ∙ c .before .before .before .shorten-plan .ensures)
 
-pub shortened-spec : {M : Type 1} → statement M
-shortened-spec =
+pub do-shorten-spec : {M : Type 1} → statement M
+do-shorten-spec =
     tie.close
     (tie.spec
     shorten-plan-requires

@@ -7,8 +7,8 @@ use Rattle.answers.specs.declared.Answer.the-variants.{Done}
 use Rattle.files.specs.Plain.{left, doLink}
 use Rattle.files.proofs.Plans.PlanFacts.{links}
 use borrow.Author.Needs.{needs}
-use Rattle.files.proofs.plain.linked.Statement.{statement}
-use Rattle.files.proofs.plain.linked.Tie as tie
+use Rattle.files.proofs.plain.do_link.Statement.{statement}
+use Rattle.files.proofs.plain.do_link.Tie as tie
 
 link-plan-requires : tie.Need-link-plan-requires
 link-plan-requires c κs = search needs
@@ -42,8 +42,8 @@ returns-2 c =
     let a = c .before .before .before .before .before .before .before .args in
     ap (doLink (now (a .s)) (a .n) (a .d) (now (a .name)) (a .i)) (sym (c .before .why .given .1) ∙ c .before .before .before .link-plan .ensures)
 
-pub linked-spec : {M : Type 1} → statement M
-linked-spec =
+pub do-link-spec : {M : Type 1} → statement M
+do-link-spec =
     tie.close
     (tie.spec
     link-plan-requires

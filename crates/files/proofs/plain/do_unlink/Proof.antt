@@ -9,8 +9,8 @@ use Rattle.files.specs.Plain.{left, doUnlink}
 use Rattle.files.proofs.Plans.PlanFacts.{unlinks}
 use Rattle.files.proofs.Kept.SlotPlaceLaws.{found-here}
 use borrow.Author.Needs.{needs}
-use Rattle.files.proofs.plain.unlinked.Statement.{statement}
-use Rattle.files.proofs.plain.unlinked.Tie as tie
+use Rattle.files.proofs.plain.do_unlink.Statement.{statement}
+use Rattle.files.proofs.plain.do_unlink.Tie as tie
 
 unlink-plan-requires : tie.Need-unlink-plan-requires
 unlink-plan-requires c κs = search needs
@@ -45,8 +45,8 @@ same-length-2 c = search needs
 returns-2 : tie.Need-returns-2
 returns-2 c = let a = c .before .before .before .before .before .before .before .args in ap (doUnlink (now (a .s)) (a .n) (a .d)) (sym (c .before .why .given .1) ∙ c .before .before .before .unlink-plan .ensures)
 
-pub unlinked-spec : {M : Type 1} → statement M
-unlinked-spec =
+pub do-unlink-spec : {M : Type 1} → statement M
+do-unlink-spec =
     tie.close
     (tie.spec
     unlink-plan-requires
