@@ -4,7 +4,7 @@ ghost use mathlib.Core.Bool.{Bool, true};
 ghost use Prim.Native.Nat.{ℕ, _+_, _*_, _<_, _≤_};
 ghost use lib.ListN.{length};
 ghost use Rattle.bounded.specs.Seen.{Seen};
-ghost use Rattle.layout.specs.Sizes.{rootInode, addressCount, mostImageBlocks};
+ghost use Rattle.layout.specs.Sizes.{mostImageBlocks, addressCount, rootInode};
 ghost use Rattle.layout.specs.Inode.{InodeFits, addressOf};
 ghost use Rattle.sound.specs.Sound.{inodesIn, blocksIn, Framed, framedB, headerB, freeCountsB, bodyB, soundB, isSound};
 use crate::Form;
@@ -73,7 +73,7 @@ fn header_right(s: &[u8], n: usize) -> bool
 
 // The free counts are true.
 fn counts_right(s: &[u8], n: usize, b: usize, map: &[u8]) -> bool
-    requires { ⌜ Framed mostImageBlocks (now s) × (n ≡ inodesIn (now s)) × (b ≡ blocksIn (now s)) × Seen (addressOf (now s) n) 4097 (addressCount * n) (now map) ⌝ }
+    requires { ⌜ Framed mostImageBlocks (now s) × (n ≡ inodesIn (now s)) × (b ≡ blocksIn (now s)) × Seen (addressOf (now s) n) (mostImageBlocks + 1) (addressCount * n) (now map) ⌝ }
     ensures { λ r. ⌜ r ≡ freeCountsB (now (s .entry)) ⌝ }
 {
     let h = Header::read(s);

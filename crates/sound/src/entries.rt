@@ -6,6 +6,7 @@ ghost use lib.Dec.{eqb};
 ghost use lib.ListN.{length, getD, replicate};
 ghost use Rattle.bounded.specs.Below.{allBelow};
 ghost use Rattle.bounded.specs.Count.{Tallied};
+ghost use Rattle.layout.specs.Sizes.{mostInodes};
 ghost use Rattle.layout.specs.Inode.{kindOf, directoryKind};
 ghost use Rattle.directory.specs.Slot.{DirFits, mostSlots, slots, slotAt};
 ghost use Rattle.sound.specs.Place.{naming};
@@ -49,7 +50,7 @@ fn entry_named(s: &[u8], n: usize, d: usize, t: usize, o: usize) -> bool
 
 // No slot before t has the name of slot t.
 fn name_new(low: &[u64], high: &[u64], t: usize) -> bool
-    requires { ⌜ (t < 48) × (length (now low) ≡ 48) × (length (now high) ≡ 48) ⌝ }
+    requires { ⌜ (t < mostSlots) × (length (now low) ≡ mostSlots) × (length (now high) ≡ mostSlots) ⌝ }
     ensures { λ r. ⌜ r ≡ allBelow (λ u. not (eqb (getD (now (low .entry)) u 0) (getD (now (low .entry)) t 0) && eqb (getD (now (high .entry)) u 0) (getD (now (high .entry)) t 0))) t ⌝ }
 {
     for u in 0..t {
@@ -134,8 +135,8 @@ fn directory_right(
     high: &mut [u64],
     counts: &mut [u16],
 ) -> bool
-    requires { ⌜ DirFits (now s) n d × (length (now low) ≡ 48) × (length (now high) ≡ 48) × Tallied (naming (now s) n) 1 257 (mostSlots * (d - 1)) (now counts) ⌝ }
-    ensures { λ r. ⌜ (r ≡ allBelow (λ t. entryB (now (s .entry)) n (placeOf d t)) mostSlots) × (r ≡ true → Tallied (naming (now (s .entry)) n) 1 257 (mostSlots * d) (now (counts .exit))) ⌝ }
+    requires { ⌜ DirFits (now s) n d × (length (now low) ≡ mostSlots) × (length (now high) ≡ mostSlots) × Tallied (naming (now s) n) 1 (mostInodes + 1) (mostSlots * (d - 1)) (now counts) ⌝ }
+    ensures { λ r. ⌜ (r ≡ allBelow (λ t. entryB (now (s .entry)) n (placeOf d t)) mostSlots) × (r ≡ true → Tallied (naming (now (s .entry)) n) 1 (mostInodes + 1) (mostSlots * d) (now (counts .exit))) ⌝ }
 {
     if inode::kind(s, n, d) != DIRECTORY {
         return true;
@@ -151,8 +152,8 @@ fn directory_right(
 
 // Every entry is right; counts, which comes in zero, then has how often each inode is named.
 pub fn entries_right(s: &[u8], n: usize, counts: &mut [u16]) -> bool
-    requires { ⌜ (n ≤ 256) × ((d : ℕ) → 1 ≤ d → d ≤ n → DirFits (now s) n d) × (now counts ≡ replicate 257 0) ⌝ }
-    ensures { λ r. ⌜ (r ≡ allBelow (entryB (now (s .entry)) n) (mostSlots * n)) × (r ≡ true → Tallied (naming (now (s .entry)) n) 1 257 (mostSlots * n) (now (counts .exit))) ⌝ }
+    requires { ⌜ (n ≤ mostInodes) × ((d : ℕ) → 1 ≤ d → d ≤ n → DirFits (now s) n d) × (now counts ≡ replicate (mostInodes + 1) 0) ⌝ }
+    ensures { λ r. ⌜ (r ≡ allBelow (entryB (now (s .entry)) n) (mostSlots * n)) × (r ≡ true → Tallied (naming (now (s .entry)) n) 1 (mostInodes + 1) (mostSlots * n) (now (counts .exit))) ⌝ }
 {
     let mut low = [0u64; 48];
     let mut high = [0u64; 48];

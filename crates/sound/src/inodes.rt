@@ -7,7 +7,7 @@ ghost use lib.ListN.{length, getD, replicate};
 ghost use Rattle.bounded.specs.Below.{allBelow};
 ghost use Rattle.bounded.specs.Count.{count, differB};
 ghost use Rattle.bounded.specs.Seen.{Seen};
-ghost use Rattle.layout.specs.Sizes.{addressCount, mostImageBlocks};
+ghost use Rattle.layout.specs.Sizes.{headerBytes, mostInodes, mostImageBlocks, addressCount, inodeBytes};
 ghost use Rattle.layout.specs.Inode.{InodeFits, sizeOf, addressOf, place};
 ghost use Rattle.layout.specs.Block.{Sized, blocksUsed};
 ghost use Rattle.sound.specs.Inode.{attributesB, addressesB, zeroTailB, inodeB};
@@ -64,8 +64,8 @@ fn address_right(
     map: &mut [u8],
 ) -> bool
     requires { ⌜ InodeFits (now s) n i × (k < addressCount) × (used ≡ blocksUsed (sizeOf (now s) i)) × (b ≤ mostImageBlocks) ⌝ }
-    requires { ⌜ Seen (addressOf (now s) n) 4097 (place i k) (now map) ⌝ }
-    ensures { λ r. ⌜ (r ≡ addressB (now (s .entry)) n b i k) × (r ≡ true → Seen (addressOf (now (s .entry)) n) 4097 (place i k + 1) (now (map .exit))) ⌝ }
+    requires { ⌜ Seen (addressOf (now s) n) (mostImageBlocks + 1) (place i k) (now map) ⌝ }
+    ensures { λ r. ⌜ (r ≡ addressB (now (s .entry)) n b i k) × (r ≡ true → Seen (addressOf (now (s .entry)) n) (mostImageBlocks + 1) (place i k + 1) (now (map .exit))) ⌝ }
 {
     let a = block::kth_block(s, n, i, k) as usize;
     if used <= k {
@@ -87,8 +87,8 @@ fn address_right(
 
 // The twelve addresses of inode i.
 fn addresses_right(s: &[u8], n: usize, b: usize, i: usize, map: &mut [u8]) -> bool
-    requires { ⌜ InodeFits (now s) n i × (b ≤ mostImageBlocks) × Seen (addressOf (now s) n) 4097 (place i 0) (now map) ⌝ }
-    ensures { λ r. ⌜ (r ≡ addressesB (now (s .entry)) n b i && newBlocksB (now (s .entry)) n i) × (r ≡ true → Seen (addressOf (now (s .entry)) n) 4097 (addressCount * i) (now (map .exit))) ⌝ }
+    requires { ⌜ InodeFits (now s) n i × (b ≤ mostImageBlocks) × Seen (addressOf (now s) n) (mostImageBlocks + 1) (place i 0) (now map) ⌝ }
+    ensures { λ r. ⌜ (r ≡ addressesB (now (s .entry)) n b i && newBlocksB (now (s .entry)) n i) × (r ≡ true → Seen (addressOf (now (s .entry)) n) (mostImageBlocks + 1) (addressCount * i) (now (map .exit))) ⌝ }
 {
     let used = block::blocks_used(inode::size(s, n, i) as usize);
     for k in 0..ADDRESS_COUNT {
@@ -154,8 +154,8 @@ fn zero_tail(s: &[u8], n: usize, b: usize, i: usize) -> bool
 }
 
 fn inode_right(s: &[u8], n: usize, b: usize, i: usize, map: &mut [u8]) -> bool
-    requires { ⌜ Sized (now s) n b × InodeFits (now s) n i × Seen (addressOf (now s) n) 4097 (place i 0) (now map) ⌝ }
-    ensures { λ r. ⌜ (r ≡ inodeB (now (s .entry)) n b i && newBlocksB (now (s .entry)) n i) × (r ≡ true → Seen (addressOf (now (s .entry)) n) 4097 (addressCount * i) (now (map .exit))) ⌝ }
+    requires { ⌜ Sized (now s) n b × InodeFits (now s) n i × Seen (addressOf (now s) n) (mostImageBlocks + 1) (place i 0) (now map) ⌝ }
+    ensures { λ r. ⌜ (r ≡ inodeB (now (s .entry)) n b i && newBlocksB (now (s .entry)) n i) × (r ≡ true → Seen (addressOf (now (s .entry)) n) (mostImageBlocks + 1) (addressCount * i) (now (map .exit))) ⌝ }
 {
     if !attributes_right(s, n, i) {
         return false;
@@ -168,8 +168,8 @@ fn inode_right(s: &[u8], n: usize, b: usize, i: usize, map: &mut [u8]) -> bool
 
 // Every inode is right, and no block is named twice; the map, which comes in zero, then has the blocks that are named.
 pub fn inodes_right(s: &[u8], n: usize, b: usize, map: &mut [u8]) -> bool
-    requires { ⌜ Sized (now s) n b × (now map ≡ replicate 4097 0) ⌝ }
-    ensures { λ r. ⌜ (r ≡ allBelow (λ k. inodeB (now (s .entry)) n b (k + 1)) n && differB (addressOf (now (s .entry)) n) (addressCount * n)) × (r ≡ true → Seen (addressOf (now (s .entry)) n) 4097 (addressCount * n) (now (map .exit))) ⌝ }
+    requires { ⌜ Sized (now s) n b × (now map ≡ replicate (mostImageBlocks + 1) 0) ⌝ }
+    ensures { λ r. ⌜ (r ≡ allBelow (λ k. inodeB (now (s .entry)) n b (k + 1)) n && differB (addressOf (now (s .entry)) n) (addressCount * n)) × (r ≡ true → Seen (addressOf (now (s .entry)) n) (mostImageBlocks + 1) (addressCount * n) (now (map .exit))) ⌝ }
 {
     for k in 0..n {
         if !inode_right(s, n, b, k + 1, &mut *map) {
@@ -181,7 +181,7 @@ pub fn inodes_right(s: &[u8], n: usize, b: usize, map: &mut [u8]) -> bool
 
 // How many inodes are free.
 pub fn free_inodes(s: &[u8], n: usize) -> usize
-    requires { ⌜ (n ≤ 256) × (16 + 32 * n ≤ length (now s)) ⌝ }
+    requires { ⌜ (n ≤ mostInodes) × (headerBytes + inodeBytes * n ≤ length (now s)) ⌝ }
     ensures { λ r. ⌜ r ≡ count (freeB (now (s .entry))) n ⌝ }
 {
     let mut free = 0;
@@ -195,7 +195,7 @@ pub fn free_inodes(s: &[u8], n: usize) -> usize
 
 // How many of the b blocks the map does not have.
 pub fn free_blocks(map: &[u8], b: usize) -> usize
-    requires { ⌜ (length (now map) ≡ 4097) × (b ≤ mostImageBlocks) ⌝ }
+    requires { ⌜ (length (now map) ≡ mostImageBlocks + 1) × (b ≤ mostImageBlocks) ⌝ }
     ensures { λ r. ⌜ r ≡ count (λ k. eqb (getD (now (map .entry)) (k + 1) 0) 0) b ⌝ }
 {
     let mut free = 0;
@@ -209,7 +209,7 @@ pub fn free_blocks(map: &[u8], b: usize) -> usize
 
 // The blocks that the map does not have are zero.
 pub fn blanks_right(s: &[u8], n: usize, b: usize, map: &[u8]) -> bool
-    requires { ⌜ Sized (now s) n b × Seen (addressOf (now s) n) 4097 (addressCount * n) (now map) ⌝ }
+    requires { ⌜ Sized (now s) n b × Seen (addressOf (now s) n) (mostImageBlocks + 1) (addressCount * n) (now map) ⌝ }
     ensures { λ r. ⌜ r ≡ allBelow (λ k. not (unnamedB (now (s .entry)) n k) || zeroBlockB (now (s .entry)) n k) b ⌝ }
 {
     for k in 0..b {

@@ -6,7 +6,7 @@ ghost use lib.ListN.{length, getD};
 ghost use Rattle.bounded.specs.Below.{allBelow};
 ghost use Rattle.bounded.specs.Count.{tally, Tallied};
 ghost use Rattle.bounded.specs.Climb.{Leads, leadsB, Closed};
-ghost use Rattle.layout.specs.Sizes.{rootInode};
+ghost use Rattle.layout.specs.Sizes.{headerBytes, mostInodes, inodeBytes, rootInode};
 ghost use Rattle.layout.specs.Inode.{InodeFits, kindOf, parentOf, directoryKind};
 ghost use Rattle.directory.specs.Slot.{mostSlots};
 ghost use Rattle.sound.specs.Place.{naming};
@@ -39,7 +39,7 @@ fn link_right(s: &[u8], n: usize, i: usize, count: u16) -> bool
 }
 
 pub fn links_right(s: &[u8], n: usize, counts: &[u16]) -> bool
-    requires { ⌜ (n ≤ 256) × (16 + 32 * n ≤ length (now s)) × Tallied (naming (now s) n) 1 257 (mostSlots * n) (now counts) ⌝ }
+    requires { ⌜ (n ≤ mostInodes) × (headerBytes + inodeBytes * n ≤ length (now s)) × Tallied (naming (now s) n) 1 (mostInodes + 1) (mostSlots * n) (now counts) ⌝ }
     ensures { λ r. ⌜ r ≡ allBelow (λ k. countedB (now (s .entry)) n (k + 1)) n ⌝ }
 {
     for k in 0..n {
@@ -52,7 +52,7 @@ pub fn links_right(s: &[u8], n: usize, counts: &[u16]) -> bool
 
 // From directory d up to one that is known to lead to the root, in at most n steps.
 fn climbs(s: &[u8], n: usize, d: usize, known: &[u8]) -> bool
-    requires { ⌜ (n ≤ 256) × (16 + 32 * n ≤ length (now s)) × IsDir (now s) n d × Known (now s) (now known) × Closed (IsDir (now s) n) (parentOf (now s)) rootInode n ⌝ }
+    requires { ⌜ (n ≤ mostInodes) × (headerBytes + inodeBytes * n ≤ length (now s)) × IsDir (now s) n d × Known (now s) (now known) × Closed (IsDir (now s) n) (parentOf (now s)) rootInode n ⌝ }
     ensures { λ r. ⌜ r ≡ leadsB (parentOf (now (s .entry))) rootInode n d ⌝ }
 {
     let mut at = d;
@@ -67,7 +67,7 @@ fn climbs(s: &[u8], n: usize, d: usize, known: &[u8]) -> bool
 
 // Directory d leads to the root: so does every directory from it up to one that is known.
 fn note_path(s: &[u8], n: usize, d: usize, known: &mut [u8])
-    requires { ⌜ (n ≤ 256) × (16 + 32 * n ≤ length (now s)) × IsDir (now s) n d × Known (now s) (now known) × Closed (IsDir (now s) n) (parentOf (now s)) rootInode n ⌝ }
+    requires { ⌜ (n ≤ mostInodes) × (headerBytes + inodeBytes * n ≤ length (now s)) × IsDir (now s) n d × Known (now s) (now known) × Closed (IsDir (now s) n) (parentOf (now s)) rootInode n ⌝ }
     requires { ⌜ Leads (parentOf (now s)) rootInode d ⌝ }
     ensures { λ _. ⌜ Known (now (s .entry)) (now (known .exit)) ⌝ }
 {
@@ -98,7 +98,7 @@ fn parent_right(s: &[u8], n: usize, d: usize, known: &mut [u8]) -> bool
 
 // Parents lead to the root: linear, since a path is followed only up to what is known.
 pub fn parents_right(s: &[u8], n: usize) -> bool
-    requires { ⌜ (1 ≤ n) × (n ≤ 256) × (16 + 32 * n ≤ length (now s)) × Closed (IsDir (now s) n) (parentOf (now s)) rootInode n ⌝ }
+    requires { ⌜ (1 ≤ n) × (n ≤ mostInodes) × (headerBytes + inodeBytes * n ≤ length (now s)) × Closed (IsDir (now s) n) (parentOf (now s)) rootInode n ⌝ }
     ensures { λ r. ⌜ r ≡ allBelow (λ k. leadB (now (s .entry)) n (k + 1)) n ⌝ }
 {
     let mut known = [0u8; 257];
