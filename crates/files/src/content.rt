@@ -9,15 +9,16 @@ ghost use Rattle.bounded.specs.declared.Found.the-variants.{At, Absent};
 ghost use Rattle.octets.specs.Octets.{splice};
 ghost use Rattle.layout.specs.Sizes.{headerBytes, addressCount, mostStoreBlocks, mostImageBlocks, blockBytes, mostFileBytes};
 ghost use Rattle.layout.specs.Header.{headerOf};
-ghost use Rattle.layout.specs.Inode.{InodeFits, sizeOf};
+ghost use Rattle.layout.specs.Inode.{InodeFits, sizeOf, inodeOf};
 ghost use Rattle.layout.specs.Block.{Sized, blocksUsed, kthBlock};
 ghost use Rattle.sound.specs.Sound.{Sound, inodesIn, blocksIn};
 ghost use Rattle.files.specs.declared.NumberPlan.the-variants.{To};
 ghost use Rattle.files.specs.Inode.{isFile, withBlocks, lessFree, moreFree};
 ghost use Rattle.files.specs.Fits.{byteAt, FileFits};
-ghost use Rattle.files.specs.Content.{fileBytes, putFile, addBlock, addBlocks, putSize, zeroRest, keepFirst, cutTo};
-ghost use Rattle.files.specs.Plan.{writePlan, shortenPlan};
+ghost use Rattle.files.specs.Content.{fileBytes, putFile, addBlock, addBlocks, putSize, zeroRest, keepFirst};
+ghost use Rattle.files.specs.Plan.{writePlan};
 ghost use Rattle.files.specs.Apply.{written, shortened};
+use crate::plan::lesser;
 use layout::block::block_at;
 use layout::block::blocks_used;
 use layout::block::kth_block;
@@ -25,7 +26,6 @@ use layout::block::zero_block;
 use layout::free::named_blocks;
 use layout::header::Header;
 use layout::header::put_free;
-use layout::inode;
 use layout::inode::Inode;
 use layout::sizes::BLOCK_BYTES;
 
@@ -41,8 +41,7 @@ fn byte_at(s: &[u8], n: usize, i: usize, x: usize) -> usize
 fn run(x: usize, k: usize) -> usize
     ensures { λ r. ⌜ r ≡ min k (blockBytes - x % blockBytes) ⌝ }
 {
-    let left = BLOCK_BYTES - x % BLOCK_BYTES;
-    if k < left { k } else { left }
+    lesser(k, BLOCK_BYTES - x % BLOCK_BYTES)
 }
 
 // The k bytes of file i from o on, to the start of out.
@@ -59,7 +58,7 @@ pub fn read_file(s: &[u8], n: usize, i: usize, o: usize, k: usize, out: &mut [u8
 }
 
 // The bytes xs, from byte o of inode i on.
-pub fn put_file(s: &mut [u8], n: usize, i: usize, o: usize, xs: &[u8])
+fn put_file(s: &mut [u8], n: usize, i: usize, o: usize, xs: &[u8])
     requires { ⌜ FileFits (now s) n i (o + length (now xs)) ⌝ }
     ensures { λ _. ⌜ now (s .exit) ≡ putFile (now (s .entry)) n i o (now (xs .entry)) ⌝ }
 {
@@ -129,9 +128,9 @@ fn keep_first(a: [u16; 12], k: usize) -> [u16; 12]
 }
 
 // Leaves the first z bytes of inode i: the blocks past them are free again.
-fn cut_to(s: &mut [u8], n: usize, i: usize, z: usize)
+pub fn shorten_file(s: &mut [u8], n: usize, i: usize, z: usize)
     requires { ⌜ Sound mostStoreBlocks false (now s) × (n ≡ inodesIn (now s)) × (isFile (now s) n i ≡ true) × (z ≤ sizeOf (now s) i) ⌝ }
-    ensures { λ _. ⌜ now (s .exit) ≡ cutTo (now (s .entry)) n i z ⌝ }
+    ensures { λ _. ⌜ now (s .exit) ≡ shortened (now (s .entry)) n i z ⌝ }
 {
     let old = Inode::read(s, n, i);
     let kept = blocks_used(z);
@@ -168,13 +167,12 @@ fn next_unnamed(map: &[u8; 4097], first: usize, last: usize) -> usize
     c
 }
 
-// The m lowest free blocks are the next of inode i, each zeroed first, and z is its size. One map tells them all, for a block that was taken is below those that are left.
-fn grow(s: &mut [u8], n: usize, b: usize, i: usize, m: usize, z: usize)
-    requires { ⌜ Sound mostStoreBlocks false (now s) × (n ≡ inodesIn (now s)) × (b ≡ blocksIn (now s)) × (isFile (now s) n i ≡ true) ⌝ }
+// The m lowest free blocks, each zeroed first, are the next of inode i, whose record is old; z is its size. One map tells them all, for a block that was taken is below those that are left.
+fn grow(s: &mut [u8], n: usize, b: usize, i: usize, old: Inode, m: usize, z: usize)
+    requires { ⌜ Sound mostStoreBlocks false (now s) × (n ≡ inodesIn (now s)) × (b ≡ blocksIn (now s)) × (isFile (now s) n i ≡ true) × (old ≡ inodeOf (now s) n i) ⌝ }
     requires { ⌜ (1 ≤ m) × (blocksUsed (sizeOf (now s) i) + m ≤ addressCount) × (m ≤ headerOf (now s) .«free_blocks») × (z ≤ mostFileBytes) ⌝ }
     ensures { λ _. ⌜ now (s .exit) ≡ putSize (addBlocks (now (s .entry)) n b i m) n i z ⌝ }
 {
-    let old = Inode::read(s, n, i);
     let used = blocks_used(old.size as usize);
     let map = named_blocks(s, n);
     let mut a = old.addresses;
@@ -188,27 +186,28 @@ fn grow(s: &mut [u8], n: usize, b: usize, i: usize, m: usize, z: usize)
     less_free(&mut *s, 0, m as u16);
 }
 
-fn put_size(s: &mut [u8], n: usize, i: usize, z: usize)
-    requires { ⌜ InodeFits (now s) n i × (z ≤ mostFileBytes) ⌝ }
+// The size z for inode i, whose record is old; its addresses stay.
+fn put_size(s: &mut [u8], n: usize, i: usize, old: Inode, z: usize)
+    requires { ⌜ InodeFits (now s) n i × (old ≡ inodeOf (now s) n i) × (z ≤ mostFileBytes) ⌝ }
     ensures { λ _. ⌜ now (s .exit) ≡ putSize (now (s .entry)) n i z ⌝ }
 {
-    let old = Inode::read(s, n, i);
     let a = old.addresses;
     with_blocks(old, z, a).write_attributes(&mut *s, n, i);
 }
 
-// The size z with the blocks that it needs.
+// The size z with the blocks that it needs. The record is read here alone, changed by value and written once.
 fn extend(s: &mut [u8], n: usize, b: usize, i: usize, z: usize)
     requires { ⌜ Sound mostStoreBlocks false (now s) × (n ≡ inodesIn (now s)) × (b ≡ blocksIn (now s)) × (isFile (now s) n i ≡ true) ⌝ }
     requires { ⌜ (sizeOf (now s) i ≤ z) × (z ≤ mostFileBytes) × (blocksUsed z - blocksUsed (sizeOf (now s) i) ≤ headerOf (now s) .«free_blocks») ⌝ }
     ensures { λ _. ⌜ now (s .exit) ≡ putSize (addBlocks (now (s .entry)) n b i (blocksUsed z - blocksUsed (sizeOf (now (s .entry)) i))) n i z ⌝ }
 {
-    let more = blocks_used(z) - blocks_used(inode::size(s, n, i) as usize);
+    let old = Inode::read(s, n, i);
+    let more = blocks_used(z) - blocks_used(old.size as usize);
     if more == 0 {
-        put_size(&mut *s, n, i, z);
+        put_size(&mut *s, n, i, old, z);
         return;
     }
-    grow(&mut *s, n, b, i, more, z);
+    grow(&mut *s, n, b, i, old, more, z);
 }
 
 // The bytes xs from o on, as planned: z is the new size.
@@ -218,12 +217,4 @@ pub fn write_file(s: &mut [u8], n: usize, b: usize, i: usize, o: usize, xs: &[u8
 {
     extend(&mut *s, n, b, i, z);
     put_file(&mut *s, n, i, o, xs);
-}
-
-// The size z, as planned.
-pub fn shorten_file(s: &mut [u8], n: usize, i: usize, z: usize)
-    requires { ⌜ Sound mostStoreBlocks false (now s) × (n ≡ inodesIn (now s)) × (shortenPlan (now s) n i z ≡ To z) ⌝ }
-    ensures { λ _. ⌜ now (s .exit) ≡ shortened (now (s .entry)) n i z ⌝ }
-{
-    cut_to(&mut *s, n, i, z);
 }

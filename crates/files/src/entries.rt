@@ -1,12 +1,12 @@
 // Entries made, taken and moved, as planned: the bytes of create, link, unlink and rename. n and b are the store's counts.
 ghost use mathlib.Core.Path.{_≡_};
 ghost use mathlib.Core.Bool.{true, false};
-ghost use Prim.Native.Nat.{ℕ, _+_, _<_, _≤_};
+ghost use Prim.Native.Nat.{_<_, _≤_};
 ghost use lib.ListN.{length};
 ghost use Rattle.bounded.specs.declared.Found.the-variants.{At};
-ghost use Rattle.layout.specs.Sizes.{mostInodes, mostStoreBlocks, mostFileBytes};
+ghost use Rattle.layout.specs.Sizes.{mostInodes, mostStoreBlocks};
 ghost use Rattle.layout.specs.Header.{headerOf};
-ghost use Rattle.layout.specs.Inode.{InodeFits, sizeOf, linksOf, putInode};
+ghost use Rattle.layout.specs.Inode.{InodeFits, sizeOf, putInode};
 ghost use Rattle.layout.specs.Block.{blocksUsed};
 ghost use Rattle.layout.specs.Free.{freeInode};
 ghost use Rattle.names.specs.Name.{nameBytes};
@@ -26,6 +26,7 @@ use layout::inode;
 use layout::inode::Inode;
 use layout::sizes::DIRECTORY;
 use layout::sizes::FILE;
+use layout::sizes::FREE;
 
 // The directory takes its block first, where the room has one.
 fn make_room(s: &mut [u8], n: usize, b: usize, d: usize, room: Room)
@@ -74,7 +75,16 @@ fn new_inode(kind: Kind, d: usize) -> Inode
 }
 
 // Inode i is made, and has an entry in the room.
-pub fn create(s: &mut [u8], n: usize, b: usize, d: usize, name: &[u8], kind: Kind, i: usize, room: Room)
+pub fn create(
+    s: &mut [u8],
+    n: usize,
+    b: usize,
+    d: usize,
+    name: &[u8],
+    kind: Kind,
+    i: usize,
+    room: Room,
+)
     requires { ⌜ Sound mostStoreBlocks false (now s) × (n ≡ inodesIn (now s)) × (b ≡ blocksIn (now s)) × (isDirectory (now s) n d ≡ true) × (roomIn (now s) n b d ≡ Has room) ⌝ }
     requires { ⌜ (freeInode (now s) n ≡ At i) × (length (now name) ≤ nameBytes) ⌝ }
     ensures { λ _. ⌜ now (s .exit) ≡ created (now (s .entry)) n d (now (name .entry)) kind i room ⌝ }
@@ -99,7 +109,7 @@ fn zero_inode() -> Inode
     ensures { λ r. ⌜ r ≡ zeroInode ⌝ }
 {
     Inode {
-        kind: 0,
+        kind: FREE,
         links: 0,
         size: 0,
         parent: 0,
@@ -166,14 +176,25 @@ fn set_parent(s: &mut [u8], n: usize, i: usize, e: usize)
     requires { ⌜ InodeFits (now s) n i × (e ≤ mostInodes) ⌝ }
     ensures { λ _. ⌜ now (s .exit) ≡ setParent (now (s .entry)) n i e ⌝ }
 {
-    if inode::kind(s, n, i) != DIRECTORY {
+    let old = Inode::read(s, n, i);
+    if old.kind != DIRECTORY {
         return;
     }
-    with_parent(Inode::read(s, n, i), e).write_attributes(&mut *s, n, i);
+    with_parent(old, e).write_attributes(&mut *s, n, i);
 }
 
 // The entry in slot t of d, which names i, goes to the room in e under another name.
-pub fn move_entry(s: &mut [u8], n: usize, b: usize, d: usize, e: usize, other: &[u8], t: usize, i: usize, room: Room)
+pub fn move_entry(
+    s: &mut [u8],
+    n: usize,
+    b: usize,
+    d: usize,
+    e: usize,
+    other: &[u8],
+    t: usize,
+    i: usize,
+    room: Room,
+)
     requires { ⌜ Sound mostStoreBlocks false (now s) × (n ≡ inodesIn (now s)) × (b ≡ blocksIn (now s)) × (isDirectory (now s) n e ≡ true) × (roomIn (now s) n b e ≡ Has room) ⌝ }
     requires { ⌜ (isDirectory (now s) n d ≡ true) × (t < slots (now s) d) × (1 ≤ i) × (i ≤ n) × (length (now other) ≤ nameBytes) ⌝ }
     ensures { λ _. ⌜ now (s .exit) ≡ moved (now (s .entry)) n d e (now (other .entry)) t i room ⌝ }

@@ -147,15 +147,19 @@ module _ (s : List ℕ) (n i : ℕ) where
   unfolding dropLink
   other-link x e l = rw (lt-leb (linksOf s i) 1 (omega arith), e)
 
--- ---- a directory's parent
-module _ (s : List ℕ) (n i e : ℕ) where
-  pub parent-file : (kindOf s i ≡ directoryKind → ⊥) → s ≡ setParent s n i e
-  unfolding setParent
-  parent-file h = rw (ne-eqb (kindOf s i) directoryKind h)
+-- ---- a directory's parent, where v was read
+module _ (s : List ℕ) (n i e : ℕ) (v : Inode) (q : v ≡ inodeOf s n i) where
+  kind-is : v .kind ≡ kindOf s i
+  unfolding inodeOf
+  kind-is = ap (λ (w : Inode). w .kind) q
 
-  pub parent-directory : kindOf s i ≡ directoryKind → putAttributes s i (withParent (inodeOf s n i) e) ≡ setParent s n i e
+  pub parent-file : (v .kind ≡ directoryKind → ⊥) → s ≡ setParent s n i e
   unfolding setParent
-  parent-directory h = rw (eq-eqb (kindOf s i) directoryKind h)
+  parent-file h = rw (ne-eqb (kindOf s i) directoryKind (λ x. h (kind-is ∙ x)))
+
+  pub parent-directory : v .kind ≡ directoryKind → (w : Inode) (r : List ℕ) → w ≡ withParent v e → r ≡ putAttributes s i w → r ≡ setParent s n i e
+  unfolding setParent
+  parent-directory h w r ew er = rw (eq-eqb (kindOf s i) directoryKind (sym kind-is ∙ h), er, ew, q)
 
 -- the new inode written: one that is free is there to be counted off
 pub create-counts : (s : List ℕ) (n b d : ℕ) (r : Room) (h : Sound mostStoreBlocks false s) → n ≡ inodesIn s → b ≡ blocksIn s → isDirectory s n d ≡ true → roomIn s n b d ≡ Has r → (i : ℕ) (name t : List ℕ) → t ≡ enter s n d r i name

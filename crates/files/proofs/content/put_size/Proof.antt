@@ -4,9 +4,6 @@ use borrow.Author.Needs.{needs}
 use Rattle.files.proofs.content.put_size.Statement.{statement}
 use Rattle.files.proofs.content.put_size.Tie as tie
 
-read-requires : tie.Need-read-requires
-read-requires c κs = search needs
-
 with-blocks-requires : tie.Need-with-blocks-requires
 with-blocks-requires c κs = search needs
 
@@ -18,9 +15,9 @@ same-length c = search needs
 
 returns : tie.Need-returns
 unfolding putSize
-returns c = c .before .before .write-attributes .ensures ∙ rw (c .before .before .before .before .with-blocks .ensures, c .before .before .before .before .before .before .read .ensures)
+returns c = c .before .before .write-attributes .ensures ∙ rw (c .before .before .before .before .with-blocks .ensures, c .before .before .before .before .before .before .before .pre .1)
 
 pub put-size-spec : {M : Type 1} → statement M
 put-size-spec =
     tie.close
-    (tie.spec read-requires with-blocks-requires write-attributes-requires same-length returns)
+    (tie.spec with-blocks-requires write-attributes-requires same-length returns)

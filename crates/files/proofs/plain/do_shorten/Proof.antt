@@ -1,10 +1,9 @@
 use Prim.Native.Nat.{ℕ}
-use mathlib.Core.Path.{_≡_, subst, sym, ap, _∙_}
+use mathlib.Core.Path.{sym, ap, _∙_}
 use mathlib.Core.List.{List, []}
+use native.Mathlib.Omega.{arith}
 use denote.Ref.{now}
 use Rattle.answers.specs.declared.Answer.the-variants.{Done}
-use Rattle.files.specs.Plan.{shortenPlan}
-use Rattle.files.specs.declared.NumberPlan.the-variants.{To}
 use Rattle.files.specs.Plain.{left, doShorten}
 use Rattle.files.proofs.Plans.PlanFacts.{shortens}
 use borrow.Author.Needs.{needs}
@@ -20,10 +19,11 @@ enum-known-y c = search needs
 shorten-file-requires : tie.Need-shorten-file-requires
 shorten-file-requires c κs =
     let p = c .before .before .before .before .before .before .before .pre in
-    let a = c .before .before .before .before .before .before .before .args in
     let e = sym (c .before .before .before .before .shorten-plan .ensures) ∙ c .before .before .y .given .1 in
     let f = shortens _ _ _ _ _ e in
-    (p .0, p .1, subst (λ (z : ℕ). shortenPlan (now (a .s)) (a .n) (a .i) z ≡ To (c .before .before .y .given .0 .0)) (sym (f .size)) e)
+    let l = f .inside in
+    let g = f .size in
+    (p .0, p .1, f .file, omega arith)
 
 enum-known-why : tie.Need-enum-known-why
 enum-known-why c = search needs
