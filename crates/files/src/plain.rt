@@ -12,8 +12,8 @@ use crate::CreatePlan;
 use crate::Guard;
 use crate::Kind;
 use crate::LinkPlan;
-use crate::RenamePlan;
 use crate::NumberPlan;
+use crate::RenamePlan;
 use crate::UnlinkPlan;
 use crate::content;
 use crate::entries;
@@ -197,7 +197,15 @@ pub fn unlink(store: &mut [u8], dir: usize, name: &[u8]) -> Answer
 }
 
 // ---- rename
-fn do_rename(s: &mut [u8], n: usize, b: usize, d: usize, name: &[u8], e: usize, other: &[u8]) -> Answer
+fn do_rename(
+    s: &mut [u8],
+    n: usize,
+    b: usize,
+    d: usize,
+    name: &[u8],
+    e: usize,
+    other: &[u8],
+) -> Answer
     requires { ⌜ Sound mostStoreBlocks false (now s) × (n ≡ inodesIn (now s)) × (b ≡ blocksIn (now s)) ⌝ }
     ensures { λ r. ⌜ left r (now (s .exit)) [] ≡ doRename (now (s .entry)) n d e (now (other .entry)) (renamePlan (now (s .entry)) n b d (now (name .entry)) e (now (other .entry))) ⌝ }
 {
