@@ -1,4 +1,4 @@
--- "64-bit FNV-1a checksums (offset basis cbf29ce484222325, prime 100000001b3)"
+-- The 64-bit FNV-1a checksum: offset basis cbf29ce484222325, prime 100000001b3.
 use Prim.Native.Nat.{ℕ, zero, suc, _*_, _%_, _^_}
 use mathlib.Core.List.{List}
 use lib.Bits.{bitXor}

@@ -1,4 +1,4 @@
--- "the answer, ` | `, and three checksums": the line that answers a command.
+-- The line that answers a command: the answer, ` | ` and three checksums.
 use Prim.Native.Nat.{ℕ}
 use mathlib.Core.Bool.{Bool, true, false}
 use mathlib.Core.List.{List, [], _∷_, _++_}
@@ -20,7 +20,7 @@ okText = 111 ∷ (107 ∷ (32 ∷ []))
 abbrev pub noText : List ℕ
 noText = 110 ∷ (111 ∷ (32 ∷ []))
 
--- "`ok` and the answer's numbers, or `no` and the number"
+-- `ok` and the answer's number, or `no` and the refusal's
 unfoldable pub toldText : Answer → List ℕ
 toldText (Done n) = okText ++ decimalText n
 toldText (Refused e) = noText ++ decimalText (refusalNumber e)

@@ -1,4 +1,4 @@
--- "numbers are decimal": one or more digits, of any count. A number beyond the largest usize counts as that one, so that no number wraps.
+-- "Numbers are in base ten": one or more digits, of any count. A number beyond the largest usize counts as that one, so that no number wraps.
 use Prim.Native.Nat.{ℕ, zero, suc, _+_, _-_, _*_, min}
 use mathlib.Core.Bool.{Bool, _&&_}
 use mathlib.Core.List.{List}
