@@ -1,6 +1,6 @@
 // The desk: its header as a struct by value whose methods hand back the next state, its copied bytes and its mark words.
 ghost use mathlib.Core.Path.{_≡_};
-ghost use Prim.Native.Nat.{ℕ, _+_, _*_, _<_, _≤_};
+ghost use Prim.Native.Nat.{_+_, _<_, _≤_};
 ghost use lib.ListN.{length};
 ghost use Rattle.desk.specs.Sizes.{deskHeaderBytes, deskLength};
 ghost use Rattle.desk.specs.Desk.{deskOf, putDesk, reservedZero, copiedOf, putCopied, marksOf, putMarks, markOf, setMark, clearMark, clearNotes};

@@ -1,7 +1,6 @@
 // The slots of a directory: entries read, searched and written. The 16 bytes of a slot, starting mid-block, are handed to the entry's functions.
 ghost use mathlib.Core.Path.{_≡_};
-ghost use mathlib.Core.Bool.{Bool};
-ghost use Prim.Native.Nat.{ℕ, _+_, _*_, _<_, _≤_};
+ghost use Prim.Native.Nat.{_+_, _*_, _<_, _≤_};
 ghost use lib.ListN.{length};
 ghost use Rattle.octets.specs.Octets.{part};
 ghost use Rattle.bounded.specs.Search.{first};

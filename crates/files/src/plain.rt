@@ -1,6 +1,6 @@
 // The eight file calls on a store alone. Any bytes may be lent and any numbers handed in; a refused call changes nothing.
 ghost use mathlib.Core.Path.{_≡_};
-ghost use mathlib.Core.Bool.{true, false};
+ghost use mathlib.Core.Bool.{false};
 ghost use mathlib.Core.List.{[]};
 ghost use lib.ListN.{length};
 ghost use Rattle.layout.specs.Sizes.{mostStoreBlocks};

@@ -1,7 +1,7 @@
 // What each file call is to do on a sound store, decided before any byte changes. n and b are the store's counts.
 ghost use mathlib.Core.Path.{_≡_};
 ghost use mathlib.Core.Bool.{true, false};
-ghost use Prim.Native.Nat.{ℕ, _+_, _<_, _≤_, min, max};
+ghost use Prim.Native.Nat.{_≤_, min, max};
 ghost use lib.ListN.{length};
 ghost use Rattle.bounded.specs.Climb.{leadsB};
 ghost use Rattle.layout.specs.Sizes.{mostStoreBlocks};

@@ -1,6 +1,6 @@
 // The two layout calls: a store with an empty root, and a desk that is idle.
 ghost use mathlib.Core.Path.{_≡_};
-ghost use Prim.Native.Nat.{ℕ, _≤_};
+ghost use Prim.Native.Nat.{_≤_};
 ghost use lib.ListN.{length};
 ghost use Rattle.layout.specs.Sizes.{mostInodes, mostStoreBlocks};
 ghost use Rattle.format.specs.Format.{left, storeAllowed, deskAllowed, freshHeader, emptyRoot, layOutStore, layOutDesk};
@@ -13,6 +13,7 @@ use desk::IDLE;
 use layout::block::store_length;
 use layout::header::Header;
 use layout::inode::Inode;
+use layout::sizes::COMPLETE;
 use layout::sizes::DIRECTORY;
 use layout::sizes::MOST_INODES;
 use layout::sizes::MOST_STORE_BLOCKS;
@@ -46,7 +47,7 @@ fn fresh_header(n: usize, b: usize) -> Header
         blocks: b as u16,
         free_inodes: (n - 1) as u16,
         free_blocks: b as u16,
-        complete: 1,
+        complete: COMPLETE,
         root: ROOT as u16,
     }
 }

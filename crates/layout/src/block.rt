@@ -1,7 +1,6 @@
 // Blocks: where they stand, how many a size uses, and which an inode uses.
 ghost use mathlib.Core.Path.{_≡_};
-ghost use Prim.Native.Nat.{ℕ, _+_, _*_, _<_, _≤_};
-ghost use lib.ListN.{length};
+ghost use Prim.Native.Nat.{_<_, _≤_};
 ghost use Rattle.layout.specs.Sizes.{addressCount, mostInodes, mostImageBlocks};
 ghost use Rattle.layout.specs.Inode.{InodeFits};
 ghost use Rattle.layout.specs.Block.{storeLength, Sized, blockAt, zeroBlock, blocksUsed, kthBlock};

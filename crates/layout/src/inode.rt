@@ -1,11 +1,10 @@
 // Inodes: the record by value, and each field by itself.
 ghost use mathlib.Core.Path.{_≡_};
-ghost use Prim.Native.Nat.{ℕ, _+_, _*_, _<_, _≤_};
+ghost use Prim.Native.Nat.{_+_, _*_, _<_, _≤_};
 ghost use lib.ListN.{length};
 ghost use Rattle.octets.specs.Octets.{splice, wordBytes};
-ghost use Rattle.bounded.specs.Table.{table};
 ghost use Rattle.layout.specs.Sizes.{headerBytes, inodeBytes, addressCount, mostInodes};
-ghost use Rattle.layout.specs.Inode.{InodeFits, attributesAt, addressAt, place, kindOf, spareOf, linksOf, sizeOf, parentOf, putLinks, putAttributes, addressOf, putAddress, addressesOf, putAddresses, inodeOf, putInode};
+ghost use Rattle.layout.specs.Inode.{InodeFits, attributesAt, addressAt, kindOf, spareOf, linksOf, sizeOf, parentOf, putLinks, putAttributes, addressOf, putAddress, addressesOf, inodeOf, putInode};
 use crate::sizes::ADDRESS_COUNT;
 use crate::sizes::ATTRIBUTE_BYTES;
 use crate::sizes::HEADER_BYTES;

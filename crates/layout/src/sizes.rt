@@ -24,3 +24,6 @@ pub const FILE: u8 = 1;
 pub const DIRECTORY: u8 = 2;
 
 pub const ROOT: usize = 1;
+
+// Byte 8 of a store or a finished image.
+pub const COMPLETE: u8 = 1;

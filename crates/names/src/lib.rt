@@ -1,6 +1,6 @@
 // Names, and the 16 bytes of a directory entry.
 ghost use mathlib.Core.Path.{_≡_};
-ghost use Prim.Native.Nat.{ℕ, _+_, _<_, _≤_};
+ghost use Prim.Native.Nat.{_+_, _≤_};
 ghost use lib.ListN.{length};
 ghost use Rattle.names.specs.Name.{nameBytes, plainByte, isDots, legalName};
 ghost use Rattle.bounded.specs.Below.{allBelow};

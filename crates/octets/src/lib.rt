@@ -1,6 +1,6 @@
 // Bytes of a slice: numbers low byte first, ranges zeroed and copied.
 ghost use mathlib.Core.Path.{_≡_};
-ghost use Prim.Native.Nat.{ℕ, _+_, _*_, _<_, _≤_, min, max};
+ghost use Prim.Native.Nat.{_+_, _<_, _≤_};
 ghost use lib.ListN.{length};
 ghost use Rattle.octets.specs.Octets.{Apart, numAt, putNum, zeroed, copied};
 

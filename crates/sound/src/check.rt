@@ -1,7 +1,7 @@
 // The check of a store or an image: any bytes, yes or no.
 ghost use mathlib.Core.Path.{_≡_};
-ghost use mathlib.Core.Bool.{Bool, true};
-ghost use Prim.Native.Nat.{ℕ, _+_, _*_, _<_, _≤_};
+ghost use mathlib.Core.Bool.{true};
+ghost use Prim.Native.Nat.{_+_, _*_, _≤_};
 ghost use lib.ListN.{length};
 ghost use Rattle.bounded.specs.Seen.{Seen};
 ghost use Rattle.layout.specs.Sizes.{mostImageBlocks, addressCount, rootInode};
@@ -15,15 +15,13 @@ use layout::block::store_length;
 use layout::header;
 use layout::header::Header;
 use layout::inode;
+use layout::sizes::COMPLETE;
 use layout::sizes::DIRECTORY;
 use layout::sizes::HEADER_BYTES;
 use layout::sizes::MOST_IMAGE_BLOCKS;
 use layout::sizes::MOST_INODES;
 use layout::sizes::MOST_STORE_BLOCKS;
 use layout::sizes::ROOT;
-
-// Byte 8 of a complete store.
-const COMPLETE: u8 = 1;
 
 // The header's counts are allowed, and the length is theirs.
 pub fn framed(s: &[u8], limit: usize) -> bool

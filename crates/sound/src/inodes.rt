@@ -1,7 +1,7 @@
 // The inodes: one pass over attributes, addresses and the zero bytes after a file's end, in which every named block is noted; then the blocks that none of them names.
 ghost use mathlib.Core.Path.{_≡_};
 ghost use mathlib.Core.Bool.{true, not, _&&_, _||_};
-ghost use Prim.Native.Nat.{ℕ, _+_, _*_, _<_, _≤_};
+ghost use Prim.Native.Nat.{_+_, _*_, _<_, _≤_};
 ghost use lib.Dec.{eqb};
 ghost use lib.ListN.{length, getD, replicate};
 ghost use Rattle.bounded.specs.Below.{allBelow};

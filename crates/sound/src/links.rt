@@ -1,13 +1,13 @@
 // What the entries say of each inode: its link count, and that parents lead to the root.
 ghost use mathlib.Core.Path.{_≡_};
 ghost use mathlib.Core.Bool.{true};
-ghost use Prim.Native.Nat.{ℕ, _+_, _*_, _<_, _≤_};
-ghost use lib.ListN.{length, getD};
+ghost use Prim.Native.Nat.{_+_, _*_, _≤_};
+ghost use lib.ListN.{length};
 ghost use Rattle.bounded.specs.Below.{allBelow};
 ghost use Rattle.bounded.specs.Count.{tally, Tallied};
 ghost use Rattle.bounded.specs.Climb.{Leads, leadsB, Closed};
 ghost use Rattle.layout.specs.Sizes.{headerBytes, mostInodes, inodeBytes, rootInode};
-ghost use Rattle.layout.specs.Inode.{InodeFits, kindOf, parentOf, directoryKind};
+ghost use Rattle.layout.specs.Inode.{InodeFits, parentOf};
 ghost use Rattle.directory.specs.Slot.{mostSlots};
 ghost use Rattle.sound.specs.Place.{naming};
 ghost use Rattle.sound.specs.Link.{countedB, leadB};
