@@ -4,3 +4,4 @@ pub mod HexLaws
 pub mod ChecksumLaws
 pub mod TextLaws
 pub mod LineLaws
+pub mod CommandLaws

@@ -4,6 +4,7 @@ pub mod bytes;
 pub mod checksum;
 pub mod fields;
 pub mod numbers;
+pub mod parse;
 pub mod text;
 pub mod words;
 
@@ -19,6 +20,12 @@ pub enum Number {
 pub enum Hex {
     Bytes(usize),
     NotHex,
+}
+
+// Two numbers of a command, or that it lacks one.
+pub enum Pair {
+    Both(usize, usize),
+    NoPair,
 }
 
 // The commands by their first field.
@@ -44,6 +51,28 @@ pub enum Place {
     Image,
     Desk,
     Nowhere,
+}
+
+// What a command asks for, with its numbers; a name or bytes in hex stand in a lent buffer, here is their count. `Bad` is no command.
+pub enum Command {
+    New(usize, usize, usize),
+    PokeStore(usize, usize),
+    PokeImage(usize, usize),
+    PokeDesk(usize, usize),
+    LayStore(usize, usize),
+    LayDesk(usize),
+    CheckStore,
+    CheckImage,
+    LookUp(usize, usize),
+    CreateFile(usize, usize),
+    CreateDirectory(usize, usize),
+    Read(usize, usize, usize),
+    Write(usize, usize, usize),
+    Shorten(usize, usize),
+    Link(usize, usize, usize),
+    Unlink(usize, usize),
+    Rename(usize, usize, usize, usize),
+    Bad,
 }
 
 // What a command answers. `Shown` is a read's count, and how many bytes of its out-buffer are shown.

@@ -8,16 +8,16 @@ use crate::buffers;
 use crate::buffers::Lengths;
 use crate::buffers::Step;
 use crate::calls;
+use commands::Command;
 use commands::Reply;
 use commands::Sums;
-use commands::Verb;
 use commands::answer::put_line;
 use commands::checksum::checksum;
 use commands::fields::command;
-use commands::fields::field;
-use commands::words::verb;
+use commands::parse::parse;
 use libc::STDIN_FILENO;
 use libc::STDOUT_FILENO;
+use sound::Form;
 
 const NEWLINE: u8 = 10;
 
@@ -72,21 +72,27 @@ impl State {
 
 // Every command but `new`, on the buffers as long as they are.
 fn dispatch(
-    cmd: &[u8],
+    command: Command,
     store: &mut [u8],
     image: &mut [u8],
     desk: &mut [u8],
     page: &mut [u8],
+    name: &[u8],
+    other: &[u8],
 ) -> Reply {
-    let verb = verb(field(cmd, 0));
-    match verb {
-        Verb::Poke => buffers::poke(cmd, store, image, desk),
-        Verb::Lay => buffers::lay(cmd, store, desk),
-        Verb::Check => buffers::check(cmd, store, image),
-        _ => calls::call(verb, cmd, store, page),
+    match command {
+        Command::PokeStore(o, x) => buffers::poke(store, o, x),
+        Command::PokeImage(o, x) => buffers::poke(image, o, x),
+        Command::PokeDesk(o, x) => buffers::poke(desk, o, x),
+        Command::LayStore(n, b) => Reply::Told(format::lay_out_store(store, n, b)),
+        Command::LayDesk(n) => Reply::Told(format::lay_out_desk(desk, n)),
+        Command::CheckStore => buffers::verdict(sound::check::check(Form::Store, store)),
+        Command::CheckImage => buffers::verdict(sound::check::check(Form::Image, image)),
+        _ => calls::call(command, store, page, name, other),
     }
 }
 
+// A name's buffers hold half the longest line: two digits of it are a byte.
 fn step(
     cmd: &[u8],
     store: &mut [u8],
@@ -98,19 +104,23 @@ fn step(
     requires { ⌜ Fit lengths (now store) (now image) (now desk) ⌝ }
     ensures { λ r. ⌜ Fit (r .lengths) (now (store .entry)) (now (image .entry)) (now (desk .entry)) ⌝ }
 {
-    let verb = verb(field(cmd, 0));
-    if let Verb::New = verb {
-        return buffers::renew(cmd, store, image, desk, lengths);
+    let mut name = [0u8; 32768];
+    let mut other = [0u8; 32768];
+    let command = parse(cmd, &mut name, &mut other);
+    if let Command::New(n, b, i) = command {
+        return buffers::renewed(store, image, desk, n, b, i, Step { reply: Reply::Error, lengths });
     }
     let s = lengths.store;
     let i = lengths.image;
     let d = lengths.desk;
     let reply = dispatch(
-        cmd,
+        command,
         &mut store[0..s],
         &mut image[0..i],
         &mut desk[0..d],
         page,
+        &name,
+        &other,
     );
     Step { reply, lengths }
 }

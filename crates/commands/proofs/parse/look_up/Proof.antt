@@ -1,0 +1,44 @@
+use Rattle.commands.proofs.CommandLaws.{bytes-at, buffer-at, only-is}
+use Rattle.commands.specs.Command.{lookUpOf}
+use Rattle.commands.specs.declared.Pair.{Pair}
+use mathlib.Core.Path.{ap, _∙_}
+use borrow.Author.Needs.{needs}
+use Rattle.commands.proofs.parse.look_up.Statement.{statement}
+use Rattle.commands.proofs.parse.look_up.Tie as tie
+
+field-requires : tie.Need-field-requires
+field-requires c κs = search needs
+
+field-requires-2 : tie.Need-field-requires-2
+field-requires-2 c κs = search needs
+
+number-and-bytes-requires : tie.Need-number-and-bytes-requires
+number-and-bytes-requires c κs = search needs
+
+no-more-requires : tie.Need-no-more-requires
+no-more-requires c κs = search needs
+
+look-up-of-requires : tie.Need-look-up-of-requires
+look-up-of-requires c κs = search needs
+
+only-requires : tie.Need-only-requires
+only-requires c κs = search needs
+
+same-length : tie.Need-same-length
+same-length c = search needs
+
+returns : tie.Need-returns
+returns c = (only-is _ _ _ _ _ (c .only .ensures) (c .before .before .no-more .ensures) (c .before .look-up-of .ensures ∙ ap (λ (p : Pair). lookUpOf p) (bytes-at _ _ _ _ _ _ (c .before .before .before .before .before .number-and-bytes .ensures .0) (c .before .before .before .before .before .before .before .before .field .ensures) (c .before .before .before .before .before .before .before .field2 .ensures))), buffer-at _ _ _ _ (c .before .before .before .before .before .number-and-bytes .ensures .1) (c .before .before .before .before .before .before .before .field2 .ensures))
+
+pub look-up-spec : {M : Type 1} → statement M
+look-up-spec =
+    tie.close
+    (tie.spec
+    field-requires
+    field-requires-2
+    number-and-bytes-requires
+    no-more-requires
+    look-up-of-requires
+    only-requires
+    same-length
+    returns)
