@@ -263,7 +263,10 @@ fn create(cmd: &[u8], name: &mut [u8]) -> Command
 {
     let p = number_and_bytes(field(cmd, 1), field(cmd, 2), name);
     let kind = field(cmd, 3);
-    only(no_more(cmd, 4), create_of(p, is_word(kind, b"f"), is_word(kind, b"d")))
+    only(
+        no_more(cmd, 4),
+        create_of(p, is_word(kind, b"f"), is_word(kind, b"d")),
+    )
 }
 
 fn write(cmd: &[u8], bytes: &mut [u8]) -> Command

@@ -23,17 +23,39 @@ fn read(store: &[u8], inode: usize, offset: usize, length: usize, page: &mut [u8
 }
 
 // The names and bytes stand at the front of name and other.
-pub fn call(command: Command, store: &mut [u8], page: &mut [u8], name: &[u8], other: &[u8]) -> Reply {
+pub fn call(
+    command: Command,
+    store: &mut [u8],
+    page: &mut [u8],
+    name: &[u8],
+    other: &[u8],
+) -> Reply {
     match command {
         Command::LookUp(d, n) => Reply::Told(plain::look_up(store, d, front(name, n))),
-        Command::CreateFile(d, n) => Reply::Told(plain::create(store, d, front(name, n), Kind::File)),
-        Command::CreateDirectory(d, n) => Reply::Told(plain::create(store, d, front(name, n), Kind::Directory)),
+        Command::CreateFile(d, n) => Reply::Told(plain::create(
+            store,
+            d,
+            front(name, n),
+            Kind::File,
+        )),
+        Command::CreateDirectory(d, n) => Reply::Told(plain::create(
+            store,
+            d,
+            front(name, n),
+            Kind::Directory,
+        )),
         Command::Read(i, o, k) => read(store, i, o, k, page),
         Command::Write(i, o, n) => Reply::Told(plain::write(store, i, o, front(name, n))),
         Command::Shorten(i, k) => Reply::Told(plain::shorten(store, i, k)),
         Command::Link(d, n, i) => Reply::Told(plain::link(store, d, front(name, n), i)),
         Command::Unlink(d, n) => Reply::Told(plain::unlink(store, d, front(name, n))),
-        Command::Rename(d, n, t, m) => Reply::Told(plain::rename(store, d, front(name, n), t, front(other, m))),
+        Command::Rename(d, n, t, m) => Reply::Told(plain::rename(
+            store,
+            d,
+            front(name, n),
+            t,
+            front(other, m),
+        )),
         _ => Reply::Error,
     }
 }

@@ -108,7 +108,18 @@ fn step(
     let mut other = [0u8; 32768];
     let command = parse(cmd, &mut name, &mut other);
     if let Command::New(n, b, i) = command {
-        return buffers::renewed(store, image, desk, n, b, i, Step { reply: Reply::Error, lengths });
+        return buffers::renewed(
+            store,
+            image,
+            desk,
+            n,
+            b,
+            i,
+            Step {
+                reply: Reply::Error,
+                lengths,
+            },
+        );
     }
     let s = lengths.store;
     let i = lengths.image;
