@@ -2,8 +2,8 @@
 ghost use mathlib.Core.Path.{_≡_};
 ghost use Rattle.api.specs.Api.{checked};
 ghost use Rattle.bounded.specs.Count.{one};
+use checker::check::check;
 use sound::Form;
-use sound::check::check;
 
 // Whether the bytes are a sound store (image 0) or a sound finished image (any other number): 1 for yes, 0 for no.
 #[no_mangle]

@@ -79,3 +79,11 @@ chain-off r a e t = sym e ∙ not-true r t
 
 pub chain-end : (x a b : Bool) → a ≡ true → x ≡ b → x ≡ a && b
 chain-end x a b h e = e ∙ sym (ap (λ (y : Bool). y && b) h)
+
+pub or-false-l : (a b : Bool) → a || b ≡ false → a ≡ false
+or-false-l true b e = e
+or-false-l false b e = refl
+
+pub or-false-r : (a b : Bool) → a || b ≡ false → b ≡ false
+or-false-r true b e = absurd (clash true refl e)
+or-false-r false b e = e

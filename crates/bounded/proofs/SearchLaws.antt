@@ -1,6 +1,6 @@
 -- Laws of a search for the lowest number that passes a test.
 use mathlib.Core.Path.{_≡_, refl, ap, _∙_}
-use mathlib.Core.Bool.{Bool, true, false}
+use mathlib.Core.Bool.{Bool, true, false, not}
 use Prim.Native.Nat.{ℕ, zero, suc, _+_, _-_, _≤_, _<_}
 use native.Mathlib.Nat.{zero-add, add-zero, add-suc, suc-add}
 use native.Mathlib.Decide.{decLt}
@@ -132,3 +132,21 @@ first-shift f a i (suc k) = go (f (a + i)) (first-shift f a (suc i) k)
         → onFound (pick b (At i) (firstFrom (λ j. f (a + j)) (suc i) k)) (λ t. At (a + t)) Absent ≡ pick b (At (a + i)) (firstFrom f (suc (a + i)) k)
     go true h = refl
     go false h = h ∙ ap (λ (m : ℕ). firstFrom f m k) (add-suc a i)
+
+-- ---- a choice whose outcome is known, and cannot have come from one of its branches
+module _ {A : Type 0} where
+  pub pick-else : (c : Bool) (x y z : A) → pick c x y ≡ z → (x ≡ z → ⊥) → (c ≡ false) × (y ≡ z)
+  pick-else true x y z e h = absurd (h e)
+  pick-else false x y z e h = (refl, e)
+
+  pub pick-not : (c : Bool) (x y z : A) → pick (not c) x y ≡ z → (x ≡ z → ⊥) → (c ≡ true) × (y ≡ z)
+  pick-not true x y z e h = (refl, e)
+  pick-not false x y z e h = absurd (h e)
+
+  pub found-none : (f : Found) (g : ℕ → A) (y z : A) → onFound f g y ≡ z → ((t : ℕ) → g t ≡ z → ⊥) → (f ≡ Absent) × (y ≡ z)
+  found-none (At t) g y z e h = absurd (h t e)
+  found-none Absent g y z e h = (refl, e)
+
+  pub found-at : (f : Found) (g : ℕ → A) (y z : A) → onFound f g y ≡ z → (y ≡ z → ⊥) → (t : ℕ) × (f ≡ At t) × (g t ≡ z)
+  found-at (At t) g y z e h = (t, refl, e)
+  found-at Absent g y z e h = absurd (h e)

@@ -10,8 +10,8 @@ use Rattle.names.specs.Entry.{entryInode, isEmpty, sameByte, sameName, nameLeng
 use Rattle.names.specs.Name.{plainByte, isDots, legalName}
 use Rattle.layout.specs.Block.{blockOf, putInBlock, zeroBlock, blocksUsed, kthBlock}
 use Rattle.layout.specs.Free.{isFree, freeInode, named, freeBlock}
-use Rattle.layout.specs.Header.{headerOf, putFree, putComplete, putHeader, reservedZero}
-use Rattle.layout.specs.Inode.{kindOf, spareOf, linksOf, sizeOf, parentOf, putLinks, attributeEntry, putAttributes, addressOf, putAddress, addressesOf, putAddresses, inodeOf, putInode}
+use Rattle.layout.specs.Header.{headerOf, putFree, putComplete, putHeader, reservedZero, lessFree, moreFree}
+use Rattle.layout.specs.Inode.{kindOf, spareOf, linksOf, sizeOf, parentOf, putLinks, attributeEntry, putAttributes, addressOf, putAddress, addressesOf, putAddresses, inodeOf, putInode, isKind, zeroInode}
 use Rattle.directory.specs.Slot.{slots, slotAt, entryOf, slotNamed, findSlot, slotEmpty, emptySlot, putEntry, clearEntry}
 use Rattle.desk.specs.Desk.{deskOf, putDesk, copiedOf, putCopied, marksOf, putMarks, markOf, setMark, clearMark, clearNotes}
 use Rattle.sound.specs.Entry.{sameNames, namedB, newNameB, entryB}
@@ -19,12 +19,13 @@ use Rattle.sound.specs.Inode.{attributesB, addressesB, zeroTailB, inodeB}
 use Rattle.sound.specs.Link.{countedB, leadB}
 use Rattle.sound.specs.Place.{isSlot, entryAt, filled, naming}
 use Rattle.sound.specs.Sound.{framedB, headerB, freeCountsB, zeroBlockB, blanksB, bodyB, soundB}
-use Rattle.files.specs.Apply.{enter, created, written, dropLink, unlinked, setParent, moved}
-use Rattle.files.specs.Content.{putFile, addBlock, addBlocks, putSize, zeroRest, keepFirst, cutTo}
-use Rattle.files.specs.Inode.{isKind, zeroInode, lessFree, moreFree}
-use Rattle.files.specs.Plain.{guarded}
-use Rattle.files.specs.Plan.{createPlan, writePlan, shortenPlan, holdsNone, unlinkPlan, isBelow, renameTo, renamePlan}
-use Rattle.files.specs.Room.{roomIn, makeRoom}
+use Rattle.content.specs.Apply.{written}
+use Rattle.content.specs.Content.{putFile, addBlock, addBlocks, putSize, zeroRest, keepFirst, cutTo}
+use Rattle.content.specs.Plan.{writePlan, shortenPlan}
+use Rattle.entries.specs.Apply.{enter, created, dropLink, unlinked, setParent, moved}
+use Rattle.entries.specs.Plan.{createPlan, holdsNone, unlinkPlan, isBelow, renameTo, renamePlan}
+use Rattle.entries.specs.Room.{roomIn, makeRoom}
+use Rattle.files.specs.Plain.{guarded, rename}
 use Rattle.format.specs.Format.{freshHeader, emptyRoot, freshStore, freshDesk}
 use Rattle.checkpoint.specs.Busy.{isLocked}
 use Rattle.checkpoint.specs.Copier.{startImage, startDesk, nextInode, targetBlock, lockedStep, freeStep, stepOf, copiedEntry, copiedEntries, copiedBlock, putCounts, finishImage}
@@ -44,7 +45,6 @@ use Rattle.directory.specs.Slot.{mostSlots}
 use Rattle.desk.specs.Sizes.{finished}
 use Rattle.answers.specs.declared.Refusal.the-variants.{IntoItself}
 use Rattle.answers.specs.declared.Answer.the-variants.{Done, Refused}
-use Rattle.files.specs.Plain.{rename}
 use Rattle.checkpoint.specs.List.{call, steps, starts, Finish, last, more}
 use Rattle.cases.specs.Worlds.{fresh, nameA, reusedBlock, movedDirectory, unlinkedFile, parentAndChild}
 

@@ -13,7 +13,7 @@ use Rattle.bounded.proofs.BoolLaws.{fails, and-left, and-right, or-l, or-r, or-
 use Rattle.bounded.proofs.SearchLaws.{lowest-of, lowest-found, absent-of}
 use Rattle.layout.specs.Sizes.{mostFileBytes}
 use Rattle.layout.specs.Header.{headerOf}
-use Rattle.layout.specs.Inode.{kindOf, sizeOf, fileKind}
+use Rattle.layout.specs.Inode.{kindOf, sizeOf, fileKind, isKind, isFile}
 use Rattle.layout.specs.Block.{storeLength, blocksUsed}
 use Rattle.names.specs.Name.{slash, legalName}
 use Rattle.names.proofs.NameLaws.{legal, legal-bounds}
@@ -23,8 +23,7 @@ use Rattle.answers.specs.declared.Answer.the-variants.{Done, Refused}
 use Rattle.desk.specs.Desk.{deskOf}
 use Rattle.sound.specs.declared.Form.the-variants.{Store}
 use Rattle.sound.proofs.SoundLaws.{is-sound}
-use Rattle.files.specs.declared.Kind.{Kind}
-use Rattle.files.specs.Inode.{isKind, isFile}
+use Rattle.entries.specs.declared.Kind.{Kind}
 use Rattle.files.specs.Plain.{create, write}
 use Rattle.checkpoint.specs.Fit.{isRunning, imageAllowed, imageBlocks, blocksFit, deskFits, imageFits, notesFit}
 use Rattle.checkpoint.specs.Table.{createTable, writeTable, startTable}

@@ -8,7 +8,7 @@ use Rattle.bounded.specs.Count.{tally}
 use Rattle.bounded.specs.declared.Found.the-variants.{At, Absent}
 use Rattle.layout.specs.Sizes.{mostFileBytes}
 use Rattle.layout.specs.Header.{headerOf}
-use Rattle.layout.specs.Inode.{sizeOf}
+use Rattle.layout.specs.Inode.{sizeOf, isFile, isDirectory}
 use Rattle.layout.specs.Block.{blocksUsed, blockOf, kthBlock}
 use Rattle.layout.specs.Free.{freeInode}
 use Rattle.names.specs.Name.{nameBytes, slash, legalName}
@@ -19,8 +19,7 @@ use Rattle.answers.specs.declared.Refusal.the-variants.{IllegalName, PastEnd, N
 use Rattle.answers.specs.declared.Answer.the-variants.{Done, Refused}
 use Rattle.sound.specs.Sound.{inodesIn, blocksIn}
 use Rattle.sound.specs.Place.{naming}
-use Rattle.files.specs.declared.Kind.{Kind}
-use Rattle.files.specs.Inode.{isFile, isDirectory}
+use Rattle.entries.specs.declared.Kind.{Kind}
 use Rattle.files.specs.Plain.{create, write, rename}
 use Rattle.checkpoint.specs.Fit.{isRunning}
 use Rattle.checkpoint.specs.Busy.{busyOne}

@@ -4,7 +4,7 @@ use mathlib.Core.List.{List, [], _∷_}
 use lib.ListN.{replicate}
 use Rattle.layout.specs.Block.{storeLength}
 use Rattle.format.specs.Format.{freshStore, freshDesk}
-use Rattle.files.specs.declared.Kind.the-variants.{File, Directory}
+use Rattle.entries.specs.declared.Kind.the-variants.{File, Directory}
 use Rattle.files.specs.Plain.{create, write, shorten, unlink, rename}
 use Rattle.checkpoint.specs.List.{World, Event, call, steps, starts}
 

@@ -15,7 +15,7 @@ use Rattle.answers.specs.Refusal.{refusalNumber}
 use Rattle.answers.specs.declared.Answer.the-variants.{Done, Refused}
 use Rattle.sound.specs.Sound.{Sound, inodesIn}
 use Rattle.sound.specs.Place.{entryAt, filled, naming}
-use Rattle.files.specs.Content.{fileBytes}
+use Rattle.content.specs.Content.{fileBytes}
 use Rattle.checkpoint.specs.declared.Status.the-variants.{Is}
 use Rattle.checkpoint.specs.Fit.{stepsAnInode}
 use Rattle.checkpoint.specs.Live.{status}

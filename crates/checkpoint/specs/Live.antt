@@ -12,19 +12,21 @@ use Rattle.answers.specs.declared.Refusal.{Refusal}
 use Rattle.answers.specs.declared.Refusal.the-variants.{BadBuffer, UnsoundStore, BadDesk, Busy, WrongState, ImageFull}
 use Rattle.answers.specs.declared.Answer.{Answer}
 use Rattle.answers.specs.declared.Answer.the-variants.{Done, Refused}
-use Rattle.files.specs.declared.Kind.{Kind}
-use Rattle.files.specs.declared.CreatePlan.{CreatePlan}
-use Rattle.files.specs.declared.LinkPlan.{LinkPlan}
-use Rattle.files.specs.declared.UnlinkPlan.{UnlinkPlan}
-use Rattle.files.specs.declared.RenamePlan.{RenamePlan}
-use Rattle.files.specs.declared.NumberPlan.{NumberPlan}
-use Rattle.files.specs.declared.CreatePlan.the-variants.{Make, NoCreate}
-use Rattle.files.specs.declared.LinkPlan.the-variants.{Add, NoLink}
-use Rattle.files.specs.declared.UnlinkPlan.the-variants.{Take, NoUnlink}
-use Rattle.files.specs.declared.RenamePlan.the-variants.{Same, Rename, Move, NoRename}
-use Rattle.files.specs.declared.NumberPlan.the-variants.{To, NoNumber}
-use Rattle.files.specs.Plan.{createPlan, writePlan, shortenPlan, linkPlan, unlinkPlan, renamePlan}
-use Rattle.files.specs.Apply.{created, written, shortened, linked, unlinked, renamed, moved}
+use Rattle.content.specs.declared.NumberPlan.{NumberPlan}
+use Rattle.content.specs.declared.NumberPlan.the-variants.{To, NoNumber}
+use Rattle.content.specs.Plan.{writePlan, shortenPlan}
+use Rattle.content.specs.Apply.{written, shortened}
+use Rattle.entries.specs.declared.Kind.{Kind}
+use Rattle.entries.specs.declared.CreatePlan.{CreatePlan}
+use Rattle.entries.specs.declared.LinkPlan.{LinkPlan}
+use Rattle.entries.specs.declared.UnlinkPlan.{UnlinkPlan}
+use Rattle.entries.specs.declared.RenamePlan.{RenamePlan}
+use Rattle.entries.specs.declared.CreatePlan.the-variants.{Make, NoCreate}
+use Rattle.entries.specs.declared.LinkPlan.the-variants.{Add, NoLink}
+use Rattle.entries.specs.declared.UnlinkPlan.the-variants.{Take, NoUnlink}
+use Rattle.entries.specs.declared.RenamePlan.the-variants.{Same, Rename, Move, NoRename}
+use Rattle.entries.specs.Plan.{createPlan, linkPlan, unlinkPlan, renamePlan}
+use Rattle.entries.specs.Apply.{created, linked, unlinked, renamed, moved}
 use Rattle.checkpoint.specs.declared.Status.{Status}
 use Rattle.checkpoint.specs.declared.Status.the-variants.{Is, NoStatus}
 use Rattle.checkpoint.specs.Fit.{deskFramed, imageAllowed, imageBlocks, isRunning, notesFit}

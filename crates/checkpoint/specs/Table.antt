@@ -9,11 +9,11 @@ use Rattle.bounded.specs.declared.Found.{Found}
 use Rattle.bounded.specs.declared.Found.the-variants.{At, Absent}
 use Rattle.layout.specs.Sizes.{mostStoreBlocks, mostFileBytes, mostDirectoryBlocks}
 use Rattle.layout.specs.Header.{headerOf}
-use Rattle.layout.specs.Inode.{kindOf, sizeOf, directoryKind}
+use Rattle.layout.specs.Inode.{kindOf, sizeOf, directoryKind, isFile, isDirectory}
 use Rattle.layout.specs.Block.{blocksUsed, kthBlock}
 use Rattle.layout.specs.Free.{freeInode, freeBlock}
 use Rattle.names.specs.Name.{legalName}
-use Rattle.directory.specs.Slot.{findSlot, emptySlot}
+use Rattle.directory.specs.Slot.{findSlot, emptySlot, inodeAt}
 use Rattle.desk.specs.Desk.{deskOf}
 use Rattle.sound.specs.Sound.{framedB, isSound, inodesIn, blocksIn}
 use Rattle.sound.specs.declared.Form.the-variants.{Store}
@@ -22,8 +22,7 @@ use Rattle.answers.specs.declared.Refusal.the-variants.{BadBuffer, UnsoundStore
 use Rattle.answers.specs.declared.Answer.{Answer}
 use Rattle.answers.specs.declared.Answer.the-variants.{Refused}
 use Rattle.answers.specs.Refusal.{refusalNumber}
-use Rattle.files.specs.Inode.{isFile, isDirectory}
-use Rattle.files.specs.Plan.{inodeAt, holdsNone, isBelow}
+use Rattle.entries.specs.Plan.{holdsNone, isBelow}
 use Rattle.checkpoint.specs.Fit.{deskFramed, imageAllowed, isRunning, notesFit}
 use Rattle.checkpoint.specs.Busy.{busyOne, busyTwo, busyMove}
 use Rattle.checkpoint.specs.Copier.{targetBlock}

@@ -9,7 +9,7 @@ use Rattle.octets.specs.Octets.{part, splice}
 use Rattle.layout.specs.Sizes.{headerBytes, inodeBytes, blockBytes, mostDirectoryBlocks}
 use Rattle.layout.specs.Inode.{InodeFits, sizeOf}
 use Rattle.layout.specs.Block.{blockAt, blocksUsed, kthBlock}
-use Rattle.names.specs.Entry.{entryBytes, isEmpty, sameName, entryFor}
+use Rattle.names.specs.Entry.{entryBytes, isEmpty, sameName, entryFor, entryInode}
 
 -- "A directory block is four entries of 16 bytes"
 abbrev pub slotsInBlock : ℕ
@@ -30,6 +30,10 @@ slotAt s n d t = blockAt n (kthBlock s n d (t / slotsInBlock)) + entryBytes * (t
 -- the 16 bytes of slot t
 unfoldable pub entryOf : List ℕ → ℕ → ℕ → ℕ → List ℕ
 entryOf s n d t = part s (slotAt s n d t) entryBytes
+
+-- the inode that slot t of d names
+abbrev pub inodeAt : List ℕ → ℕ → ℕ → ℕ → ℕ
+inodeAt s n d t = entryInode (entryOf s n d t)
 
 -- slot t has the name
 unfoldable pub slotNamed : List ℕ → ℕ → ℕ → List ℕ → ℕ → Bool

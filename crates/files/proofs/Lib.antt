@@ -1,6 +1,3 @@
-pub mod Kept
+pub mod CallLaws
 pub mod PlainKeeps
 pub mod PlainLaws
-pub mod Plans
-pub mod Steps
-pub mod Stores

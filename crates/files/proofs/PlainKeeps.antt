@@ -11,23 +11,24 @@ use Rattle.sound.specs.declared.Form.the-variants.{Store}
 use Rattle.sound.proofs.SoundLaws.{is-sound}
 use Rattle.answers.specs.declared.Refusal.the-variants.{BadBuffer, UnsoundStore}
 use Rattle.answers.specs.declared.Answer.the-variants.{Refused}
-use Rattle.files.specs.declared.Kind.{Kind}
-use Rattle.files.specs.declared.CreatePlan.{CreatePlan}
-use Rattle.files.specs.declared.CreatePlan.the-variants.{Make, NoCreate}
-use Rattle.files.specs.declared.LinkPlan.{LinkPlan}
-use Rattle.files.specs.declared.LinkPlan.the-variants.{Add, NoLink}
-use Rattle.files.specs.declared.UnlinkPlan.{UnlinkPlan}
-use Rattle.files.specs.declared.UnlinkPlan.the-variants.{Take, NoUnlink}
-use Rattle.files.specs.declared.RenamePlan.{RenamePlan}
-use Rattle.files.specs.declared.RenamePlan.the-variants.{Same, Rename, Move, NoRename}
-use Rattle.files.specs.declared.NumberPlan.{NumberPlan}
-use Rattle.files.specs.declared.NumberPlan.the-variants.{To, NoNumber}
-use Rattle.files.specs.Plan.{lookUpPlan, readPlan, createPlan, writePlan, shortenPlan, linkPlan, unlinkPlan, renamePlan}
+use Rattle.content.specs.declared.NumberPlan.{NumberPlan}
+use Rattle.content.specs.declared.NumberPlan.the-variants.{To, NoNumber}
+use Rattle.content.specs.Plan.{readPlan, writePlan, shortenPlan}
+use Rattle.content.proofs.WriteLaws.{write-sound}
+use Rattle.content.proofs.ShortenLaws.{shorten-sound}
+use Rattle.entries.specs.declared.Kind.{Kind}
+use Rattle.entries.specs.declared.CreatePlan.{CreatePlan}
+use Rattle.entries.specs.declared.CreatePlan.the-variants.{Make, NoCreate}
+use Rattle.entries.specs.declared.LinkPlan.{LinkPlan}
+use Rattle.entries.specs.declared.LinkPlan.the-variants.{Add, NoLink}
+use Rattle.entries.specs.declared.UnlinkPlan.{UnlinkPlan}
+use Rattle.entries.specs.declared.UnlinkPlan.the-variants.{Take, NoUnlink}
+use Rattle.entries.specs.declared.RenamePlan.{RenamePlan}
+use Rattle.entries.specs.declared.RenamePlan.the-variants.{Same, Rename, Move, NoRename}
+use Rattle.entries.specs.Plan.{lookUpPlan, createPlan, linkPlan, unlinkPlan, renamePlan}
+use Rattle.entries.proofs.PlanKeeps.{created-sound, linked-sound, unlinked-sound, renamed-sound, moved-sound}
 use Rattle.files.specs.Plain.{Outcome, left, guarded, doLookUp, doRead, doCreate, doWrite, doShorten, doLink, doUnlink, doRename, plainLookUp, plainRead, plainCreate, plainWrite, plainShorten, plainLink, plainUnlink, plainRename, Call, lookUp, read, create, write, shorten, link, unlink, rename, plain}
 use Rattle.files.proofs.PlainLaws.{guarded-is}
-use Rattle.files.proofs.Kept.WriteLaws.{write-sound}
-use Rattle.files.proofs.Kept.ShortenLaws.{shorten-sound}
-use Rattle.files.proofs.Kept.PlanKeeps.{created-sound, linked-sound, unlinked-sound, renamed-sound, moved-sound}
 
 -- what a call leaves is sound
 abbrev Leaves : Outcome → Type 0

@@ -6,21 +6,23 @@ use Rattle.octets.specs.Octets.{splice}
 use Rattle.answers.specs.declared.Answer.{Answer}
 use Rattle.answers.specs.Told.{Told, told}
 use Rattle.answers.specs.declared.Answer.the-variants.{Done, Refused}
-use Rattle.files.specs.declared.Kind.{Kind}
-use Rattle.files.specs.declared.CreatePlan.{CreatePlan}
-use Rattle.files.specs.declared.LinkPlan.{LinkPlan}
-use Rattle.files.specs.declared.UnlinkPlan.{UnlinkPlan}
-use Rattle.files.specs.declared.RenamePlan.{RenamePlan}
-use Rattle.files.specs.declared.NumberPlan.{NumberPlan}
-use Rattle.files.specs.declared.CreatePlan.the-variants.{Make, NoCreate}
-use Rattle.files.specs.declared.LinkPlan.the-variants.{Add, NoLink}
-use Rattle.files.specs.declared.UnlinkPlan.the-variants.{Take, NoUnlink}
-use Rattle.files.specs.declared.RenamePlan.the-variants.{Same, Rename, Move, NoRename}
-use Rattle.files.specs.declared.NumberPlan.the-variants.{To, NoNumber}
-use Rattle.files.specs.Content.{fileBytes}
+use Rattle.content.specs.declared.NumberPlan.{NumberPlan}
+use Rattle.content.specs.declared.NumberPlan.the-variants.{To, NoNumber}
+use Rattle.content.specs.Content.{fileBytes}
+use Rattle.content.specs.Plan.{readPlan, writePlan, shortenPlan}
+use Rattle.content.specs.Apply.{written, shortened}
+use Rattle.entries.specs.declared.Kind.{Kind}
+use Rattle.entries.specs.declared.CreatePlan.{CreatePlan}
+use Rattle.entries.specs.declared.LinkPlan.{LinkPlan}
+use Rattle.entries.specs.declared.UnlinkPlan.{UnlinkPlan}
+use Rattle.entries.specs.declared.RenamePlan.{RenamePlan}
+use Rattle.entries.specs.declared.CreatePlan.the-variants.{Make, NoCreate}
+use Rattle.entries.specs.declared.LinkPlan.the-variants.{Add, NoLink}
+use Rattle.entries.specs.declared.UnlinkPlan.the-variants.{Take, NoUnlink}
+use Rattle.entries.specs.declared.RenamePlan.the-variants.{Same, Rename, Move, NoRename}
+use Rattle.entries.specs.Plan.{lookUpPlan, createPlan, linkPlan, unlinkPlan, renamePlan}
+use Rattle.entries.specs.Apply.{created, linked, unlinked, renamed, moved}
 use Rattle.files.specs.Guard.{guardOf, onGuard}
-use Rattle.files.specs.Plan.{lookUpPlan, readPlan, createPlan, writePlan, shortenPlan, linkPlan, unlinkPlan, renamePlan}
-use Rattle.files.specs.Apply.{created, written, shortened, linked, unlinked, renamed, moved}
 
 -- what a call leaves: its answer, the store, and a read's out-buffer ([] for the other calls)
 pub record Outcome : Type 0 where

@@ -1,59 +1,7 @@
-// The plain store's file calls: what a call is to do, decided before any byte changes.
-pub mod content;
-pub mod entries;
+// The plain store's file calls.
 pub mod plain;
-pub mod plan;
 
 use answers::Refusal;
-
-// Where a new entry goes: a slot, and the block that the directory takes first, 0 for none.
-pub struct Room {
-    pub slot: usize,
-    pub block: usize,
-}
-
-pub enum RoomPlan {
-    Has(Room),
-    NoRoom(Refusal),
-}
-
-// Create: the inode, and where its entry goes.
-pub enum CreatePlan {
-    Make(usize, Room),
-    NoCreate(Refusal),
-}
-
-// Link: where the entry goes.
-pub enum LinkPlan {
-    Add(Room),
-    NoLink(Refusal),
-}
-
-// Unlink: the slot, and the inode that it names.
-pub enum UnlinkPlan {
-    Take(usize, usize),
-    NoUnlink(Refusal),
-}
-
-// Rename: nothing; the slot and its inode under another name; or these and where the entry goes in another directory.
-pub enum RenamePlan {
-    Same,
-    Rename(usize, usize),
-    Move(usize, usize, Room),
-    NoRename(Refusal),
-}
-
-// Look up: the inode. Read: the count. Write and shorten: the new size.
-pub enum NumberPlan {
-    To(usize),
-    NoNumber(Refusal),
-}
-
-// What a created inode is to be.
-pub enum Kind {
-    File,
-    Directory,
-}
 
 // The store is fit for a call, with its counts of inodes and blocks, or a refusal.
 pub enum Guard {

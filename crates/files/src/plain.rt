@@ -5,23 +5,21 @@ ghost use mathlib.Core.List.{[]};
 ghost use lib.ListN.{length};
 ghost use Rattle.layout.specs.Sizes.{mostStoreBlocks};
 ghost use Rattle.sound.specs.Sound.{Sound, inodesIn, blocksIn};
+ghost use Rattle.content.specs.Plan.{readPlan, writePlan, shortenPlan};
+ghost use Rattle.entries.specs.Plan.{lookUpPlan, createPlan, linkPlan, unlinkPlan, renamePlan};
 ghost use Rattle.files.specs.Guard.{guardOf};
-ghost use Rattle.files.specs.Plan.{lookUpPlan, readPlan, createPlan, writePlan, shortenPlan, linkPlan, unlinkPlan, renamePlan};
 ghost use Rattle.files.specs.Plain.{left, shown, doLookUp, doRead, doCreate, doWrite, doShorten, doLink, doUnlink, doRename, plainLookUp, plainRead, plainCreate, plainWrite, plainShorten, plainLink, plainUnlink, plainRename};
-use crate::CreatePlan;
 use crate::Guard;
-use crate::Kind;
-use crate::LinkPlan;
-use crate::NumberPlan;
-use crate::RenamePlan;
-use crate::UnlinkPlan;
-use crate::content;
-use crate::entries;
-use crate::plan;
 use answers::Answer;
 use answers::Refusal;
+use checker::check;
+use content::NumberPlan;
+use entries::CreatePlan;
+use entries::Kind;
+use entries::LinkPlan;
+use entries::RenamePlan;
+use entries::UnlinkPlan;
 use layout::sizes::MOST_STORE_BLOCKS;
-use sound::check;
 
 // Refusals 1 and 2, which come before all others.
 pub fn guard(s: &[u8]) -> Guard
@@ -43,7 +41,7 @@ fn do_look_up(s: &[u8], n: usize, d: usize, name: &[u8]) -> Answer
     requires { ⌜ Sound mostStoreBlocks false (now s) × (n ≡ inodesIn (now s)) ⌝ }
     ensures { λ r. ⌜ left r (now (s .entry)) [] ≡ doLookUp (now (s .entry)) [] (lookUpPlan (now (s .entry)) n d (now (name .entry))) ⌝ }
 {
-    match plan::look_up_plan(s, n, d, name) {
+    match entries::plan::look_up_plan(s, n, d, name) {
         NumberPlan::To(i) => Answer::Done(i),
         NumberPlan::NoNumber(why) => Answer::Refused(why),
     }
@@ -63,9 +61,9 @@ fn do_read(s: &[u8], n: usize, i: usize, o: usize, out: &mut [u8]) -> Answer
     requires { ⌜ Sound mostStoreBlocks false (now s) × (n ≡ inodesIn (now s)) ⌝ }
     ensures { λ r. ⌜ left r (now (s .entry)) (now (out .exit)) ≡ doRead (now (s .entry)) n i o (now (out .entry)) (readPlan (now (s .entry)) n i o (length (now (out .entry)))) ⌝ }
 {
-    match plan::read_plan(s, n, i, o, out.len()) {
+    match content::plan::read_plan(s, n, i, o, out.len()) {
         NumberPlan::To(count) => {
-            content::read_file(s, n, i, o, count, &mut *out);
+            content::apply::read_file(s, n, i, o, count, &mut *out);
             Answer::Done(count)
         }
         NumberPlan::NoNumber(why) => Answer::Refused(why),
@@ -86,9 +84,9 @@ fn do_create(s: &mut [u8], n: usize, b: usize, d: usize, name: &[u8], kind: Kind
     requires { ⌜ Sound mostStoreBlocks false (now s) × (n ≡ inodesIn (now s)) × (b ≡ blocksIn (now s)) ⌝ }
     ensures { λ r. ⌜ left r (now (s .exit)) [] ≡ doCreate (now (s .entry)) n d (now (name .entry)) kind (createPlan (now (s .entry)) n b d (now (name .entry))) ⌝ }
 {
-    match plan::create_plan(s, n, b, d, name) {
+    match entries::plan::create_plan(s, n, b, d, name) {
         CreatePlan::Make(i, room) => {
-            entries::create(&mut *s, n, b, d, name, kind, i, room);
+            entries::apply::create(&mut *s, n, b, d, name, kind, i, room);
             Answer::Done(i)
         }
         CreatePlan::NoCreate(why) => Answer::Refused(why),
@@ -109,9 +107,9 @@ fn do_write(s: &mut [u8], n: usize, b: usize, i: usize, o: usize, xs: &[u8]) -> 
     requires { ⌜ Sound mostStoreBlocks false (now s) × (n ≡ inodesIn (now s)) × (b ≡ blocksIn (now s)) ⌝ }
     ensures { λ r. ⌜ left r (now (s .exit)) [] ≡ doWrite (now (s .entry)) n b i o (now (xs .entry)) (writePlan (now (s .entry)) n i o (length (now (xs .entry)))) ⌝ }
 {
-    match plan::write_plan(s, n, i, o, xs.len()) {
+    match content::plan::write_plan(s, n, i, o, xs.len()) {
         NumberPlan::To(z) => {
-            content::write_file(&mut *s, n, b, i, o, xs, z);
+            content::apply::write_file(&mut *s, n, b, i, o, xs, z);
             Answer::Done(z)
         }
         NumberPlan::NoNumber(why) => Answer::Refused(why),
@@ -132,9 +130,9 @@ fn do_shorten(s: &mut [u8], n: usize, i: usize, z: usize) -> Answer
     requires { ⌜ Sound mostStoreBlocks false (now s) × (n ≡ inodesIn (now s)) ⌝ }
     ensures { λ r. ⌜ left r (now (s .exit)) [] ≡ doShorten (now (s .entry)) n i (shortenPlan (now (s .entry)) n i z) ⌝ }
 {
-    match plan::shorten_plan(s, n, i, z) {
+    match content::plan::shorten_plan(s, n, i, z) {
         NumberPlan::To(y) => {
-            content::shorten_file(&mut *s, n, i, y);
+            content::apply::shorten_file(&mut *s, n, i, y);
             Answer::Done(y)
         }
         NumberPlan::NoNumber(why) => Answer::Refused(why),
@@ -155,9 +153,9 @@ fn do_link(s: &mut [u8], n: usize, b: usize, d: usize, name: &[u8], i: usize) ->
     requires { ⌜ Sound mostStoreBlocks false (now s) × (n ≡ inodesIn (now s)) × (b ≡ blocksIn (now s)) ⌝ }
     ensures { λ r. ⌜ left r (now (s .exit)) [] ≡ doLink (now (s .entry)) n d (now (name .entry)) i (linkPlan (now (s .entry)) n b d (now (name .entry)) i) ⌝ }
 {
-    match plan::link_plan(s, n, b, d, name, i) {
+    match entries::plan::link_plan(s, n, b, d, name, i) {
         LinkPlan::Add(room) => {
-            entries::link(&mut *s, n, b, d, name, i, room);
+            entries::apply::link(&mut *s, n, b, d, name, i, room);
             Answer::Done(0)
         }
         LinkPlan::NoLink(why) => Answer::Refused(why),
@@ -178,9 +176,9 @@ fn do_unlink(s: &mut [u8], n: usize, d: usize, name: &[u8]) -> Answer
     requires { ⌜ Sound mostStoreBlocks false (now s) × (n ≡ inodesIn (now s)) ⌝ }
     ensures { λ r. ⌜ left r (now (s .exit)) [] ≡ doUnlink (now (s .entry)) n d (unlinkPlan (now (s .entry)) n d (now (name .entry))) ⌝ }
 {
-    match plan::unlink_plan(s, n, d, name) {
+    match entries::plan::unlink_plan(s, n, d, name) {
         UnlinkPlan::Take(t, i) => {
-            entries::unlink(&mut *s, n, d, t, i);
+            entries::apply::unlink(&mut *s, n, d, t, i);
             Answer::Done(0)
         }
         UnlinkPlan::NoUnlink(why) => Answer::Refused(why),
@@ -209,14 +207,14 @@ fn do_rename(
     requires { ⌜ Sound mostStoreBlocks false (now s) × (n ≡ inodesIn (now s)) × (b ≡ blocksIn (now s)) ⌝ }
     ensures { λ r. ⌜ left r (now (s .exit)) [] ≡ doRename (now (s .entry)) n d e (now (other .entry)) (renamePlan (now (s .entry)) n b d (now (name .entry)) e (now (other .entry))) ⌝ }
 {
-    match plan::rename_plan(s, n, b, d, name, e, other) {
+    match entries::plan::rename_plan(s, n, b, d, name, e, other) {
         RenamePlan::Same => Answer::Done(0),
         RenamePlan::Rename(t, i) => {
-            entries::rename(&mut *s, n, d, other, t, i);
+            entries::apply::rename(&mut *s, n, d, other, t, i);
             Answer::Done(0)
         }
         RenamePlan::Move(t, i, room) => {
-            entries::move_entry(&mut *s, n, b, d, e, other, t, i, room);
+            entries::apply::move_entry(&mut *s, n, b, d, e, other, t, i, room);
             Answer::Done(0)
         }
         RenamePlan::NoRename(why) => Answer::Refused(why),

@@ -1,5 +1,5 @@
 -- The header of a store or an image: its fields read and written.
-use Prim.Native.Nat.{ℕ}
+use Prim.Native.Nat.{ℕ, _+_, _-_}
 use mathlib.Core.Bool.{Bool, _&&_}
 use mathlib.Core.List.{List}
 use lib.Dec.{eqb}
@@ -20,6 +20,13 @@ headerOf s = record {
 -- the free counts alone, and byte 8 alone
 unfoldable pub putFree : List ℕ → ℕ → ℕ → List ℕ
 putFree s i b = putNum 2 (putNum 2 s 4 i) 6 b
+
+-- i inodes and b blocks fewer are free, or more
+unfoldable pub lessFree : List ℕ → ℕ → ℕ → List ℕ
+lessFree s i b = putFree s (headerOf s .«free_inodes» - i) (headerOf s .«free_blocks» - b)
+
+unfoldable pub moreFree : List ℕ → ℕ → ℕ → List ℕ
+moreFree s i b = putFree s (headerOf s .«free_inodes» + i) (headerOf s .«free_blocks» + b)
 
 unfoldable pub putComplete : List ℕ → ℕ → List ℕ
 putComplete s v = putNum 1 s 8 v

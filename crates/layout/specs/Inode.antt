@@ -1,7 +1,9 @@
 -- Inodes, numbered from 1: attributes and addresses, read and written. n is the inode count.
 use Prim.Native.Nat.{ℕ, _+_, _*_, _-_, _≤_}
 use mathlib.Core.List.{List, _++_}
-use lib.ListN.{length}
+use mathlib.Core.Bool.{Bool, _&&_}
+use lib.ListN.{length, replicate}
+use lib.Dec.{eqb, leb}
 use Rattle.octets.specs.Octets.{splice, numAt, toBytes, putNum, wordBytes}
 use Rattle.bounded.specs.Table.{table}
 use Rattle.layout.specs.Sizes.{headerBytes, attributeBytes, addressCount, inodeBytes, mostInodes}
@@ -86,3 +88,27 @@ fileKind = 1
 
 abbrev pub directoryKind : ℕ
 directoryKind = 2
+
+-- i is an inode of kind k
+unfoldable pub isKind : List ℕ → ℕ → ℕ → ℕ → Bool
+isKind s n k i = leb 1 i && (leb i n && eqb (kindOf s i) k)
+
+-- refusal 5: "a number that isn't the file or directory needed"
+abbrev pub isFile : List ℕ → ℕ → ℕ → Bool
+isFile s n i = isKind s n fileKind i
+
+abbrev pub isDirectory : List ℕ → ℕ → ℕ → Bool
+isDirectory s n i = isKind s n directoryKind i
+
+-- "attributes and addresses become zero"
+unfoldable pub zeroInode : Inode
+zeroInode = record { kind = 0; links = 0; size = 0; parent = 0; addresses = replicate addressCount 0 }
+
+abbrev pub withSize : Inode → ℕ → Inode
+withSize v z = record { kind = v .kind; links = v .links; size = z; parent = v .parent; addresses = v .addresses }
+
+abbrev pub withBlocks : Inode → ℕ → List ℕ → Inode
+withBlocks v z a = record { kind = v .kind; links = v .links; size = z; parent = v .parent; addresses = a }
+
+abbrev pub withParent : Inode → ℕ → Inode
+withParent v d = record { kind = v .kind; links = v .links; size = v .size; parent = d; addresses = v .addresses }

@@ -4,7 +4,7 @@ use commands::Command;
 use commands::Reply;
 use commands::bytes::fill;
 use commands::bytes::front;
-use files::Kind;
+use entries::Kind;
 use files::plain;
 
 // What an out-buffer holds before a read.

@@ -86,8 +86,8 @@ fn dispatch(
         Command::PokeDesk(o, x) => buffers::poke(desk, o, x),
         Command::LayStore(n, b) => Reply::Told(format::lay_out_store(store, n, b)),
         Command::LayDesk(n) => Reply::Told(format::lay_out_desk(desk, n)),
-        Command::CheckStore => buffers::verdict(sound::check::check(Form::Store, store)),
-        Command::CheckImage => buffers::verdict(sound::check::check(Form::Image, image)),
+        Command::CheckStore => buffers::verdict(checker::check::check(Form::Store, store)),
+        Command::CheckImage => buffers::verdict(checker::check::check(Form::Image, image)),
         _ => calls::call(command, store, page, name, other),
     }
 }

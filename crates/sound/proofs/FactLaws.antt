@@ -13,10 +13,9 @@ use Rattle.layout.specs.Inode.{InodeFits, kindOf, sizeOf, addressOf, place, dir
 use Rattle.layout.specs.Block.{Sized, blocksUsed, kthBlock}
 use Rattle.layout.specs.Free.{named}
 use Rattle.directory.specs.Slot.{mostSlots, DirFits}
-use Rattle.sound.specs.Place.{naming}
 use Rattle.sound.specs.Sound.{inodesIn, blocksIn, Sound}
+use Rattle.sound.specs.Place.{naming, IsDir}
 use Rattle.sound.proofs.PlaceLaws.{naming-filled}
-use Rattle.sound.specs.Pass.{IsDir}
 use Rattle.sound.proofs.SoundLaws.{InParent, in-parent, all-counted}
 
 -- ---- the blocks that some address names

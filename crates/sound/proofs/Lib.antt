@@ -1,7 +1,3 @@
+pub mod FactLaws
 pub mod PlaceLaws
 pub mod SoundLaws
-pub mod FactLaws
-pub mod InodeLaws
-pub mod EntryLaws
-pub mod LinkLaws
-pub mod CheckLaws

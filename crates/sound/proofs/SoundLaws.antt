@@ -16,8 +16,7 @@ use Rattle.layout.specs.Inode.{kindOf, spareOf, linksOf, sizeOf, parentOf, addr
 use Rattle.layout.specs.Block.{storeLength, blockOf, blocksUsed, kthBlock}
 use Rattle.names.specs.Entry.{legalEntry}
 use Rattle.directory.specs.Slot.{mostSlots}
-use Rattle.sound.specs.Pass.{IsDir}
-use Rattle.sound.specs.Place.{dirOf, slotOf, isSlot, entryAt, filled, naming}
+use Rattle.sound.specs.Place.{IsDir, dirOf, slotOf, isSlot, entryAt, filled, naming}
 use Rattle.sound.specs.Inode.{InodeSound, tailByte, attributesB, addressesB, zeroTailB, inodeB}
 use Rattle.sound.specs.Entry.{EntrySound, sameNames, sibling, namedB, newNameB, entryB}
 use Rattle.sound.specs.Link.{LinkSound, countedB, leadB}

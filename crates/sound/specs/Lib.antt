@@ -3,4 +3,3 @@ pub mod Inode
 pub mod Entry
 pub mod Link
 pub mod Sound
-pub mod Pass

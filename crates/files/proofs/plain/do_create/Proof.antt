@@ -4,8 +4,8 @@ use mathlib.Core.Path.{sym, ap, _∙_}
 use denote.Ref.{now}
 use Rattle.names.proofs.NameLaws.{legal-bounds}
 use Rattle.answers.specs.declared.Answer.the-variants.{Done}
+use Rattle.entries.proofs.PlanFacts.{creates}
 use Rattle.files.specs.Plain.{left, doCreate}
-use Rattle.files.proofs.Plans.PlanFacts.{creates}
 use borrow.Author.Needs.{needs}
 use Rattle.files.proofs.plain.do_create.Statement.{statement}
 use Rattle.files.proofs.plain.do_create.Tie as tie

@@ -4,8 +4,8 @@ use mathlib.Core.Path.{sym, ap, _∙_}
 use denote.Ref.{now}
 use Rattle.names.proofs.NameLaws.{legal-bounds}
 use Rattle.answers.specs.declared.Answer.the-variants.{Done}
+use Rattle.entries.proofs.PlanFacts.{links}
 use Rattle.files.specs.Plain.{left, doLink}
-use Rattle.files.proofs.Plans.PlanFacts.{links}
 use borrow.Author.Needs.{needs}
 use Rattle.files.proofs.plain.do_link.Statement.{statement}
 use Rattle.files.proofs.plain.do_link.Tie as tie

@@ -3,8 +3,8 @@ use native.Mathlib.Omega.{arith}
 use denote.Ref.{now}
 use lib.ListN.{length}
 use Rattle.answers.specs.declared.Answer.the-variants.{Done}
+use Rattle.content.proofs.PlanFacts.{Reads, reads}
 use Rattle.files.specs.Plain.{left, doRead}
-use Rattle.files.proofs.Plans.PlanFacts.{Reads, reads}
 use borrow.Author.Needs.{needs}
 use Rattle.files.proofs.plain.do_read.Statement.{statement}
 use Rattle.files.proofs.plain.do_read.Tie as tie

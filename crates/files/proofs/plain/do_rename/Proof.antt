@@ -6,9 +6,9 @@ use denote.Ref.{now}
 use Rattle.names.proofs.NameLaws.{legal-bounds}
 use Rattle.directory.proofs.SlotLaws.{find-below}
 use Rattle.answers.specs.declared.Answer.the-variants.{Done}
+use Rattle.changes.proofs.SlotPlaceLaws.{found-here}
+use Rattle.entries.proofs.PlanFacts.{renames, moves}
 use Rattle.files.specs.Plain.{left, doRename}
-use Rattle.files.proofs.Plans.PlanFacts.{renames, moves}
-use Rattle.files.proofs.Kept.SlotPlaceLaws.{found-here}
 use borrow.Author.Needs.{needs}
 use Rattle.files.proofs.plain.do_rename.Statement.{statement}
 use Rattle.files.proofs.plain.do_rename.Tie as tie

@@ -4,8 +4,8 @@ use mathlib.Core.List.{List, []}
 use native.Mathlib.Omega.{arith}
 use denote.Ref.{now}
 use Rattle.answers.specs.declared.Answer.the-variants.{Done}
+use Rattle.content.proofs.PlanFacts.{shortens}
 use Rattle.files.specs.Plain.{left, doShorten}
-use Rattle.files.proofs.Plans.PlanFacts.{shortens}
 use borrow.Author.Needs.{needs}
 use Rattle.files.proofs.plain.do_shorten.Statement.{statement}
 use Rattle.files.proofs.plain.do_shorten.Tie as tie

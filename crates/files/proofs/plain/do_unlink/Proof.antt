@@ -5,9 +5,9 @@ use native.Mathlib.Omega.{arith}
 use denote.Ref.{now}
 use Rattle.directory.proofs.SlotLaws.{find-below}
 use Rattle.answers.specs.declared.Answer.the-variants.{Done}
+use Rattle.changes.proofs.SlotPlaceLaws.{found-here}
+use Rattle.entries.proofs.PlanFacts.{unlinks}
 use Rattle.files.specs.Plain.{left, doUnlink}
-use Rattle.files.proofs.Plans.PlanFacts.{unlinks}
-use Rattle.files.proofs.Kept.SlotPlaceLaws.{found-here}
 use borrow.Author.Needs.{needs}
 use Rattle.files.proofs.plain.do_unlink.Statement.{statement}
 use Rattle.files.proofs.plain.do_unlink.Tie as tie

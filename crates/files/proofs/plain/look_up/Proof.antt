@@ -2,9 +2,9 @@ use Prim.Native.Nat.{ℕ}
 use mathlib.Core.List.{[]}
 use mathlib.Core.Path.{sym, _∙_}
 use denote.Ref.{now}
+use Rattle.entries.specs.Plan.{lookUpPlan}
 use Rattle.files.specs.Plain.{doLookUp, plainLookUp}
-use Rattle.files.specs.Plan.{lookUpPlan}
-use Rattle.files.proofs.Steps.CallLaws.{passed, call-through, call-stopped}
+use Rattle.files.proofs.CallLaws.{passed, call-through, call-stopped}
 use borrow.Author.Needs.{needs}
 use Rattle.files.proofs.plain.look_up.Statement.{statement}
 use Rattle.files.proofs.plain.look_up.Tie as tie

@@ -1,9 +1,9 @@
 use Prim.Native.Nat.{ℕ}
 use mathlib.Core.Path.{sym, _∙_}
 use denote.Ref.{now}
+use Rattle.content.specs.Plan.{shortenPlan}
 use Rattle.files.specs.Plain.{doShorten, plainShorten}
-use Rattle.files.specs.Plan.{shortenPlan}
-use Rattle.files.proofs.Steps.CallLaws.{passed, call-through, call-stopped}
+use Rattle.files.proofs.CallLaws.{passed, call-through, call-stopped}
 use borrow.Author.Needs.{needs}
 use Rattle.files.proofs.plain.shorten.Statement.{statement}
 use Rattle.files.proofs.plain.shorten.Tie as tie

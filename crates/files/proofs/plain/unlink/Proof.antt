@@ -1,9 +1,9 @@
 use Prim.Native.Nat.{ℕ}
 use mathlib.Core.Path.{sym, _∙_}
 use denote.Ref.{now}
+use Rattle.entries.specs.Plan.{unlinkPlan}
 use Rattle.files.specs.Plain.{doUnlink, plainUnlink}
-use Rattle.files.specs.Plan.{unlinkPlan}
-use Rattle.files.proofs.Steps.CallLaws.{passed, call-through, call-stopped}
+use Rattle.files.proofs.CallLaws.{passed, call-through, call-stopped}
 use borrow.Author.Needs.{needs}
 use Rattle.files.proofs.plain.unlink.Statement.{statement}
 use Rattle.files.proofs.plain.unlink.Tie as tie

@@ -2,9 +2,9 @@ use Prim.Native.Nat.{ℕ}
 use mathlib.Core.Path.{sym, _∙_}
 use denote.Ref.{now}
 use lib.ListN.{length}
+use Rattle.content.specs.Plan.{writePlan}
 use Rattle.files.specs.Plain.{doWrite, plainWrite}
-use Rattle.files.specs.Plan.{writePlan}
-use Rattle.files.proofs.Steps.CallLaws.{passed, call-through, call-stopped}
+use Rattle.files.proofs.CallLaws.{passed, call-through, call-stopped}
 use borrow.Author.Needs.{needs}
 use Rattle.files.proofs.plain.write.Statement.{statement}
 use Rattle.files.proofs.plain.write.Tie as tie

@@ -1,0 +1,14 @@
+pub mod AddressLaws
+pub mod BaredLaws
+pub mod ChangeLaws
+pub mod EntryWriteLaws
+pub mod FreeLaws
+pub mod InodeWriteLaws
+pub mod KeepLaws
+pub mod RecordLaws
+pub mod SameLaws
+pub mod SlotPlaceLaws
+pub mod SoundTreeLaws
+pub mod StockLaws
+pub mod StoreLaws
+pub mod TreeLaws

@@ -1,0 +1,135 @@
+-- An inode's record and the free counts: what a write of them keeps, and writes in another order. n is the inode count.
+use Prim.Native.Nat.{ℕ, _+_, _*_, _-_, _≤_}
+use mathlib.Core.Path.{_≡_, refl, sym, ap, ap₂, _∙_}
+use mathlib.Core.List.{List}
+use native.Mathlib.Omega.{arith}
+use lib.ListN.{length, getD}
+use Rattle.bounded.specs.Table.{table}
+use Rattle.bounded.proofs.TableLaws.{length-table, table-ext, filled-all}
+use Rattle.octets.specs.Octets.{splice, toBytes, putNum, wordBytes}
+use Rattle.octets.proofs.PartLaws.{splice-comm, splice-twice}
+use Rattle.octets.proofs.NumLaws.{length-toBytes, num-comm, num-twice}
+use Rattle.octets.proofs.WordLaws.{length-words}
+use Rattle.layout.specs.declared.inode.Inode.{Inode}
+use Rattle.layout.specs.Header.{headerOf, putFree, lessFree}
+use Rattle.layout.specs.Inode.{InodeFits, attributesAt, addressAt, place, sizeOf, addressOf, addressesOf, attributeEntry, inodeOf, putAttributes, putAddresses, putInode}
+use Rattle.layout.specs.Block.{blocksUsed, kthBlock}
+use Rattle.layout.proofs.FrameLaws.{length-inode, length-entry, header-past}
+use Rattle.layout.proofs.ViewLaws.{header-free}
+use Rattle.changes.proofs.SameLaws.{less-free, inode-new, inode-blocks}
+
+-- ---- the free counts
+-- after a write past the header, and before it
+module _ (s : List ℕ) (p : ℕ) (xs : List ℕ) (h : 16 ≤ p) where
+  free-past : (x y : ℕ) → putFree (splice s p xs) x y ≡ splice (putFree s x y) p xs
+  unfolding putFree putNum
+  free-past x y =
+      let a = length-toBytes 2 x in
+      let b = length-toBytes 2 y in
+      ap (λ (t : List ℕ). splice t 6 (toBytes 2 y)) (splice-comm s p xs 4 (toBytes 2 x) (omega arith))
+      ∙ splice-comm (splice s 4 (toBytes 2 x)) p xs 6 (toBytes 2 y) (omega arith)
+
+  pub less-past : (x y : ℕ) → lessFree (splice s p xs) x y ≡ splice (lessFree s x y) p xs
+  unfolding lessFree
+  less-past x y = rw (header-past s p xs h) (free-past _ _)
+
+free-twice : (s : List ℕ) (a b c d : ℕ) → putFree (putFree s a b) c d ≡ putFree s c d
+unfolding putFree
+free-twice s a b c d =
+    ap (λ (t : List ℕ). putNum 2 t 6 d) (num-comm 2 2 (putNum 2 s 4 a) 6 4 b c (omega arith) ∙ ap (λ (t : List ℕ). putNum 2 t 6 b) (num-twice 2 s 4 a c))
+    ∙ num-twice 2 (putNum 2 s 4 c) 6 b d
+
+-- j blocks fewer, and then m
+pub less-less : (s : List ℕ) (j m : ℕ) → 16 ≤ length s → lessFree (lessFree s 0 j) 0 m ≡ lessFree s 0 (j + m)
+unfolding lessFree
+less-less s j m f =
+    let a = headerOf s .«free_inodes» in
+    let b = headerOf s .«free_blocks» in
+    let x : a - 0 - 0 ≡ a - 0 = omega arith in
+    let y : b - j - m ≡ b - (j + m) = omega arith in
+    rw (header-free s f (a - 0) (b - j)) (free-twice s (a - 0) (b - j) (a - 0 - 0) (b - j - m) ∙ ap₂ (putFree s) x y)
+
+-- ---- an inode's record
+-- as it was read
+module _ (s : List ℕ) (n i : ℕ) (v : Inode) (e : v ≡ inodeOf s n i) where
+  pub size-is : v .size ≡ sizeOf s i
+  unfolding inodeOf
+  size-is = ap (λ (w : Inode). w .size) e
+
+  pub used-is : (u : ℕ) → u ≡ blocksUsed (v .size) → u ≡ blocksUsed (sizeOf s i)
+  used-is u q = q ∙ ap blocksUsed size-is
+
+  pub twelve : length (v .addresses) ≡ 12
+  unfolding inodeOf addressesOf
+  twelve = ap (λ (w : Inode). length (w .addresses)) e ∙ length-table (λ k. addressOf s n (place i k)) 12
+
+-- as it is written
+module _ (s : List ℕ) (n i : ℕ) (l : 1 ≤ i) (m : i ≤ n) (v : Inode) where
+  -- the header is not touched
+  pub header-inode : headerOf (putInode s n i v) ≡ headerOf s
+  unfolding putInode putAttributes putAddresses
+  header-inode =
+      header-past (splice s (attributesAt i) (attributeEntry v)) (addressAt n (place i 0)) (wordBytes (v .addresses)) (omega arith)
+      ∙ header-past s (attributesAt i) (attributeEntry v) (omega arith)
+
+  -- after the free counts
+  pub inode-less : (x y : ℕ) → putInode (lessFree s x y) n i v ≡ lessFree (putInode s n i v) x y
+  unfolding putInode putAttributes putAddresses
+  inode-less x y =
+      sym (less-past (splice s (attributesAt i) (attributeEntry v)) (addressAt n (place i 0)) (wordBytes (v .addresses)) (omega arith) x y
+      ∙ ap (λ (t : List ℕ). splice t (addressAt n (place i 0)) (wordBytes (v .addresses))) (less-past s (attributesAt i) (attributeEntry v) (omega arith) x y))
+
+  -- after a write past the inodes
+  pub inode-past : length (v .addresses) ≡ 12 → (p : ℕ) (xs : List ℕ) → 16 + 32 * n ≤ p → putInode (splice s p xs) n i v ≡ splice (putInode s n i v) p xs
+  unfolding putInode putAttributes putAddresses
+  inode-past e p xs h =
+      let a = length-entry v in
+      let b = length-words (v .addresses) in
+      ap (λ (t : List ℕ). splice t (addressAt n (place i 0)) (wordBytes (v .addresses))) (splice-comm s p xs (attributesAt i) (attributeEntry v) (omega arith))
+      ∙ splice-comm (splice s (attributesAt i) (attributeEntry v)) p xs (addressAt n (place i 0)) (wordBytes (v .addresses)) (omega arith)
+
+  -- with other attributes then
+  pub attributes-twice : length (v .addresses) ≡ 12 → (w : Inode) → v .addresses ≡ w .addresses → putAttributes (putInode s n i v) i w ≡ putInode s n i w
+  unfolding putInode putAttributes putAddresses
+  attributes-twice e w q =
+      let a = length-entry v in
+      let b = length-words (v .addresses) in
+      let c = length-entry w in
+      splice-comm (splice s (attributesAt i) (attributeEntry v)) (addressAt n (place i 0)) (wordBytes (v .addresses)) (attributesAt i) (attributeEntry w) (omega arith)
+      ∙ ap₂ (λ (t : List ℕ) (ws : List ℕ). splice t (addressAt n (place i 0)) (wordBytes ws)) (splice-twice s (attributesAt i) (attributeEntry v) (attributeEntry w) (a ∙ sym c)) q
+
+-- twice: the second counts
+pub inode-twice : (s : List ℕ) (n i : ℕ) → 1 ≤ i → i ≤ n → (v w : Inode) → length (v .addresses) ≡ 12 → length (w .addresses) ≡ 12 → putInode (putInode s n i v) n i w ≡ putInode s n i w
+unfolding putInode putAttributes putAddresses
+inode-twice s n i l m v w e g =
+    let o : ℕ = attributesAt i in
+    let p : ℕ = addressAt n (place i 0) in
+    let vs : List ℕ = wordBytes (v .addresses) in
+    let ws : List ℕ = wordBytes (w .addresses) in
+    let a = length-entry v in
+    let c = length-entry w in
+    let b : length vs ≡ 24 = length-words (v .addresses) ∙ omega arith in
+    let d : length ws ≡ 24 = length-words (w .addresses) ∙ omega arith in
+    ap (λ (t : List ℕ). splice t p ws) (splice-comm (splice s o (attributeEntry v)) p vs o (attributeEntry w) (omega arith) ∙ ap (λ (t : List ℕ). splice t p vs) (splice-twice s o (attributeEntry v) (attributeEntry w) (a ∙ sym c)))
+    ∙ splice-twice (splice s o (attributeEntry w)) p vs ws (b ∙ sym d)
+
+-- ---- what is read after a record and the free counts were put
+table-list : (l : List ℕ) (k : ℕ) → length l ≡ k → table (λ j. getD l j 0) k ≡ l
+table-list l k e = sym (filled-all (λ j. getD l j 0) k k l (omega arith) (record { long = e; each = λ j h. refl }))
+
+module _ (s : List ℕ) (n i : ℕ) (f : InodeFits s n i) (v : Inode) (e : length (v .addresses) ≡ 12) (x y : ℕ) where
+  pub inode-read : inodeOf (lessFree (putInode s n i v) x y) n i ≡ v
+  unfolding inodeOf addressesOf kthBlock
+  inode-read =
+      let t = putInode s n i v in
+      let o = length-inode s n i v in
+      let q = f .area in
+      let a = less-free t n (omega arith) x y .inodes i (f .low) (f .high) in
+      let g = inode-new s n i f v e in
+      λ k. record {
+        kind = (a .kind ∙ g .kind) k;
+        links = (a .links ∙ g .links) k;
+        size = (a .size ∙ g .size) k;
+        parent = (a .parent ∙ g .parent) k;
+        addresses = (table-ext (λ j. addressOf (lessFree t x y) n (place i j)) (λ j. getD (v .addresses) j 0) 12 (λ j l. a .blocks j l ∙ inode-blocks s n i f v e j l) ∙ table-list (v .addresses) 12 e) k;
+      }

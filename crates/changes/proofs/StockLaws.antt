@@ -1,0 +1,79 @@
+-- The inodes, blocks and free counts of a store, and what the changes of entries and of one inode keep of them. n and b are the counts of inodes and blocks.
+use Prim.Native.Nat.{ℕ, _*_, _/_, _%_, _≤_, _<_}
+use mathlib.Core.Path.{_≡_, refl, sym, ap, _∙_}
+use mathlib.Core.Bool.{false}
+use mathlib.Core.List.{List}
+use native.Mathlib.Omega.{arith}
+use Rattle.bounded.specs.Count.{count, Differ}
+use Rattle.layout.specs.Sizes.{mostStoreBlocks, addressCount, blockBytes}
+use Rattle.layout.specs.Header.{headerOf}
+use Rattle.layout.specs.declared.header.Header.{Header}
+use Rattle.layout.specs.Inode.{kindOf, sizeOf, parentOf, addressOf, freeKind, fileKind}
+use Rattle.layout.specs.Block.{blocksUsed, kthBlock}
+use Rattle.sound.specs.Inode.{InodeSound}
+use Rattle.sound.specs.Sound.{Sound, inodesIn, blocksIn, freeB, unnamedB}
+use Rattle.changes.proofs.SameLaws.{SameFrame, SameBody, SameBlock, each-inode}
+use Rattle.changes.proofs.KeepLaws.{Body, sound-of, inode-like, tail-kept, inode-kept}
+use Rattle.changes.proofs.AddressLaws.{same-differ, same-unnamed}
+use Rattle.changes.proofs.FreeLaws.{same-free}
+use Rattle.changes.proofs.ChangeLaws.{NamesSound}
+use Rattle.changes.proofs.TreeLaws.{Tree}
+use Rattle.changes.proofs.SoundTreeLaws.{nodesOf, entries-back, links-back}
+use Rattle.changes.proofs.EntryWriteLaws.{EntriesAlone}
+use Rattle.changes.proofs.InodeWriteLaws.{Relinked, body-all}
+
+-- inodes are sound by themselves, no block is named twice, and the free counts are true
+pub record Stock (t : List ℕ) (n b : ℕ) : Type 0 where
+  pub inodes : (i : ℕ) → 1 ≤ i → i ≤ n → InodeSound t n b i
+  pub once : Differ (addressOf t n) (addressCount * n)
+  pub free-inodes : headerOf t .«free_inodes» ≡ count (freeB t) n
+  pub free-blocks : headerOf t .«free_blocks» ≡ count (unnamedB t n) b
+
+-- the block that a size ends in is one that it uses
+last-used : (z : ℕ) → (z % blockBytes ≡ 0 → ⊥) → z / blockBytes < blocksUsed z
+unfolding blocksUsed
+last-used z h = omega arith
+
+-- ---- entries alone change
+pub entries-stock : (s t : List ℕ) (n b : ℕ) → Body s n b → EntriesAlone s t n → Stock t n b
+entries-stock s t n b h a = record {
+  inodes = λ i l m. inode-kept s t n b i (a .inodes i l m) (λ k z. a .files i (sizeOf s i / blockBytes) l m k (last-used (sizeOf s i) z)) (h .inodes i l m);
+  once = same-differ s t n (λ j l m. a .inodes j l m .blocks) (h .once);
+  free-inodes = ap (λ (v : Header). v .«free_inodes») (a .header) ∙ h .free-inodes ∙ sym (same-free s t n (λ j l m. a .inodes j l m .kind));
+  free-blocks = ap (λ (v : Header). v .«free_blocks») (a .header) ∙ h .free-blocks ∙ sym (same-unnamed s t n (λ j l m. a .inodes j l m .blocks) b);
+}
+
+-- ---- a store with the frame of a sound one that has its stock, sound names and a tree is sound
+pub stock-sound : (s t : List ℕ) (n : ℕ) → Sound mostStoreBlocks false s → n ≡ inodesIn s → SameFrame s t → Stock t n (blocksIn s) → NamesSound t n → Tree n (nodesOf t n) → Sound mostStoreBlocks false t
+stock-sound s t n h x f k a r =
+    sound-of s t h f n (blocksIn s) x refl
+    (record {
+      inodes = k .inodes;
+      once = k .once;
+      root = r .root;
+      root-parent = r .root-parent;
+      entries = entries-back t n a r;
+      links = links-back t n a r;
+      free-inodes = k .free-inodes;
+      free-blocks = k .free-blocks;
+    })
+
+-- ---- an inode in use has other links, or a directory another parent
+module _ (s t : List ℕ) (n b i : ℕ) (e : SameBody s t n i) (g : (c : ℕ) → SameBlock s t n c)
+    (used : kindOf s i ≡ freeKind → ⊥) (file : kindOf s i ≡ fileKind → parentOf t i ≡ parentOf s i) where
+  inode-relinked : InodeSound s n b i → InodeSound t n b i
+  inode-relinked h = inode-like s t n b i e (λ k. absurd (used k)) file (tail-kept s t n b i e (λ _ _. g (kthBlock s n i (sizeOf s i / blockBytes))) h) h
+
+module _ (s t : List ℕ) (n b i : ℕ) (a : Relinked s t n i)
+    (used : kindOf s i ≡ freeKind → ⊥) (file : kindOf s i ≡ fileKind → parentOf t i ≡ parentOf s i) where
+  pub relinked-stock : 1 ≤ i → i ≤ n → Stock s n b → Stock t n b
+  relinked-stock low high h =
+      let o = a .inode in
+      let e = body-all a in
+      record {
+        inodes = λ j l m. each-inode (InodeSound t n b) i j (inode-relinked s t n b i (a .body) (o .bytes) used file (h .inodes i low high))
+            (λ z. inode-kept s t n b j (o .others j l m z) (λ _ _. o .bytes (kthBlock s n j (sizeOf s j / blockBytes))) (h .inodes j l m));
+        once = same-differ s t n (λ j l m. e j l m .blocks) (h .once);
+        free-inodes = ap (λ (v : Header). v .«free_inodes») (o .header) ∙ h .free-inodes ∙ sym (same-free s t n (λ j l m. e j l m .kind));
+        free-blocks = ap (λ (v : Header). v .«free_blocks») (o .header) ∙ h .free-blocks ∙ sym (same-unnamed s t n (λ j l m. e j l m .blocks) b);
+      }

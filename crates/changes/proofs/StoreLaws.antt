@@ -1,0 +1,77 @@
+-- What a sound store gives to the calls on it. n and b are the counts that the code has read.
+use Prim.Native.Nat.{ℕ, _*_, _≤_, _<_}
+use mathlib.Core.Path.{_≡_, refl, sym, ap, _∙_, subst}
+use mathlib.Core.Bool.{true, false, _&&_}
+use mathlib.Core.List.{List}
+use native.Mathlib.Omega.{arith}
+use borrow.Author.Tests.{eq-eqb, leb-true, eqb-true, le-leb, lt-leb}
+use lib.Dec.{eqb, leb}
+use Rattle.bounded.proofs.BoolLaws.{and-false-l, and-left, and-right, chain-end}
+use Rattle.layout.specs.Sizes.{mostStoreBlocks, mostImageBlocks, mostFileBytes, addressCount}
+use Rattle.layout.specs.Inode.{InodeFits, kindOf, sizeOf, addressOf, isKind}
+use Rattle.layout.specs.Block.{Sized, blocksUsed, kthBlock}
+use Rattle.directory.specs.Slot.{DirFits}
+use Rattle.sound.specs.Sound.{Sound, inodesIn, blocksIn}
+use Rattle.sound.proofs.FactLaws.{sized, one-block, inode-fits, dir-fits, address-bound}
+
+-- ---- the kind of a number
+module _ (s : List ℕ) (n k i : ℕ) where
+  pub kind-low : i < 1 → false ≡ isKind s n k i
+  unfolding isKind
+  kind-low h = sym (and-false-l _ _ (lt-leb 1 i h))
+
+  pub kind-high : 1 ≤ i → n < i → false ≡ isKind s n k i
+  unfolding isKind
+  kind-high l h = chain-end _ _ _ (le-leb 1 i l) (sym (and-false-l _ _ (lt-leb i n h)))
+
+  pub kind-read : (x : ℕ) → 1 ≤ i → i ≤ n → x ≡ kindOf s i → eqb x k ≡ isKind s n k i
+  unfolding isKind
+  kind-read x l h q = chain-end _ _ _ (le-leb 1 i l) (chain-end _ _ _ (le-leb i n h) (ap (λ (y : ℕ). eqb y k) q))
+
+  pub kind-of : 1 ≤ i → i ≤ n → kindOf s i ≡ k → isKind s n k i ≡ true
+  kind-of l h q = sym (kind-read (kindOf s i) l h refl) ∙ eq-eqb (kindOf s i) k q
+
+  module _ (t : isKind s n k i ≡ true) where
+    pub kind-some : 1 ≤ i
+    unfolding isKind
+    kind-some = leb-true 1 i (and-left (leb 1 i) (leb i n && eqb (kindOf s i) k) t)
+
+    pub kind-most : i ≤ n
+    unfolding isKind
+    kind-most = leb-true i n (and-left (leb i n) (eqb (kindOf s i) k) (and-right (leb 1 i) (leb i n && eqb (kindOf s i) k) t))
+
+    pub kind-is : kindOf s i ≡ k
+    unfolding isKind
+    kind-is = eqb-true (kindOf s i) k (and-right (leb i n) (eqb (kindOf s i) k) (and-right (leb 1 i) (leb i n && eqb (kindOf s i) k) t))
+
+-- ---- a sound store
+pub sized-at : (s : List ℕ) (n b : ℕ) → Sound mostStoreBlocks false s → n ≡ inodesIn s → b ≡ blocksIn s → Sized s n b
+sized-at s n b h x y = subst (λ (j : ℕ). Sized s j b) (sym x) (subst (Sized s (inodesIn s)) (sym y) (sized h (omega arith)))
+
+module _ (s : List ℕ) (n : ℕ) (h : Sound mostStoreBlocks false s) (e : n ≡ inodesIn s) where
+  pub fits : (i : ℕ) → 1 ≤ i → i ≤ n → InodeFits s n i
+  fits i l m = subst (λ (x : ℕ). InodeFits s x i) (sym e) (inode-fits h i l (omega arith))
+
+  pub dir-of : (i : ℕ) → 1 ≤ i → i ≤ n → DirFits s n i
+  dir-of i l m = subst (λ (x : ℕ). DirFits s x i) (sym e) (dir-fits h i l (omega arith))
+
+  pub addresses-most : (x : ℕ) → x < addressCount * n → addressOf s n x ≤ mostImageBlocks
+  addresses-most x l =
+      let m = h .framed .most-blocks in
+      let q = address-bound h x (omega arith) in
+      subst (λ (y : ℕ). addressOf s y x ≤ mostImageBlocks) (sym e) (omega arith)
+
+  -- no block is two inodes' or twice one's
+  pub one-at : (i k j a : ℕ) → 1 ≤ i → i ≤ n → 1 ≤ j → j ≤ n → k < blocksUsed (sizeOf s i) → a < blocksUsed (sizeOf s j) → kthBlock s n i k ≡ kthBlock s n j a → (i ≡ j) × (k ≡ a)
+  one-at i k j a l m p q u w f = one-block h i k j a l (omega arith) p (omega arith) u w (subst (λ (z : ℕ). kthBlock s z i k ≡ kthBlock s z j a) e f)
+
+-- ---- an inode of a kind on a sound store
+module _ (s : List ℕ) (n : ℕ) (h : Sound mostStoreBlocks false s) (e : n ≡ inodesIn s) (k i : ℕ) (t : isKind s n k i ≡ true) where
+  pub kind-fits : InodeFits s n i
+  kind-fits = fits s n h e i (kind-some s n k i t) (kind-most s n k i t)
+
+  pub kind-dir : DirFits s n i
+  kind-dir = dir-of s n h e i (kind-some s n k i t) (kind-most s n k i t)
+
+  pub kind-size : sizeOf s i ≤ mostFileBytes
+  kind-size = let m = kind-most s n k i t in h .inodes i (kind-some s n k i t) (omega arith) .size

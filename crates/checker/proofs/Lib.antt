@@ -1,0 +1,4 @@
+pub mod CheckLaws
+pub mod EntryLaws
+pub mod InodeLaws
+pub mod LinkLaws

@@ -1,0 +1,47 @@
+-- What the check's passes over the inodes and the entries test, and hold in their arrays. n is the inode count, d a directory.
+use Prim.Native.Nat.{ℕ, _+_}
+use mathlib.Core.Path.{_≡_}
+use mathlib.Core.Bool.{Bool, _&&_}
+use mathlib.Core.List.{List}
+use lib.ListN.{length, getD}
+use Rattle.bounded.specs.Below.{allBelow}
+use Rattle.bounded.specs.Climb.{Leads}
+use Rattle.bounded.specs.Count.{Tallied, newAt}
+use Rattle.bounded.specs.Table.{Filled}
+use Rattle.names.specs.Entry.{wordsAt, nameAt}
+use Rattle.directory.specs.Slot.{mostSlots, entryOf}
+use Rattle.layout.specs.Sizes.{mostInodes, addressCount, rootInode}
+use Rattle.layout.specs.Inode.{parentOf, addressOf, place}
+use Rattle.sound.specs.Inode.{usedB, restB}
+use Rattle.sound.specs.Place.{naming}
+
+-- address k of inode i names no block that an address before it names
+abbrev pub newBlockB : List ℕ → ℕ → ℕ → ℕ → Bool
+newBlockB s n i k = newAt (addressOf s n) (place i k)
+
+-- nor does any of its twelve
+unfoldable pub newBlocksB : List ℕ → ℕ → ℕ → Bool
+newBlocksB s n i = allBelow (newBlockB s n i) addressCount
+
+-- address k of inode i, tested as the pass meets it
+unfoldable pub addressB : List ℕ → ℕ → ℕ → ℕ → ℕ → Bool
+addressB s n b i k = (usedB s n b i k && restB s n i k) && newBlockB s n i k
+
+-- the name in slot t of d, as two words
+abbrev pub lowOf : List ℕ → ℕ → ℕ → ℕ → ℕ
+lowOf s n d t = wordsAt (entryOf s n d t) nameAt .low
+
+abbrev pub highOf : List ℕ → ℕ → ℕ → ℕ → ℕ
+highOf s n d t = wordsAt (entryOf s n d t) nameAt .high
+
+-- the names of the first t slots of d are read, and the inodes that all places before p name are counted
+pub record Passed (s : List ℕ) (n d t p : ℕ) (low high counts : List ℕ) : Type 0 where
+  pub lows : Filled (lowOf s n d) mostSlots t low
+  pub highs : Filled (highOf s n d) mostSlots t high
+  pub counted : Tallied (naming s n) 1 (mostInodes + 1) p counts
+
+-- the list tells of some numbers, the root among them, that they lead to the root
+pub record Known (s : List ℕ) (known : List ℕ) : Type 0 where
+  pub long : length known ≡ mostInodes + 1
+  pub root : getD known rootInode 0 ≡ 0 → ⊥
+  pub each : (x : ℕ) → (getD known x 0 ≡ 0 → ⊥) → Leads (parentOf s) rootInode x

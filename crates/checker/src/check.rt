@@ -1,0 +1,134 @@
+// The check of a store or an image: any bytes, yes or no.
+ghost use mathlib.Core.Path.{_≡_};
+ghost use mathlib.Core.Bool.{true};
+ghost use Prim.Native.Nat.{_+_, _*_, _≤_};
+ghost use lib.ListN.{length};
+ghost use Rattle.bounded.specs.Seen.{Seen};
+ghost use Rattle.layout.specs.Sizes.{mostImageBlocks, addressCount, rootInode};
+ghost use Rattle.layout.specs.Inode.{InodeFits, addressOf};
+ghost use Rattle.sound.specs.Sound.{inodesIn, blocksIn, Framed, framedB, headerB, freeCountsB, bodyB, soundB, isSound};
+use crate::entries;
+use crate::inodes;
+use crate::links;
+use layout::block::store_length;
+use layout::header;
+use layout::header::Header;
+use layout::inode;
+use layout::sizes::COMPLETE;
+use layout::sizes::DIRECTORY;
+use layout::sizes::HEADER_BYTES;
+use layout::sizes::MOST_IMAGE_BLOCKS;
+use layout::sizes::MOST_INODES;
+use layout::sizes::MOST_STORE_BLOCKS;
+use layout::sizes::ROOT;
+use sound::Form;
+
+// The header's counts are allowed, and the length is theirs.
+pub fn framed(s: &[u8], limit: usize) -> bool
+    requires { ⌜ limit ≤ mostImageBlocks ⌝ }
+    ensures { λ r. ⌜ r ≡ framedB limit (now (s .entry)) ⌝ }
+{
+    if s.len() < HEADER_BYTES {
+        return false;
+    }
+    let n = octets::get_16(s, 0) as usize;
+    let b = octets::get_16(s, 2) as usize;
+    if n < 1 {
+        return false;
+    }
+    if MOST_INODES < n {
+        return false;
+    }
+    if b < 1 {
+        return false;
+    }
+    if limit < b {
+        return false;
+    }
+    s.len() == store_length(n, b)
+}
+
+// Byte 8, the root and the reserved bytes; the root is a directory that has no parent.
+fn header_right(s: &[u8], n: usize) -> bool
+    requires { ⌜ InodeFits (now s) n rootInode ⌝ }
+    ensures { λ r. ⌜ r ≡ headerB (now (s .entry)) ⌝ }
+{
+    let h = Header::read(s);
+    if h.complete != COMPLETE {
+        return false;
+    }
+    if h.root as usize != ROOT {
+        return false;
+    }
+    if !header::reserved_zero(s) {
+        return false;
+    }
+    if inode::kind(s, n, ROOT) != DIRECTORY {
+        return false;
+    }
+    inode::parent(s, n, ROOT) == 0
+}
+
+// The free counts are true.
+fn counts_right(s: &[u8], n: usize, b: usize, map: &[u8]) -> bool
+    requires { ⌜ Framed mostImageBlocks (now s) × (n ≡ inodesIn (now s)) × (b ≡ blocksIn (now s)) × Seen (addressOf (now s) n) (mostImageBlocks + 1) (addressCount * n) (now map) ⌝ }
+    ensures { λ r. ⌜ r ≡ freeCountsB (now (s .entry)) ⌝ }
+{
+    let h = Header::read(s);
+    if h.free_inodes as usize != inodes::free_inodes(s, n) {
+        return false;
+    }
+    h.free_blocks as usize == inodes::free_blocks(map, b)
+}
+
+// What holds of a store whose counts and length are right.
+pub fn body_right(s: &[u8], n: usize, b: usize, blank: bool) -> bool
+    requires { ⌜ Framed mostImageBlocks (now s) × (n ≡ inodesIn (now s)) × (b ≡ blocksIn (now s)) ⌝ }
+    ensures { λ r. ⌜ r ≡ bodyB blank (now (s .entry)) ⌝ }
+{
+    if !header_right(s, n) {
+        return false;
+    }
+    let mut map = [0u8; 4097];
+    if !inodes::inodes_right(s, n, b, &mut map) {
+        return false;
+    }
+    let mut counts = [0u16; 257];
+    if !entries::entries_right(s, n, &mut counts) {
+        return false;
+    }
+    if !links::links_right(s, n, &counts) {
+        return false;
+    }
+    if !links::parents_right(s, n) {
+        return false;
+    }
+    if !counts_right(s, n, b, &map) {
+        return false;
+    }
+    if !blank {
+        return true;
+    }
+    inodes::blanks_right(s, n, b, &map)
+}
+
+pub fn check(form: Form, s: &[u8]) -> bool
+    ensures { λ r. ⌜ r ≡ isSound form (now (s .entry)) ⌝ }
+{
+    match form {
+        Form::Store => check_as(s, MOST_STORE_BLOCKS, false),
+        Form::Image => check_as(s, MOST_IMAGE_BLOCKS, true),
+    }
+}
+
+fn check_as(s: &[u8], limit: usize, blank: bool) -> bool
+    requires { ⌜ limit ≤ mostImageBlocks ⌝ }
+    ensures { λ r. ⌜ r ≡ soundB limit blank (now (s .entry)) ⌝ }
+{
+    if !framed(s, limit) {
+        return false;
+    }
+    let n = octets::get_16(s, 0) as usize;
+    let b = octets::get_16(s, 2) as usize;
+    body_right(s, n, b, blank)
+}

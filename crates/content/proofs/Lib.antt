@@ -1,0 +1,11 @@
+pub mod CutLaws
+pub mod FileLaws
+pub mod GrowCodeLaws
+pub mod GrowLaws
+pub mod PlanFacts
+pub mod PlanLaws
+pub mod PutLaws
+pub mod ReadLaws
+pub mod ShortenLaws
+pub mod SizePlanLaws
+pub mod WriteLaws

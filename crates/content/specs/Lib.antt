@@ -1,0 +1,4 @@
+pub mod Fits
+pub mod Content
+pub mod Plan
+pub mod Apply

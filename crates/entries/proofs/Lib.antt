@@ -1,0 +1,13 @@
+pub mod CreateKeeps
+pub mod EnterLaws
+pub mod EntryPlanLaws
+pub mod LinkKeeps
+pub mod MoveKeeps
+pub mod ParentLaws
+pub mod PlanFacts
+pub mod PlanKeeps
+pub mod PlanLaws
+pub mod RenameKeeps
+pub mod RoomLaws
+pub mod TakePlanLaws
+pub mod UnlinkKeeps

@@ -1,0 +1,88 @@
+-- A link keeps a store sound. n is the inode count.
+use Prim.Native.Nat.{ℕ, _+_, _≤_, _<_}
+use mathlib.Core.Path.{_≡_, ap, _∙_}
+use mathlib.Core.Bool.{true, false}
+use mathlib.Core.List.{List}
+use native.Mathlib.Omega.{arith}
+use Rattle.bounded.specs.declared.Found.the-variants.{Absent}
+use Rattle.layout.specs.Sizes.{mostStoreBlocks}
+use Rattle.layout.specs.Inode.{InodeFits, kindOf, linksOf, parentOf, putLinks, fileKind, isFile, isDirectory}
+use Rattle.layout.proofs.ViewLaws.{inode-fits}
+use Rattle.names.specs.Name.{legalName}
+use Rattle.directory.specs.Slot.{slots, findSlot, slotEmpty, putEntry}
+use Rattle.sound.specs.Place.{placeOf}
+use Rattle.sound.specs.Sound.{Sound, inodesIn, blocksIn}
+use Rattle.changes.proofs.SameLaws.{OtherInodes, SameBody, same-body, body-then, links-new, links-parent, frame-then, inode-then}
+use Rattle.changes.proofs.StoreLaws.{kind-some, kind-most, kind-is, kind-fits}
+use Rattle.changes.proofs.ChangeLaws.{Filled, filled-then, names-filled}
+use Rattle.changes.proofs.TreeLaws.{Tree, tree-link}
+use Rattle.changes.proofs.SoundTreeLaws.{nodesOf, nodes-else, body-at, names-at, above-at, tree-at}
+use Rattle.changes.proofs.EntryWriteLaws.{EntriesAlone, entries-stay, SlotIn, slot-in, place-below, put-alone, put-filled}
+use Rattle.changes.proofs.InodeWriteLaws.{Relinked, relinked-places, links-relinked}
+use Rattle.changes.proofs.SlotPlaceLaws.{absent-new, place-bare}
+use Rattle.changes.proofs.StockLaws.{entries-stock, relinked-stock, stock-sound}
+
+module _ (s : List ℕ) (n d t i : ℕ) (name : List ℕ) (h : Sound mostStoreBlocks false s) (x : n ≡ inodesIn s)
+    (dir : isDirectory s n d ≡ true) (file : isFile s n i ≡ true) (inside : t < slots s d) (empty : slotEmpty s n d t ≡ true)
+    (legal : legalName name ≡ true) (absent : findSlot s n d name ≡ Absent) where
+  low : 1 ≤ i
+  low = kind-some s n fileKind i file
+
+  high : i ≤ n
+  high = kind-most s n fileKind i file
+
+  slot : SlotIn s n d t
+  slot = slot-in s n d t h x dir inside
+
+  abbrev p : ℕ
+  p = placeOf d t
+
+  -- with the entry
+  abbrev m : List ℕ
+  m = putEntry s n d t i name
+
+  alone : EntriesAlone s m n
+  alone = put-alone s s n d t h x (entries-stay s n) slot i name low
+
+  fits : InodeFits m n i
+  fits = inode-fits s m n i (alone .frame .long) (kind-fits s n h x fileKind i file)
+
+  -- and with the link
+  abbrev w : List ℕ
+  w = putLinks m i (linksOf m i + 1)
+
+  relinked : Relinked m w n i
+  relinked = links-relinked m n i fits (linksOf m i + 1)
+
+  -- what it changes: the entry in slot t, and of inode i the links
+  pub link-filled : Filled s w n p i name
+  link-filled = filled-then (place-below slot) (relinked-places relinked) (put-filled s s n d t h x (entries-stay s n) slot i name low)
+
+  pub link-others : OtherInodes s w n i
+  link-others j l r z = inode-then (alone .inodes j l r) (relinked .inode .others j l r z)
+
+  pub link-body : SameBody s w n i
+  link-body = body-then (same-body (alone .inodes i low high)) (relinked .body)
+
+  parent : parentOf w i ≡ parentOf m i
+  parent = links-parent m n i fits (linksOf m i + 1)
+
+  kind : kindOf m i ≡ fileKind
+  kind = alone .inodes i low high .kind ∙ kind-is s n fileKind i file
+
+  pub link-links : linksOf w i ≡ linksOf s i + 1
+  link-links = links-new m n i fits (linksOf m i + 1) ∙ ap (λ (z : ℕ). z + 1) (alone .inodes i low high .links)
+
+  tree : Tree n (nodesOf w n)
+  tree =
+      let o = link-others in
+      tree-link n i (nodesOf s n) (nodesOf w n) (tree-at s n h x) (above-at s n h x) low high
+      (nodes-else o) (link-body .kind) (parent ∙ alone .inodes i low high .parent)
+      p (place-below slot) (place-bare s n d t slot empty) (link-filled .names) (λ q l z. link-filled .others q l z .names)
+      (kind-is s n fileKind i file) link-links
+
+  pub link-sound : Sound mostStoreBlocks false (putLinks (putEntry s n d t i name) i (linksOf (putEntry s n d t i name) i + 1))
+  link-sound =
+      stock-sound s w n h x (frame-then (alone .frame) (relinked .inode .frame))
+      (relinked-stock m w n (blocksIn s) i relinked (λ z. let k = kind in omega arith) (λ _. parent) low high (entries-stock s m n (blocksIn s) (body-at s n h x) alone))
+      (names-filled s w n (names-at s n h x) p i name link-filled low legal (absent-new s n d name t (slot .low) (slot .small) absent)) tree

@@ -1,0 +1,226 @@
+-- What a plan that is no refusal says of the store: the conditions that it has passed. n and b are the counts of inodes and blocks.
+use Prim.Native.Nat.{ℕ}
+use mathlib.Core.Path.{_≡_, refl, sym, ap, _∙_, subst}
+use mathlib.Core.Bool.{Bool, true, false, not, _&&_}
+use mathlib.Core.List.{List}
+use native.Mathlib.Omega.{arith}
+use borrow.Author.Tests.{eq-eqb, eqb-true, eqb-false}
+use lib.Dec.{eqb}
+use Rattle.bounded.specs.Search.{pick}
+use Rattle.bounded.specs.declared.Found.the-variants.{At, Absent}
+use Rattle.bounded.proofs.BoolLaws.{and-left, and-right, clash}
+use Rattle.bounded.proofs.SearchLaws.{pick-else, pick-not, found-none, found-at}
+use Rattle.layout.specs.Inode.{kindOf, directoryKind, isFile, isDirectory}
+use Rattle.layout.specs.Free.{freeInode}
+use Rattle.names.specs.Name.{legalName}
+use Rattle.directory.specs.Slot.{findSlot, inodeAt}
+use Rattle.answers.specs.declared.Refusal.{Refusal}
+use Rattle.answers.specs.declared.Refusal.the-variants.{NameTaken, IntoItself}
+use Rattle.entries.specs.declared.Room.{Room}
+use Rattle.entries.specs.declared.RoomPlan.{RoomPlan}
+use Rattle.entries.specs.declared.RoomPlan.the-variants.{Has, NoRoom}
+use Rattle.entries.specs.declared.CreatePlan.the-variants.{Make, NoCreate}
+use Rattle.entries.specs.declared.LinkPlan.the-variants.{Add, NoLink}
+use Rattle.entries.specs.declared.UnlinkPlan.the-variants.{Take, NoUnlink}
+use Rattle.entries.specs.declared.RenamePlan.{RenamePlan}
+use Rattle.entries.specs.declared.RenamePlan.the-variants.{Same, Rename, Move, NoRename}
+use Rattle.entries.specs.Room.{roomIn, onRoom}
+use Rattle.entries.specs.Plan.{createPlan, linkPlan, holdsNone, unlinkPlan, isBelow, renameWithin, moveTo, renameTo, renamePlan}
+
+module _ {A : Type 0} where
+  pub room-had : (f : RoomPlan) (g : Room → A) (k : Refusal → A) (z : A) → onRoom f g k ≡ z → ((w : Refusal) → k w ≡ z → ⊥) → (r : Room) × (f ≡ Has r) × (g r ≡ z)
+  room-had (Has r) g k z e h = (r, refl, e)
+  room-had (NoRoom w) g k z e h = absurd (h w e)
+
+-- ---- what plans share
+-- a new name in the directory d
+pub record NewIn (s : List ℕ) (n d : ℕ) (name : List ℕ) : Type 0 where
+  pub legal : legalName name ≡ true
+  pub directory : isDirectory s n d ≡ true
+  pub absent : findSlot s n d name ≡ Absent
+
+-- the name in slot t of the directory d, which names i
+pub record FoundIn (s : List ℕ) (n d : ℕ) (name : List ℕ) (t i : ℕ) : Type 0 where
+  pub legal : legalName name ≡ true
+  pub directory : isDirectory s n d ≡ true
+  pub found : findSlot s n d name ≡ At t
+  pub inode : i ≡ inodeAt s n d t
+
+-- ---- create
+no-make : (e : Refusal) (i : ℕ) (r : Room) → NoCreate e ≡ Make i r → ⊥
+no-make e i r h = let z : _≡_ {A = ℕ} 0 1 = cc in absurd (omega arith)
+
+pub record Creates (s : List ℕ) (n b d : ℕ) (name : List ℕ) (i : ℕ) (r : Room) : Type 0 where
+  pub new : NewIn s n d name
+  pub inode : freeInode s n ≡ At i
+  pub room : roomIn s n b d ≡ Has r
+
+pub creates : (s : List ℕ) (n b d : ℕ) (name : List ℕ) (i : ℕ) (r : Room) → createPlan s n b d name ≡ Make i r → Creates s n b d name i r
+unfolding createPlan
+creates s n b d name i r e =
+    let z = Make i r in
+    let a = pick-not (legalName name) (NoCreate _) _ z e (no-make _ i r) in
+    let c = pick-not (isDirectory s n d) (NoCreate _) _ z (a .1) (no-make _ i r) in
+    let f = found-none (findSlot s n d name) _ _ z (c .1) (λ t. no-make _ i r) in
+    let g = found-at (freeInode s n) _ _ z (f .1) (no-make _ i r) in
+    let h = room-had (roomIn s n b d) _ _ z (g .2) (λ w. no-make w i r) in
+    let p : g .0 ≡ i = cc (h .2) in
+    let q : h .0 ≡ r = cc (h .2) in
+    record { new = record { legal = a .0; directory = c .0; absent = f .0 }; inode = g .1 ∙ ap At p; room = h .1 ∙ ap Has q }
+
+-- ---- link
+no-add : (e : Refusal) (r : Room) → NoLink e ≡ Add r → ⊥
+no-add e r h = let z : _≡_ {A = ℕ} 0 1 = cc in absurd (omega arith)
+
+pub record Links (s : List ℕ) (n b d : ℕ) (name : List ℕ) (i : ℕ) (r : Room) : Type 0 where
+  pub new : NewIn s n d name
+  pub file : isFile s n i ≡ true
+  pub room : roomIn s n b d ≡ Has r
+
+pub links : (s : List ℕ) (n b d : ℕ) (name : List ℕ) (i : ℕ) (r : Room) → linkPlan s n b d name i ≡ Add r → Links s n b d name i r
+unfolding linkPlan
+links s n b d name i r e =
+    let z = Add r in
+    let a = pick-not (legalName name) (NoLink _) _ z e (no-add _ r) in
+    let c = pick-not (isDirectory s n d && isFile s n i) (NoLink _) _ z (a .1) (no-add _ r) in
+    let f = found-none (findSlot s n d name) _ _ z (c .1) (λ t. no-add _ r) in
+    let h = room-had (roomIn s n b d) _ _ z (f .1) (λ w. no-add w r) in
+    let q : h .0 ≡ r = cc (h .2) in
+    record {
+      new = record { legal = a .0; directory = and-left (isDirectory s n d) (isFile s n i) (c .0); absent = f .0 };
+      file = and-right (isDirectory s n d) (isFile s n i) (c .0);
+      room = h .1 ∙ ap Has q;
+    }
+
+-- ---- unlink
+no-take : (e : Refusal) (t i : ℕ) → NoUnlink e ≡ Take t i → ⊥
+no-take e t i h = let z : _≡_ {A = ℕ} 0 1 = cc in absurd (omega arith)
+
+pub record Unlinks (s : List ℕ) (n d : ℕ) (name : List ℕ) (t i : ℕ) : Type 0 where
+  pub entry : FoundIn s n d name t i
+  -- "Directories unlink only when empty"
+  pub empty : kindOf s i ≡ directoryKind → holdsNone s n i ≡ true
+
+unlink-empty : (s : List ℕ) (n i : ℕ) → eqb (kindOf s i) directoryKind && not (holdsNone s n i) ≡ false → kindOf s i ≡ directoryKind → holdsNone s n i ≡ true
+unlink-empty s n i e k = go (holdsNone s n i) refl
+  where
+    go : (x : Bool) → holdsNone s n i ≡ x → x ≡ true
+    go true q = refl
+    go false q = absurd (clash (eqb (kindOf s i) directoryKind && not (holdsNone s n i)) (rw (eq-eqb (kindOf s i) directoryKind k, q) refl) e)
+
+pub unlinks : (s : List ℕ) (n d : ℕ) (name : List ℕ) (t i : ℕ) → unlinkPlan s n d name ≡ Take t i → Unlinks s n d name t i
+unfolding unlinkPlan
+unlinks s n d name t i e =
+    let z = Take t i in
+    let a = pick-not (legalName name) (NoUnlink _) _ z e (no-take _ t i) in
+    let c = pick-not (isDirectory s n d) (NoUnlink _) _ z (a .1) (no-take _ t i) in
+    let f = found-at (findSlot s n d name) _ _ z (c .1) (no-take _ t i) in
+    let g = pick-else (eqb (kindOf s (inodeAt s n d (f .0))) directoryKind && not (holdsNone s n (inodeAt s n d (f .0)))) (NoUnlink _) _ z (f .2) (no-take _ t i) in
+    let p : f .0 ≡ t = cc (g .1) in
+    let q : inodeAt s n d (f .0) ≡ i = cc (g .1) in
+    record {
+      entry = record { legal = a .0; directory = c .0; found = f .1 ∙ ap At p; inode = sym q ∙ ap (inodeAt s n d) p };
+      empty = unlink-empty s n i (subst (λ (j : ℕ). eqb (kindOf s j) directoryKind && not (holdsNone s n j) ≡ false) q (g .0));
+    }
+
+-- ---- rename
+-- the entry that is there, and its new name
+pub record Renames (s : List ℕ) (n d : ℕ) (name : List ℕ) (e : ℕ) (other : List ℕ) (t i : ℕ) : Type 0 where
+  pub entry : FoundIn s n d name t i
+  pub new : NewIn s n e other
+
+-- to another directory, with room r there
+pub record Moves (s : List ℕ) (n b d e i : ℕ) (r : Room) : Type 0 where
+  pub other : d ≡ e → ⊥
+  pub outside : isBelow s n i e ≡ false
+  pub room : roomIn s n b e ≡ Has r
+
+no-rename : (e : Refusal) (t i : ℕ) → NoRename e ≡ Rename t i → ⊥
+no-rename e t i h = let z : _≡_ {A = ℕ} 0 1 = cc in absurd (omega arith)
+
+no-move : (e : Refusal) (t i : ℕ) (r : Room) → NoRename e ≡ Move t i r → ⊥
+no-move e t i r h = let z : _≡_ {A = ℕ} 0 1 = cc in absurd (omega arith)
+
+move-not-rename : (u j t i : ℕ) (r : Room) → Move u j r ≡ Rename t i → ⊥
+move-not-rename u j t i r h = let z : _≡_ {A = ℕ} 0 1 = cc in absurd (omega arith)
+
+rename-not-move : (u j t i : ℕ) (r : Room) → Rename u j ≡ Move t i r → ⊥
+rename-not-move u j t i r h = let z : _≡_ {A = ℕ} 0 1 = cc in absurd (omega arith)
+
+same-or-no-rename : (c : Bool) (w : Refusal) (t i : ℕ) → pick c Same (NoRename w) ≡ Rename t i → ⊥
+same-or-no-rename true w t i h = let z : _≡_ {A = ℕ} 0 1 = cc in absurd (omega arith)
+same-or-no-rename false w t i h = no-rename w t i h
+
+same-or-no-move : (c : Bool) (w : Refusal) (t i : ℕ) (r : Room) → pick c Same (NoRename w) ≡ Move t i r → ⊥
+same-or-no-move true w t i r h = let z : _≡_ {A = ℕ} 0 1 = cc in absurd (omega arith)
+same-or-no-move false w t i r h = no-move w t i r h
+
+-- within a directory, and to another
+module _ (s : List ℕ) (n b d t i e : ℕ) (other : List ℕ) where
+  away-no-rename : (u j : ℕ) → moveTo s n b t i e other ≡ Rename u j → ⊥
+  away-no-rename u j h =
+      let z = Rename u j in
+      let a = found-none (findSlot s n e other) _ _ z h (λ v. no-rename _ u j) in
+      let c = pick-else (isBelow s n i e) (NoRename _) _ z (a .1) (no-rename _ u j) in
+      let f = room-had (roomIn s n b e) _ _ z (c .1) (λ w. no-rename w u j) in
+      move-not-rename t i u j (f .0) (f .2)
+
+  to-renames : (u j : ℕ) → renameTo s n b d t i e other ≡ Rename u j → (d ≡ e) × (findSlot s n e other ≡ Absent) × (t ≡ u) × (i ≡ j)
+  unfolding renameTo
+  to-renames u j h = go (eqb d e) refl h
+    where
+      go : (c : Bool) → eqb d e ≡ c → pick c (renameWithin s n t i e other) (moveTo s n b t i e other) ≡ Rename u j → (d ≡ e) × (findSlot s n e other ≡ Absent) × (t ≡ u) × (i ≡ j)
+      go true q g =
+          let a = found-none (findSlot s n e other) (λ v. pick (eqb v t) Same (NoRename NameTaken)) (Rename t i) (Rename u j) g (λ v. same-or-no-rename (eqb v t) NameTaken u j) in
+          (eqb-true d e q, a .0, cc (a .1), cc (a .1))
+      go false q g = absurd (away-no-rename u j g)
+
+  to-moves : (u j : ℕ) (r : Room) → renameTo s n b d t i e other ≡ Move u j r → Moves s n b d e i r × (findSlot s n e other ≡ Absent) × (t ≡ u) × (i ≡ j)
+  unfolding renameTo
+  to-moves u j r h = go (eqb d e) refl h
+    where
+      go : (c : Bool) → eqb d e ≡ c → pick c (renameWithin s n t i e other) (moveTo s n b t i e other) ≡ Move u j r → Moves s n b d e i r × (findSlot s n e other ≡ Absent) × (t ≡ u) × (i ≡ j)
+      go true q g =
+          let a = found-none (findSlot s n e other) (λ v. pick (eqb v t) Same (NoRename NameTaken)) (Rename t i) (Move u j r) g (λ v. same-or-no-move (eqb v t) NameTaken u j r) in
+          absurd (rename-not-move t i u j r (a .1))
+      go false q g =
+          let z = Move u j r in
+          let a = found-none (findSlot s n e other) (λ v. NoRename NameTaken) (pick (isBelow s n i e) (NoRename IntoItself) (onRoom (roomIn s n b e) (λ x. Move t i x) NoRename)) z g (λ v. no-move NameTaken u j r) in
+          let c = pick-else (isBelow s n i e) (NoRename IntoItself) (onRoom (roomIn s n b e) (λ x. Move t i x) NoRename) z (a .1) (no-move IntoItself u j r) in
+          let f = room-had (roomIn s n b e) (λ x. Move t i x) NoRename z (c .1) (λ w. no-move w u j r) in
+          let o : f .0 ≡ r = cc (f .2) in
+          (record { other = eqb-false d e q; outside = c .0; room = f .1 ∙ ap Has o }, a .0, cc (f .2), cc (f .2))
+
+module _ (s : List ℕ) (n b d : ℕ) (name : List ℕ) (e : ℕ) (other : List ℕ) where
+  -- a plan z that is no refusal, with what comes after the directories are compared
+  renames-there : (z : RenamePlan) → ((w : Refusal) → NoRename w ≡ z → ⊥) → renamePlan s n b d name e other ≡ z
+      → (u : ℕ) × (renameTo s n b d u (inodeAt s n d u) e other ≡ z) × ((t i : ℕ) → findSlot s n e other ≡ Absent → u ≡ t → inodeAt s n d u ≡ i → Renames s n d name e other t i)
+  unfolding renamePlan
+  renames-there z never h =
+      let a = pick-not (legalName name && legalName other) (NoRename _) _ z h (never _) in
+      let c = pick-not (isDirectory s n d && isDirectory s n e) (NoRename _) _ z (a .1) (never _) in
+      let f = found-at (findSlot s n d name) _ _ z (c .1) (never _) in (
+        f .0,
+        f .2,
+        λ t i g p q. record {
+          entry = record {
+            legal = and-left (legalName name) (legalName other) (a .0);
+            directory = and-left (isDirectory s n d) (isDirectory s n e) (c .0);
+            found = f .1 ∙ ap At p;
+            inode = sym q ∙ ap (inodeAt s n d) p;
+          };
+          new = record { legal = and-right (legalName name) (legalName other) (a .0); directory = and-right (isDirectory s n d) (isDirectory s n e) (c .0); absent = g };
+        },
+      )
+
+  pub renames : (t i : ℕ) → renamePlan s n b d name e other ≡ Rename t i → Renames s n d name e other t i × (d ≡ e)
+  renames t i h =
+      let a = renames-there (Rename t i) (λ w. no-rename w t i) h in
+      let c = to-renames s n b d (a .0) (inodeAt s n d (a .0)) e other t i (a .1) in
+      (a .2 t i (c .1) (c .2) (c .3), c .0)
+
+  pub moves : (t i : ℕ) (r : Room) → renamePlan s n b d name e other ≡ Move t i r → Renames s n d name e other t i × Moves s n b d e i r
+  moves t i r h =
+      let a = renames-there (Move t i r) (λ w. no-move w t i r) h in
+      let c = to-moves s n b d (a .0) (inodeAt s n d (a .0)) e other t i r (a .1) in
+      (a .2 t i (c .1) (c .2) (c .3), subst (λ (j : ℕ). Moves s n b d e j r) (c .3) (c .0))

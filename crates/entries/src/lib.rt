@@ -1,0 +1,48 @@
+// The entries of directories, looked up, made, linked, unlinked and renamed: what a call is to do, decided before any byte changes, and the bytes that it leaves.
+pub mod apply;
+pub mod plan;
+
+use answers::Refusal;
+
+// Where a new entry goes: a slot, and the block that the directory takes first, 0 for none.
+pub struct Room {
+    pub slot: usize,
+    pub block: usize,
+}
+
+pub enum RoomPlan {
+    Has(Room),
+    NoRoom(Refusal),
+}
+
+// Create: the inode, and where its entry goes.
+pub enum CreatePlan {
+    Make(usize, Room),
+    NoCreate(Refusal),
+}
+
+// Link: where the entry goes.
+pub enum LinkPlan {
+    Add(Room),
+    NoLink(Refusal),
+}
+
+// Unlink: the slot, and the inode that it names.
+pub enum UnlinkPlan {
+    Take(usize, usize),
+    NoUnlink(Refusal),
+}
+
+// Rename: nothing; the slot and its inode under another name; or these and where the entry goes in another directory.
+pub enum RenamePlan {
+    Same,
+    Rename(usize, usize),
+    Move(usize, usize, Room),
+    NoRename(Refusal),
+}
+
+// What a created inode is to be.
+pub enum Kind {
+    File,
+    Directory,
+}
