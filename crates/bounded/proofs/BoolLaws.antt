@@ -10,6 +10,9 @@ use borrow.Author.Tests.{not-true, not-false}
 pub clash : (a : Bool) → a ≡ true → a ≡ false → ⊥
 clash a p q = let w : _≡_ {A = ℕ} 0 1 = cc in omega arith
 
+pub never : {A : Type 0} → false ≡ true → A
+never e = absurd (clash false e refl)
+
 -- a test holds or fails
 pub holds-or-fails : (a : Bool) → (a ≡ true) ⊎ (a ≡ false)
 holds-or-fails true = inl refl

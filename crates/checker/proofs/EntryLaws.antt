@@ -1,7 +1,7 @@
 -- Laws of the pass over the entries: slot t of directory d and its place, what each return of the code says, and the counts. n is the inode count.
 use Prim.Native.Nat.{ℕ, zero, suc, _+_, _*_, _-_, _/_, _%_, _≤_, _<_}
 use mathlib.Core.Path.{_≡_, refl, sym, ap, ap₂, _∙_, subst}
-use mathlib.Core.Bool.{Bool, true, false, not, _&&_, _||_, true≢false}
+use mathlib.Core.Bool.{Bool, true, false, not, _&&_, _||_}
 use mathlib.Core.List.{List}
 use native.Mathlib.Nat.{add-zero}
 use native.Mathlib.Decide.{decLt}
@@ -14,7 +14,7 @@ use Rattle.bounded.specs.Count.{Tallied}
 use Rattle.bounded.specs.Search.{pick}
 use Rattle.bounded.specs.Reflect.{Reflects}
 use Rattle.bounded.specs.Table.{Filled}
-use Rattle.bounded.proofs.BoolLaws.{clash, holds, same-test, and-true, and-left, and-false-l, and-false-r, or-l}
+use Rattle.bounded.proofs.BoolLaws.{clash, never, holds, same-test, and-true, and-left, and-false-l, and-false-r, or-l}
 use Rattle.bounded.proofs.BelowLaws.{all-none, all-at, all-of, all-fail, all-stop, all-ext, all-split}
 use Rattle.bounded.proofs.CountLaws.{tally-start, tally-skip, tally-one}
 use Rattle.bounded.proofs.TableLaws.{filled-none, filled-more}
@@ -230,9 +230,6 @@ module _ (s : List ℕ) (n d t : ℕ) (h : Octets s) (f : DirFits s n d) (k : ki
       ∙ ap₂ (λ (q j : ℕ). allBelow (λ u. not (filled s n (mostSlots * q + u)) || not (sameNames s n (mostSlots * q + u) p)) j) a b
 
 -- ---- slot_right
-pub never : {A : Type 0} → false ≡ true → A
-never e = absurd (true≢false (sym e))
-
 module _ (s : List ℕ) (n d t o : ℕ) (x : Here s n d t o) (low high counts : List ℕ) (y : Passed s n d t (placeOf d t) low high counts)
     (w : Name) (e : w ≡ wordsAt (cutAt s o) 2) where
   -- what low and high hold then

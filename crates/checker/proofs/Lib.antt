@@ -1,4 +1,3 @@
 pub mod CheckLaws
 pub mod EntryLaws
-pub mod InodeLaws
 pub mod LinkLaws

@@ -1,31 +1,16 @@
--- What the check's passes over the inodes and the entries test, and hold in their arrays. n is the inode count, d a directory.
+-- What the check's pass over the entries holds in its arrays, and the climb to the root in its list. n is the inode count, d a directory.
 use Prim.Native.Nat.{ℕ, _+_}
 use mathlib.Core.Path.{_≡_}
-use mathlib.Core.Bool.{Bool, _&&_}
 use mathlib.Core.List.{List}
 use lib.ListN.{length, getD}
-use Rattle.bounded.specs.Below.{allBelow}
 use Rattle.bounded.specs.Climb.{Leads}
-use Rattle.bounded.specs.Count.{Tallied, newAt}
+use Rattle.bounded.specs.Count.{Tallied}
 use Rattle.bounded.specs.Table.{Filled}
 use Rattle.names.specs.Entry.{wordsAt, nameAt}
 use Rattle.directory.specs.Slot.{mostSlots, entryOf}
-use Rattle.layout.specs.Sizes.{mostInodes, addressCount, rootInode}
-use Rattle.layout.specs.Inode.{parentOf, addressOf, place}
-use Rattle.sound.specs.Inode.{usedB, restB}
+use Rattle.layout.specs.Sizes.{mostInodes, rootInode}
+use Rattle.layout.specs.Inode.{parentOf}
 use Rattle.sound.specs.Place.{naming}
-
--- address k of inode i names no block that an address before it names
-abbrev pub newBlockB : List ℕ → ℕ → ℕ → ℕ → Bool
-newBlockB s n i k = newAt (addressOf s n) (place i k)
-
--- nor does any of its twelve
-unfoldable pub newBlocksB : List ℕ → ℕ → ℕ → Bool
-newBlocksB s n i = allBelow (newBlockB s n i) addressCount
-
--- address k of inode i, tested as the pass meets it
-unfoldable pub addressB : List ℕ → ℕ → ℕ → ℕ → ℕ → Bool
-addressB s n b i k = (usedB s n b i k && restB s n i k) && newBlockB s n i k
 
 -- the name in slot t of d, as two words
 abbrev pub lowOf : List ℕ → ℕ → ℕ → ℕ → ℕ

@@ -8,7 +8,6 @@ ghost use Rattle.layout.specs.Sizes.{mostImageBlocks, addressCount, rootInode};
 ghost use Rattle.layout.specs.Inode.{InodeFits, addressOf};
 ghost use Rattle.sound.specs.Sound.{inodesIn, blocksIn, Framed, framedB, headerB, freeCountsB, bodyB, soundB, isSound};
 use crate::entries;
-use crate::inodes;
 use crate::links;
 use layout::block::store_length;
 use layout::header;

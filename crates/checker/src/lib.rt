@@ -1,5 +1,4 @@
 // The check: whether bytes are a sound store or a finished image.
 pub mod check;
 pub mod entries;
-pub mod inodes;
 pub mod links;

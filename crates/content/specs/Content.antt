@@ -6,10 +6,10 @@ use lib.ListN.{getD, set, replicate}
 use Rattle.bounded.specs.Search.{pick, onFound}
 use Rattle.bounded.specs.Table.{table}
 use Rattle.layout.specs.Sizes.{addressCount, blockBytes}
+use Rattle.layout.specs.Header.{lessFree, moreFree}
 use Rattle.layout.specs.Inode.{inodeOf, putInode, putAttributes, withSize, withBlocks}
 use Rattle.layout.specs.Block.{blockOf, putInBlock, zeroBlock, blocksUsed, kthBlock}
 use Rattle.layout.specs.Free.{freeBlock}
-use Rattle.layout.specs.Header.{lessFree, moreFree}
 
 -- byte x of the file
 unfoldable pub fileByte : List ℕ → ℕ → ℕ → ℕ → ℕ

@@ -27,6 +27,7 @@ use Rattle.entries.specs.declared.RenamePlan.the-variants.{Same, Rename,
 use Rattle.entries.specs.Room.{roomIn, onRoom}
 use Rattle.entries.specs.Plan.{createPlan, linkPlan, holdsNone, unlinkPlan, isBelow, renameWithin, moveTo, renameTo, renamePlan}
 
+-- ---- a room that was looked for, where the outcome is no refusal
 module _ {A : Type 0} where
   pub room-had : (f : RoomPlan) (g : Room → A) (k : Refusal → A) (z : A) → onRoom f g k ≡ z → ((w : Refusal) → k w ≡ z → ⊥) → (r : Room) × (f ≡ Has r) × (g r ≡ z)
   room-had (Has r) g k z e h = (r, refl, e)

@@ -4,16 +4,16 @@ use mathlib.Core.List.{List}
 use lib.Dec.{eqb, leb}
 use lib.ListN.{replicate}
 use Rattle.bounded.specs.Search.{pick}
-use Rattle.layout.specs.Inode.{kindOf, linksOf, sizeOf, inodeOf, putInode, putAttributes, putLinks, directoryKind, fileKind, zeroInode, withParent}
-use Rattle.layout.specs.Block.{blocksUsed}
 use Rattle.layout.specs.Sizes.{addressCount}
-use Rattle.layout.specs.declared.inode.Inode.{Inode}
 use Rattle.layout.specs.Header.{lessFree, moreFree}
+use Rattle.layout.specs.declared.inode.Inode.{Inode}
+use Rattle.layout.specs.Inode.{kindOf, linksOf, sizeOf, inodeOf, putInode, putAttributes, putLinks, fileKind, directoryKind, zeroInode, withParent}
+use Rattle.layout.specs.Block.{blocksUsed}
 use Rattle.directory.specs.Slot.{putEntry, clearEntry}
 use Rattle.entries.specs.declared.Room.{Room}
 use Rattle.entries.specs.declared.Kind.{Kind}
-use Rattle.entries.specs.Room.{makeRoom}
 use Rattle.entries.specs.declared.Kind.the-variants.{File, Directory}
+use Rattle.entries.specs.Room.{makeRoom}
 
 -- an entry in the room: the directory takes its block first
 unfoldable pub enter : List ℕ → ℕ → ℕ → Room → ℕ → List ℕ → List ℕ

@@ -9,7 +9,7 @@ use Rattle.bounded.specs.Climb.{leadsB}
 use Rattle.layout.specs.Inode.{kindOf, parentOf, directoryKind, isFile, isDirectory}
 use Rattle.layout.specs.Free.{freeInode}
 use Rattle.names.specs.Name.{legalName}
-use Rattle.directory.specs.Slot.{slots, findSlot, slotEmpty}
+use Rattle.directory.specs.Slot.{slots, inodeAt, findSlot, slotEmpty}
 use Rattle.answers.specs.declared.Refusal.the-variants.{IllegalName, WrongInode, NameAbsent, NameTaken, NotEmpty, IntoItself, NoInode}
 use Rattle.content.specs.declared.NumberPlan.{NumberPlan}
 use Rattle.content.specs.declared.NumberPlan.the-variants.{To, NoNumber}
@@ -22,7 +22,6 @@ use Rattle.entries.specs.declared.LinkPlan.the-variants.{Add, NoLink}
 use Rattle.entries.specs.declared.UnlinkPlan.the-variants.{Take, NoUnlink}
 use Rattle.entries.specs.declared.RenamePlan.the-variants.{Same, Rename, Move, NoRename}
 use Rattle.entries.specs.Room.{roomIn, onRoom}
-use Rattle.directory.specs.Slot.{inodeAt}
 
 -- look up: 4, 5, 6
 unfoldable pub lookUpPlan : List ℕ → ℕ → ℕ → List ℕ → NumberPlan

@@ -1,9 +1,9 @@
 -- Inodes, numbered from 1: attributes and addresses, read and written. n is the inode count.
 use Prim.Native.Nat.{ℕ, _+_, _*_, _-_, _≤_}
-use mathlib.Core.List.{List, _++_}
 use mathlib.Core.Bool.{Bool, _&&_}
-use lib.ListN.{length, replicate}
+use mathlib.Core.List.{List, _++_}
 use lib.Dec.{eqb, leb}
+use lib.ListN.{length, replicate}
 use Rattle.octets.specs.Octets.{splice, numAt, toBytes, putNum, wordBytes}
 use Rattle.bounded.specs.Table.{table}
 use Rattle.layout.specs.Sizes.{headerBytes, attributeBytes, addressCount, inodeBytes, mostInodes}
@@ -89,7 +89,7 @@ fileKind = 1
 abbrev pub directoryKind : ℕ
 directoryKind = 2
 
--- i is an inode of kind k
+-- i is an inode of n, of kind k
 unfoldable pub isKind : List ℕ → ℕ → ℕ → ℕ → Bool
 isKind s n k i = leb 1 i && (leb i n && eqb (kindOf s i) k)
 
@@ -104,6 +104,7 @@ isDirectory s n i = isKind s n directoryKind i
 unfoldable pub zeroInode : Inode
 zeroInode = record { kind = 0; links = 0; size = 0; parent = 0; addresses = replicate addressCount 0 }
 
+-- v with another size, with other blocks too, and with another parent
 abbrev pub withSize : Inode → ℕ → Inode
 withSize v z = record { kind = v .kind; links = v .links; size = z; parent = v .parent; addresses = v .addresses }
 

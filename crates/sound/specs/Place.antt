@@ -1,8 +1,8 @@
 -- The slots of all directories in a row: place p is slot p mod 48 of directory p div 48 + 1. n is the inode count.
-use Prim.Native.Nat.{ℕ, _+_, _/_, _%_, _*_, _-_, _≤_}
+use Prim.Native.Nat.{ℕ, _+_, _*_, _-_, _/_, _%_, _≤_}
+use mathlib.Core.Path.{_≡_}
 use mathlib.Core.Bool.{Bool, not, _&&_}
 use mathlib.Core.List.{List}
-use mathlib.Core.Path.{_≡_}
 use lib.Dec.{eqb, ltb}
 use Rattle.bounded.specs.Search.{pick}
 use Rattle.layout.specs.Inode.{kindOf, directoryKind}

@@ -1,0 +1,308 @@
+-- What the check of the inodes finds at each step, said of the definitions. n and b are the counts of inodes and blocks.
+use Prim.Native.Nat.{ℕ, _+_, _*_, _-_, _/_, _%_, _≤_, _<_}
+use mathlib.Core.Path.{_≡_, refl, sym, ap, ap₂, _∙_, subst}
+use mathlib.Core.Bool.{Bool, true, false, not, _&&_, _||_, and-true as and-unit}
+use mathlib.Core.List.{List}
+use native.Mathlib.Omega.{arith}
+use borrow.Author.Tests.{eq-eqb, ne-eqb, eqb-true, le-leb, lt-leb}
+use lib.Dec.{eqb, leb}
+use lib.ListN.{getD, set}
+use Rattle.bounded.specs.Below.{allBelow}
+use Rattle.bounded.specs.Count.{count, newAt, tally, differB}
+use Rattle.bounded.specs.Seen.{Seen}
+use Rattle.bounded.specs.Reflect.{Reflects}
+use Rattle.bounded.proofs.BoolLaws.{clash, fails, same-test, chain-stop, chain-on, chain-off, and-true, and-left, and-right, and-false-l, and-false-r, or-l, or-r}
+use Rattle.bounded.proofs.BelowLaws.{all-at, all-of, all-ext, all-split, all-chunk, some-at, some-none}
+use Rattle.bounded.proofs.CountLaws.{count-none, count-pos, new-zero}
+use Rattle.bounded.proofs.SeenLaws.{seen-more, seen-not, seen-some}
+use Rattle.bounded.proofs.ReflectLaws.{r-eq, r-le, r-lt, r-and, r-imp, r-fails, r-says, reflects-ext}
+use Rattle.octets.specs.Octets.{numAt}
+use Rattle.octets.proofs.NumLaws.{num-zero, zero-num}
+use Rattle.octets.proofs.PartLaws.{getD-part}
+use Rattle.layout.specs.Sizes.{addressCount, blockBytes, mostFileBytes, mostImageBlocks}
+use Rattle.layout.specs.Inode.{kindOf, spareOf, linksOf, sizeOf, parentOf, addressOf, place, freeKind, fileKind, directoryKind}
+use Rattle.layout.specs.Block.{blockAt, blockOf, blocksUsed, kthBlock}
+use Rattle.layout.specs.Free.{named}
+use Rattle.sound.specs.Inode.{tailByte, usedB, restB, tailB, attributesB, addressesB, zeroTailB, inodeB}
+use Rattle.sound.specs.Sound.{unnamedB, zeroBlockB}
+use Rattle.sound.proofs.SoundLaws.{attributes}
+use Rattle.inodes.specs.Pass.{newBlockB, newBlocksB, addressB}
+
+-- a count that begins
+pub count-zero : (p : ℕ → Bool) → 0 ≡ count p 0
+unfolding count
+count-zero p = refl
+
+-- ---- the attributes of inode i
+module _ (s : List ℕ) (i : ℕ) where
+  pub attr-kind : directoryKind < kindOf s i → false ≡ attributesB s i
+  attr-kind h = sym (r-fails (attributes s i) (λ a. omega (arith, a .0)))
+
+  pub attr-spare : (spareOf s i ≡ 0 → ⊥) → false ≡ attributesB s i
+  attr-spare h = sym (r-fails (attributes s i) (λ a. h (a .1 .0)))
+
+  pub attr-size : mostFileBytes < sizeOf s i → false ≡ attributesB s i
+  attr-size h = sym (r-fails (attributes s i) (λ a. omega (arith, a .1 .1 .1 .0)))
+
+  -- a free inode that has links, or a size
+  pub attr-linked : kindOf s i ≡ freeKind → (linksOf s i ≡ 0 → ⊥) → false ≡ attributesB s i
+  attr-linked e h = sym (r-fails (attributes s i) (λ a. h (a .1 .1 .0 e .0)))
+
+  pub attr-sized : kindOf s i ≡ freeKind → (sizeOf s i ≡ 0 → ⊥) → false ≡ attributesB s i
+  attr-sized e h = sym (r-fails (attributes s i) (λ a. h (a .1 .1 .0 e .1 .0)))
+
+  -- the last test of each kind, where the code has the parent p or the size z
+  pub attr-free : (p : ℕ) → kindOf s i ≡ freeKind → spareOf s i ≡ 0 → linksOf s i ≡ 0 → sizeOf s i ≡ 0 → p ≡ parentOf s i → eqb p 0 ≡ attributesB s i
+  attr-free p ek eo el ez ep =
+      reflects-ext (r-eq p 0)
+      (r-says (λ a. ep ∙ a .1 .1 .0 ek .1 .1)
+      (λ q. (omega arith, (eo, ((λ x. (el, (ez, sym ep ∙ q))), (omega arith, ((λ x. absurd (omega arith)), λ x. absurd (omega arith)))))))
+      (attributes s i))
+
+  pub attr-file : (p : ℕ) → kindOf s i ≡ fileKind → spareOf s i ≡ 0 → sizeOf s i ≤ mostFileBytes → p ≡ parentOf s i → eqb p 0 ≡ attributesB s i
+  attr-file p ek eo h ep =
+      reflects-ext (r-eq p 0)
+      (r-says (λ a. ep ∙ a .1 .1 .1 .1 .1 ek)
+      (λ q. (omega arith, (eo, ((λ x. absurd (omega arith)), (h, ((λ x. absurd (omega arith)), λ x. sym ep ∙ q))))))
+      (attributes s i))
+
+  pub attr-directory : (z : ℕ) → kindOf s i ≡ directoryKind → spareOf s i ≡ 0 → z ≤ mostFileBytes → z ≡ sizeOf s i → eqb (z % blockBytes) 0 ≡ attributesB s i
+  attr-directory z ek eo h ez =
+      reflects-ext (r-eq (z % blockBytes) 0)
+      (r-says (λ a. omega (arith, ez, a .1 .1 .1 .1 .0 ek))
+      (λ q. (omega arith, (eo, ((λ x. absurd (omega arith)), (omega arith, ((λ x. omega (arith, ez, q)), λ x. absurd (omega arith)))))))
+      (attributes s i))
+
+  attr-small : attributesB s i ≡ true → sizeOf s i ≤ mostFileBytes
+  attr-small h = (attributes s i) .to h .1 .1 .1 .0
+
+-- ---- values noted in a list: is the value a of f at m new
+module _ (f : ℕ → ℕ) (n m a : ℕ) (l : List ℕ) (e : a ≡ f m) (h : a < n) (s : Seen f n m l) where
+  new-noted : getD l a 0 ≡ 0 → newAt f m ≡ true
+  new-noted z =
+      or-r (eqb (f m) 0) (eqb (tally f m (f m)) 0)
+      (eq-eqb (tally f m (f m)) 0 (ap (tally f m) (sym e) ∙ count-none (λ k. eqb (f k) a) m (some-none (λ k. eqb (f k) a) m (seen-not f n m a l s h z))))
+
+  again-noted : (getD l a 0 ≡ 0 → ⊥) → (a ≡ 0 → ⊥) → newAt f m ≡ false
+  again-noted z g =
+      let r = some-at (λ k. eqb (f k) a) m (seen-some f n m a l s h z) in
+      let u : 0 < tally f m a = count-pos (λ k. eqb (f k) a) m (r .0) (r .1) (r .2) in
+      let v : 0 < tally f m (f m) = subst (λ (x : ℕ). 0 < tally f m x) e u in
+      ap₂ _||_ (ne-eqb (f m) 0 (λ q. g (e ∙ q))) (ne-eqb (tally f m (f m)) 0 (omega arith))
+
+-- ---- address k of inode i, of which the size uses u
+module _ (s : List ℕ) (n b i k u a : ℕ) (eu : u ≡ blocksUsed (sizeOf s i)) (ea : a ≡ kthBlock s n i k) where
+  address-is : Reflects (usedB s n b i k && restB s n i k) ((k < u → (1 ≤ a) × (a ≤ b)) × (u ≤ k → a ≡ 0))
+  unfolding kthBlock
+  address-is =
+      rw eu rw ea
+      (r-and (r-imp (r-lt k (blocksUsed (sizeOf s i))) (r-and (r-le 1 (kthBlock s n i k)) (r-le (kthBlock s n i k) b)))
+      (r-imp (r-le (blocksUsed (sizeOf s i)) k) (r-eq (kthBlock s n i k) 0)))
+
+  -- one that is refused
+  stop-used : k < u → ((1 ≤ a) × (a ≤ b) → ⊥) → false ≡ addressB s n b i k
+  unfolding addressB
+  stop-used l h = sym (and-false-l (usedB s n b i k && restB s n i k) (newBlockB s n i k) (r-fails address-is (λ p. h (p .0 l))))
+
+  pub address-none : k < u → a < 1 → false ≡ addressB s n b i k
+  address-none l h = stop-used l (λ p. let q : 1 ≤ a = p .0 in omega arith)
+
+  pub address-past : k < u → b < a → false ≡ addressB s n b i k
+  address-past l h = stop-used l (λ p. let q : a ≤ b = p .1 in omega arith)
+
+  -- what is not used is right if it is 0
+  pub address-rest : u ≤ k → eqb a 0 ≡ addressB s n b i k
+  unfolding addressB kthBlock
+  address-rest l =
+      same-test (eqb a 0) (addressB s n b i k)
+      (λ t.
+      let z : a ≡ 0 = eqb-true a 0 t in
+      and-true (usedB s n b i k && restB s n i k) (newBlockB s n i k) (address-is .from ((λ x. absurd (omega arith)), λ x. z))
+      (new-zero (addressOf s n) (place i k) a ea z))
+      (λ t. eq-eqb a 0 (address-is .to (and-left (usedB s n b i k && restB s n i k) (newBlockB s n i k) t) .1 l))
+
+  -- the blocks named before it are noted in m
+  module _ (m : List ℕ) (h : Seen (addressOf s n) 4097 (place i k) m) (l : a < 4097) where
+    pub address-again : 1 ≤ a → (getD m a 0 ≡ 0 → ⊥) → false ≡ addressB s n b i k
+    unfolding addressB kthBlock
+    address-again p z =
+        sym (and-false-r (usedB s n b i k && restB s n i k) (newBlockB s n i k) (again-noted (addressOf s n) 4097 (place i k) a m ea l h z (omega arith)))
+
+    pub address-new : k < u → 1 ≤ a → a ≤ b → getD m a 0 ≡ 0 → true ≡ addressB s n b i k
+    unfolding addressB kthBlock
+    address-new j p q z =
+        sym
+        (and-true (usedB s n b i k && restB s n i k) (newBlockB s n i k) (address-is .from ((λ x. (p, q)), λ x. absurd (omega arith)))
+        (new-noted (addressOf s n) 4097 (place i k) a m ea l h z))
+
+pub address-noted : (s : List ℕ) (n i k a : ℕ) (m : List ℕ) → a ≡ kthBlock s n i k → a < 4097 → Seen (addressOf s n) 4097 (place i k) m →
+    Seen (addressOf s n) 4097 (place i k + 1) (set m a 1)
+unfolding kthBlock
+address-noted s n i k a m e l h = seen-more (addressOf s n) 4097 (place i k) a m e l h
+
+-- ---- all addresses of inode i
+pub seen-as : (f : ℕ → ℕ) (l : List ℕ) {m k : ℕ} → m ≡ k → Seen f 4097 m l → Seen f 4097 k l
+seen-as f l e h = subst (λ (x : ℕ). Seen f 4097 x l) e h
+
+all-both : (p q : ℕ → Bool) (n : ℕ) → allBelow (λ k. p k && q k) n ≡ allBelow p n && allBelow q n
+all-both p q n =
+    same-test (allBelow (λ k. p k && q k) n) (allBelow p n && allBelow q n)
+    (λ t.
+    and-true (allBelow p n) (allBelow q n) (all-of p n (λ k l. and-left (p k) (q k) (all-at (λ j. p j && q j) n t k l)))
+    (all-of q n (λ k l. and-right (p k) (q k) (all-at (λ j. p j && q j) n t k l))))
+    (λ t.
+    all-of (λ k. p k && q k) n (λ k l.
+    and-true (p k) (q k) (all-at p n (and-left (allBelow p n) (allBelow q n) t) k l) (all-at q n (and-right (allBelow p n) (allBelow q n) t) k l)))
+
+pub addresses-are : (s : List ℕ) (n b i : ℕ) → allBelow (addressB s n b i) addressCount ≡ addressesB s n b i && newBlocksB s n i
+unfolding addressB addressesB newBlocksB
+addresses-are s n b i = all-both (λ k. usedB s n b i k && restB s n i k) (newBlockB s n i) addressCount
+
+-- ---- inode i
+module _ (s : List ℕ) (n b i : ℕ) where
+  pub inode-stop : (r : Bool) → r ≡ attributesB s i → not r ≡ true → false ≡ inodeB s n b i && newBlocksB s n i
+  unfolding inodeB
+  inode-stop r e h = sym (and-false-l (inodeB s n b i) (newBlocksB s n i) (sym (chain-stop r (attributesB s i) (addressesB s n b i && zeroTailB s n i) e h)))
+
+  module _ (r : Bool) (a : attributesB s i ≡ true) (e : r ≡ addressesB s n b i && newBlocksB s n i) where
+    pub inode-named : not r ≡ true → false ≡ inodeB s n b i && newBlocksB s n i
+    unfolding inodeB
+    inode-named h =
+        sym
+        (fails (inodeB s n b i && newBlocksB s n i) (λ t.
+        let x = and-right (attributesB s i) (addressesB s n b i && zeroTailB s n i) (and-left (inodeB s n b i) (newBlocksB s n i) t) in
+        clash (addressesB s n b i && newBlocksB s n i)
+        (and-true (addressesB s n b i) (newBlocksB s n i) (and-left (addressesB s n b i) (zeroTailB s n i) x) (and-right (inodeB s n b i) (newBlocksB s n i) t))
+        (chain-off r (addressesB s n b i && newBlocksB s n i) e h)))
+
+    module _ (h : not r ≡ false) where
+      pub inode-addresses : addressesB s n b i ≡ true
+      inode-addresses = and-left (addressesB s n b i) (newBlocksB s n i) (chain-on r (addressesB s n b i && newBlocksB s n i) e h)
+
+      pub inode-end : (z : Bool) → z ≡ zeroTailB s n i → z ≡ inodeB s n b i && newBlocksB s n i
+      unfolding inodeB
+      inode-end z q =
+          q
+          ∙ sym
+          (ap₂ _&&_ (ap₂ _&&_ a (ap (λ (x : Bool). x && zeroTailB s n i) inode-addresses))
+          (and-right (addressesB s n b i) (newBlocksB s n i) (chain-on r (addressesB s n b i && newBlocksB s n i) e h))
+          ∙ and-unit (zeroTailB s n i))
+
+-- all inodes: no block is named twice
+pub inodes-are : (s : List ℕ) (n b : ℕ) →
+    allBelow (λ k. inodeB s n b (k + 1) && newBlocksB s n (k + 1)) n ≡ allBelow (λ k. inodeB s n b (k + 1)) n && differB (addressOf s n) (addressCount * n)
+unfolding newBlocksB
+inodes-are s n b =
+    all-both (λ k. inodeB s n b (k + 1)) (λ k. newBlocksB s n (k + 1)) n
+    ∙ ap (λ (x : Bool). allBelow (λ k. inodeB s n b (k + 1)) n && x)
+    (all-ext (λ k. newBlocksB s n (k + 1)) (λ k. allBelow (λ j. newAt (addressOf s n) (addressCount * k + j)) addressCount) n
+    (λ k l. let e : k + 1 - 1 ≡ k = omega arith in ap (λ (x : ℕ). allBelow (λ j. newAt (addressOf s n) (addressCount * x + j)) addressCount) e)
+    ∙ sym (all-chunk (newAt (addressOf s n)) addressCount n))
+
+-- ---- zero bytes
+abbrev zeroAt : List ℕ → ℕ → ℕ → Bool
+zeroAt s o j = eqb (getD s (o + j) 0) 0
+
+from-start : (s : List ℕ) (o a j : ℕ) → zeroAt s (o + a) j ≡ zeroAt s o (a + j)
+from-start s o a j = let e : o + a + j ≡ o + (a + j) = omega arith in ap (λ (x : ℕ). eqb (getD s x 0) 0) e
+
+-- a word of eight bytes, and m of them
+word-zero : (s : List ℕ) (o : ℕ) → eqb (numAt 8 s o) 0 ≡ allBelow (zeroAt s o) 8
+word-zero s o =
+    same-test (eqb (numAt 8 s o) 0) (allBelow (zeroAt s o) 8)
+    (λ t. all-of (zeroAt s o) 8 (λ j l. eq-eqb (getD s (o + j) 0) 0 (num-zero 8 s o (eqb-true (numAt 8 s o) 0 t) j l)))
+    (λ t. eq-eqb (numAt 8 s o) 0 (zero-num 8 s o (λ j l. eqb-true (getD s (o + j) 0) 0 (all-at (zeroAt s o) 8 t j l))))
+
+pub words-are : (s : List ℕ) (o m : ℕ) → allBelow (λ j. eqb (numAt 8 s (o + 8 * j)) 0) m ≡ allBelow (λ j. eqb (getD s (o + j) 0) 0) (8 * m)
+words-are s o m =
+    all-ext (λ j. eqb (numAt 8 s (o + 8 * j)) 0) (λ j. allBelow (λ k. zeroAt s o (8 * j + k)) 8) m
+    (λ j l. word-zero s (o + 8 * j) ∙ all-ext (zeroAt s (o + 8 * j)) (λ k. zeroAt s o (8 * j + k)) 8 (λ k h. from-start s o (8 * j) k))
+    ∙ sym (all-chunk (zeroAt s o) 8 m)
+
+-- k bytes are the words and what is left
+pub bytes-are : (s : List ℕ) (o k : ℕ) →
+    allBelow (λ j. eqb (getD s (o + j) 0) 0) k ≡ allBelow (λ j. eqb (getD s (o + j) 0) 0) (8 * (k / 8)) && allBelow (λ j. eqb (getD s (o + 8 * (k / 8) + j) 0) 0) (k % 8)
+bytes-are s o k =
+    let e : k ≡ 8 * (k / 8) + k % 8 = omega arith in
+    ap (allBelow (zeroAt s o)) e ∙ all-split (zeroAt s o) (8 * (k / 8)) (k % 8)
+    ∙ ap (λ (x : Bool). allBelow (zeroAt s o) (8 * (k / 8)) && x)
+    (all-ext (λ j. zeroAt s o (8 * (k / 8) + j)) (zeroAt s (o + 8 * (k / 8))) (k % 8) (λ j h. sym (from-start s o (8 * (k / 8)) j)))
+
+-- a range inside of a block, from byte o of it on
+block-byte : (s : List ℕ) (n c o : ℕ) → o < 64 → getD (blockOf s n c) o 0 ≡ getD s (blockAt n c + o) 0
+unfolding blockOf
+block-byte s n c o l = getD-part s (blockAt n c) 64 o l
+
+zero-block-is : (s : List ℕ) (n k a : ℕ) → a ≡ blockAt n (k + 1) → allBelow (λ j. eqb (getD s (a + j) 0) 0) 64 ≡ zeroBlockB s n k
+unfolding zeroBlockB
+zero-block-is s n k a e =
+    rw e (all-ext (λ j. eqb (getD s (blockAt n (k + 1) + j) 0) 0) (λ o. eqb (getD (blockOf s n (k + 1)) o 0) 0) 64
+    (λ o l. ap (λ (x : ℕ). eqb x 0) (sym (block-byte s n (k + 1) o l))))
+
+-- the test from t on, where it holds below t
+from-on : (p q : ℕ → Bool) (t n : ℕ) → t ≤ n → ((o : ℕ) → o < t → p o ≡ true) → ((j : ℕ) → j < n - t → p (t + j) ≡ q j) → allBelow p n ≡ allBelow q (n - t)
+from-on p q t n l h g =
+    let e : n ≡ t + (n - t) = omega arith in
+    ap (allBelow p) e ∙ all-split p t (n - t) ∙ ap (λ (x : Bool). x && allBelow (λ k. p (t + k)) (n - t)) (all-of p t h)
+    ∙ all-ext (λ k. p (t + k)) q (n - t) g
+
+tail-bytes : (s : List ℕ) (n i : ℕ) →
+    allBelow (tailB s n i) blockBytes ≡ allBelow (λ j. eqb (getD s (blockAt n (kthBlock s n i (sizeOf s i / blockBytes)) + sizeOf s i % blockBytes + j) 0) 0) (blockBytes - sizeOf s i % blockBytes)
+tail-bytes s n i =
+    let t = sizeOf s i % blockBytes in
+    let c = kthBlock s n i (sizeOf s i / blockBytes) in
+    from-on (tailB s n i) (λ j. eqb (getD s (blockAt n c + t + j) 0) 0) t blockBytes (omega arith)
+    (λ o l. or-l (not (leb t o)) (eqb (tailByte s n i o) 0) (ap not (lt-leb t o l)))
+    (λ j l.
+    let e : blockAt n c + (t + j) ≡ blockAt n c + t + j = omega arith in
+    ap₂ _||_ (ap not (le-leb t (t + j) (omega arith))) (ap (λ (x : ℕ). eqb x 0) (block-byte s n c (t + j) (omega arith) ∙ ap (λ (x : ℕ). getD s x 0) e)))
+
+-- what is no file, and a size that fills its blocks, has no bytes to test
+pub tail-none : (s : List ℕ) (n i : ℕ) → (kindOf s i ≡ fileKind → ⊥) → true ≡ zeroTailB s n i
+unfolding zeroTailB
+tail-none s n i h =
+    sym
+    (or-l (not (eqb (kindOf s i) fileKind)) (eqb (sizeOf s i % blockBytes) 0 || allBelow (tailB s n i) blockBytes)
+    (ap not (ne-eqb (kindOf s i) fileKind h)))
+
+pub tail-full : (s : List ℕ) (n i : ℕ) → sizeOf s i % blockBytes ≡ 0 → true ≡ zeroTailB s n i
+unfolding zeroTailB
+tail-full s n i e =
+    sym
+    (or-r (not (eqb (kindOf s i) fileKind)) (eqb (sizeOf s i % blockBytes) 0 || allBelow (tailB s n i) blockBytes)
+    (or-l (eqb (sizeOf s i % blockBytes) 0) (allBelow (tailB s n i) blockBytes) (eq-eqb (sizeOf s i % blockBytes) 0 e)))
+
+-- the last block of a file whose size z ends in it: it is there, and the bytes from z on are what the code tests
+module _ (s : List ℕ) (n i z : ℕ) (ez : z ≡ sizeOf s i) (h : z % blockBytes ≡ 0 → ⊥) where
+  pub last-block : (b : ℕ) → attributesB s i ≡ true → addressesB s n b i ≡ true →
+      (z / blockBytes < addressCount) × (1 ≤ kthBlock s n i (z / blockBytes)) × (kthBlock s n i (z / blockBytes) ≤ b)
+  unfolding addressesB blocksUsed
+  last-block b a d =
+      let k = z / blockBytes in
+      let m = attr-small s i a in
+      let l : k < addressCount = omega (arith, ez, m, h) in
+      let u : k < blocksUsed z = omega (arith, h) in
+      let r = address-is s n b i k (blocksUsed z) (kthBlock s n i k) (ap blocksUsed ez) refl .to (all-at _ addressCount d k l) .0 u in
+      (l, r .0, r .1)
+
+  pub tail-tested : (c o : ℕ) → kindOf s i ≡ fileKind → c ≡ kthBlock s n i (z / blockBytes) → o ≡ blockAt n c →
+      allBelow (λ j. eqb (getD s (o + z % blockBytes + j) 0) 0) (blockBytes - z % blockBytes) ≡ zeroTailB s n i
+  unfolding zeroTailB
+  tail-tested c o ek ec eo =
+      sym
+      (ap₂ _||_ (ap not (eq-eqb (kindOf s i) fileKind ek))
+      (ap (λ (x : Bool). x || allBelow (tailB s n i) blockBytes) (ne-eqb (sizeOf s i % blockBytes) 0 (λ q. h (ap (λ (x : ℕ). x % blockBytes) ez ∙ q))))
+      ∙ rw eo rw ec rw ez (tail-bytes s n i))
+
+-- ---- the blocks that the map does not have
+module _ (s : List ℕ) (n k : ℕ) (map : List ℕ) (h : Seen (addressOf s n) 4097 (addressCount * n) map) (l : k < mostImageBlocks) where
+  pub blank-named : (getD map (k + 1) 0 ≡ 0 → ⊥) → not (unnamedB s n k) || zeroBlockB s n k ≡ true
+  unfolding named
+  blank-named z = or-l _ (zeroBlockB s n k) (ap (λ (x : Bool). not (not x)) (seen-some (addressOf s n) 4097 (addressCount * n) (k + 1) map h (omega arith) z))
+
+  pub blank-tested : (a : ℕ) → getD map (k + 1) 0 ≡ 0 → a ≡ blockAt n (k + 1) →
+      allBelow (λ j. eqb (getD s (a + j) 0) 0) blockBytes ≡ not (unnamedB s n k) || zeroBlockB s n k
+  unfolding named
+  blank-tested a z e =
+      zero-block-is s n k a e
+      ∙ sym (ap (λ (x : Bool). not (not x) || zeroBlockB s n k) (seen-not (addressOf s n) 4097 (addressCount * n) (k + 1) map h (omega arith) z))

@@ -1,0 +1,77 @@
+use mathlib.Core.Path.{sym, _∙_}
+use native.Mathlib.Omega.{arith}
+use borrow.Author.Tests.{eqb-true}
+use borrow.Author.Needs.{needs}
+use Rattle.bounded.proofs.BoolLaws.{never}
+use Rattle.inodes.proofs.InodeLaws.{address-none, address-past, address-rest, address-again, address-new, address-noted}
+use Rattle.inodes.proofs.address_right.Statement.{statement}
+use Rattle.inodes.proofs.address_right.Tie as tie
+
+kth-block-requires : tie.Need-kth-block-requires
+kth-block-requires c κs = search needs
+
+cast-a : tie.Need-cast-a
+cast-a c = search needs
+
+slice-write-map : tie.Need-slice-write-map
+slice-write-map c = omega (arith, c .before .before .before .before .pre .1 .long)
+
+same-length : tie.Need-same-length
+same-length c = search needs
+
+returns : tie.Need-returns
+returns c =
+    let p = c .before .before .before .before .pre in
+    let e = c .before .kth-block .ensures in (
+      address-rest _ _ _ _ _ _ _ (p .0 .2) e (omega arith),
+      λ q. address-noted _ _ _ _ 0 _ (sym (eqb-true _ 0 q) ∙ e) (omega arith) (p .1),
+    )
+
+returns-2 : tie.Need-returns-2
+returns-2 c =
+    (address-none _ _ _ _ _ _ _ (c .before .before .before .before .before .pre .0 .2) (c .before .before .kth-block .ensures) (omega arith) (omega arith), never)
+
+returns-3 : tie.Need-returns-3
+returns-3 c =
+    (address-past _ _ _ _ _ _ _ (c .before .before .before .before .before .before .pre .0 .2) (c .before .before .before .kth-block .ensures) (omega arith) (omega arith), never)
+
+slice-read-if4 : tie.Need-slice-read-if4
+slice-read-if4 c = omega (arith, c .before .before .before .before .before .before .before .pre .1 .long)
+
+returns-4 : tie.Need-returns-4
+returns-4 c =
+    let p = c .before .before .before .before .before .before .before .before .pre in (
+      address-again _ _ _ _ _ _ _ (p .0 .2) (c .before .before .before .before .before .kth-block .ensures) _ (p .1) (omega arith) (omega arith) (λ z. omega (arith, z, c .if4 .taken)),
+      never,
+    )
+
+slice-write-map-2 : tie.Need-slice-write-map-2
+slice-write-map-2 c = omega (arith, c .before .before .before .before .before .before .before .before .pre .1 .long)
+
+same-length-2 : tie.Need-same-length-2
+same-length-2 c = search needs
+
+returns-5 : tie.Need-returns-5
+returns-5 c =
+    let p = c .before .before .before .before .before .before .before .before .pre in
+    let e = c .before .before .before .before .before .kth-block .ensures in (
+      address-new _ _ _ _ _ _ _ (p .0 .2) e _ (p .1) (omega arith) (omega arith) (omega arith) (omega arith) (omega (arith, c .if4 .left)),
+      λ q. address-noted _ _ _ _ _ _ e (omega arith) (p .1),
+    )
+
+pub address-right-spec : {M : Type 1} → statement M
+address-right-spec =
+    tie.close
+    (tie.spec
+    kth-block-requires
+    cast-a
+    slice-write-map
+    same-length
+    returns
+    returns-2
+    returns-3
+    slice-read-if4
+    returns-4
+    slice-write-map-2
+    same-length-2
+    returns-5)

@@ -1,0 +1,80 @@
+use Prim.Native.Nat.{ℕ, _+_, _*_, _-_, _≤_}
+use mathlib.Core.Path.{_≡_, sym, ap, _∙_}
+use mathlib.Core.Bool.{true, _&&_}
+use native.Mathlib.Omega.{arith}
+use borrow.Author.Tests.{not-false}
+use borrow.Author.Needs.{needs}
+use lib.ListN.{length, length-replicate}
+use Rattle.bounded.specs.Seen.{Seen}
+use Rattle.bounded.specs.Below.{allBelow}
+use Rattle.bounded.proofs.SeenLaws.{seen-start}
+use Rattle.bounded.proofs.BoolLaws.{chain-on, chain-off, never}
+use Rattle.bounded.proofs.BelowLaws.{all-none, all-more, all-stopped, all-done}
+use Rattle.layout.specs.Inode.{addressOf}
+use Rattle.sound.specs.Inode.{inodeB}
+use Rattle.inodes.specs.Pass.{newBlocksB}
+use Rattle.inodes.proofs.InodeLaws.{seen-as, inodes-are}
+use Rattle.inodes.proofs.inodes_right.Statement.{statement}
+use Rattle.inodes.proofs.inodes_right.Tie as tie
+
+abbrev Inv-loop : tie.InvT-loop
+Inv-loop s n b map₀ k₀ map k = (k ≤ n) × (allBelow (λ j. inodeB s n b (j + 1) && newBlocksB s n (j + 1)) k ≡ true) × Seen (addressOf s n) 4097 (12 * k) map
+
+abbrev μ-loop : tie.MeasureT-loop
+μ-loop s n b map₀ k₀ map k = n - k
+
+loop-holds : tie.Need-loop-holds Inv-loop μ-loop
+loop-holds c = (omega arith, all-none _, rw (c .before .before .pre .1) (seen-start _ 4097))
+
+add-inode-right : tie.Need-add-inode-right Inv-loop μ-loop
+add-inode-right c = search needs
+
+inode-right-requires : tie.Need-inode-right-requires Inv-loop μ-loop
+inode-right-requires c κs =
+    let p = c .before .before .before .before .before .pre .0 in
+    let l = p .long in
+    (p, record { low = omega arith; high = omega arith; few = p .inodes; area = omega arith }, seen-as _ _ (omega arith) (c .before .before .loop .inv .2))
+
+same-length : tie.Need-same-length Inv-loop μ-loop
+same-length c =
+    omega (arith, c .before .before .before .inode-right .kept .1 .1 .1 .1 .0, c .before .before .before .before .before .before .loop .inv .2 .long, ap length (c .before .before .before .before .before .before .before .before .before .pre .1) ∙ length-replicate {A = ℕ} 4097 0)
+
+returns : tie.Need-returns Inv-loop μ-loop
+returns c =
+    (all-stopped _ _ (c .before .before .before .before .before .before .loop .k) (omega arith) (chain-off _ _ (c .before .before .before .inode-right .ensures .0) (c .if1 .taken)) ∙ inodes-are _ _ _, never)
+
+add-k : tie.Need-add-k Inv-loop μ-loop
+add-k c = search needs
+
+loop-less : tie.Need-loop-less Inv-loop μ-loop
+loop-less c = search needs
+
+loop-again : tie.Need-loop-again Inv-loop μ-loop
+loop-again c =
+    let y = c .before .before .before .inode-right in
+    (omega arith, all-more _ _ (c .before .before .before .before .before .before .loop .inv .1) (chain-on _ _ (y .ensures .0) (c .if1 .left)), y .ensures .1 (not-false _ (c .if1 .left)))
+
+same-length-2 : tie.Need-same-length-2 Inv-loop μ-loop
+same-length-2 c = c .before .loop .inv .2 .long ∙ sym (ap length (c .before .before .before .before .pre .1) ∙ length-replicate {A = ℕ} 4097 0)
+
+returns-2 : tie.Need-returns-2 Inv-loop μ-loop
+returns-2 c =
+    let i = c .before .loop in
+    (all-done _ _ (i .k) (omega arith) (omega arith) (i .inv .1) ∙ inodes-are _ _ _, λ q. seen-as _ _ (omega arith) (i .inv .2))
+
+pub inodes-right-spec : {M : Type 1} → statement M
+inodes-right-spec =
+    tie.close
+    (tie.spec
+    Inv-loop
+    μ-loop
+    loop-holds
+    add-inode-right
+    inode-right-requires
+    same-length
+    returns
+    add-k
+    loop-less
+    loop-again
+    same-length-2
+    returns-2)

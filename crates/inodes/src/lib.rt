@@ -1,0 +1,223 @@
+// The inodes: one pass over attributes, addresses and the zero bytes after a file's end, in which every named block is noted; then the blocks that none of them names.
+ghost use mathlib.Core.Path.{_≡_};
+ghost use mathlib.Core.Bool.{true, not, _&&_, _||_};
+ghost use Prim.Native.Nat.{_+_, _*_, _<_, _≤_};
+ghost use lib.Dec.{eqb};
+ghost use lib.ListN.{length, getD, replicate};
+ghost use Rattle.bounded.specs.Below.{allBelow};
+ghost use Rattle.bounded.specs.Count.{count, differB};
+ghost use Rattle.bounded.specs.Seen.{Seen};
+ghost use Rattle.layout.specs.Sizes.{headerBytes, mostInodes, mostImageBlocks, addressCount, inodeBytes};
+ghost use Rattle.layout.specs.Inode.{InodeFits, sizeOf, addressOf, place};
+ghost use Rattle.layout.specs.Block.{Sized, blocksUsed};
+ghost use Rattle.sound.specs.Inode.{attributesB, addressesB, zeroTailB, inodeB};
+ghost use Rattle.sound.specs.Sound.{freeB, unnamedB, zeroBlockB};
+ghost use Rattle.inodes.specs.Pass.{addressB, newBlocksB};
+use layout::block;
+use layout::inode;
+use layout::sizes::ADDRESS_COUNT;
+use layout::sizes::BLOCK_BYTES;
+use layout::sizes::DIRECTORY;
+use layout::sizes::FILE;
+use layout::sizes::FREE;
+use layout::sizes::MOST_FILE_BYTES;
+
+// The attributes of inode i.
+fn attributes_right(s: &[u8], n: usize, i: usize) -> bool
+    requires { ⌜ InodeFits (now s) n i ⌝ }
+    ensures { λ r. ⌜ r ≡ attributesB (now (s .entry)) i ⌝ }
+{
+    let kind = inode::kind(s, n, i);
+    let size = inode::size(s, n, i) as usize;
+    if DIRECTORY < kind {
+        return false;
+    }
+    if inode::spare(s, n, i) != 0 {
+        return false;
+    }
+    if MOST_FILE_BYTES < size {
+        return false;
+    }
+    if kind == FREE {
+        if inode::links(s, n, i) != 0 {
+            return false;
+        }
+        if size != 0 {
+            return false;
+        }
+        return inode::parent(s, n, i) == 0;
+    }
+    if kind == FILE {
+        return inode::parent(s, n, i) == 0;
+    }
+    size % BLOCK_BYTES == 0
+}
+
+// Address k of inode i: one of b blocks, which no address before it names, or 0 from `used` on. It is noted in the map, 0 as well.
+fn address_right(
+    s: &[u8],
+    n: usize,
+    b: usize,
+    i: usize,
+    k: usize,
+    used: usize,
+    map: &mut [u8],
+) -> bool
+    requires { ⌜ InodeFits (now s) n i × (k < addressCount) × (used ≡ blocksUsed (sizeOf (now s) i)) × (b ≤ mostImageBlocks) ⌝ }
+    requires { ⌜ Seen (addressOf (now s) n) (mostImageBlocks + 1) (place i k) (now map) ⌝ }
+    ensures { λ r. ⌜ (r ≡ addressB (now (s .entry)) n b i k) × (r ≡ true → Seen (addressOf (now (s .entry)) n) (mostImageBlocks + 1) (place i k + 1) (now (map .exit))) ⌝ }
+{
+    let a = block::kth_block(s, n, i, k) as usize;
+    if used <= k {
+        map[0] = 1;
+        return a == 0;
+    }
+    if a < 1 {
+        return false;
+    }
+    if b < a {
+        return false;
+    }
+    if map[a] != 0 {
+        return false;
+    }
+    map[a] = 1;
+    true
+}
+
+// The twelve addresses of inode i.
+fn addresses_right(s: &[u8], n: usize, b: usize, i: usize, map: &mut [u8]) -> bool
+    requires { ⌜ InodeFits (now s) n i × (b ≤ mostImageBlocks) × Seen (addressOf (now s) n) (mostImageBlocks + 1) (place i 0) (now map) ⌝ }
+    ensures { λ r. ⌜ (r ≡ addressesB (now (s .entry)) n b i && newBlocksB (now (s .entry)) n i) × (r ≡ true → Seen (addressOf (now (s .entry)) n) (mostImageBlocks + 1) (addressCount * i) (now (map .exit))) ⌝ }
+{
+    let used = block::blocks_used(inode::size(s, n, i) as usize);
+    for k in 0..ADDRESS_COUNT {
+        if !address_right(s, n, b, i, k, used, &mut *map) {
+            return false;
+        }
+    }
+    true
+}
+
+// The m words of eight bytes from o on are 0.
+fn words_zero(s: &[u8], o: usize, m: usize) -> bool
+    requires { ⌜ o + 8 * m ≤ length (now s) ⌝ }
+    ensures { λ r. ⌜ r ≡ allBelow (λ j. eqb (getD (now (s .entry)) (o + j) 0) 0) (8 * m) ⌝ }
+{
+    for j in 0..m {
+        if octets::get_64(s, o + 8 * j) != 0 {
+            return false;
+        }
+    }
+    true
+}
+
+// The k bytes from o on are 0, one by one.
+fn bytes_zero(s: &[u8], o: usize, k: usize) -> bool
+    requires { ⌜ o + k ≤ length (now s) ⌝ }
+    ensures { λ r. ⌜ r ≡ allBelow (λ j. eqb (getD (now (s .entry)) (o + j) 0) 0) k ⌝ }
+{
+    for j in 0..k {
+        if s[o + j] != 0 {
+            return false;
+        }
+    }
+    true
+}
+
+// The k bytes from o on are 0: as words, then those that are left.
+pub fn all_zero(s: &[u8], o: usize, k: usize) -> bool
+    requires { ⌜ o + k ≤ length (now s) ⌝ }
+    ensures { λ r. ⌜ r ≡ allBelow (λ j. eqb (getD (now (s .entry)) (o + j) 0) 0) k ⌝ }
+{
+    if !words_zero(s, o, k / 8) {
+        return false;
+    }
+    bytes_zero(s, o + 8 * (k / 8), k % 8)
+}
+
+// The bytes of a file past its size in its last block.
+fn zero_tail(s: &[u8], n: usize, b: usize, i: usize) -> bool
+    requires { ⌜ Sized (now s) n b × InodeFits (now s) n i × (attributesB (now s) i ≡ true) × (addressesB (now s) n b i ≡ true) ⌝ }
+    ensures { λ r. ⌜ r ≡ zeroTailB (now (s .entry)) n i ⌝ }
+{
+    let size = inode::size(s, n, i) as usize;
+    let past = size % BLOCK_BYTES;
+    if inode::kind(s, n, i) != FILE {
+        return true;
+    }
+    if past == 0 {
+        return true;
+    }
+    let last = block::kth_block(s, n, i, size / BLOCK_BYTES) as usize;
+    all_zero(s, block::block_at(n, last) + past, BLOCK_BYTES - past)
+}
+
+fn inode_right(s: &[u8], n: usize, b: usize, i: usize, map: &mut [u8]) -> bool
+    requires { ⌜ Sized (now s) n b × InodeFits (now s) n i × Seen (addressOf (now s) n) (mostImageBlocks + 1) (place i 0) (now map) ⌝ }
+    ensures { λ r. ⌜ (r ≡ inodeB (now (s .entry)) n b i && newBlocksB (now (s .entry)) n i) × (r ≡ true → Seen (addressOf (now (s .entry)) n) (mostImageBlocks + 1) (addressCount * i) (now (map .exit))) ⌝ }
+{
+    if !attributes_right(s, n, i) {
+        return false;
+    }
+    if !addresses_right(s, n, b, i, &mut *map) {
+        return false;
+    }
+    zero_tail(s, n, b, i)
+}
+
+// Every inode is right, and no block is named twice; the map, which comes in zero, then has the blocks that are named.
+pub fn inodes_right(s: &[u8], n: usize, b: usize, map: &mut [u8]) -> bool
+    requires { ⌜ Sized (now s) n b × (now map ≡ replicate (mostImageBlocks + 1) 0) ⌝ }
+    ensures { λ r. ⌜ (r ≡ allBelow (λ k. inodeB (now (s .entry)) n b (k + 1)) n && differB (addressOf (now (s .entry)) n) (addressCount * n)) × (r ≡ true → Seen (addressOf (now (s .entry)) n) (mostImageBlocks + 1) (addressCount * n) (now (map .exit))) ⌝ }
+{
+    for k in 0..n {
+        if !inode_right(s, n, b, k + 1, &mut *map) {
+            return false;
+        }
+    }
+    true
+}
+
+// How many inodes are free.
+pub fn free_inodes(s: &[u8], n: usize) -> usize
+    requires { ⌜ (n ≤ mostInodes) × (headerBytes + inodeBytes * n ≤ length (now s)) ⌝ }
+    ensures { λ r. ⌜ r ≡ count (freeB (now (s .entry))) n ⌝ }
+{
+    let mut free = 0;
+    for k in 0..n {
+        if inode::kind(s, n, k + 1) == FREE {
+            free += 1;
+        }
+    }
+    free
+}
+
+// How many of the b blocks the map does not have.
+pub fn free_blocks(map: &[u8], b: usize) -> usize
+    requires { ⌜ (length (now map) ≡ mostImageBlocks + 1) × (b ≤ mostImageBlocks) ⌝ }
+    ensures { λ r. ⌜ r ≡ count (λ k. eqb (getD (now (map .entry)) (k + 1) 0) 0) b ⌝ }
+{
+    let mut free = 0;
+    for k in 0..b {
+        if map[k + 1] == 0 {
+            free += 1;
+        }
+    }
+    free
+}
+
+// The blocks that the map does not have are zero.
+pub fn blanks_right(s: &[u8], n: usize, b: usize, map: &[u8]) -> bool
+    requires { ⌜ Sized (now s) n b × Seen (addressOf (now s) n) (mostImageBlocks + 1) (addressCount * n) (now map) ⌝ }
+    ensures { λ r. ⌜ r ≡ allBelow (λ k. not (unnamedB (now (s .entry)) n k) || zeroBlockB (now (s .entry)) n k) b ⌝ }
+{
+    for k in 0..b {
+        if map[k + 1] == 0 {
+            if !all_zero(s, block::block_at(n, k + 1), BLOCK_BYTES) {
+                return false;
+            }
+        }
+    }
+    true
+}
