@@ -1,4 +1,12 @@
 pub mod Kept
+pub mod Lawful
+pub mod LawfulCalls
+pub mod LawfulContent
+pub mod LawfulEnter
+pub mod LawfulRename
+pub mod LawfulStays
+pub mod LawfulSteady
+pub mod LawfulUnlink
 pub mod PlainKeeps
 pub mod PlainLaws
 pub mod Plans

@@ -5,4 +5,5 @@ pub mod Room
 pub mod Plan
 pub mod Apply
 pub mod Guard
+pub mod Effect
 pub mod Plain
