@@ -19,6 +19,11 @@ abbrev pub All : {A : Type 0} → (A → Type 0) → List A → Type 0
 All P [] = Unit {0}
 All P (x ∷ xs) = P x × All P xs
 
+-- P holds of one of the list
+abbrev pub Some : {A : Type 0} → (A → Type 0) → List A → Type 0
+Some P [] = ⊥
+Some P (x ∷ xs) = P x ⊎ Some P xs
+
 -- j is none of them; place q is the place of none
 abbrev pub Apart : ℕ → List ℕ → Type 0
 Apart j is = All (λ i. j ≢ i) is

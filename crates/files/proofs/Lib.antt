@@ -1,3 +1,4 @@
+pub mod EffectFacts
 pub mod Kept
 pub mod Lawful
 pub mod LawfulCalls
