@@ -33,6 +33,8 @@ pub record DeskLaid (n b : ℕ) (d : List ℕ) : Type 0 where
   pub reserved : desk.reservedZero d ≡ true
   pub bytes : (i : ℕ) → 1 ≤ i → i ≤ n → copiedOf d i ≤ 1
   pub high : deskOf d .locked ≤ n
+  -- with nothing locked no block is counted
+  pub none : deskOf d .locked ≡ 0 → deskOf d .copied ≡ 0
 
 -- the image's frame
 pub record Frame (n b : ℕ) (m : List ℕ) : Type 0 where
