@@ -1,1 +1,4 @@
-
+pub mod LightLaws
+pub mod HoldsLight
+pub mod HoldsClosed
+pub mod HoldsLaws
