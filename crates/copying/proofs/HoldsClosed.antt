@@ -48,7 +48,7 @@ module _ (n : ℕ) (v w : View) (l : ℕ) (h : Holds n v) (e : Closed v w l) whe
   lock : LockHolds n v
   lock = h .lock (λ z. e .real (sym (e .was) ∙ z))
 
-  new : v .copied l ≡ false
+  pub new : v .copied l ≡ false
   new = rw (e .was) at (lock .new)
 
   -- the copied of before are copied, with their parents

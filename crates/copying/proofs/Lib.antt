@@ -2,3 +2,5 @@ pub mod LightLaws
 pub mod HoldsLight
 pub mod HoldsClosed
 pub mod HoldsLaws
+pub mod SinceLaws
+pub mod HistoryLaws
