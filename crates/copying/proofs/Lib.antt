@@ -4,3 +4,5 @@ pub mod HoldsClosed
 pub mod HoldsLaws
 pub mod SinceLaws
 pub mod HistoryLaws
+pub mod EndLaws
+pub mod ChainLaws
