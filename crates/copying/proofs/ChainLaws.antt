@@ -1,12 +1,11 @@
 -- While no entry of the store changes, every entry of it has a chain up to the root.
 use Prim.Native.Nat.{ℕ, zero, suc, _≤_}
-use mathlib.Core.Path.{_≡_, refl, sym, ap, _∙_, subst}
+use mathlib.Core.Path.{_≡_, sym, ap, _∙_}
 use mathlib.Core.Logic.{_≢_}
 use native.Mathlib.Omega.{arith}
 use native.Mathlib.Decide.{ℕ-discrete}
 use Rattle.bounded.specs.Climb.{climb}
 use Rattle.layout.specs.Sizes.{rootInode}
-use Rattle.layout.specs.Inode.{directoryKind}
 use Rattle.sound.specs.Place.{dirOf}
 use Rattle.copying.specs.View.{View, Tidy}
 use Rattle.copying.specs.History.{Stood, Chain, top, below, Told}

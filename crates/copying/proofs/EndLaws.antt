@@ -1,8 +1,8 @@
 -- A finished copy: its image is tidy, each entry is of a spell, and a chain of entries that stood is in it.
-use Prim.Native.Nat.{ℕ, suc, _≤_}
-use mathlib.Core.Path.{_≡_, refl, sym, ap, _∙_, subst}
+use Prim.Native.Nat.{ℕ, _≤_}
+use mathlib.Core.Path.{_≡_, sym, _∙_}
 use mathlib.Core.Logic.{_≢_}
-use mathlib.Core.Bool.{Bool, true, false}
+use mathlib.Core.Bool.{Bool, true}
 use native.Mathlib.Omega.{arith}
 use Rattle.bounded.specs.Climb.{Leads}
 use Rattle.bounded.proofs.BoolLaws.{holds}
@@ -12,7 +12,7 @@ use Rattle.sound.specs.Place.{dirOf}
 use Rattle.copying.specs.View.{View, Tidy}
 use Rattle.copying.specs.Deed.{Alike}
 use Rattle.copying.specs.Holds.{Led, root, up, Holds, Ended}
-use Rattle.copying.specs.History.{Names, Told, Spell, Since, Stood, Chain, top, below}
+use Rattle.copying.specs.History.{Told, Spell, Since, Stood, Chain, top, below}
 use Rattle.copying.proofs.HistoryLaws.{told-holds, kind-held, keeps}
 
 led-leads : {c : ℕ → Bool} {f : ℕ → ℕ} {x : ℕ} → Led c f x → Leads f rootInode x
@@ -62,4 +62,4 @@ module _ (t : ℕ → View) (n k : ℕ) (told : Told t n k) (e : Ended (t k)) wh
       let r = kept-body p h in
       r .2 .kind
       ∙ kind-held t n k told p (t 0 .store .names p) 0 (r .0) (omega arith) (r .1) (s 0 (omega arith))
-        (λ m a b. let l : m ≤ k = omega (arith, r .1) in keeps t n k told m p l (λ x u. s x (omega arith)) .held)
+      (λ m a b. let l : m ≤ k = omega (arith, r .1) in keeps t n k told m p l (λ x u. s x (omega arith)) .held)

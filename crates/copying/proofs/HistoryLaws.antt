@@ -1,19 +1,17 @@
 -- A copy's history: what holds at each of its moments, kinds that last, and entries that stood.
-use Prim.Native.Nat.{ℕ, zero, suc, _≤_, _<_}
-use mathlib.Core.Path.{_≡_, refl, sym, ap, _∙_, subst}
+use Prim.Native.Nat.{ℕ, zero, suc, _≤_}
+use mathlib.Core.Path.{_≡_, refl, sym, ap, _∙_}
 use mathlib.Core.Logic.{_≢_, _⊎_, inl, inr}
-use mathlib.Core.Bool.{Bool, true, false}
 use native.Mathlib.Nat.{le-suc-iff}
 use native.Mathlib.Omega.{arith}
-use native.Mathlib.Decide.{ℕ-discrete}
 use Rattle.bounded.proofs.BoolLaws.{clash}
 use Rattle.layout.specs.Inode.{freeKind}
 use Rattle.sound.specs.Place.{dirOf}
-use Rattle.copying.specs.View.{View, Tidy}
-use Rattle.copying.specs.Deed.{Turn, stays, goes, comes, Pasted, elsewhere, skipped, taken, Closed, Deed}
-use Rattle.copying.specs.Holds.{Holds, Fresh}
+use Rattle.copying.specs.View.{View}
+use Rattle.copying.specs.Deed.{stays, goes, comes, elsewhere, skipped, taken, Deed}
+use Rattle.copying.specs.Holds.{Holds}
 use Rattle.copying.specs.History.{Names, Told, Spell, Since, Stood, Keeps}
-use Rattle.copying.proofs.LightLaws.{Light, light-or-closed}
+use Rattle.copying.proofs.LightLaws.{light-or-closed}
 use Rattle.copying.proofs.HoldsLight.{holds-fresh}
 use Rattle.copying.proofs.HoldsClosed.{copied-before}
 use Rattle.copying.proofs.HoldsLaws.{holds-does}
@@ -52,7 +50,7 @@ module _ (t : ℕ → View) (n k : ℕ) (told : Told t n k) where
       → t m .store .kind (t j .image .names p) ≡ t j .image .kind (t j .image .names p)
   spell-kind j p l z s m a b =
       let held : (x : ℕ) → s .from ≤ x → x ≤ s .to → t x .store .kind (t j .image .names p) ≡ t (s .from) .store .kind (t j .image .names p) =
-        λ x c d. kind-held p (t j .image .names p) (s .from) x c (omega (arith, s .past)) z (λ y e f. s .names y e (omega arith)) in
+      λ x c d. kind-held p (t j .image .names p) (s .from) x c (omega (arith, s .past)) z (λ y e f. s .names y e (omega arith)) in
       held m a b ∙ sym (held (s .inode-at) (s .from-inode) (s .inode-to)) ∙ sym (s .inode .kind)
 
   pub keeps : (j p : ℕ) → j ≤ k → Stood t j p → Keeps t j p

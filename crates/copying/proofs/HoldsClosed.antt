@@ -1,17 +1,17 @@
 -- What holds of a running copy holds after the locked inode l is closed: the image stays a tree.
-use Prim.Native.Nat.{ℕ, zero, suc, _≤_, _<_}
-use mathlib.Core.Path.{_≡_, refl, sym, ap, _∙_, subst}
-use mathlib.Core.Logic.{_≢_, _⊎_, inl, inr}
-use mathlib.Core.Bool.{Bool, true, false}
+use Prim.Native.Nat.{ℕ}
+use mathlib.Core.Path.{_≡_, refl, sym, _∙_, subst}
+use mathlib.Core.Logic.{_≢_, inl, inr}
+use mathlib.Core.Bool.{true, false}
 use native.Mathlib.Omega.{arith}
 use native.Mathlib.Decide.{ℕ-discrete}
-use Rattle.bounded.specs.Update.{Changed, here, there}
+use Rattle.bounded.specs.Update.{here, there}
 use Rattle.bounded.proofs.BoolLaws.{clash, fails, holds}
 use Rattle.layout.specs.Sizes.{rootInode}
-use Rattle.layout.specs.Inode.{freeKind, directoryKind}
+use Rattle.layout.specs.Inode.{directoryKind}
 use Rattle.sound.specs.Place.{dirOf}
 use Rattle.copying.specs.View.{View, Tidy}
-use Rattle.copying.specs.Deed.{Pasted, elsewhere, skipped, taken, Closed}
+use Rattle.copying.specs.Deed.{elsewhere, skipped, taken, Closed}
 use Rattle.copying.specs.Holds.{Led, root, up, LockHolds, Holds}
 use Rattle.copying.proofs.HoldsLight.{led-on}
 
@@ -48,12 +48,12 @@ module _ (n : ℕ) (v w : View) (l : ℕ) (h : Holds n v) (e : Closed v w l) whe
   lock : LockHolds n v
   lock = h .lock (λ z. e .real (sym (e .was) ∙ z))
 
-  pub new : v .copied l ≡ false
-  new = rw (e .was) at (lock .new)
+  pub uncopied-l : v .copied l ≡ false
+  uncopied-l = rw (e .was) at (lock .new)
 
-  -- the copied of before are copied, with their parents
+  -- the copied of before are copied
   still : (i : ℕ) → v .copied i ≡ true → (i ≢ l) × (w .copied i ≡ true)
-  still i k = let z : i ≢ l = λ g. clash _ k (cc (new)) in (z, copied-before e i z ∙ k)
+  still i k = let z : i ≢ l = λ g. clash _ k (cc (uncopied-l)) in (z, copied-before e i z ∙ k)
 
   kind-was : (i : ℕ) → i ≢ l → w .image .kind i ≡ directoryKind → v .image .kind i ≡ directoryKind
   kind-was i z k = sym (e .others i z .kind) ∙ k
@@ -65,16 +65,13 @@ module _ (n : ℕ) (v w : View) (l : ℕ) (h : Holds n v) (e : Closed v w l) whe
   apart : (p : ℕ) → v .image .names p ≢ 0 → dirOf p ≢ l
   apart p z = still (dirOf p) (dir-copied h (dirOf p) (h .inside p z)) .0
 
-  -- the image entry that names l
-  by : (v .locked ≡ rootInode) ⊎ ((p : ℕ) × (v .image .names p ≡ v .locked))
-  by = lock .by
-
+  -- one that names l is still that entry in the store
   stands-l : (p : ℕ) → v .image .names p ≡ l → v .store .names p ≡ l
-  stands-l p g = h .stands p (λ z. e .real (sym g ∙ z)) (cc (new)) ∙ g
+  stands-l p g = h .stands p (λ z. e .real (sym g ∙ z)) (cc (uncopied-l)) ∙ g
 
   -- an entry of the store that names l, a directory, stands in a copied directory
   entry-l : (q : ℕ) → v .store .names q ≡ l → v .store .kind l ≡ directoryKind → v .copied (dirOf q) ≡ true
-  entry-l q g k = elim by [
+  entry-l q g k = elim (lock .by) [
     | inl u ↦ absurd (h .tidy .not-root q (cc (e .was)))
     | inr u ↦
         let a : v .image .names (u .0) ≡ l = u .1 ∙ e .was in
@@ -148,9 +145,9 @@ module _ (n : ℕ) (v w : View) (l : ℕ) (h : Holds n v) (e : Closed v w l) whe
     ];
     named = λ i k z.
         let on : (p : ℕ) → v .image .names p ≡ i → w .image .names p ≡ i =
-          λ p u. same-name e p (apart p (λ x. clash (w .copied i) k (cc (copied-before e 0 (λ y. e .real (sym y)), h .zero-not)))) ∙ u in
+        λ p u. same-name e p (apart p (λ x. clash (w .copied i) k (cc (copied-before e 0 (λ y. e .real (sym y)), h .zero-not)))) ∙ u in
         elim (ℕ-discrete i l) [
-          | yes g ↦ elim by [
+          | yes g ↦ elim (lock .by) [
             | inl u ↦ absurd (z (g ∙ sym (e .was) ∙ u))
             | inr u ↦ (u .0, on (u .0) (u .1 ∙ e .was ∙ sym g))
           ]
@@ -178,7 +175,7 @@ module _ (n : ℕ) (v w : View) (l : ℕ) (h : Holds n v) (e : Closed v w l) whe
               cc (e .others (w .image .names p) g .parent)
         ];
     led = λ i k. elim (ℕ-discrete i l) [
-      | yes g ↦ elim by [
+      | yes g ↦ elim (lock .by) [
         | inl u ↦ let r : i ≡ rootInode = g ∙ sym (e .was) ∙ u in subst (Led (w .copied) (w .image .parent)) (sym r) root
         | inr u ↦
             let a : v .image .names (u .0) ≡ l = u .1 ∙ e .was in

@@ -1,10 +1,9 @@
 -- What holds of a running copy holds after every deed.
 use Prim.Native.Nat.{ℕ}
-use mathlib.Core.Path.{_≡_, refl, sym, ap, _∙_}
-use mathlib.Core.Logic.{_≢_, _⊎_, inl, inr}
-use mathlib.Core.Bool.{Bool, true, false}
+use mathlib.Core.Path.{_≡_, sym, _∙_}
+use mathlib.Core.Logic.{_≢_, inl, inr}
 use Rattle.copying.specs.View.{View, Tidy}
-use Rattle.copying.specs.Deed.{Turn, stays, goes, comes, Cut, cut, kept, Called, Quiet, Locked, Deed, called, locks, closes, rests}
+use Rattle.copying.specs.Deed.{stays, goes, comes, cut, kept, Called, Locked, Deed, called, locks, closes, rests}
 use Rattle.copying.specs.Holds.{LockHolds, Holds}
 use Rattle.copying.proofs.LightLaws.{light-called, light-quiet}
 use Rattle.copying.proofs.HoldsLight.{LockNew, holds-light}

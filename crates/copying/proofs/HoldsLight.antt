@@ -1,6 +1,6 @@
 -- What holds of a running copy holds just after a start, and after a light deed.
-use Prim.Native.Nat.{ℕ, zero, suc, _≤_, _<_}
-use mathlib.Core.Path.{_≡_, refl, sym, ap, _∙_, subst}
+use Prim.Native.Nat.{ℕ, _≤_}
+use mathlib.Core.Path.{_≡_, sym, _∙_, subst}
 use mathlib.Core.Logic.{_≢_, _⊎_, inl, inr}
 use mathlib.Core.Bool.{Bool, true, false}
 use native.Mathlib.Omega.{arith}
@@ -10,9 +10,8 @@ use Rattle.layout.specs.Sizes.{rootInode}
 use Rattle.layout.specs.Inode.{freeKind, directoryKind}
 use Rattle.sound.specs.Place.{dirOf}
 use Rattle.copying.specs.View.{View, Tidy}
-use Rattle.copying.specs.Deed.{Turn, stays, goes, comes, Cut, cut, kept, Called, Quiet, Locked}
-use Rattle.copying.specs.Holds.{Led, root, up, LockHolds, Holds, Fresh}
-use Rattle.copying.proofs.LightLaws.{Light, light-called, light-quiet, name-was, name-stays, stands-on, old-was, copied-was}
+use Rattle.copying.specs.Holds.{Led, root, up, Holds, Fresh}
+use Rattle.copying.proofs.LightLaws.{Light, name-was, name-stays, stands-on, old-was, copied-was}
 
 pub holds-fresh : (n : ℕ) (v : View) → Tidy n (v .store) → Fresh v → Holds n v
 holds-fresh n v t f = record {

@@ -1,12 +1,12 @@
 -- A deed closes the locked inode or is light: a file call, or a step that leaves image and store alone.
-use Prim.Native.Nat.{ℕ, zero, suc}
-use mathlib.Core.Path.{_≡_, refl, sym, ap, _∙_}
+use Prim.Native.Nat.{ℕ}
+use mathlib.Core.Path.{_≡_, sym, _∙_}
 use mathlib.Core.Logic.{_≢_, _⊎_, inl, inr}
-use mathlib.Core.Bool.{Bool, true, false}
+use mathlib.Core.Bool.{true, false}
 use Rattle.bounded.proofs.BoolLaws.{clash}
-use Rattle.layout.specs.Inode.{freeKind, fileKind}
+use Rattle.layout.specs.Inode.{freeKind}
 use Rattle.copying.specs.View.{Shelf, View}
-use Rattle.copying.specs.Deed.{Alike, Cut, cut, kept, Turn, stays, goes, comes, Called, Quiet, Locked, Closed, Deed, called, locks, closes, rests}
+use Rattle.copying.specs.Deed.{Alike, cut, kept, Turn, stays, goes, comes, Called, Quiet, Closed, Deed, called, locks, closes, rests}
 
 pub alike-on : {x y z : Shelf} {i : ℕ} → Alike x y i → Alike y z i → Alike x z i
 alike-on a b = record {

@@ -1,8 +1,8 @@
 -- What is known of an image's entries and inodes since the start holds just after it, and after every deed.
-use Prim.Native.Nat.{ℕ, zero, suc, _≤_, _<_}
-use mathlib.Core.Path.{_≡_, refl, sym, ap, _∙_, subst}
-use mathlib.Core.Logic.{_≢_, _⊎_, inl, inr}
-use mathlib.Core.Bool.{Bool, true, false}
+use Prim.Native.Nat.{ℕ, suc, _≤_}
+use mathlib.Core.Path.{_≡_, refl, sym, ap, _∙_}
+use mathlib.Core.Logic.{_≢_, inl, inr}
+use mathlib.Core.Bool.{true}
 use native.Mathlib.Nat.{le-suc-iff}
 use native.Mathlib.Omega.{arith}
 use native.Mathlib.Decide.{ℕ-discrete}
@@ -13,14 +13,14 @@ use Rattle.copying.specs.Deed.{Alike, Closed, Deed}
 use Rattle.copying.specs.Holds.{Holds, Fresh}
 use Rattle.copying.specs.History.{Names, Spell, Waits, Since}
 use Rattle.copying.proofs.LightLaws.{alike-on, Light, light-or-closed, name-was, old-was, copied-was}
-use Rattle.copying.proofs.HoldsClosed.{copied-l, copied-before, same-name, same-entry, new, new-name, new-entry, new-unmarked}
+use Rattle.copying.proofs.HoldsClosed.{copied-l, copied-before, same-name, same-entry, new-name, new-entry, new-unmarked, uncopied-l}
 
 module _ (t : ℕ → View) where
   -- at one moment, and at one more
-  pub names-once : {a p i : ℕ} → t a .store .names p ≡ i → Names t a a p i
+  names-once : {a p i : ℕ} → t a .store .names p ≡ i → Names t a a p i
   names-once {a} {p} e m l u = let s : m ≡ a = omega arith in ap (λ (x : ℕ). t x .store .names p) s ∙ e
 
-  pub names-more : {a j p i : ℕ} → Names t a j p i → t (suc j) .store .names p ≡ i → Names t a (suc j) p i
+  names-more : {a j p i : ℕ} → Names t a j p i → t (suc j) .store .names p ≡ i → Names t a (suc j) p i
   names-more {j = j} {p = p} f e m l u = elim (le-suc-iff .0 u) [ inl x ↦ f m l x | inr s ↦ ap (λ (x : ℕ). t x .store .names p) s ∙ e ]
 
   pub since-fresh : Fresh (t 0) → Since t 0
@@ -121,11 +121,11 @@ module _ (t : ℕ → View) where
         ];
         waits = λ p z k. elim (ℕ-discrete (dirOf p) l) [
           | yes d ↦ record {
-              from = suc j;
-              past = omega arith;
-              names = names-once (h .stands p z k);
-              entry = new-entry e p d z ∙ ap (λ x. x .entry p) (sym (e .store));
-            }
+            from = suc j;
+            past = omega arith;
+            names = names-once (h .stands p z k);
+            entry = new-entry e p d z ∙ ap (λ x. x .entry p) (sym (e .store));
+          }
           | no d ↦
               let a = same-name e p d in
               let y : t j .image .names p ≢ 0 = λ u. z (a ∙ u) in
@@ -143,7 +143,7 @@ module _ (t : ℕ → View) where
               let x = same-entry e p d y in
               elim (ℕ-discrete (t (suc j) .image .names p) l) [
                 | yes g ↦
-                    let r = s .waits p y (cc (new n (t j) (t (suc j)) l h₀ e)) in
+                    let r = s .waits p y (cc (uncopied-l n (t j) (t (suc j)) l h₀ e)) in
                     closed-spell p (r .from) (r .past) (λ m c f. r .names m c f ∙ sym a ∙ g) g (x ∙ r .entry)
                 | no g ↦ spell-on a x (rw a at (e .others (t (suc j) .image .names p) g)) (s .spells p y (cc (copied-before e (t (suc j) .image .names p) g)))
               ]
