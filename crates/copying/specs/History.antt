@@ -2,8 +2,7 @@
 use Prim.Native.Nat.{ℕ, suc, _≤_, _<_}
 use mathlib.Core.Path.{_≡_}
 use mathlib.Core.Logic.{_≢_}
-use mathlib.Core.Bool.{Bool, true, false}
-use mathlib.Core.List.{List}
+use mathlib.Core.Bool.{true, false}
 use Rattle.layout.specs.Sizes.{rootInode}
 use Rattle.sound.specs.Place.{dirOf}
 use Rattle.copying.specs.View.{View, Tidy}
