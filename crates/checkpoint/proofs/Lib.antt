@@ -1,2 +1,3 @@
+pub mod DecisionLaws
 pub mod PlainLaws
 pub mod TableLaws

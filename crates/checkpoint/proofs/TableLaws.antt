@@ -38,21 +38,23 @@ use Rattle.files.specs.declared.LinkPlan.{LinkPlan}
 use Rattle.files.specs.declared.UnlinkPlan.{UnlinkPlan}
 use Rattle.files.specs.declared.RenamePlan.{RenamePlan}
 use Rattle.files.specs.declared.NumberPlan.{NumberPlan}
-use Rattle.files.specs.declared.CreatePlan.the-variants.{Make, NoCreate}
-use Rattle.files.specs.declared.LinkPlan.the-variants.{Add, NoLink}
-use Rattle.files.specs.declared.UnlinkPlan.the-variants.{Take, NoUnlink}
 use Rattle.files.specs.declared.RenamePlan.the-variants.{Same, Rename, Move, NoRename}
 use Rattle.files.specs.declared.NumberPlan.the-variants.{To, NoNumber}
 use Rattle.files.specs.Inode.{isFile, isDirectory}
 use Rattle.files.specs.Room.{room, roomIn, onRoom}
 use Rattle.files.specs.Plan.{holdsNone, isBelow, lookUpPlan, readPlan, createPlan, writePlan, shortenPlan, linkPlan, unlinkPlan, renameTo, renamePlan}
-use Rattle.files.specs.Plain.{plainLookUp, plainRead, doLookUp, doRead, guarded as plainGuarded, Outcome as PlainOutcome}
-use Rattle.files.proofs.PlainLaws.{never, guarded-is}
+use Rattle.files.specs.declared.Guard.{Guard}
+use Rattle.files.specs.declared.Guard.the-variants.{Pass, Stop}
+use Rattle.files.specs.Guard.{guardOf, onGuard}
+use Rattle.files.specs.Effect.{Call, lookUp, read, create, write, shorten, link, unlink, rename, Effect, Planned, refused, does, doLookUp, doRead, doCreate, doWrite, doShorten, doLink, doUnlink, doRename, planned, plainDecision, given}
+use Rattle.files.specs.Plain.{leaves, plain, Outcome as PlainOutcome}
+use Rattle.files.proofs.PlainLaws.{never, on-guard}
 use Rattle.checkpoint.specs.Fit.{deskFramed, imageAllowed, isRunning, notesFit}
-use Rattle.checkpoint.specs.Busy.{busyOne, busyTwo, busyMove}
-use Rattle.checkpoint.specs.Notes.{isCopied}
+use Rattle.checkpoint.specs.Busy.{anyLocked, unlessBusy}
+use Rattle.checkpoint.specs.Notes.{isCopied, cutEntries, clearMarks, setMarks}
 use Rattle.checkpoint.specs.Copier.{targetBlock, stepOf, Step, lock, copy, close, finish, full, lockedStep, freeStep, nextInode}
-use Rattle.checkpoint.specs.Live.{ask, Outcome, left, refuse, guarded, unless, doCreate, doWrite, doShorten, doLink, doUnlink, doRename, doStep, liveCreate, liveWrite, liveShorten, liveLink, liveUnlink, liveRename, started, start, step, asStatus, status}
+use Rattle.checkpoint.specs.Live.{World, Outcome, left, refuse, threeGuards, storeAlone, decision, leavesIn, live, guarded, ask, doStep, started, start, step, asStatus, status}
+use Rattle.checkpoint.proofs.DecisionLaws.{guarded-is}
 use Rattle.checkpoint.specs.Table.{Row, row, firstOf, ascendsFrom, found, orZero, storeRows, liveRows, noBlock, noSlot, slotFor, inodeFor, lookUpTable, readTable, createTable, writeTable, shortenTable, linkTable, unlinkTable, renameTable, startTable, stepTable}
 
 -- the answer x is the first of rs that holds, else a
@@ -94,24 +96,38 @@ module _ {A : Type 0} (h : A → Answer) where
       go Absent false c = record { first = p NoSlot }
 
 -- the last condition, and what is done where it does not hold
-by-busy : (b : Bool) (s m d : List ℕ) (o : Outcome) {x : ℕ} → o .answer ≡ Done x → Gives (unless b s m d o .answer) (row b Busy ∷ []) (Done x)
-by-busy true s m d o p = record { first = refl }
-by-busy false s m d o p = record { first = p }
+by-busy : (b : Bool) (w : World) (x : Effect) → Gives (leavesIn w (pick b (refused Busy) (does x)) .answer) (row b Busy ∷ []) (Done (x .answer))
+by-busy true w x = record { first = refl }
+by-busy false w x = record { first = refl }
 
 -- 1, 2 and 3
 by-guards : (s m d : List ℕ) (o : Outcome) {rs : List Row} {a : Answer} → Gives (o .answer) rs a → Gives (guarded s m d o .answer) (liveRows s m d rs) a
-unfolding guarded
 by-guards s m d o q =
     let h : Outcome → Answer = λ z. z .answer in
-    by-pick h (not (framedB mostStoreBlocks s && deskFramed d)) _ _ refl
+    rw (guarded-is s m d o)
+    (by-pick h (not (framedB mostStoreBlocks s && deskFramed d)) _ _ refl
     (by-pick h (not (isSound Store s)) _ _ refl
-    (by-pick h (not (notesFit s m d)) _ _ refl q))
+    (by-pick h (not (notesFit s m d)) _ _ refl q)))
+
+-- of a file call that takes all three buffers
+by-three : (c : Call) (w : World) {rs : List Row} {a : Answer} → storeAlone c ≡ false
+    → Gives (leavesIn w (unlessBusy (w .desk) (planned c (w .store) (inodesIn (w .store)) (blocksIn (w .store)))) .answer) rs a → Gives (live c w .answer) (liveRows (w .store) (w .image) (w .desk) rs) a
+unfolding live decision threeGuards
+by-three c w {rs} {a} z q = rw z (go (framedB mostStoreBlocks (w .store) && deskFramed (w .desk)) (isSound Store (w .store)) (notesFit (w .store) (w .image) (w .desk)))
+  where
+    go : (x y z : Bool) → Gives (leavesIn w (onGuard (pick (not x) (Stop BadBuffer) (pick (not y) (Stop UnsoundStore) (pick (not z) (Stop BadDesk) (Pass (inodesIn (w .store)) (blocksIn (w .store))))))
+        (λ n b. unlessBusy (w .desk) (planned c (w .store) n b)) refused) .answer) (row (not x) BadBuffer ∷ row (not y) UnsoundStore ∷ row (not z) BadDesk ∷ rs) a
+    go true true true = record { first = q .first }
+    go true true false = record { first = refl }
+    go true false z = record { first = refl }
+    go false y z = record { first = refl }
 
 -- 1 and 2 of a call on the store alone
-by-store : (s out : List ℕ) (f : ℕ → ℕ → PlainOutcome) {rs : List Row} {a : Answer} → Gives (f (inodesIn s) (blocksIn s) .answer) rs a → Gives (plainGuarded s out f .answer) (storeRows s rs) a
-by-store s out f q =
-    let h : PlainOutcome → Answer = λ z. z .answer in
-    rw (guarded-is s out f) (by-pick h (not (framedB mostStoreBlocks s)) _ _ refl (by-pick h (not (isSound Store s)) _ _ refl q))
+by-store : (c : Call) (s : List ℕ) {rs : List Row} {a : Answer} → Gives (leaves s (given c) (planned c s (inodesIn s) (blocksIn s)) .answer) rs a → Gives (plain c s .answer) (storeRows s rs) a
+unfolding plain plainDecision
+by-store c s q =
+    let h : Planned → Answer = λ p. leaves s (given c) p .answer in
+    rw (on-guard s (planned c s) refused) (by-pick h (not (framedB mostStoreBlocks s)) _ _ refl (by-pick h (not (isSound Store s)) _ _ refl q))
 
 -- no condition is left
 by-none : {x : ℕ} → Gives (Done x) [] (Done x)
@@ -122,61 +138,90 @@ give x rs a q = q .first
 
 -- ---- the calls on the store alone
 module _ (s : List ℕ) where
-  pub look-up-table : (e : ℕ) (name : List ℕ) → plainLookUp s e name .answer ≡ firstOf (lookUpTable s e name) (Done (inodeFor s e name))
-  unfolding plainLookUp lookUpPlan lookUpTable
+  pub look-up-table : (e : ℕ) (name : List ℕ) → plain (lookUp e name) s .answer ≡ firstOf (lookUpTable s e name) (Done (inodeFor s e name))
+  unfolding lookUpPlan lookUpTable
   look-up-table e name =
-      let h : NumberPlan → Answer = λ p. doLookUp s [] p .answer in
+      let h : NumberPlan → Answer = λ p. leaves s [] (doLookUp s p) .answer in
       give _ (lookUpTable s e name) _
-      (by-store s [] _
+      (by-store (lookUp e name) s
       (by-pick h (not (legalName name)) _ _ refl
       (by-pick h (not (isDirectory s (inodesIn s) e)) _ _ refl
       (by-absent h (findSlot s (inodesIn s) e name) _ _ refl by-none))))
 
-  pub read-table : (i o : ℕ) (out : List ℕ) → plainRead s i o out .answer ≡ firstOf (readTable s i o) (Done (min (length out) (sizeOf s i - o)))
-  unfolding plainRead readPlan readTable
+  pub read-table : (i o : ℕ) (out : List ℕ) → plain (read i o out) s .answer ≡ firstOf (readTable s i o) (Done (min (length out) (sizeOf s i - o)))
+  unfolding readPlan readTable
   read-table i o out =
-      let h : NumberPlan → Answer = λ p. doRead s (inodesIn s) i o out p .answer in
+      let h : NumberPlan → Answer = λ p. leaves s out (doRead s (inodesIn s) i o out p) .answer in
       give _ (readTable s i o) _
-      (by-store s out _
+      (by-store (read i o out) s
       (by-pick h (not (isFile s (inodesIn s) i)) _ _ refl
       (by-pick h (ltb (sizeOf s i) o) _ _ refl by-none)))
 
--- rename of the entry in slot t of e, which names i, to another in f: 7, 10, 12, 13, 14
-abbrev renameAnswer : List ℕ → List ℕ → List ℕ → ℕ → ℕ → List ℕ → RenamePlan → Answer
-renameAnswer s m d e f other p = doRename s m d (inodesIn s) e f other p .answer
+-- "Look up and read take the store alone": their answer and store are the plain store's, and image and desk stay
+module _ (w : World) where
+  abbrev alone : PlainOutcome → Outcome
+  alone o = left (o .answer) (o .store) (w .image) (w .desk)
 
-module _ (s m d : List ℕ) (e f : ℕ) (other : List ℕ) (t i : ℕ) where
+  pub look-up-alone : (e : ℕ) (name : List ℕ) → live (lookUp e name) w ≡ alone (plain (lookUp e name) (w .store))
+  unfolding live decision plain plainDecision anyLocked cutEntries clearMarks setMarks
+  look-up-alone e name = go (guardOf (w .store))
+    where
+      plan : (p : NumberPlan) → leavesIn w (unlessBusy (w .desk) (doLookUp (w .store) p)) ≡ alone (leaves (w .store) [] (doLookUp (w .store) p))
+      plan (To i) = refl
+      plan (NoNumber f) = refl
+
+      go : (g : Guard) → leavesIn w (onGuard g (λ n b. unlessBusy (w .desk) (planned (lookUp e name) (w .store) n b)) refused) ≡ alone (leaves (w .store) [] (onGuard g (planned (lookUp e name) (w .store)) refused))
+      go (Pass n b) = plan (lookUpPlan (w .store) n e name)
+      go (Stop f) = refl
+
+  pub read-alone : (i o : ℕ) (out : List ℕ) → live (read i o out) w ≡ alone (plain (read i o out) (w .store))
+  unfolding live decision plain plainDecision anyLocked cutEntries clearMarks setMarks
+  read-alone i o out = go (guardOf (w .store))
+    where
+      plan : (n : ℕ) (p : NumberPlan) → leavesIn w (unlessBusy (w .desk) (doRead (w .store) n i o out p)) ≡ alone (leaves (w .store) out (doRead (w .store) n i o out p))
+      plan n (To k) = refl
+      plan n (NoNumber f) = refl
+
+      go : (g : Guard) → leavesIn w (onGuard g (λ n b. unlessBusy (w .desk) (planned (read i o out) (w .store) n b)) refused) ≡ alone (leaves (w .store) out (onGuard g (planned (read i o out) (w .store)) refused))
+      go (Pass n b) = plan n (readPlan (w .store) n i o (length out))
+      go (Stop f) = refl
+
+-- rename of the entry in slot t of e, which names i, to another in f: 7, 10, 12, 13, 14
+abbrev renameAnswer : World → ℕ → ℕ → List ℕ → RenamePlan → Answer
+renameAnswer w e f other p = leavesIn w (unlessBusy (w .desk) (doRename (w .store) (inodesIn (w .store)) e f other p)) .answer
+
+module _ (w : World) (e f : ℕ) (other : List ℕ) (t i : ℕ) where
   abbrev renameRows : Bool → Found → List Row
   renameRows same u =
       row (found u && (not same || not (eqb (orZero u) t))) NameTaken
-      ∷ row (not same && isBelow s (inodesIn s) i f) IntoItself
-      ∷ row (not same && noBlock s f) NoBlocks
-      ∷ row (not same && noSlot s f) NoSlot
-      ∷ row (pick (not same) (busyMove d e f i) (busyOne d e)) Busy
+      ∷ row (not same && isBelow (w .store) (inodesIn (w .store)) i f) IntoItself
+      ∷ row (not same && noBlock (w .store) f) NoBlocks
+      ∷ row (not same && noSlot (w .store) f) NoSlot
+      ∷ row (anyLocked (w .desk) (pick (not same) (e ∷ f ∷ i ∷ []) (e ∷ []))) Busy
       ∷ []
 
-  by-rename : Gives (renameAnswer s m d e f other (renameTo s (inodesIn s) (blocksIn s) e t i f other)) (renameRows (eqb e f) (findSlot s (inodesIn s) f other)) (Done 0)
+  by-rename : Gives (renameAnswer w e f other (renameTo (w .store) (inodesIn (w .store)) (blocksIn (w .store)) e t i f other)) (renameRows (eqb e f) (findSlot (w .store) (inodesIn (w .store)) f other)) (Done 0)
   unfolding renameTo
-  by-rename = go (eqb e f) (findSlot s (inodesIn s) f other)
+  by-rename = go (eqb e f) (findSlot (w .store) (inodesIn (w .store)) f other)
     where
-      at : (b : Bool) → Gives (renameAnswer s m d e f other (pick b Same (NoRename NameTaken))) (row (not b) NameTaken ∷ row (busyOne d e) Busy ∷ []) (Done 0)
-      at true = record { first = by-busy (busyOne d e) s m d (left (Done 0) s m d) refl .first }
+      at : (b : Bool) → Gives (renameAnswer w e f other (pick b Same (NoRename NameTaken))) (row (not b) NameTaken ∷ row (anyLocked (w .desk) (e ∷ [])) Busy ∷ []) (Done 0)
+      at true = record { first = by-busy (anyLocked (w .desk) (e ∷ [])) w _ .first }
       at false = record { first = refl }
 
       go : (same : Bool) (u : Found)
-          → Gives (renameAnswer s m d e f other (pick same
+          → Gives (renameAnswer w e f other (pick same
           (onFound u (λ j. pick (eqb j t) Same (NoRename NameTaken)) (Rename t i))
           (onFound u (λ j. NoRename NameTaken)
-          (pick (isBelow s (inodesIn s) i f) (NoRename IntoItself) (onRoom (roomIn s (inodesIn s) (blocksIn s) f) (λ r. Move t i r) NoRename)))))
+          (pick (isBelow (w .store) (inodesIn (w .store)) i f) (NoRename IntoItself) (onRoom (roomIn (w .store) (inodesIn (w .store)) (blocksIn (w .store)) f) (λ r. Move t i r) NoRename)))))
           (renameRows same u) (Done 0)
       go true (At u) = record { first = at (eqb u t) .first }
-      go true Absent = record { first = by-busy (busyOne d e) s m d _ refl .first }
+      go true Absent = record { first = by-busy (anyLocked (w .desk) (e ∷ [])) w _ .first }
       go false (At u) = record { first = refl }
       go false Absent =
           record {
             first =
-                by-pick (renameAnswer s m d e f other) (isBelow s (inodesIn s) i f) _ _ refl
-                (by-room (renameAnswer s m d e f other) s f _ _ (λ x. refl) (λ r. by-busy (busyMove d e f i) s m d _ refl)) .first;
+                by-pick (renameAnswer w e f other) (isBelow (w .store) (inodesIn (w .store)) i f) _ _ refl
+                (by-room (renameAnswer w e f other) (w .store) f _ _ (λ x. refl) (λ r. by-busy (anyLocked (w .desk) (e ∷ f ∷ i ∷ [])) w _)) .first;
           }
 
 -- 1 of start, where the image is looked at too
@@ -187,80 +232,83 @@ start-first true false i x y = refl
 start-first false k i x y = refl
 
 -- ---- the calls on all three buffers
-module _ (s m d : List ℕ) where
-  pub create-table : (e : ℕ) (name : List ℕ) (k : Kind) → liveCreate s m d e name k .answer ≡ firstOf (createTable s m d e name) (Done (orZero (freeInode s (inodesIn s))))
-  unfolding liveCreate createPlan createTable
+module _ (w : World) where
+  pub create-table : (e : ℕ) (name : List ℕ) (k : Kind) → live (create e name k) w .answer ≡ firstOf (createTable (w .store) (w .image) (w .desk) e name) (Done (orZero (freeInode (w .store) (inodesIn (w .store)))))
+  unfolding createPlan createTable
   create-table e name k =
-      let h : CreatePlan → Answer = λ p. doCreate s m d (inodesIn s) e name k p .answer in
-      give _ (createTable s m d e name) _
-      (by-guards s m d _
+      let h : CreatePlan → Answer = λ p. leavesIn w (unlessBusy (w .desk) (doCreate (w .store) (inodesIn (w .store)) e name k p)) .answer in
+      give _ (createTable (w .store) (w .image) (w .desk) e name) _
+      (by-three (create e name k) w refl
       (by-pick h (not (legalName name)) _ _ refl
-      (by-pick h (not (isDirectory s (inodesIn s) e)) _ _ refl
-      (by-found h (findSlot s (inodesIn s) e name) _ _ (λ t. refl)
-      (by-absent h (freeInode s (inodesIn s)) _ _ refl
-      (by-room h s e _ _ (λ x. refl) (λ r. by-busy (busyOne d e) s m d _ refl)))))))
+      (by-pick h (not (isDirectory (w .store) (inodesIn (w .store)) e)) _ _ refl
+      (by-found h (findSlot (w .store) (inodesIn (w .store)) e name) _ _ (λ t. refl)
+      (by-absent h (freeInode (w .store) (inodesIn (w .store))) _ _ refl
+      (by-room h (w .store) e _ _ (λ x. refl) (λ r. by-busy (anyLocked (w .desk) (e ∷ [])) w _)))))))
 
-  pub write-table : (i o : ℕ) (xs : List ℕ) → liveWrite s m d i o xs .answer ≡ firstOf (writeTable s m d i o xs) (Done (max (sizeOf s i) (o + length xs)))
-  unfolding liveWrite writePlan writeTable
+  pub write-table : (i o : ℕ) (xs : List ℕ) → live (write i o xs) w .answer ≡ firstOf (writeTable (w .store) (w .image) (w .desk) i o xs) (Done (max (sizeOf (w .store) i) (o + length xs)))
+  unfolding writePlan writeTable
   write-table i o xs =
-      let h : NumberPlan → Answer = λ p. doWrite s m d (inodesIn s) (blocksIn s) i o xs p .answer in
-      give _ (writeTable s m d i o xs) _
-      (by-guards s m d _
-      (by-pick h (not (isFile s (inodesIn s) i)) _ _ refl
-      (by-pick h (ltb (sizeOf s i) o || ltb mostFileBytes (o + length xs)) _ _ refl
-      (by-pick h (ltb (headerOf s .«free_blocks») (blocksUsed (max (sizeOf s i) (o + length xs)) - blocksUsed (sizeOf s i))) _ _ refl
-      (by-busy (busyOne d i) s m d _ refl)))))
+      let h : NumberPlan → Answer = λ p. leavesIn w (unlessBusy (w .desk) (doWrite (w .store) (inodesIn (w .store)) (blocksIn (w .store)) i o xs p)) .answer in
+      give _ (writeTable (w .store) (w .image) (w .desk) i o xs) _
+      (by-three (write i o xs) w refl
+      (by-pick h (not (isFile (w .store) (inodesIn (w .store)) i)) _ _ refl
+      (by-pick h (ltb (sizeOf (w .store) i) o || ltb mostFileBytes (o + length xs)) _ _ refl
+      (by-pick h (ltb (headerOf (w .store) .«free_blocks») (blocksUsed (max (sizeOf (w .store) i) (o + length xs)) - blocksUsed (sizeOf (w .store) i))) _ _ refl
+      (by-busy (anyLocked (w .desk) (i ∷ [])) w _)))))
 
-  pub shorten-table : (i z : ℕ) → liveShorten s m d i z .answer ≡ firstOf (shortenTable s m d i z) (Done z)
-  unfolding liveShorten shortenPlan shortenTable
+  pub shorten-table : (i z : ℕ) → live (shorten i z) w .answer ≡ firstOf (shortenTable (w .store) (w .image) (w .desk) i z) (Done z)
+  unfolding shortenPlan shortenTable
   shorten-table i z =
-      let h : NumberPlan → Answer = λ p. doShorten s m d (inodesIn s) i p .answer in
-      give _ (shortenTable s m d i z) _
-      (by-guards s m d _
-      (by-pick h (not (isFile s (inodesIn s) i)) _ _ refl
-      (by-pick h (ltb (sizeOf s i) z) _ _ refl
-      (by-busy (busyOne d i) s m d _ refl))))
+      let h : NumberPlan → Answer = λ p. leavesIn w (unlessBusy (w .desk) (doShorten (w .store) (inodesIn (w .store)) i p)) .answer in
+      give _ (shortenTable (w .store) (w .image) (w .desk) i z) _
+      (by-three (shorten i z) w refl
+      (by-pick h (not (isFile (w .store) (inodesIn (w .store)) i)) _ _ refl
+      (by-pick h (ltb (sizeOf (w .store) i) z) _ _ refl
+      (by-busy (anyLocked (w .desk) (i ∷ [])) w _))))
 
-  pub link-table : (e : ℕ) (name : List ℕ) (i : ℕ) → liveLink s m d e name i .answer ≡ firstOf (linkTable s m d e name i) (Done 0)
-  unfolding liveLink linkPlan linkTable
+  pub link-table : (e : ℕ) (name : List ℕ) (i : ℕ) → live (link e name i) w .answer ≡ firstOf (linkTable (w .store) (w .image) (w .desk) e name i) (Done 0)
+  unfolding linkPlan linkTable
   link-table e name i =
-      let h : LinkPlan → Answer = λ p. doLink s m d (inodesIn s) e name i p .answer in
-      give _ (linkTable s m d e name i) _
-      (by-guards s m d _
+      let h : LinkPlan → Answer = λ p. leavesIn w (unlessBusy (w .desk) (doLink (w .store) (inodesIn (w .store)) e name i p)) .answer in
+      give _ (linkTable (w .store) (w .image) (w .desk) e name i) _
+      (by-three (link e name i) w refl
       (by-pick h (not (legalName name)) _ _ refl
-      (by-pick h (not (isDirectory s (inodesIn s) e && isFile s (inodesIn s) i)) _ _ refl
-      (by-found h (findSlot s (inodesIn s) e name) _ _ (λ t. refl)
-      (by-room h s e _ _ (λ x. refl) (λ r. by-busy (busyTwo d e i) s m d _ refl))))))
+      (by-pick h (not (isDirectory (w .store) (inodesIn (w .store)) e && isFile (w .store) (inodesIn (w .store)) i)) _ _ refl
+      (by-found h (findSlot (w .store) (inodesIn (w .store)) e name) _ _ (λ t. refl)
+      (by-room h (w .store) e _ _ (λ x. refl) (λ r. by-busy (anyLocked (w .desk) (e ∷ i ∷ [])) w _))))))
 
-  pub unlink-table : (e : ℕ) (name : List ℕ) → liveUnlink s m d e name .answer ≡ firstOf (unlinkTable s m d e name) (Done 0)
-  unfolding liveUnlink unlinkPlan unlinkTable
+  pub unlink-table : (e : ℕ) (name : List ℕ) → live (unlink e name) w .answer ≡ firstOf (unlinkTable (w .store) (w .image) (w .desk) e name) (Done 0)
+  unfolding unlinkPlan unlinkTable
   unlink-table e name =
-      let h : UnlinkPlan → Answer = λ p. doUnlink s m d (inodesIn s) e p .answer in
-      let i : ℕ = inodeFor s e name in
-      give _ (unlinkTable s m d e name) _
-      (by-guards s m d _
+      let h : UnlinkPlan → Answer = λ p. leavesIn w (unlessBusy (w .desk) (doUnlink (w .store) (inodesIn (w .store)) e p)) .answer in
+      let i : ℕ = inodeFor (w .store) e name in
+      give _ (unlinkTable (w .store) (w .image) (w .desk) e name) _
+      (by-three (unlink e name) w refl
       (by-pick h (not (legalName name)) _ _ refl
-      (by-pick h (not (isDirectory s (inodesIn s) e)) _ _ refl
-      (by-absent h (findSlot s (inodesIn s) e name) _ _ refl
-      (by-pick h (eqb (kindOf s i) directoryKind && not (holdsNone s (inodesIn s) i)) _ _ refl
-      (by-busy (busyTwo d e i) s m d _ refl))))))
+      (by-pick h (not (isDirectory (w .store) (inodesIn (w .store)) e)) _ _ refl
+      (by-absent h (findSlot (w .store) (inodesIn (w .store)) e name) _ _ refl
+      (by-pick h (eqb (kindOf (w .store) i) directoryKind && not (holdsNone (w .store) (inodesIn (w .store)) i)) _ _ refl
+      (by-busy (anyLocked (w .desk) (e ∷ i ∷ [])) w _))))))
 
-  pub rename-table : (e : ℕ) (name : List ℕ) (f : ℕ) (other : List ℕ) → liveRename s m d e name f other .answer ≡ firstOf (renameTable s m d e name f other) (Done 0)
-  unfolding liveRename renamePlan renameTable
+  pub rename-table : (e : ℕ) (name : List ℕ) (f : ℕ) (other : List ℕ) → live (rename e name f other) w .answer ≡ firstOf (renameTable (w .store) (w .image) (w .desk) e name f other) (Done 0)
+  unfolding renamePlan renameTable
   rename-table e name f other =
-      let h : RenamePlan → Answer = renameAnswer s m d e f other in
-      give _ (renameTable s m d e name f other) _
-      (by-guards s m d _
+      let h : RenamePlan → Answer = renameAnswer w e f other in
+      give _ (renameTable (w .store) (w .image) (w .desk) e name f other) _
+      (by-three (rename e name f other) w refl
       (by-pick h (not (legalName name && legalName other)) _ _ refl
-      (by-pick h (not (isDirectory s (inodesIn s) e && isDirectory s (inodesIn s) f)) _ _ refl
-      (by-absent h (findSlot s (inodesIn s) e name) _ _ refl
-      (by-rename s m d e f other (slotFor s e name) (inodeFor s e name))))))
+      (by-pick h (not (isDirectory (w .store) (inodesIn (w .store)) e && isDirectory (w .store) (inodesIn (w .store)) f)) _ _ refl
+      (by-absent h (findSlot (w .store) (inodesIn (w .store)) e name) _ _ refl
+      (by-rename w e f other (slotFor (w .store) e name) (inodeFor (w .store) e name))))))
 
+-- ---- start, step and state
+module _ (s m d : List ℕ) where
   pub start-table : start s m d .answer ≡ firstOf (startTable s m d) (Done 0)
-  unfolding start guarded started startTable
+  unfolding start started startTable
   start-table =
       let h : Outcome → Answer = λ z. z .answer in
-      ap h (start-first (framedB mostStoreBlocks s) (deskFramed d) (imageAllowed (inodesIn s) (length m)) _ _)
+      ap (λ (o : Outcome). h (pick (framedB mostStoreBlocks s && (deskFramed d && not (imageAllowed (inodesIn s) (length m)))) (refuse BadBuffer s m d) o)) (guarded-is s m d _)
+      ∙ ap h (start-first (framedB mostStoreBlocks s) (deskFramed d) (imageAllowed (inodesIn s) (length m)) _ _)
       ∙ give _ (startTable s m d) _
       (by-pick h (not (framedB mostStoreBlocks s && (deskFramed d && imageAllowed (inodesIn s) (length m)))) _ _ refl
       (by-pick h (not (isSound Store s)) _ _ refl
@@ -479,11 +527,11 @@ module _ (s m d : List ℕ) where
       → P (refuse BadDesk s m d)
       → P o
       → P (guarded s m d o)
-  unfolding guarded
   guarded-has P o f g h k =
-      pick-has P (not (framedB mostStoreBlocks s && deskFramed d)) _ _ f
+      rw (guarded-is s m d o)
+      (pick-has P (not (framedB mostStoreBlocks s && deskFramed d)) _ _ f
       (pick-has P (not (isSound Store s)) _ _ g
-      (pick-has P (not (notesFit s m d)) _ _ h k))
+      (pick-has P (not (notesFit s m d)) _ _ h k)))
 
   keeps-refused : (f : Refusal) → Keeps s m d (refuse f s m d)
   keeps-refused f e h = ap (λ (a : Answer). left a s m d) h
@@ -491,61 +539,8 @@ module _ (s m d : List ℕ) where
   keeps-done : (x : ℕ) (t n k : List ℕ) → Keeps s m d (left (Done x) t n k)
   keeps-done x t n k e h = never x e h
 
-  keeps-unless : (b : Bool) (x : ℕ) (t n k : List ℕ) → Keeps s m d (unless b s m d (left (Done x) t n k))
-  keeps-unless b x t n k = pick-has (Keeps s m d) b _ _ (keeps-refused Busy) (keeps-done x t n k)
-
   keeps-guarded : (o : Outcome) → Keeps s m d o → Keeps s m d (guarded s m d o)
   keeps-guarded o f = guarded-has (Keeps s m d) o (keeps-refused BadBuffer) (keeps-refused UnsoundStore) (keeps-refused BadDesk) f
-
-  keeps-create : (e : ℕ) (name : List ℕ) (k : Kind) (p : CreatePlan) → Keeps s m d (doCreate s m d (inodesIn s) e name k p)
-  keeps-create e name k (Make i r) = keeps-unless (busyOne d e) i _ _ _
-  keeps-create e name k (NoCreate f) = keeps-refused f
-
-  keeps-write : (i o : ℕ) (xs : List ℕ) (p : NumberPlan) → Keeps s m d (doWrite s m d (inodesIn s) (blocksIn s) i o xs p)
-  keeps-write i o xs (To z) = keeps-unless (busyOne d i) z _ _ _
-  keeps-write i o xs (NoNumber f) = keeps-refused f
-
-  keeps-shorten : (i : ℕ) (p : NumberPlan) → Keeps s m d (doShorten s m d (inodesIn s) i p)
-  keeps-shorten i (To z) = keeps-unless (busyOne d i) z _ _ _
-  keeps-shorten i (NoNumber f) = keeps-refused f
-
-  keeps-link : (e : ℕ) (name : List ℕ) (i : ℕ) (p : LinkPlan) → Keeps s m d (doLink s m d (inodesIn s) e name i p)
-  keeps-link e name i (Add r) = keeps-unless (busyTwo d e i) 0 _ _ _
-  keeps-link e name i (NoLink f) = keeps-refused f
-
-  keeps-unlink : (e : ℕ) (p : UnlinkPlan) → Keeps s m d (doUnlink s m d (inodesIn s) e p)
-  keeps-unlink e (Take t i) = keeps-unless (busyTwo d e i) 0 _ _ _
-  keeps-unlink e (NoUnlink f) = keeps-refused f
-
-  keeps-rename : (e f : ℕ) (other : List ℕ) (p : RenamePlan) → Keeps s m d (doRename s m d (inodesIn s) e f other p)
-  keeps-rename e f other Same = keeps-unless (busyOne d e) 0 _ _ _
-  keeps-rename e f other (Rename t i) = keeps-unless (busyOne d e) 0 _ _ _
-  keeps-rename e f other (Move t i r) = keeps-unless (busyMove d e f i) 0 _ _ _
-  keeps-rename e f other (NoRename g) = keeps-refused g
-
-  pub create-refused : (e : ℕ) (name : List ℕ) (k : Kind) → Keeps s m d (liveCreate s m d e name k)
-  unfolding liveCreate
-  create-refused e name k = keeps-guarded _ (keeps-create e name k (createPlan s (inodesIn s) (blocksIn s) e name))
-
-  pub write-refused : (i o : ℕ) (xs : List ℕ) → Keeps s m d (liveWrite s m d i o xs)
-  unfolding liveWrite
-  write-refused i o xs = keeps-guarded _ (keeps-write i o xs (writePlan s (inodesIn s) i o (length xs)))
-
-  pub shorten-refused : (i z : ℕ) → Keeps s m d (liveShorten s m d i z)
-  unfolding liveShorten
-  shorten-refused i z = keeps-guarded _ (keeps-shorten i (shortenPlan s (inodesIn s) i z))
-
-  pub link-refused : (e : ℕ) (name : List ℕ) (i : ℕ) → Keeps s m d (liveLink s m d e name i)
-  unfolding liveLink
-  link-refused e name i = keeps-guarded _ (keeps-link e name i (linkPlan s (inodesIn s) (blocksIn s) e name i))
-
-  pub unlink-refused : (e : ℕ) (name : List ℕ) → Keeps s m d (liveUnlink s m d e name)
-  unfolding liveUnlink
-  unlink-refused e name = keeps-guarded _ (keeps-unlink e (unlinkPlan s (inodesIn s) e name))
-
-  pub rename-refused : (e : ℕ) (name : List ℕ) (f : ℕ) (other : List ℕ) → Keeps s m d (liveRename s m d e name f other)
-  unfolding liveRename
-  rename-refused e name f other = keeps-guarded _ (keeps-rename e f other (renamePlan s (inodesIn s) (blocksIn s) e name f other))
 
   pub start-refused : Keeps s m d (start s m d)
   unfolding start started
@@ -583,3 +578,12 @@ module _ (s m d : List ℕ) where
 
   pub step-full : step s m d .answer ≡ Refused ImageFull → step s m d ≡ left (Refused ImageFull) s m (putDesk d (stopping (deskOf d)))
   step-full h = ⊎-elim (λ w. absurd (w .0 refl)) (λ w. w .1) (step-keeps ImageFull h)
+
+-- a file call
+leaves-keeps : (w : World) (p : Planned) → Keeps (w .store) (w .image) (w .desk) (leavesIn w p)
+leaves-keeps w (does x) = keeps-done (w .store) (w .image) (w .desk) (x .answer) _ _ _
+leaves-keeps w (refused f) = keeps-refused (w .store) (w .image) (w .desk) f
+
+pub live-refused : (c : Call) (w : World) → Keeps (w .store) (w .image) (w .desk) (live c w)
+unfolding live
+live-refused c w = leaves-keeps w (decision c w)

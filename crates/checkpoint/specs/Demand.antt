@@ -18,8 +18,8 @@ use Rattle.sound.specs.Place.{entryAt, filled, naming}
 use Rattle.files.specs.Content.{fileBytes}
 use Rattle.checkpoint.specs.declared.Status.the-variants.{Is}
 use Rattle.checkpoint.specs.Fit.{stepsAnInode}
-use Rattle.checkpoint.specs.Live.{status}
-use Rattle.checkpoint.specs.List.{World, Event, starts, steps, outcome, next, refusalOf, accepted, run, Moment, Finish, Kept, acceptedSteps, replies, heard, plainRun, plainReplies}
+use Rattle.checkpoint.specs.Live.{World, status}
+use Rattle.checkpoint.specs.List.{Event, starts, steps, outcome, next, refusalOf, accepted, run, Moment, Finish, Kept, acceptedSteps, replies, heard, plainRun, plainReplies}
 
 -- the inode count of the world's store
 abbrev pub countOf : World → ℕ
