@@ -1,11 +1,10 @@
 -- "looked at lowest first, when and only when the condition holds for that call": each call's answer is the first condition of its table that holds. s is the store, m the image, d the desk.
 use mathlib.Core.Path.{_≡_, refl, sym, ap, ap₂, _∙_}
 use mathlib.Core.Bool.{Bool, true, false, not, _&&_, _||_, true≢false}
-use mathlib.Core.List.{List, [], _∷_, List·Memᴰ, List·Memᴰ·head, List·Memᴰ·tail, List·Memᴰ·not-nil, List·Memᴰ·cases-cons}
-use mathlib.Core.Logic.{_⊎_, inl, inr, ⊎-elim}
-use Prim.Native.Nat.{ℕ, _+_, _-_, _<_, _≤_, min, max}
+use mathlib.Core.List.{List, [], _∷_}
+use Prim.Native.Nat.{ℕ, _+_, _-_, _≤_, min, max}
 use native.Mathlib.Omega.{arith}
-use borrow.Author.Tests.{ltb-true, leb-true, not-true, not-false}
+use borrow.Author.Tests.{leb-true, not-true, not-false}
 use lib.Dec.{eqb, leb, ltb}
 use lib.ListN.{length}
 use Rattle.bounded.specs.Search.{pick, firstFrom, onFound}
@@ -14,25 +13,20 @@ use Rattle.bounded.proofs.BelowLaws.{allTo, to-at, to-of}
 use Rattle.bounded.proofs.SearchLaws.{none-below, absent-of}
 use Rattle.bounded.specs.declared.Found.{Found}
 use Rattle.bounded.specs.declared.Found.the-variants.{At, Absent}
-use Rattle.layout.specs.Sizes.{mostStoreBlocks, mostFileBytes, addressCount, rootInode}
+use Rattle.layout.specs.Sizes.{mostStoreBlocks, mostFileBytes, rootInode}
 use Rattle.layout.specs.Header.{headerOf}
 use Rattle.layout.specs.Inode.{kindOf, sizeOf, directoryKind}
 use Rattle.layout.specs.Block.{blocksUsed, kthBlock}
 use Rattle.layout.specs.Free.{named, freeInode, freeBlock}
 use Rattle.names.specs.Name.{legalName}
-use Rattle.directory.specs.Slot.{slots, findSlot, emptySlot}
-use Rattle.desk.specs.Desk.{deskOf, putDesk}
-use Rattle.desk.specs.Next.{stopping}
+use Rattle.directory.specs.Slot.{findSlot}
+use Rattle.desk.specs.Desk.{deskOf}
 use Rattle.sound.specs.Sound.{framedB, isSound, inodesIn, blocksIn}
 use Rattle.sound.specs.declared.Form.the-variants.{Store}
-use Rattle.answers.specs.declared.Refusal.{Refusal}
-use Rattle.answers.specs.declared.Refusal.the-variants.{BadBuffer, UnsoundStore, BadDesk, NameTaken, IntoItself, NoBlocks, NoSlot, Busy, WrongState, ImageFull}
+use Rattle.answers.specs.declared.Refusal.the-variants.{BadBuffer, NameTaken, IntoItself, NoBlocks, NoSlot, Busy, WrongState, ImageFull}
 use Rattle.answers.specs.declared.Answer.{Answer}
-use Rattle.answers.specs.declared.Answer.the-variants.{Done, Refused}
-use Rattle.answers.specs.Refusal.{refusalNumber}
+use Rattle.answers.specs.declared.Answer.the-variants.{Done}
 use Rattle.files.specs.declared.Kind.{Kind}
-use Rattle.files.specs.declared.Room.{Room}
-use Rattle.files.specs.declared.RoomPlan.the-variants.{Has, NoRoom}
 use Rattle.files.specs.declared.CreatePlan.{CreatePlan}
 use Rattle.files.specs.declared.LinkPlan.{LinkPlan}
 use Rattle.files.specs.declared.UnlinkPlan.{UnlinkPlan}
@@ -41,100 +35,21 @@ use Rattle.files.specs.declared.NumberPlan.{NumberPlan}
 use Rattle.files.specs.declared.RenamePlan.the-variants.{Same, Rename, Move, NoRename}
 use Rattle.files.specs.declared.NumberPlan.the-variants.{To, NoNumber}
 use Rattle.files.specs.Inode.{isFile, isDirectory}
-use Rattle.files.specs.Room.{room, roomIn, onRoom}
+use Rattle.files.specs.Room.{roomIn, onRoom}
 use Rattle.files.specs.Plan.{holdsNone, isBelow, lookUpPlan, readPlan, createPlan, writePlan, shortenPlan, linkPlan, unlinkPlan, renameTo, renamePlan}
 use Rattle.files.specs.declared.Guard.{Guard}
 use Rattle.files.specs.declared.Guard.the-variants.{Pass, Stop}
 use Rattle.files.specs.Guard.{guardOf, onGuard}
-use Rattle.files.specs.Effect.{Call, lookUp, read, create, write, shorten, link, unlink, rename, Effect, Planned, refused, does, doLookUp, doRead, doCreate, doWrite, doShorten, doLink, doUnlink, doRename, planned, plainDecision, given}
+use Rattle.files.specs.Effect.{lookUp, read, create, write, shorten, link, unlink, rename, refused, doLookUp, doRead, doCreate, doWrite, doShorten, doLink, doUnlink, doRename, planned, plainDecision}
 use Rattle.files.specs.Plain.{leaves, plain, Outcome as PlainOutcome}
-use Rattle.files.proofs.PlainLaws.{never, on-guard}
 use Rattle.checkpoint.specs.Fit.{deskFramed, imageAllowed, isRunning, notesFit}
 use Rattle.checkpoint.specs.Busy.{anyLocked, unlessBusy}
 use Rattle.checkpoint.specs.Notes.{isCopied, cutEntries, clearMarks, setMarks}
-use Rattle.checkpoint.specs.Copier.{targetBlock, stepOf, Step, lock, copy, close, finish, full, lockedStep, freeStep, nextInode}
-use Rattle.checkpoint.specs.Live.{World, Outcome, left, refuse, threeGuards, storeAlone, decision, leavesIn, live, guarded, ask, doStep, started, start, step, asStatus, status}
+use Rattle.checkpoint.specs.Copier.{targetBlock, stepOf, lock, copy, close, finish, full, lockedStep, freeStep, nextInode}
+use Rattle.checkpoint.specs.Live.{World, Outcome, left, refuse, decision, leavesIn, live, ask, doStep, started, start, step, asStatus, status}
 use Rattle.checkpoint.proofs.DecisionLaws.{guarded-is}
-use Rattle.checkpoint.specs.Table.{Row, row, firstOf, ascendsFrom, found, orZero, storeRows, liveRows, noBlock, noSlot, slotFor, inodeFor, lookUpTable, readTable, createTable, writeTable, shortenTable, linkTable, unlinkTable, renameTable, startTable, stepTable}
-
--- the answer x is the first of rs that holds, else a
-record Gives (x : Answer) (rs : List Row) (a : Answer) : Type 0 where
-  first : x ≡ firstOf rs a
-
--- ---- one condition more at the head of a table; h is the answer of what was decided
-module _ {A : Type 0} (h : A → Answer) where
-  by-pick : (b : Bool) (x y : A) {e : Refusal} {rs : List Row} {a : Answer} → h x ≡ Refused e → Gives (h y) rs a → Gives (h (pick b x y)) (row b e ∷ rs) a
-  by-pick true x y p q = record { first = p }
-  by-pick false x y p q = record { first = q .first }
-
-  -- what is found refuses
-  by-found : (f : Found) (g : ℕ → A) (y : A) {e : Refusal} {rs : List Row} {a : Answer}
-      → ((t : ℕ) → h (g t) ≡ Refused e) → Gives (h y) rs a → Gives (h (onFound f g y)) (row (found f) e ∷ rs) a
-  by-found (At t) g y p q = record { first = p t }
-  by-found Absent g y p q = record { first = q .first }
-
-  -- what is not found refuses
-  by-absent : (f : Found) (g : ℕ → A) (y : A) {e : Refusal} {rs : List Row} {a : Answer}
-      → h y ≡ Refused e → Gives (h (g (orZero f))) rs a → Gives (h (onFound f g y)) (row (not (found f)) e ∷ rs) a
-  by-absent (At t) g y p q = record { first = q .first }
-  by-absent Absent g y p q = record { first = p }
-
-  -- room for an entry more in the directory e
-  by-room : (s : List ℕ) (e : ℕ) (f : Room → A) (g : Refusal → A) {rs : List Row} {a : Answer}
-      → ((x : Refusal) → h (g x) ≡ Refused x)
-      → ((r : Room) → Gives (h (f r)) rs a)
-      → Gives (h (onRoom (roomIn s (inodesIn s) (blocksIn s) e) f g)) (row (noBlock s e) NoBlocks ∷ row (noSlot s e) NoSlot ∷ rs) a
-  unfolding roomIn
-  by-room s e f g {rs} {a} p q = go (emptySlot s (inodesIn s) e) (ltb (blocksUsed (sizeOf s e)) addressCount) (freeBlock s (inodesIn s) (blocksIn s))
-    where
-      go : (t : Found) (b : Bool) (c : Found)
-          → Gives (h (onRoom (onFound t (λ j. Has (room j 0)) (pick b (onFound c (λ j. Has (room (slots s e) j)) (NoRoom NoBlocks)) (NoRoom NoSlot))) f g))
-          (row (not (found t) && (b && not (found c))) NoBlocks ∷ row (not (found t) && not b) NoSlot ∷ rs) a
-      go (At t) b c = record { first = q (room t 0) .first }
-      go Absent true (At c) = record { first = q (room (slots s e) c) .first }
-      go Absent true Absent = record { first = p NoBlocks }
-      go Absent false c = record { first = p NoSlot }
-
--- the last condition, and what is done where it does not hold
-by-busy : (b : Bool) (w : World) (x : Effect) → Gives (leavesIn w (pick b (refused Busy) (does x)) .answer) (row b Busy ∷ []) (Done (x .answer))
-by-busy true w x = record { first = refl }
-by-busy false w x = record { first = refl }
-
--- 1, 2 and 3
-by-guards : (s m d : List ℕ) (o : Outcome) {rs : List Row} {a : Answer} → Gives (o .answer) rs a → Gives (guarded s m d o .answer) (liveRows s m d rs) a
-by-guards s m d o q =
-    let h : Outcome → Answer = λ z. z .answer in
-    rw (guarded-is s m d o)
-    (by-pick h (not (framedB mostStoreBlocks s && deskFramed d)) _ _ refl
-    (by-pick h (not (isSound Store s)) _ _ refl
-    (by-pick h (not (notesFit s m d)) _ _ refl q)))
-
--- of a file call that takes all three buffers
-by-three : (c : Call) (w : World) {rs : List Row} {a : Answer} → storeAlone c ≡ false
-    → Gives (leavesIn w (unlessBusy (w .desk) (planned c (w .store) (inodesIn (w .store)) (blocksIn (w .store)))) .answer) rs a → Gives (live c w .answer) (liveRows (w .store) (w .image) (w .desk) rs) a
-unfolding live decision threeGuards
-by-three c w {rs} {a} z q = rw z (go (framedB mostStoreBlocks (w .store) && deskFramed (w .desk)) (isSound Store (w .store)) (notesFit (w .store) (w .image) (w .desk)))
-  where
-    go : (x y z : Bool) → Gives (leavesIn w (onGuard (pick (not x) (Stop BadBuffer) (pick (not y) (Stop UnsoundStore) (pick (not z) (Stop BadDesk) (Pass (inodesIn (w .store)) (blocksIn (w .store))))))
-        (λ n b. unlessBusy (w .desk) (planned c (w .store) n b)) refused) .answer) (row (not x) BadBuffer ∷ row (not y) UnsoundStore ∷ row (not z) BadDesk ∷ rs) a
-    go true true true = record { first = q .first }
-    go true true false = record { first = refl }
-    go true false z = record { first = refl }
-    go false y z = record { first = refl }
-
--- 1 and 2 of a call on the store alone
-by-store : (c : Call) (s : List ℕ) {rs : List Row} {a : Answer} → Gives (leaves s (given c) (planned c s (inodesIn s) (blocksIn s)) .answer) rs a → Gives (plain c s .answer) (storeRows s rs) a
-unfolding plain plainDecision
-by-store c s q =
-    let h : Planned → Answer = λ p. leaves s (given c) p .answer in
-    rw (on-guard s (planned c s) refused) (by-pick h (not (framedB mostStoreBlocks s)) _ _ refl (by-pick h (not (isSound Store s)) _ _ refl q))
-
--- no condition is left
-by-none : {x : ℕ} → Gives (Done x) [] (Done x)
-by-none = record { first = refl }
-
-give : (x : Answer) (rs : List Row) (a : Answer) → Gives x rs a → x ≡ firstOf rs a
-give x rs a q = q .first
+use Rattle.checkpoint.specs.Table.{Row, row, firstOf, found, orZero, liveRows, noBlock, noSlot, slotFor, inodeFor, lookUpTable, readTable, createTable, writeTable, shortenTable, linkTable, unlinkTable, renameTable, startTable, stepTable}
+use Rattle.checkpoint.proofs.ConditionLaws.{Gives, by-pick, by-found, by-absent, by-room, by-busy, by-guards, by-three, by-store, by-none, give}
 
 -- ---- the calls on the store alone
 module _ (s : List ℕ) where
@@ -366,224 +281,3 @@ full-image m n b c = same-test (not (found (targetBlock m n b c))) (allTo (named
     back h =
         let none : freeBlock m n b ≡ Absent = absent-of (λ j. not (named m n j)) 1 b (λ j l k. ap not (to-at (named m n) b h j (omega arith) (omega arith))) in
         ap₂ (λ (t : Bool) (f : Found). not (found (pick t (At c) f))) (fails (leb 1 c && (leb c b && not (named m n c))) (own h)) none
-
--- ---- the numbers of each table go up
-module _ (s : List ℕ) where
-  pub look-up-ascends : (e : ℕ) (name : List ℕ) → ascendsFrom 0 (lookUpTable s e name) ≡ true
-  unfolding lookUpTable
-  look-up-ascends e name = refl
-
-  pub read-ascends : (i o : ℕ) → ascendsFrom 0 (readTable s i o) ≡ true
-  unfolding readTable
-  read-ascends i o = refl
-
-module _ (s m d : List ℕ) where
-  pub create-ascends : (e : ℕ) (name : List ℕ) → ascendsFrom 0 (createTable s m d e name) ≡ true
-  unfolding createTable
-  create-ascends e name = refl
-
-  pub write-ascends : (i o : ℕ) (xs : List ℕ) → ascendsFrom 0 (writeTable s m d i o xs) ≡ true
-  unfolding writeTable
-  write-ascends i o xs = refl
-
-  pub shorten-ascends : (i z : ℕ) → ascendsFrom 0 (shortenTable s m d i z) ≡ true
-  unfolding shortenTable
-  shorten-ascends i z = refl
-
-  pub link-ascends : (e : ℕ) (name : List ℕ) (i : ℕ) → ascendsFrom 0 (linkTable s m d e name i) ≡ true
-  unfolding linkTable
-  link-ascends e name i = refl
-
-  pub unlink-ascends : (e : ℕ) (name : List ℕ) → ascendsFrom 0 (unlinkTable s m d e name) ≡ true
-  unfolding unlinkTable
-  unlink-ascends e name = refl
-
-  pub rename-ascends : (e : ℕ) (name : List ℕ) (f : ℕ) (other : List ℕ) → ascendsFrom 0 (renameTable s m d e name f other) ≡ true
-  unfolding renameTable
-  rename-ascends e name f other = refl
-
-  pub start-ascends : ascendsFrom 0 (startTable s m d) ≡ true
-  unfolding startTable
-  start-ascends = refl
-
-  pub step-ascends : ascendsFrom 0 (stepTable s m d) ≡ true
-  unfolding stepTable
-  step-ascends = refl
-
-  pub status-ascends : ascendsFrom 0 (liveRows s m d []) ≡ true
-  status-ascends = refl
-
--- ---- what a table says: refusal e, when and only when a row of e holds and no row of a lower number does
-abbrev numberOf : Row → ℕ
-numberOf r = refusalNumber (r .refusal)
-
-pub record Lowest (rs : List Row) (e : Refusal) : Type 0 where
-  pub condition : Row
-  pub stands : List·Memᴰ condition rs
-  pub met : condition .holds ≡ true
-  pub gives : condition .refusal ≡ e
-  pub lower : (r : Row) → List·Memᴰ r rs → refusalNumber (r .refusal) < refusalNumber e → r .holds ≡ false
-
--- the rows of a table that goes up from k have numbers above k
-above : (k : ℕ) (rs : List Row) → ascendsFrom k rs ≡ true → (r : Row) → List·Memᴰ r rs → k < numberOf r
-above k [] u r w = absurd (List·Memᴰ·not-nil w)
-above k (q ∷ rs) u r w = go (above (numberOf q) rs (and-right (ltb k (numberOf q)) (ascendsFrom (numberOf q) rs) u) r) (List·Memᴰ·cases-cons w)
-  where
-    low : k < numberOf q
-    low = ltb-true k (numberOf q) (and-left (ltb k (numberOf q)) (ascendsFrom (numberOf q) rs) u)
-
-    go : (List·Memᴰ r rs → numberOf q < numberOf r) → (r ≡ q) ⊎ List·Memᴰ r rs → k < numberOf r
-    go f (inl e) = let same : numberOf r ≡ numberOf q = cc in omega (arith, low)
-    go f (inr m) = omega (arith, low, f m)
-
-refused-from : (k : ℕ) (rs : List Row) (x : ℕ) (e : Refusal) → ascendsFrom k rs ≡ true → firstOf rs (Done x) ≡ Refused e → Lowest rs e
-refused-from k [] x e u h = never x e h
-refused-from k (q ∷ rs) x e u h = go (refused-from (numberOf q) rs x e up) (q .holds) refl h
-  where
-    up : ascendsFrom (numberOf q) rs ≡ true
-    up = and-right (ltb k (numberOf q)) (ascendsFrom (numberOf q) rs) u
-
-    none : q .refusal ≡ e → (r : Row) → numberOf r < refusalNumber e → (r ≡ q) ⊎ List·Memᴰ r rs → r .holds ≡ false
-    none p r l (inl m) = let same : numberOf r ≡ refusalNumber e = cc in absurd (omega arith)
-    none p r l (inr m) = let same : numberOf q ≡ refusalNumber e = cc in absurd (omega (arith, above (numberOf q) rs up r m))
-
-    some : (w : Lowest rs e) → q .holds ≡ false → (r : Row) → numberOf r < refusalNumber e → (r ≡ q) ⊎ List·Memᴰ r rs → r .holds ≡ false
-    some w p r l (inl m) = cc
-    some w p r l (inr m) = w .lower r m l
-
-    go : (firstOf rs (Done x) ≡ Refused e → Lowest rs e)
-        → (b : Bool)
-        → q .holds ≡ b
-        → pick b (Refused (q .refusal)) (firstOf rs (Done x)) ≡ Refused e
-        → Lowest (q ∷ rs) e
-    go f true p y =
-        record { condition = q; stands = List·Memᴰ·head refl; met = p; gives = cc; lower = λ r m l. none (cc) r l (List·Memᴰ·cases-cons m) }
-    go f false p y =
-        let w : Lowest rs e = f y in
-        record { condition = w .condition; stands = List·Memᴰ·tail (w .stands); met = w .met; gives = w .gives; lower = λ r m l. some w p r l (List·Memᴰ·cases-cons m) }
-
-from-refused : (k : ℕ) (rs : List Row) (a : Answer) (e : Refusal) → ascendsFrom k rs ≡ true → Lowest rs e → firstOf rs a ≡ Refused e
-from-refused k [] a e u w = absurd (List·Memᴰ·not-nil (w .stands))
-from-refused k (q ∷ rs) a e u w = go (from-refused (numberOf q) rs a e up) (q .holds) refl (List·Memᴰ·cases-cons (w .stands))
-  where
-    up : ascendsFrom (numberOf q) rs ≡ true
-    up = and-right (ltb k (numberOf q)) (ascendsFrom (numberOf q) rs) u
-
-    go : (Lowest rs e → firstOf rs a ≡ Refused e)
-        → (b : Bool)
-        → q .holds ≡ b
-        → (w .condition ≡ q) ⊎ List·Memᴰ (w .condition) rs
-        → pick b (Refused (q .refusal)) (firstOf rs a) ≡ Refused e
-    go f true p (inl m) = let same : q .refusal ≡ e = cc (m, w .gives) in ap Refused same
-    go f true p (inr m) =
-        let l : numberOf q < numberOf (w .condition) = above (numberOf q) rs up (w .condition) m in
-        let same : numberOf (w .condition) ≡ refusalNumber e = cc (w .gives) in
-        absurd (true≢false (sym p ∙ w .lower q (List·Memᴰ·head refl) (omega arith)))
-    go f false p (inl m) = let z : true ≡ false = cc (m, p, w .met) in absurd (true≢false z)
-    go f false p (inr m) = f (record { condition = w .condition; stands = m; met = w .met; gives = w .gives; lower = λ r n l. w .lower r (List·Memᴰ·tail n) l })
-
--- a table gives e, when and only when e is its lowest
-pub first-of : (rs : List Row) (x : ℕ) (e : Refusal) → ascendsFrom 0 rs ≡ true → firstOf rs (Done x) ≡ Refused e → Lowest rs e
-first-of rs x e u h = refused-from 0 rs x e u h
-
-pub of-first : (rs : List Row) (a : Answer) (e : Refusal) → ascendsFrom 0 rs ≡ true → Lowest rs e → firstOf rs a ≡ Refused e
-of-first rs a e u w = from-refused 0 rs a e u w
-
--- a table refuses nothing, when and only when no row holds
-pub first-none : (rs : List Row) (x y : ℕ) → firstOf rs (Done x) ≡ Done y → (r : Row) → List·Memᴰ r rs → r .holds ≡ false
-first-none [] x y h r w = absurd (List·Memᴰ·not-nil w)
-first-none (q ∷ rs) x y h r w = go (first-none rs x y) (q .holds) refl h (List·Memᴰ·cases-cons w)
-  where
-    go : (firstOf rs (Done x) ≡ Done y → (r : Row) → List·Memᴰ r rs → r .holds ≡ false)
-        → (b : Bool)
-        → q .holds ≡ b
-        → pick b (Refused (q .refusal)) (firstOf rs (Done x)) ≡ Done y
-        → (r ≡ q) ⊎ List·Memᴰ r rs
-        → r .holds ≡ false
-    go f true p z c = never y (q .refusal) (sym z)
-    go f false p z (inl m) = cc
-    go f false p z (inr m) = f z r m
-
-pub none-first : (rs : List Row) (a : Answer) → ((r : Row) → List·Memᴰ r rs → r .holds ≡ false) → firstOf rs a ≡ a
-none-first [] a h = refl
-none-first (q ∷ rs) a h = go (q .holds) (h q (List·Memᴰ·head refl)) (none-first rs a (λ r m. h r (List·Memᴰ·tail m)))
-  where
-    go : (b : Bool) → b ≡ false → firstOf rs a ≡ a → pick b (Refused (q .refusal)) (firstOf rs a) ≡ a
-    go true p z = absurd (true≢false p)
-    go false p z = z
-
--- ---- a refusal "changes no lent buffer"
-abbrev pub Keeps : List ℕ → List ℕ → List ℕ → Outcome → Type 0
-Keeps s m d o = (e : Refusal) → o .answer ≡ Refused e → o ≡ refuse e s m d
-
-pick-has : (P : Outcome → Type 0) (b : Bool) (o p : Outcome) → P o → P p → P (pick b o p)
-pick-has P true o p f g = f
-pick-has P false o p f g = g
-
-module _ (s m d : List ℕ) where
-  guarded-has : (P : Outcome → Type 0) (o : Outcome)
-      → P (refuse BadBuffer s m d)
-      → P (refuse UnsoundStore s m d)
-      → P (refuse BadDesk s m d)
-      → P o
-      → P (guarded s m d o)
-  guarded-has P o f g h k =
-      rw (guarded-is s m d o)
-      (pick-has P (not (framedB mostStoreBlocks s && deskFramed d)) _ _ f
-      (pick-has P (not (isSound Store s)) _ _ g
-      (pick-has P (not (notesFit s m d)) _ _ h k)))
-
-  keeps-refused : (f : Refusal) → Keeps s m d (refuse f s m d)
-  keeps-refused f e h = ap (λ (a : Answer). left a s m d) h
-
-  keeps-done : (x : ℕ) (t n k : List ℕ) → Keeps s m d (left (Done x) t n k)
-  keeps-done x t n k e h = never x e h
-
-  keeps-guarded : (o : Outcome) → Keeps s m d o → Keeps s m d (guarded s m d o)
-  keeps-guarded o f = guarded-has (Keeps s m d) o (keeps-refused BadBuffer) (keeps-refused UnsoundStore) (keeps-refused BadDesk) f
-
-  pub start-refused : Keeps s m d (start s m d)
-  unfolding start started
-  start-refused =
-      pick-has (Keeps s m d) (framedB mostStoreBlocks s && (deskFramed d && not (imageAllowed (inodesIn s) (length m)))) _ _ (keeps-refused BadBuffer)
-      (keeps-guarded _ (pick-has (Keeps s m d) (isRunning d) _ _ (keeps-refused WrongState) (keeps-done 0 _ _ _)))
-
-  -- 16 "sets state 3 and fields 6-9 to zero and changes nothing more"
-  abbrev KeepsBut16 : Outcome → Type 0
-  KeepsBut16 o =
-      (e : Refusal)
-      → o .answer ≡ Refused e
-      → ((e ≡ ImageFull → ⊥) × (o ≡ refuse e s m d)) ⊎ ((e ≡ ImageFull) × (o ≡ left (Refused e) s m (putDesk d (stopping (deskOf d)))))
-
-  not-16 : (f : Refusal) → eqb (refusalNumber f) 16 ≡ false → KeepsBut16 (refuse f s m d)
-  not-16 f n e h =
-      let z : f ≡ e = cc in
-      inl (λ w. true≢false (sym (ap (λ (r : Refusal). eqb (refusalNumber r) 16) (z ∙ w)) ∙ n), keeps-refused f e h)
-
-  keeps-step : (p : Step) → KeepsBut16 (doStep s m d (inodesIn s) p)
-  keeps-step (lock i) e h = never _ e h
-  keeps-step (copy i k c) e h = never _ e h
-  keeps-step (close i) e h = never _ e h
-  keeps-step finish e h = never _ e h
-  keeps-step full e h = let z : e ≡ ImageFull = cc in inr (z, ap (λ (a : Answer). left a s m (putDesk d (stopping (deskOf d)))) h)
-
-  step-keeps : KeepsBut16 (step s m d)
-  unfolding step
-  step-keeps =
-      guarded-has KeepsBut16 _ (not-16 BadBuffer refl) (not-16 UnsoundStore refl) (not-16 BadDesk refl)
-      (pick-has KeepsBut16 (isRunning d) _ _ (keeps-step (stepOf s m d (inodesIn s))) (not-16 WrongState refl))
-
-  pub step-refused : (e : Refusal) → (e ≡ ImageFull → ⊥) → step s m d .answer ≡ Refused e → step s m d ≡ refuse e s m d
-  step-refused e n h = ⊎-elim (λ w. w .1) (λ w. absurd (n (w .0))) (step-keeps e h)
-
-  pub step-full : step s m d .answer ≡ Refused ImageFull → step s m d ≡ left (Refused ImageFull) s m (putDesk d (stopping (deskOf d)))
-  step-full h = ⊎-elim (λ w. absurd (w .0 refl)) (λ w. w .1) (step-keeps ImageFull h)
-
--- a file call
-leaves-keeps : (w : World) (p : Planned) → Keeps (w .store) (w .image) (w .desk) (leavesIn w p)
-leaves-keeps w (does x) = keeps-done (w .store) (w .image) (w .desk) (x .answer) _ _ _
-leaves-keeps w (refused f) = keeps-refused (w .store) (w .image) (w .desk) f
-
-pub live-refused : (c : Call) (w : World) → Keeps (w .store) (w .image) (w .desk) (live c w)
-unfolding live
-live-refused c w = leaves-keeps w (decision c w)
