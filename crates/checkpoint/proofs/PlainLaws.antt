@@ -1,0 +1,213 @@
+-- A live file call is the plain store's call between its guards, and so a list's file calls are the plain store's.
+use Prim.Native.Nat.{ℕ, _-_, _≤_}
+use mathlib.Core.Path.{_≡_, refl, sym, ap, _∙_}
+use mathlib.Core.Bool.{Bool, true, false, not, _&&_}
+use mathlib.Core.List.{List, [], _∷_}
+use native.Mathlib.Omega.{arith}
+use borrow.Author.Tests.{eqb-true, eq-eqb}
+use lib.ListN.{length}
+use Rattle.bounded.proofs.BoolLaws.{clash}
+use Rattle.layout.specs.Sizes.{mostStoreBlocks}
+use Rattle.sound.specs.Sound.{framedB, isSound, inodesIn}
+use Rattle.sound.specs.declared.Form.the-variants.{Store}
+use Rattle.answers.specs.declared.Refusal.the-variants.{Busy}
+use Rattle.answers.specs.Refusal.{refusalNumber}
+use Rattle.answers.specs.declared.Answer.{Answer}
+use Rattle.files.specs.Effect.{Call, Planned, refused, does, onPlanned, plainDecision, given}
+use Rattle.files.specs.Plain.{leaves, plain}
+use Rattle.checkpoint.specs.Fit.{deskFramed, imageAllowed, isRunning, notesFit}
+use Rattle.checkpoint.specs.Copier.{Step, lock, copy, close, finish, full, stepOf}
+use Rattle.checkpoint.specs.Live.{World, Outcome, refuse, decision, leavesIn, live, outOf, guarded, ask, doStep, started, start, step}
+use Rattle.checkpoint.specs.List.{Event, Ready, call, steps, asks, starts, outcome, next, refusalOf, run, Moment, here, after, isBusy, replies, heard, plainRun, plainReplies}
+use Rattle.checkpoint.specs.Demand.{AsPlain}
+use Rattle.checkpoint.proofs.DecisionLaws.{same, busy, unfit, beside, guarded-is}
+use Rattle.checkpoint.proofs.PlainAnswers.{by-pick, StoreFits, plainly, plain-never}
+
+-- ---- one live call beside the plain one
+-- they agree, or the live one is busy, or a guard refused
+record Alike (c : Call) (w : World) : Type 0 where
+  answer : live c w .answer ≡ plain c (w .store) .answer
+  store : live c w .store ≡ plain c (w .store) .store
+  out : outOf c w ≡ plain c (w .store) .out
+
+data Between (c : Call) (w : World) : Type 0 where
+  agree : Alike c w → Between c w
+  locked : isRunning (w .desk) ≡ true → live c w ≡ refuse Busy (w .store) (w .image) (w .desk) → Between c w
+  stopped : 1 ≤ refusalOf (live c w .answer) → refusalOf (live c w .answer) ≤ 3 → (Ready w → ⊥) → Between c w
+
+-- what is shown of one decision
+same-answer : (w : World) (out : List ℕ) (p : Planned) → leavesIn w p .answer ≡ leaves (w .store) out p .answer
+same-answer w out (does x) = refl
+same-answer w out (refused e) = refl
+
+same-store : (w : World) (out : List ℕ) (p : Planned) → leavesIn w p .store ≡ leaves (w .store) out p .store
+same-store w out (does x) = refl
+same-store w out (refused e) = refl
+
+same-out : (s out : List ℕ) (p : Planned) → onPlanned p (λ x. x .out) (λ e. out) ≡ leaves s out p .out
+same-out s out (does x) = refl
+same-out s out (refused e) = refl
+
+between : (c : Call) (w : World) → Between c w
+unfolding live plain outOf
+between c w = elim (beside c w) [
+  | same e ↦ agree record {
+    answer = ap (λ p. leavesIn w p .answer) e ∙ same-answer w (given c) (plainDecision c (w .store));
+    store = ap (λ p. leavesIn w p .store) e ∙ same-store w (given c) (plainDecision c (w .store));
+    out = ap (λ p. onPlanned p (λ x. x .out) (λ e. given c)) e ∙ same-out (w .store) (given c) (plainDecision c (w .store));
+  }
+  | busy r e ↦ locked r (ap (leavesIn w) e)
+  | unfit f l m n e ↦ let k : refusalOf (leavesIn w (decision c w) .answer) ≡ refusalNumber f = ap (λ p. refusalOf (leavesIn w p .answer)) e in stopped (omega arith) (omega arith) n
+]
+
+-- ---- the laws of one call
+-- no guard of the buffers refused, and the copy was not in the way
+pub record Passed (a : Answer) : Type 0 where
+  pub first : refusalOf a ≡ 1 → ⊥
+  pub second : refusalOf a ≡ 2 → ⊥
+  pub third : refusalOf a ≡ 3 → ⊥
+  pub fourteenth : refusalOf a ≡ 14 → ⊥
+
+busy-number : (w : World) (o : Outcome) → o ≡ refuse Busy (w .store) (w .image) (w .desk) → refusalOf (o .answer) ≡ 14
+busy-number w o e = ap (λ (x : Outcome). refusalOf (x .answer)) e
+
+-- a live call that passed is the plain store's
+pub as-plain : (c : Call) (w : World) → Passed (live c w .answer)
+    → (live c w .answer ≡ plain c (w .store) .answer) × ((live c w .store ≡ plain c (w .store) .store) × (outOf c w ≡ plain c (w .store) .out))
+as-plain c w h = elim (between c w) [
+  | agree x ↦ (x .answer, (x .store, x .out))
+  | locked r e ↦ absurd (h .fourteenth (busy-number w (live c w) e))
+  | stopped l m f ↦ absurd (omega arith)
+]
+
+-- where the buffers fit, a live call that is not busy is the plain store's, and 1 to 3 do not come
+pub record Agrees (c : Call) (w : World) : Type 0 where
+  pub answer : live c w .answer ≡ plain c (w .store) .answer
+  pub store : live c w .store ≡ plain c (w .store) .store
+  pub out : outOf c w ≡ plain c (w .store) .out
+  pub first : refusalOf (live c w .answer) ≡ 1 → ⊥
+  pub second : refusalOf (live c w .answer) ≡ 2 → ⊥
+  pub third : refusalOf (live c w .answer) ≡ 3 → ⊥
+
+pub guards-pass : (c : Call) (w : World) → Ready w → (refusalOf (live c w .answer) ≡ 14 → ⊥) → Agrees c w
+guards-pass c w f h =
+    let g : StoreFits (w .store) = record { framed = f .framed; sound = f .sound } in
+    let q = plainly c (w .store) in
+    elim (between c w) [
+      | agree x ↦ record {
+        answer = x .answer;
+        store = x .store;
+        out = x .out;
+        first = λ e. q .first g (ap refusalOf (sym (x .answer)) ∙ e);
+        second = λ e. q .second g (ap refusalOf (sym (x .answer)) ∙ e);
+        third = λ e. q .never .third (ap refusalOf (sym (x .answer)) ∙ e);
+      }
+      | locked r e ↦ absurd (h (busy-number w (live c w) e))
+      | stopped l m n ↦ absurd (n f)
+    ]
+
+-- a busy call changes no buffer
+pub record Keeps (c : Call) (w : World) : Type 0 where
+  pub store : live c w .store ≡ w .store
+  pub image : live c w .image ≡ w .image
+  pub desk : live c w .desk ≡ w .desk
+
+pub busy-keeps : (c : Call) (w : World) → refusalOf (live c w .answer) ≡ 14 → Keeps c w
+busy-keeps c w h = elim (between c w) [
+  | agree x ↦ absurd (plain-never c (w .store) .fourteenth (ap refusalOf (sym (x .answer)) ∙ h))
+  | locked r e ↦ record { store = ap (λ (o : Outcome). o .store) e; image = ap (λ (o : Outcome). o .image) e; desk = ap (λ (o : Outcome). o .desk) e }
+  | stopped l m n ↦ absurd (omega arith)
+]
+
+-- a call is busy only while a copy runs
+pub busy-running : (c : Call) (w : World) → isRunning (w .desk) ≡ false → refusalOf (live c w .answer) ≡ 14 → ⊥
+busy-running c w r h = elim (between c w) [
+  | agree x ↦ plain-never c (w .store) .fourteenth (ap refusalOf (sym (x .answer)) ∙ h)
+  | locked t e ↦ clash (isRunning (w .desk)) t r
+  | stopped l m n ↦ omega arith
+]
+
+-- ---- the other events leave the store
+guarded-store : (s m d : List ℕ) (o : Outcome) → o .store ≡ s → guarded s m d o .store ≡ s
+guarded-store s m d o h =
+    rw (guarded-is s m d o)
+    (by-pick P (not (framedB mostStoreBlocks s && deskFramed d)) refl
+    (by-pick P (not (isSound Store s)) refl
+    (by-pick P (not (notesFit s m d)) refl h)))
+  where
+    P : Outcome → Type 0
+    P x = x .store ≡ s
+
+step-store : (s m d : List ℕ) (n : ℕ) (x : Step) → doStep s m d n x .store ≡ s
+step-store s m d n (lock i) = refl
+step-store s m d n (copy i k c) = refl
+step-store s m d n (close i) = refl
+step-store s m d n finish = refl
+step-store s m d n full = refl
+
+pub steps-keep : (w : World) → outcome steps w .store ≡ w .store
+unfolding outcome step
+steps-keep w = guarded-store (w .store) (w .image) (w .desk) _
+    (by-pick P (isRunning (w .desk)) (step-store (w .store) (w .image) (w .desk) (inodesIn (w .store)) (stepOf (w .store) (w .image) (w .desk) (inodesIn (w .store)))) refl)
+  where
+    P : Outcome → Type 0
+    P x = x .store ≡ w .store
+
+pub asks-keep : (w : World) → outcome asks w .store ≡ w .store
+unfolding outcome ask
+asks-keep w = guarded-store (w .store) (w .image) (w .desk) _ refl
+
+pub starts-keep : (w : World) → outcome starts w .store ≡ w .store
+unfolding outcome start started
+starts-keep w =
+    by-pick P (framedB mostStoreBlocks (w .store) && (deskFramed (w .desk) && not (imageAllowed (inodesIn (w .store)) (length (w .image))))) refl
+    (guarded-store (w .store) (w .image) (w .desk) _ (by-pick P (isRunning (w .desk)) refl refl))
+  where
+    P : Outcome → Type 0
+    P x = x .store ≡ w .store
+
+-- ---- the list
+-- the buffers fit at every moment
+abbrev pub ReadyThroughout : List Event → World → Type 0
+ReadyThroughout es w = (v : World) → Moment es w v → Ready v
+
+-- a plain store that goes on from the same bytes
+from-same : (es : List Event) (w : World) (s : List ℕ) → AsPlain es w → w .store ≡ s → (run es w .store ≡ plainRun (heard es w) s) × (replies es w ≡ plainReplies (heard es w) s)
+from-same es w s h e = (h .store ∙ ap (plainRun (heard es w)) e, h .answers ∙ ap (plainReplies (heard es w)) e)
+
+-- the first event is none that the plain store hears
+busy-first : (c : Call) (es : List Event) (w : World) → isBusy c w ≡ true → AsPlain es (next (call c) w) → AsPlain (call c ∷ es) w
+unfolding run heard replies next outcome
+busy-first c es w b h =
+    let k : next (call c) w .store ≡ w .store = busy-keeps c w (eqb-true (refusalOf (live c w .answer)) 14 b) .store in
+    let r = from-same es (next (call c) w) (w .store) h k in
+    record { store = rw b (r .0); answers = rw b (r .1) }
+
+heard-first : (c : Call) (es : List Event) (w : World) → isBusy c w ≡ false → Ready w → AsPlain es (next (call c) w) → AsPlain (call c ∷ es) w
+unfolding run heard replies next outcome plainRun plainReplies
+heard-first c es w b f h =
+    let g = guards-pass c w f (λ e. clash (isBusy c w) (eq-eqb (refusalOf (live c w .answer)) 14 e) b) in
+    let r = from-same es (next (call c) w) (plain c (w .store) .store) h (g .store) in
+    record {
+      store = rw b (r .0);
+      answers = rw b (rw (g .answer, g .out, r .1) refl);
+    }
+
+-- the store's bytes and the answers are the plain store's
+pub run-plain : (es : List Event) (w : World) → ReadyThroughout es w → AsPlain es w
+unfolding run heard replies plainRun plainReplies next
+run-plain [] w h = record { store = refl; answers = refl }
+run-plain (call c ∷ es) w h = go (isBusy c w) refl (run-plain es (next (call c) w) (λ v m. h v (after m)))
+  where
+    go : (b : Bool) → isBusy c w ≡ b → AsPlain es (next (call c) w) → AsPlain (call c ∷ es) w
+    go true e r = busy-first c es w e r
+    go false e r = heard-first c es w e (h w here) r
+run-plain (steps ∷ es) w h =
+    let r = from-same es (next steps w) (w .store) (run-plain es (next steps w) (λ v m. h v (after m))) (steps-keep w) in
+    record { store = r .0; answers = r .1 }
+run-plain (asks ∷ es) w h =
+    let r = from-same es (next asks w) (w .store) (run-plain es (next asks w) (λ v m. h v (after m))) (asks-keep w) in
+    record { store = r .0; answers = r .1 }
+run-plain (starts ∷ es) w h =
+    let r = from-same es (next starts w) (w .store) (run-plain es (next starts w) (λ v m. h v (after m))) (starts-keep w) in
+    record { store = r .0; answers = r .1 }

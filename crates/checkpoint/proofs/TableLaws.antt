@@ -1,0 +1,283 @@
+-- "looked at lowest first, when and only when the condition holds for that call": each call's answer is the first condition of its table that holds. s is the store, m the image, d the desk.
+use mathlib.Core.Path.{_≡_, refl, sym, ap, ap₂, _∙_}
+use mathlib.Core.Bool.{Bool, true, false, not, _&&_, _||_, true≢false}
+use mathlib.Core.List.{List, [], _∷_}
+use Prim.Native.Nat.{ℕ, _+_, _-_, _≤_, min, max}
+use native.Mathlib.Omega.{arith}
+use borrow.Author.Tests.{leb-true, not-true, not-false}
+use lib.Dec.{eqb, leb, ltb}
+use lib.ListN.{length}
+use Rattle.bounded.specs.Search.{pick, firstFrom, onFound}
+use Rattle.bounded.proofs.BoolLaws.{and-left, and-right, fails, same-test, clash}
+use Rattle.bounded.proofs.BelowLaws.{allTo, to-at, to-of}
+use Rattle.bounded.proofs.SearchLaws.{none-below, absent-of}
+use Rattle.bounded.specs.declared.Found.{Found}
+use Rattle.bounded.specs.declared.Found.the-variants.{At, Absent}
+use Rattle.layout.specs.Sizes.{mostStoreBlocks, mostFileBytes, rootInode}
+use Rattle.layout.specs.Header.{headerOf}
+use Rattle.layout.specs.Inode.{kindOf, sizeOf, directoryKind}
+use Rattle.layout.specs.Block.{blocksUsed, kthBlock}
+use Rattle.layout.specs.Free.{named, freeInode, freeBlock}
+use Rattle.names.specs.Name.{legalName}
+use Rattle.directory.specs.Slot.{findSlot}
+use Rattle.desk.specs.Desk.{deskOf}
+use Rattle.sound.specs.Sound.{framedB, isSound, inodesIn, blocksIn}
+use Rattle.sound.specs.declared.Form.the-variants.{Store}
+use Rattle.answers.specs.declared.Refusal.the-variants.{BadBuffer, NameTaken, IntoItself, NoBlocks, NoSlot, Busy, WrongState, ImageFull}
+use Rattle.answers.specs.declared.Answer.{Answer}
+use Rattle.answers.specs.declared.Answer.the-variants.{Done}
+use Rattle.files.specs.declared.Kind.{Kind}
+use Rattle.files.specs.declared.CreatePlan.{CreatePlan}
+use Rattle.files.specs.declared.LinkPlan.{LinkPlan}
+use Rattle.files.specs.declared.UnlinkPlan.{UnlinkPlan}
+use Rattle.files.specs.declared.RenamePlan.{RenamePlan}
+use Rattle.files.specs.declared.NumberPlan.{NumberPlan}
+use Rattle.files.specs.declared.RenamePlan.the-variants.{Same, Rename, Move, NoRename}
+use Rattle.files.specs.declared.NumberPlan.the-variants.{To, NoNumber}
+use Rattle.files.specs.Inode.{isFile, isDirectory}
+use Rattle.files.specs.Room.{roomIn, onRoom}
+use Rattle.files.specs.Plan.{holdsNone, isBelow, lookUpPlan, readPlan, createPlan, writePlan, shortenPlan, linkPlan, unlinkPlan, renameTo, renamePlan}
+use Rattle.files.specs.declared.Guard.{Guard}
+use Rattle.files.specs.declared.Guard.the-variants.{Pass, Stop}
+use Rattle.files.specs.Guard.{guardOf, onGuard}
+use Rattle.files.specs.Effect.{lookUp, read, create, write, shorten, link, unlink, rename, refused, doLookUp, doRead, doCreate, doWrite, doShorten, doLink, doUnlink, doRename, planned, plainDecision}
+use Rattle.files.specs.Plain.{leaves, plain, Outcome as PlainOutcome}
+use Rattle.checkpoint.specs.Fit.{deskFramed, imageAllowed, isRunning, notesFit}
+use Rattle.checkpoint.specs.Busy.{anyLocked, unlessBusy}
+use Rattle.checkpoint.specs.Notes.{isCopied, cutEntries, clearMarks, setMarks}
+use Rattle.checkpoint.specs.Copier.{targetBlock, stepOf, lock, copy, close, finish, full, lockedStep, freeStep, nextInode}
+use Rattle.checkpoint.specs.Live.{World, Outcome, left, refuse, decision, leavesIn, live, ask, doStep, started, start, step, asStatus, status}
+use Rattle.checkpoint.proofs.DecisionLaws.{guarded-is}
+use Rattle.checkpoint.specs.Table.{Row, row, firstOf, found, orZero, liveRows, noBlock, noSlot, slotFor, inodeFor, lookUpTable, readTable, createTable, writeTable, shortenTable, linkTable, unlinkTable, renameTable, startTable, stepTable}
+use Rattle.checkpoint.proofs.ConditionLaws.{Gives, by-pick, by-found, by-absent, by-room, by-busy, by-guards, by-three, by-store, by-none, give}
+
+-- ---- the calls on the store alone
+module _ (s : List ℕ) where
+  pub look-up-table : (e : ℕ) (name : List ℕ) → plain (lookUp e name) s .answer ≡ firstOf (lookUpTable s e name) (Done (inodeFor s e name))
+  unfolding lookUpPlan lookUpTable
+  look-up-table e name =
+      let h : NumberPlan → Answer = λ p. leaves s [] (doLookUp s p) .answer in
+      give _ (lookUpTable s e name) _
+      (by-store (lookUp e name) s
+      (by-pick h (not (legalName name)) _ _ refl
+      (by-pick h (not (isDirectory s (inodesIn s) e)) _ _ refl
+      (by-absent h (findSlot s (inodesIn s) e name) _ _ refl by-none))))
+
+  pub read-table : (i o : ℕ) (out : List ℕ) → plain (read i o out) s .answer ≡ firstOf (readTable s i o) (Done (min (length out) (sizeOf s i - o)))
+  unfolding readPlan readTable
+  read-table i o out =
+      let h : NumberPlan → Answer = λ p. leaves s out (doRead s (inodesIn s) i o out p) .answer in
+      give _ (readTable s i o) _
+      (by-store (read i o out) s
+      (by-pick h (not (isFile s (inodesIn s) i)) _ _ refl
+      (by-pick h (ltb (sizeOf s i) o) _ _ refl by-none)))
+
+-- "Look up and read take the store alone": their answer and store are the plain store's, and image and desk stay
+module _ (w : World) where
+  abbrev alone : PlainOutcome → Outcome
+  alone o = left (o .answer) (o .store) (w .image) (w .desk)
+
+  pub look-up-alone : (e : ℕ) (name : List ℕ) → live (lookUp e name) w ≡ alone (plain (lookUp e name) (w .store))
+  unfolding live decision plain plainDecision anyLocked cutEntries clearMarks setMarks
+  look-up-alone e name = go (guardOf (w .store))
+    where
+      plan : (p : NumberPlan) → leavesIn w (unlessBusy (w .desk) (doLookUp (w .store) p)) ≡ alone (leaves (w .store) [] (doLookUp (w .store) p))
+      plan (To i) = refl
+      plan (NoNumber f) = refl
+
+      go : (g : Guard) → leavesIn w (onGuard g (λ n b. unlessBusy (w .desk) (planned (lookUp e name) (w .store) n b)) refused) ≡ alone (leaves (w .store) [] (onGuard g (planned (lookUp e name) (w .store)) refused))
+      go (Pass n b) = plan (lookUpPlan (w .store) n e name)
+      go (Stop f) = refl
+
+  pub read-alone : (i o : ℕ) (out : List ℕ) → live (read i o out) w ≡ alone (plain (read i o out) (w .store))
+  unfolding live decision plain plainDecision anyLocked cutEntries clearMarks setMarks
+  read-alone i o out = go (guardOf (w .store))
+    where
+      plan : (n : ℕ) (p : NumberPlan) → leavesIn w (unlessBusy (w .desk) (doRead (w .store) n i o out p)) ≡ alone (leaves (w .store) out (doRead (w .store) n i o out p))
+      plan n (To k) = refl
+      plan n (NoNumber f) = refl
+
+      go : (g : Guard) → leavesIn w (onGuard g (λ n b. unlessBusy (w .desk) (planned (read i o out) (w .store) n b)) refused) ≡ alone (leaves (w .store) out (onGuard g (planned (read i o out) (w .store)) refused))
+      go (Pass n b) = plan n (readPlan (w .store) n i o (length out))
+      go (Stop f) = refl
+
+-- rename of the entry in slot t of e, which names i, to another in f: 7, 10, 12, 13, 14
+abbrev renameAnswer : World → ℕ → ℕ → List ℕ → RenamePlan → Answer
+renameAnswer w e f other p = leavesIn w (unlessBusy (w .desk) (doRename (w .store) (inodesIn (w .store)) e f other p)) .answer
+
+module _ (w : World) (e f : ℕ) (other : List ℕ) (t i : ℕ) where
+  abbrev renameRows : Bool → Found → List Row
+  renameRows same u =
+      row (found u && (not same || not (eqb (orZero u) t))) NameTaken
+      ∷ row (not same && isBelow (w .store) (inodesIn (w .store)) i f) IntoItself
+      ∷ row (not same && noBlock (w .store) f) NoBlocks
+      ∷ row (not same && noSlot (w .store) f) NoSlot
+      ∷ row (anyLocked (w .desk) (pick (not same) (e ∷ f ∷ i ∷ []) (e ∷ []))) Busy
+      ∷ []
+
+  by-rename : Gives (renameAnswer w e f other (renameTo (w .store) (inodesIn (w .store)) (blocksIn (w .store)) e t i f other)) (renameRows (eqb e f) (findSlot (w .store) (inodesIn (w .store)) f other)) (Done 0)
+  unfolding renameTo
+  by-rename = go (eqb e f) (findSlot (w .store) (inodesIn (w .store)) f other)
+    where
+      at : (b : Bool) → Gives (renameAnswer w e f other (pick b Same (NoRename NameTaken))) (row (not b) NameTaken ∷ row (anyLocked (w .desk) (e ∷ [])) Busy ∷ []) (Done 0)
+      at true = record { first = by-busy (anyLocked (w .desk) (e ∷ [])) w _ .first }
+      at false = record { first = refl }
+
+      go : (same : Bool) (u : Found)
+          → Gives (renameAnswer w e f other (pick same
+          (onFound u (λ j. pick (eqb j t) Same (NoRename NameTaken)) (Rename t i))
+          (onFound u (λ j. NoRename NameTaken)
+          (pick (isBelow (w .store) (inodesIn (w .store)) i f) (NoRename IntoItself) (onRoom (roomIn (w .store) (inodesIn (w .store)) (blocksIn (w .store)) f) (λ r. Move t i r) NoRename)))))
+          (renameRows same u) (Done 0)
+      go true (At u) = record { first = at (eqb u t) .first }
+      go true Absent = record { first = by-busy (anyLocked (w .desk) (e ∷ [])) w _ .first }
+      go false (At u) = record { first = refl }
+      go false Absent =
+          record {
+            first =
+                by-pick (renameAnswer w e f other) (isBelow (w .store) (inodesIn (w .store)) i f) _ _ refl
+                (by-room (renameAnswer w e f other) (w .store) f _ _ (λ x. refl) (λ r. by-busy (anyLocked (w .desk) (e ∷ f ∷ i ∷ [])) w _)) .first;
+          }
+
+-- 1 of start, where the image is looked at too
+start-first : {A : Type 0} (f k i : Bool) (x y : A) → pick (f && (k && not i)) x (pick (not (f && k)) x y) ≡ pick (not (f && (k && i))) x y
+start-first true true true x y = refl
+start-first true true false x y = refl
+start-first true false i x y = refl
+start-first false k i x y = refl
+
+-- ---- the calls on all three buffers
+module _ (w : World) where
+  pub create-table : (e : ℕ) (name : List ℕ) (k : Kind) → live (create e name k) w .answer ≡ firstOf (createTable (w .store) (w .image) (w .desk) e name) (Done (orZero (freeInode (w .store) (inodesIn (w .store)))))
+  unfolding createPlan createTable
+  create-table e name k =
+      let h : CreatePlan → Answer = λ p. leavesIn w (unlessBusy (w .desk) (doCreate (w .store) (inodesIn (w .store)) e name k p)) .answer in
+      give _ (createTable (w .store) (w .image) (w .desk) e name) _
+      (by-three (create e name k) w refl
+      (by-pick h (not (legalName name)) _ _ refl
+      (by-pick h (not (isDirectory (w .store) (inodesIn (w .store)) e)) _ _ refl
+      (by-found h (findSlot (w .store) (inodesIn (w .store)) e name) _ _ (λ t. refl)
+      (by-absent h (freeInode (w .store) (inodesIn (w .store))) _ _ refl
+      (by-room h (w .store) e _ _ (λ x. refl) (λ r. by-busy (anyLocked (w .desk) (e ∷ [])) w _)))))))
+
+  pub write-table : (i o : ℕ) (xs : List ℕ) → live (write i o xs) w .answer ≡ firstOf (writeTable (w .store) (w .image) (w .desk) i o xs) (Done (max (sizeOf (w .store) i) (o + length xs)))
+  unfolding writePlan writeTable
+  write-table i o xs =
+      let h : NumberPlan → Answer = λ p. leavesIn w (unlessBusy (w .desk) (doWrite (w .store) (inodesIn (w .store)) (blocksIn (w .store)) i o xs p)) .answer in
+      give _ (writeTable (w .store) (w .image) (w .desk) i o xs) _
+      (by-three (write i o xs) w refl
+      (by-pick h (not (isFile (w .store) (inodesIn (w .store)) i)) _ _ refl
+      (by-pick h (ltb (sizeOf (w .store) i) o || ltb mostFileBytes (o + length xs)) _ _ refl
+      (by-pick h (ltb (headerOf (w .store) .«free_blocks») (blocksUsed (max (sizeOf (w .store) i) (o + length xs)) - blocksUsed (sizeOf (w .store) i))) _ _ refl
+      (by-busy (anyLocked (w .desk) (i ∷ [])) w _)))))
+
+  pub shorten-table : (i z : ℕ) → live (shorten i z) w .answer ≡ firstOf (shortenTable (w .store) (w .image) (w .desk) i z) (Done z)
+  unfolding shortenPlan shortenTable
+  shorten-table i z =
+      let h : NumberPlan → Answer = λ p. leavesIn w (unlessBusy (w .desk) (doShorten (w .store) (inodesIn (w .store)) i p)) .answer in
+      give _ (shortenTable (w .store) (w .image) (w .desk) i z) _
+      (by-three (shorten i z) w refl
+      (by-pick h (not (isFile (w .store) (inodesIn (w .store)) i)) _ _ refl
+      (by-pick h (ltb (sizeOf (w .store) i) z) _ _ refl
+      (by-busy (anyLocked (w .desk) (i ∷ [])) w _))))
+
+  pub link-table : (e : ℕ) (name : List ℕ) (i : ℕ) → live (link e name i) w .answer ≡ firstOf (linkTable (w .store) (w .image) (w .desk) e name i) (Done 0)
+  unfolding linkPlan linkTable
+  link-table e name i =
+      let h : LinkPlan → Answer = λ p. leavesIn w (unlessBusy (w .desk) (doLink (w .store) (inodesIn (w .store)) e name i p)) .answer in
+      give _ (linkTable (w .store) (w .image) (w .desk) e name i) _
+      (by-three (link e name i) w refl
+      (by-pick h (not (legalName name)) _ _ refl
+      (by-pick h (not (isDirectory (w .store) (inodesIn (w .store)) e && isFile (w .store) (inodesIn (w .store)) i)) _ _ refl
+      (by-found h (findSlot (w .store) (inodesIn (w .store)) e name) _ _ (λ t. refl)
+      (by-room h (w .store) e _ _ (λ x. refl) (λ r. by-busy (anyLocked (w .desk) (e ∷ i ∷ [])) w _))))))
+
+  pub unlink-table : (e : ℕ) (name : List ℕ) → live (unlink e name) w .answer ≡ firstOf (unlinkTable (w .store) (w .image) (w .desk) e name) (Done 0)
+  unfolding unlinkPlan unlinkTable
+  unlink-table e name =
+      let h : UnlinkPlan → Answer = λ p. leavesIn w (unlessBusy (w .desk) (doUnlink (w .store) (inodesIn (w .store)) e p)) .answer in
+      let i : ℕ = inodeFor (w .store) e name in
+      give _ (unlinkTable (w .store) (w .image) (w .desk) e name) _
+      (by-three (unlink e name) w refl
+      (by-pick h (not (legalName name)) _ _ refl
+      (by-pick h (not (isDirectory (w .store) (inodesIn (w .store)) e)) _ _ refl
+      (by-absent h (findSlot (w .store) (inodesIn (w .store)) e name) _ _ refl
+      (by-pick h (eqb (kindOf (w .store) i) directoryKind && not (holdsNone (w .store) (inodesIn (w .store)) i)) _ _ refl
+      (by-busy (anyLocked (w .desk) (e ∷ i ∷ [])) w _))))))
+
+  pub rename-table : (e : ℕ) (name : List ℕ) (f : ℕ) (other : List ℕ) → live (rename e name f other) w .answer ≡ firstOf (renameTable (w .store) (w .image) (w .desk) e name f other) (Done 0)
+  unfolding renamePlan renameTable
+  rename-table e name f other =
+      let h : RenamePlan → Answer = renameAnswer w e f other in
+      give _ (renameTable (w .store) (w .image) (w .desk) e name f other) _
+      (by-three (rename e name f other) w refl
+      (by-pick h (not (legalName name && legalName other)) _ _ refl
+      (by-pick h (not (isDirectory (w .store) (inodesIn (w .store)) e && isDirectory (w .store) (inodesIn (w .store)) f)) _ _ refl
+      (by-absent h (findSlot (w .store) (inodesIn (w .store)) e name) _ _ refl
+      (by-rename w e f other (slotFor (w .store) e name) (inodeFor (w .store) e name))))))
+
+-- ---- start, step and state
+module _ (s m d : List ℕ) where
+  pub start-table : start s m d .answer ≡ firstOf (startTable s m d) (Done 0)
+  unfolding start started startTable
+  start-table =
+      let h : Outcome → Answer = λ z. z .answer in
+      ap (λ (o : Outcome). h (pick (framedB mostStoreBlocks s && (deskFramed d && not (imageAllowed (inodesIn s) (length m)))) (refuse BadBuffer s m d) o)) (guarded-is s m d _)
+      ∙ ap h (start-first (framedB mostStoreBlocks s) (deskFramed d) (imageAllowed (inodesIn s) (length m)) _ _)
+      ∙ give _ (startTable s m d) _
+      (by-pick h (not (framedB mostStoreBlocks s && (deskFramed d && imageAllowed (inodesIn s) (length m)))) _ _ refl
+      (by-pick h (not (isSound Store s)) _ _ refl
+      (by-pick h (not (notesFit s m d)) _ _ refl
+      (by-pick h (isRunning d) _ _ refl by-none))))
+
+  by-step : (i k : ℕ) (runs none more : Bool) (t : Found) (root : Bool) (next : Found)
+      → Gives (pick runs (doStep s m d (inodesIn s) (pick none (pick root (onFound next lock finish) (lock rootInode)) (pick more (onFound t (λ c. copy i k c) full) (close i)))) (refuse WrongState s m d) .answer)
+      (row (not runs) WrongState ∷ row (not none && (more && not (found t))) ImageFull ∷ []) (Done (deskOf d .steps + 1))
+  by-step i k false none more t root next = record { first = refl }
+  by-step i k true true more t true (At j) = record { first = refl }
+  by-step i k true true more t true Absent = record { first = refl }
+  by-step i k true true more t false next = record { first = refl }
+  by-step i k true false true (At c) root next = record { first = refl }
+  by-step i k true false true Absent root next = record { first = refl }
+  by-step i k true false false t root next = record { first = refl }
+
+  pub step-table : step s m d .answer ≡ firstOf (stepTable s m d) (Done (deskOf d .steps + 1))
+  unfolding step stepOf freeStep lockedStep stepTable
+  step-table =
+      let i : ℕ = deskOf d .locked in
+      let k : ℕ = deskOf d .copied in
+      give _ (stepTable s m d) _
+      (by-guards s m d _
+      (by-step i k (isRunning d) (eqb i 0) (ltb k (blocksUsed (sizeOf s i))) (targetBlock m (inodesIn s) (deskOf d .blocks) (kthBlock s (inodesIn s) i k))
+      (isCopied d (inodesIn s) rootInode) (nextInode m d (inodesIn s))))
+
+  pub status-table : status s m d ≡ asStatus (firstOf (liveRows s m d []) (Done 0)) d
+  unfolding status ask
+  status-table = ap (λ (a : Answer). asStatus a d) (give _ (liveRows s m d []) _ (by-guards s m d (left (Done 0) s m d) by-none))
+
+-- 16: a block finds no place, when and only when "every image block [is] named"
+no-place : (c : ℕ) (t : Bool) (f : Found) → not (found (pick t (At c) f)) ≡ true → f ≡ Absent
+no-place c true f h = absurd (true≢false (sym h))
+no-place c false (At j) h = absurd (true≢false (sym h))
+no-place c false Absent h = refl
+
+pub full-image : (m : List ℕ) (n b c : ℕ) → not (found (targetBlock m n b c)) ≡ allTo (named m n) b
+unfolding targetBlock freeBlock
+full-image m n b c = same-test (not (found (targetBlock m n b c))) (allTo (named m n) b) there back
+  where
+    there : not (found (targetBlock m n b c)) ≡ true → allTo (named m n) b ≡ true
+    there h =
+        let e : firstFrom (λ j. not (named m n j)) 1 b ≡ Absent = no-place c (leb 1 c && (leb c b && not (named m n c))) (freeBlock m n b) h in
+        to-of (named m n) b (λ j l k. not-false (named m n j) (none-below (λ i. not (named m n i)) 1 b e j (omega arith) (omega arith)))
+
+    own : allTo (named m n) b ≡ true → leb 1 c && (leb c b && not (named m n c)) ≡ true → ⊥
+    own h w =
+        let r : leb c b && not (named m n c) ≡ true = and-right (leb 1 c) (leb c b && not (named m n c)) w in
+        let l : 1 ≤ c = leb-true 1 c (and-left (leb 1 c) (leb c b && not (named m n c)) w) in
+        let k : c ≤ b = leb-true c b (and-left (leb c b) (not (named m n c)) r) in
+        clash (named m n c) (to-at (named m n) b h c l k) (not-true (named m n c) (and-right (leb c b) (not (named m n c)) r))
+
+    back : allTo (named m n) b ≡ true → not (found (targetBlock m n b c)) ≡ true
+    back h =
+        let none : freeBlock m n b ≡ Absent = absent-of (λ j. not (named m n j)) 1 b (λ j l k. ap not (to-at (named m n) b h j (omega arith) (omega arith))) in
+        ap₂ (λ (t : Bool) (f : Found). not (found (pick t (At c) f))) (fails (leb 1 c && (leb c b && not (named m n c))) (own h)) none
