@@ -1,1 +1,8 @@
 pub mod Moments
+pub mod Going
+pub mod Turned
+pub mod Calls
+pub mod Starts
+pub mod Rests
+pub mod Ends
+pub mod Stops

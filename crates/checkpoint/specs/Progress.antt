@@ -5,6 +5,7 @@ use mathlib.Core.Logic.{_⊎_}
 use mathlib.Core.Bool.{Bool, true, false, not, _&&_}
 use mathlib.Core.List.{List, [], _∷_}
 use lib.ListN.{length, getD}
+use Rattle.octets.specs.Octets.{Octets}
 use Rattle.layout.specs.Sizes.{addressCount, isComplete}
 use Rattle.layout.specs.Header.{headerOf}
 use Rattle.layout.specs.Inode.{sizeOf}
@@ -70,7 +71,7 @@ pub record Calls (w : World) : Type 0 where
   pub busy : (c : Call) → live c w .answer ≡ Refused Busy → OnlyBusy c w
   pub out : (c : Call) → (accepted (call c) w ≡ true → ⊥) → outOf c w ≡ given c
 
--- ---- what 16 does: "it sets state 3 and fields 6-9 to zero and changes nothing more". v is the world after it; byte 4 has the state, 6 to 9 the locked inode and its count
+-- ---- what 16 does: "it sets state 3 and fields 6-9 to zero and changes nothing more". v is the world after it; byte 4 has the state, 6 to 9 the locked inode and its count, and a desk is bytes
 pub record Stopped (w v : World) : Type 0 where
   pub store : v .store ≡ w .store
   pub image : v .image ≡ w .image
@@ -78,7 +79,7 @@ pub record Stopped (w v : World) : Type 0 where
   pub locked : deskOf (v .desk) .locked ≡ 0
   pub copied : deskOf (v .desk) .copied ≡ 0
   pub long : length (v .desk) ≡ length (w .desk)
-  pub rest : (x : ℕ) → (x ≡ 4 → ⊥) → (6 ≤ x → x ≤ 9 → ⊥) → getD (v .desk) x 0 ≡ getD (w .desk) x 0
+  pub rest : Octets (w .desk) → (x : ℕ) → (x ≡ 4 → ⊥) → (6 ≤ x → x ≤ 9 → ⊥) → getD (v .desk) x 0 ≡ getD (w .desk) x 0
 
 -- ---- it stays: from the finish until a start is accepted the copy is byte for byte the finished one and the state is finished; after 16 it is stopped, likewise
 pub record Stays (es : List Event) (w : World) : Type 0 where
