@@ -7,3 +7,4 @@ pub mod RowLaws
 pub mod TableLaws
 pub mod Copy
 pub mod Run
+pub mod Demands

@@ -6,3 +6,11 @@ pub mod Starts
 pub mod Rests
 pub mod Ends
 pub mod Stops
+pub mod Lists
+pub mod Results
+pub mod Counts
+pub mod Progresses
+pub mod Busies
+pub mod Finales
+pub mod Stood
+pub mod Honesty

@@ -163,6 +163,7 @@ module _ (n b : ℕ) (w : World) (r : Running n b w) where
     pub store : next steps w .store ≡ w .store
     pub rest : Resting n b (next steps w)
     pub state : deskOf (next steps w .desk) .state ≡ finished
+    pub locked : deskOf (next steps w .desk) .locked ≡ deskOf (w .desk) .locked
     pub counts : deskOf (next steps w .desk) .steps ≡ deskOf (w .desk) .steps + 1
     pub answer : outcome steps w .answer ≡ Done (deskOf (w .desk) .steps + 1)
     pub sound : Sound mostImageBlocks true (finishImage (w .image) n b)
@@ -200,6 +201,7 @@ module _ (n b : ℕ) (w : World) (r : Running n b w) where
         store = ap (λ (x : World). x .store) v;
         rest = rw v (done-rest f);
         state = ap (λ (x : World). deskOf (x .desk) .state) v ∙ ap (λ (x : Desk). x .state) h;
+        locked = ap (λ (x : World). deskOf (x .desk) .locked) v ∙ ap (λ (x : Desk). x .locked) h;
         counts = ap (λ (x : World). deskOf (x .desk) .steps) v ∙ ap (λ (x : Desk). x .steps) h;
         answer = ap (λ (o : Outcome). o .answer) (outcome-is finish (f .is));
         sound = finish-sound (r .laid) (f .none) (tidy-image (r .holds) (f .ended));

@@ -27,8 +27,7 @@ use Rattle.copying.specs.View.{View, Tidy}
 use Rattle.copying.specs.Deed.{Deed, Quiet, locks, closes, called, rests}
 use Rattle.copying.specs.Holds.{Holds, Ended}
 use Rattle.copying.proofs.HoldsLaws.{holds-does}
-use Rattle.answers.specs.declared.Refusal.the-variants.{ImageFull}
-use Rattle.answers.specs.declared.Answer.the-variants.{Refused}
+use Rattle.answers.specs.declared.Answer.the-variants.{Done}
 use Rattle.checkpoint.specs.Image.{imageNaming}
 use Rattle.checkpoint.specs.Notes.{isCopied}
 use Rattle.checkpoint.specs.Copier.{Step, lock, copy, close, finish, full, stepOf, stepImage, stepDesk, finishImage, targetBlock}
@@ -66,7 +65,7 @@ pub record Goes (n b : ℕ) (w v : World) : Type 0 where
 
 -- a step: it goes on with one accepted, or it finishes, or 16
 pub data Stepped (n b : ℕ) (w : World) : Type 0 where
-  on : Goes n b w (next steps w) → deskOf (next steps w .desk) .steps ≡ deskOf (w .desk) .steps + 1 → accepted steps w ≡ true → Stepped n b w
+  on : Goes n b w (next steps w) → deskOf (next steps w .desk) .steps ≡ deskOf (w .desk) .steps + 1 → outcome steps w .answer ≡ Done (deskOf (w .desk) .steps + 1) → Stepped n b w
   ends : Finishes n b w → Stepped n b w
   halts : Fills n b w → Stepped n b w
 
@@ -95,10 +94,10 @@ module _ (n b : ℕ) (w : World) (r : Running n b w) where
   does-is p e = step-is r ∙ ap (doStep (w .store) (w .image) (w .desk) n) e
 
   step-on : (p : Step) → stepOf (w .store) (w .image) (w .desk) n ≡ p → Goes n b w (after p) → deskOf (after p .desk) .steps ≡ deskOf (w .desk) .steps + 1
-      → eqb (refusalOf (doStep (w .store) (w .image) (w .desk) n p .answer)) 0 ≡ true → Stepped n b w
+      → doStep (w .store) (w .image) (w .desk) n p .answer ≡ Done (deskOf (w .desk) .steps + 1) → Stepped n b w
   step-on p e g c a =
       let h : next steps w ≡ after p = next-is steps w _ (does-is p e) in
-      on (rw h g) (ap (λ (v : World). deskOf (v .desk) .steps) h ∙ c) (ap (λ (o : Outcome). eqb (refusalOf (o .answer)) 0) (does-is p e) ∙ a)
+      on (rw h g) (ap (λ (v : World). deskOf (v .desk) .steps) h ∙ c) (ap (λ (o : Outcome). o .answer) (does-is p e) ∙ a)
 
   long : deskHeaderBytes ≤ length (w .desk)
   long = let e = r .laid .desk .long in omega arith
@@ -111,7 +110,7 @@ module _ (n b : ℕ) (w : World) (r : Running n b w) where
       refl
   chose p e (will-copy c z l t) =
       let g : targetBlock (w .image) n b (kthBlock (w .store) n (deskOf (w .desk) .locked) (deskOf (w .desk) .copied)) ≡ At c
-          = ap (λ (x : ℕ). targetBlock (w .image) n x (kthBlock (w .store) n (deskOf (w .desk) .locked) (deskOf (w .desk) .copied))) (sym (r .laid .desk .blocks)) ∙ t in
+      = ap (λ (x : ℕ). targetBlock (w .image) n x (kthBlock (w .store) n (deskOf (w .desk) .locked) (deskOf (w .desk) .copied))) (sym (r .laid .desk .blocks)) ∙ t in
       step-on (copy (deskOf (w .desk) .locked) (deskOf (w .desk) .copied) c) e
       (goes (after (copy (deskOf (w .desk) .locked) (deskOf (w .desk) .copied) c)) refl
       (copy-laid (r .laid) (r .sound) (r .count) z l c g)
