@@ -6,3 +6,4 @@ pub mod Climb
 pub mod Reflect
 pub mod Table
 pub mod Seen
+pub mod Sum

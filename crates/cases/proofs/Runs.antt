@@ -25,17 +25,16 @@ use Rattle.content.specs.Plan.{writePlan, shortenPlan}
 use Rattle.entries.specs.Apply.{enter, created, dropLink, unlinked, setParent, moved}
 use Rattle.entries.specs.Plan.{createPlan, holdsNone, unlinkPlan, isBelow, renameTo, renamePlan}
 use Rattle.entries.specs.Room.{roomIn, makeRoom}
-use Rattle.files.specs.Plain.{guarded, rename}
+use Rattle.files.specs.Guard.{guardOf}
 use Rattle.format.specs.Format.{freshHeader, emptyRoot, freshStore, freshDesk}
-use Rattle.checkpoint.specs.Busy.{isLocked}
+use Rattle.checkpoint.specs.Busy.{isLocked, anyLocked}
 use Rattle.checkpoint.specs.Copier.{startImage, startDesk, nextInode, targetBlock, lockedStep, freeStep, stepOf, copiedEntry, copiedEntries, copiedBlock, putCounts, finishImage}
 use Rattle.checkpoint.specs.Fit.{deskFramed, imageBlocks, imageAllowed, isRunning, blocksFit, deskFits, imageFits, notesFit}
 use Rattle.checkpoint.specs.Image.{hasSlot, slotNames, isNamed}
 use Rattle.checkpoint.specs.List.{outcome, next, run}
-use Rattle.checkpoint.specs.Live.{liveCreate, liveWrite, liveShorten, liveUnlink, liveRename, started, start, step}
-use Rattle.checkpoint.specs.Notes.{isCopied, noteMade, noteTaken, cutsImage, cutImage}
+use Rattle.checkpoint.specs.Live.{threeGuards, decision, live, guarded, started, start, step}
+use Rattle.checkpoint.specs.Notes.{isCopied, noteMade, noteTaken, cutsImage, cutImage, cutEntries, clearMarks, setMarks}
 use Rattle.desk.specs.Desk as desk
-use Rattle.checkpoint.specs.Live as live
 use Prim.Native.Nat.{_*_}
 use mathlib.Core.Path.{_≡_, refl}
 use mathlib.Core.List.{[], _∷_, _++_}
@@ -45,17 +44,18 @@ use Rattle.directory.specs.Slot.{mostSlots}
 use Rattle.desk.specs.Sizes.{finished}
 use Rattle.answers.specs.declared.Refusal.the-variants.{IntoItself}
 use Rattle.answers.specs.declared.Answer.the-variants.{Done, Refused}
+use Rattle.files.specs.Effect.{rename}
 use Rattle.checkpoint.specs.List.{call, steps, starts, Finish, last, more}
 use Rattle.cases.specs.Worlds.{fresh, nameA, reusedBlock, movedDirectory, unlinkedFile, parentAndChild}
 
 pub three-steps : (outcome steps (run (starts ∷ steps ∷ steps ∷ []) (fresh 1 1)) .answer ≡ Done 3)
     × (deskOf (run (starts ∷ steps ∷ steps ∷ steps ∷ []) (fresh 1 1) .desk) .state ≡ finished)
-unfolding fresh live.guarded desk.reservedZero allBelow someBelow leadsB count firstFrom first table part splice numAt toBytes putNum wordBytes digit marked withMark withoutMark entryInode isEmpty sameByte sameName nameLength entryName legalEntry entryFor plainByte isDots legalName blockOf putInBlock zeroBlock blocksUsed kthBlock isFree freeInode named freeBlock headerOf putFree putComplete putHeader reservedZero kindOf spareOf linksOf sizeOf parentOf putLinks attributeEntry putAttributes addressOf putAddress addressesOf putAddresses inodeOf putInode slots slotAt entryOf slotNamed findSlot slotEmpty emptySlot putEntry clearEntry deskOf putDesk copiedOf putCopied marksOf putMarks markOf setMark clearMark clearNotes sameNames namedB newNameB entryB attributesB addressesB zeroTailB inodeB countedB leadB isSlot entryAt filled naming framedB headerB freeCountsB zeroBlockB blanksB bodyB soundB enter created written dropLink unlinked setParent moved putFile addBlock addBlocks putSize zeroRest keepFirst cutTo isKind zeroInode lessFree moreFree guarded createPlan writePlan shortenPlan holdsNone unlinkPlan isBelow renameTo renamePlan roomIn makeRoom freshHeader emptyRoot freshStore freshDesk isLocked startImage startDesk nextInode targetBlock lockedStep freeStep stepOf copiedEntry copiedEntries copiedBlock putCounts finishImage deskFramed imageBlocks imageAllowed isRunning blocksFit deskFits imageFits notesFit hasSlot slotNames isNamed outcome next run liveCreate liveWrite liveShorten liveUnlink liveRename started start step isCopied noteMade noteTaken cutsImage cutImage zeroed
+unfolding fresh desk.reservedZero allBelow someBelow leadsB count firstFrom first table part splice numAt toBytes putNum wordBytes digit marked withMark withoutMark entryInode isEmpty sameByte sameName nameLength entryName legalEntry entryFor plainByte isDots legalName blockOf putInBlock zeroBlock blocksUsed kthBlock isFree freeInode named freeBlock headerOf putFree putComplete putHeader reservedZero kindOf spareOf linksOf sizeOf parentOf putLinks attributeEntry putAttributes addressOf putAddress addressesOf putAddresses inodeOf putInode slots slotAt entryOf slotNamed findSlot slotEmpty emptySlot putEntry clearEntry deskOf putDesk copiedOf putCopied marksOf putMarks markOf setMark clearMark clearNotes sameNames namedB newNameB entryB attributesB addressesB zeroTailB inodeB countedB leadB isSlot entryAt filled naming framedB headerB freeCountsB zeroBlockB blanksB bodyB soundB enter created written dropLink unlinked setParent moved putFile addBlock addBlocks putSize zeroRest keepFirst cutTo isKind zeroInode lessFree moreFree guardOf createPlan writePlan shortenPlan holdsNone unlinkPlan isBelow renameTo renamePlan roomIn makeRoom freshHeader emptyRoot freshStore freshDesk isLocked anyLocked startImage startDesk nextInode targetBlock lockedStep freeStep stepOf copiedEntry copiedEntries copiedBlock putCounts finishImage deskFramed imageBlocks imageAllowed isRunning blocksFit deskFits imageFits notesFit hasSlot slotNames isNamed outcome next run threeGuards decision live guarded started start step isCopied noteMade noteTaken cutsImage cutImage cutEntries clearMarks setMarks zeroed
 three-steps = (refl, refl)
 
 -- the same three steps end in a finish
 pub finish : Finish (steps ∷ steps ∷ steps ∷ []) (next starts (fresh 1 1))
-unfolding fresh live.guarded desk.reservedZero allBelow someBelow leadsB count firstFrom first table part splice numAt toBytes putNum wordBytes digit marked withMark withoutMark entryInode isEmpty sameByte sameName nameLength entryName legalEntry entryFor plainByte isDots legalName blockOf putInBlock zeroBlock blocksUsed kthBlock isFree freeInode named freeBlock headerOf putFree putComplete putHeader reservedZero kindOf spareOf linksOf sizeOf parentOf putLinks attributeEntry putAttributes addressOf putAddress addressesOf putAddresses inodeOf putInode slots slotAt entryOf slotNamed findSlot slotEmpty emptySlot putEntry clearEntry deskOf putDesk copiedOf putCopied marksOf putMarks markOf setMark clearMark clearNotes sameNames namedB newNameB entryB attributesB addressesB zeroTailB inodeB countedB leadB isSlot entryAt filled naming framedB headerB freeCountsB zeroBlockB blanksB bodyB soundB enter created written dropLink unlinked setParent moved putFile addBlock addBlocks putSize zeroRest keepFirst cutTo isKind zeroInode lessFree moreFree guarded createPlan writePlan shortenPlan holdsNone unlinkPlan isBelow renameTo renamePlan roomIn makeRoom freshHeader emptyRoot freshStore freshDesk isLocked startImage startDesk nextInode targetBlock lockedStep freeStep stepOf copiedEntry copiedEntries copiedBlock putCounts finishImage deskFramed imageBlocks imageAllowed isRunning blocksFit deskFits imageFits notesFit hasSlot slotNames isNamed outcome next run liveCreate liveWrite liveShorten liveUnlink liveRename started start step isCopied noteMade noteTaken cutsImage cutImage zeroed
+unfolding fresh desk.reservedZero allBelow someBelow leadsB count firstFrom first table part splice numAt toBytes putNum wordBytes digit marked withMark withoutMark entryInode isEmpty sameByte sameName nameLength entryName legalEntry entryFor plainByte isDots legalName blockOf putInBlock zeroBlock blocksUsed kthBlock isFree freeInode named freeBlock headerOf putFree putComplete putHeader reservedZero kindOf spareOf linksOf sizeOf parentOf putLinks attributeEntry putAttributes addressOf putAddress addressesOf putAddresses inodeOf putInode slots slotAt entryOf slotNamed findSlot slotEmpty emptySlot putEntry clearEntry deskOf putDesk copiedOf putCopied marksOf putMarks markOf setMark clearMark clearNotes sameNames namedB newNameB entryB attributesB addressesB zeroTailB inodeB countedB leadB isSlot entryAt filled naming framedB headerB freeCountsB zeroBlockB blanksB bodyB soundB enter created written dropLink unlinked setParent moved putFile addBlock addBlocks putSize zeroRest keepFirst cutTo isKind zeroInode lessFree moreFree guardOf createPlan writePlan shortenPlan holdsNone unlinkPlan isBelow renameTo renamePlan roomIn makeRoom freshHeader emptyRoot freshStore freshDesk isLocked anyLocked startImage startDesk nextInode targetBlock lockedStep freeStep stepOf copiedEntry copiedEntries copiedBlock putCounts finishImage deskFramed imageBlocks imageAllowed isRunning blocksFit deskFits imageFits notesFit hasSlot slotNames isNamed outcome next run threeGuards decision live guarded started start step isCopied noteMade noteTaken cutsImage cutImage cutEntries clearMarks setMarks zeroed
 finish = more refl refl (more refl refl (last refl))
 
 -- the image and the desk when the list has run: what is asked of them is read off
@@ -66,20 +66,20 @@ pub reused-block : (deskOf (run reusedBlock (fresh 3 3) .desk) .state ≡ finish
     × ((kthBlock (run reusedBlock (fresh 3 3) .image) 3 3 0 ≡ 3)
     × ((blockOf (run reusedBlock (fresh 3 3) .image) 3 3 ≡ replicate 10 5 ++ replicate 54 0)
     × (sizeOf (run reusedBlock (fresh 3 3) .image) 3 ≡ 10))))))
-unfolding fresh reusedBlock live.guarded desk.reservedZero allBelow someBelow leadsB count firstFrom first table part splice numAt toBytes putNum wordBytes digit marked withMark withoutMark entryInode isEmpty sameByte sameName nameLength entryName legalEntry entryFor plainByte isDots legalName blockOf putInBlock zeroBlock blocksUsed kthBlock isFree freeInode named freeBlock headerOf putFree putComplete putHeader reservedZero kindOf spareOf linksOf sizeOf parentOf putLinks attributeEntry putAttributes addressOf putAddress addressesOf putAddresses inodeOf putInode slots slotAt entryOf slotNamed findSlot slotEmpty emptySlot putEntry clearEntry deskOf putDesk copiedOf putCopied marksOf putMarks markOf setMark clearMark clearNotes sameNames namedB newNameB entryB attributesB addressesB zeroTailB inodeB countedB leadB isSlot entryAt filled naming framedB headerB freeCountsB zeroBlockB blanksB bodyB soundB enter created written dropLink unlinked setParent moved putFile addBlock addBlocks putSize zeroRest keepFirst cutTo isKind zeroInode lessFree moreFree guarded createPlan writePlan shortenPlan holdsNone unlinkPlan isBelow renameTo renamePlan roomIn makeRoom freshHeader emptyRoot freshStore freshDesk isLocked startImage startDesk nextInode targetBlock lockedStep freeStep stepOf copiedEntry copiedEntries copiedBlock putCounts finishImage deskFramed imageBlocks imageAllowed isRunning blocksFit deskFits imageFits notesFit hasSlot slotNames isNamed outcome next run liveCreate liveWrite liveShorten liveUnlink liveRename started start step isCopied noteMade noteTaken cutsImage cutImage zeroed
+unfolding fresh reusedBlock desk.reservedZero allBelow someBelow leadsB count firstFrom first table part splice numAt toBytes putNum wordBytes digit marked withMark withoutMark entryInode isEmpty sameByte sameName nameLength entryName legalEntry entryFor plainByte isDots legalName blockOf putInBlock zeroBlock blocksUsed kthBlock isFree freeInode named freeBlock headerOf putFree putComplete putHeader reservedZero kindOf spareOf linksOf sizeOf parentOf putLinks attributeEntry putAttributes addressOf putAddress addressesOf putAddresses inodeOf putInode slots slotAt entryOf slotNamed findSlot slotEmpty emptySlot putEntry clearEntry deskOf putDesk copiedOf putCopied marksOf putMarks markOf setMark clearMark clearNotes sameNames namedB newNameB entryB attributesB addressesB zeroTailB inodeB countedB leadB isSlot entryAt filled naming framedB headerB freeCountsB zeroBlockB blanksB bodyB soundB enter created written dropLink unlinked setParent moved putFile addBlock addBlocks putSize zeroRest keepFirst cutTo isKind zeroInode lessFree moreFree guardOf createPlan writePlan shortenPlan holdsNone unlinkPlan isBelow renameTo renamePlan roomIn makeRoom freshHeader emptyRoot freshStore freshDesk isLocked anyLocked startImage startDesk nextInode targetBlock lockedStep freeStep stepOf copiedEntry copiedEntries copiedBlock putCounts finishImage deskFramed imageBlocks imageAllowed isRunning blocksFit deskFits imageFits notesFit hasSlot slotNames isNamed outcome next run threeGuards decision live guarded started start step isCopied noteMade noteTaken cutsImage cutImage cutEntries clearMarks setMarks zeroed
 reused-block = (refl, (refl, (refl, (refl, (refl, (refl, refl))))))
 
 pub moved-directory : (deskOf (run movedDirectory (fresh 3 3) .desk) .state ≡ finished)
     × ((tally (naming (run movedDirectory (fresh 3 3) .image) 3) (mostSlots * 3) 2 ≡ 1)
     × (naming (run movedDirectory (fresh 3 3) .image) 3 0 ≡ 2))
-unfolding fresh movedDirectory live.guarded desk.reservedZero allBelow someBelow leadsB count firstFrom first table part splice numAt toBytes putNum wordBytes digit marked withMark withoutMark entryInode isEmpty sameByte sameName nameLength entryName legalEntry entryFor plainByte isDots legalName blockOf putInBlock zeroBlock blocksUsed kthBlock isFree freeInode named freeBlock headerOf putFree putComplete putHeader reservedZero kindOf spareOf linksOf sizeOf parentOf putLinks attributeEntry putAttributes addressOf putAddress addressesOf putAddresses inodeOf putInode slots slotAt entryOf slotNamed findSlot slotEmpty emptySlot putEntry clearEntry deskOf putDesk copiedOf putCopied marksOf putMarks markOf setMark clearMark clearNotes sameNames namedB newNameB entryB attributesB addressesB zeroTailB inodeB countedB leadB isSlot entryAt filled naming framedB headerB freeCountsB zeroBlockB blanksB bodyB soundB enter created written dropLink unlinked setParent moved putFile addBlock addBlocks putSize zeroRest keepFirst cutTo isKind zeroInode lessFree moreFree guarded createPlan writePlan shortenPlan holdsNone unlinkPlan isBelow renameTo renamePlan roomIn makeRoom freshHeader emptyRoot freshStore freshDesk isLocked startImage startDesk nextInode targetBlock lockedStep freeStep stepOf copiedEntry copiedEntries copiedBlock putCounts finishImage deskFramed imageBlocks imageAllowed isRunning blocksFit deskFits imageFits notesFit hasSlot slotNames isNamed outcome next run liveCreate liveWrite liveShorten liveUnlink liveRename started start step isCopied noteMade noteTaken cutsImage cutImage zeroed
+unfolding fresh movedDirectory desk.reservedZero allBelow someBelow leadsB count firstFrom first table part splice numAt toBytes putNum wordBytes digit marked withMark withoutMark entryInode isEmpty sameByte sameName nameLength entryName legalEntry entryFor plainByte isDots legalName blockOf putInBlock zeroBlock blocksUsed kthBlock isFree freeInode named freeBlock headerOf putFree putComplete putHeader reservedZero kindOf spareOf linksOf sizeOf parentOf putLinks attributeEntry putAttributes addressOf putAddress addressesOf putAddresses inodeOf putInode slots slotAt entryOf slotNamed findSlot slotEmpty emptySlot putEntry clearEntry deskOf putDesk copiedOf putCopied marksOf putMarks markOf setMark clearMark clearNotes sameNames namedB newNameB entryB attributesB addressesB zeroTailB inodeB countedB leadB isSlot entryAt filled naming framedB headerB freeCountsB zeroBlockB blanksB bodyB soundB enter created written dropLink unlinked setParent moved putFile addBlock addBlocks putSize zeroRest keepFirst cutTo isKind zeroInode lessFree moreFree guardOf createPlan writePlan shortenPlan holdsNone unlinkPlan isBelow renameTo renamePlan roomIn makeRoom freshHeader emptyRoot freshStore freshDesk isLocked anyLocked startImage startDesk nextInode targetBlock lockedStep freeStep stepOf copiedEntry copiedEntries copiedBlock putCounts finishImage deskFramed imageBlocks imageAllowed isRunning blocksFit deskFits imageFits notesFit hasSlot slotNames isNamed outcome next run threeGuards decision live guarded started start step isCopied noteMade noteTaken cutsImage cutImage cutEntries clearMarks setMarks zeroed
 moved-directory = (refl, (refl, refl))
 
 pub unlinked-file : (deskOf (run unlinkedFile (fresh 2 2) .desk) .state ≡ finished)
     × (tally (naming (run unlinkedFile (fresh 2 2) .image) 2) (mostSlots * 2) 2 ≡ 0)
-unfolding fresh unlinkedFile live.guarded desk.reservedZero allBelow someBelow leadsB count firstFrom first table part splice numAt toBytes putNum wordBytes digit marked withMark withoutMark entryInode isEmpty sameByte sameName nameLength entryName legalEntry entryFor plainByte isDots legalName blockOf putInBlock zeroBlock blocksUsed kthBlock isFree freeInode named freeBlock headerOf putFree putComplete putHeader reservedZero kindOf spareOf linksOf sizeOf parentOf putLinks attributeEntry putAttributes addressOf putAddress addressesOf putAddresses inodeOf putInode slots slotAt entryOf slotNamed findSlot slotEmpty emptySlot putEntry clearEntry deskOf putDesk copiedOf putCopied marksOf putMarks markOf setMark clearMark clearNotes sameNames namedB newNameB entryB attributesB addressesB zeroTailB inodeB countedB leadB isSlot entryAt filled naming framedB headerB freeCountsB zeroBlockB blanksB bodyB soundB enter created written dropLink unlinked setParent moved putFile addBlock addBlocks putSize zeroRest keepFirst cutTo isKind zeroInode lessFree moreFree guarded createPlan writePlan shortenPlan holdsNone unlinkPlan isBelow renameTo renamePlan roomIn makeRoom freshHeader emptyRoot freshStore freshDesk isLocked startImage startDesk nextInode targetBlock lockedStep freeStep stepOf copiedEntry copiedEntries copiedBlock putCounts finishImage deskFramed imageBlocks imageAllowed isRunning blocksFit deskFits imageFits notesFit hasSlot slotNames isNamed outcome next run liveCreate liveWrite liveShorten liveUnlink liveRename started start step isCopied noteMade noteTaken cutsImage cutImage zeroed
+unfolding fresh unlinkedFile desk.reservedZero allBelow someBelow leadsB count firstFrom first table part splice numAt toBytes putNum wordBytes digit marked withMark withoutMark entryInode isEmpty sameByte sameName nameLength entryName legalEntry entryFor plainByte isDots legalName blockOf putInBlock zeroBlock blocksUsed kthBlock isFree freeInode named freeBlock headerOf putFree putComplete putHeader reservedZero kindOf spareOf linksOf sizeOf parentOf putLinks attributeEntry putAttributes addressOf putAddress addressesOf putAddresses inodeOf putInode slots slotAt entryOf slotNamed findSlot slotEmpty emptySlot putEntry clearEntry deskOf putDesk copiedOf putCopied marksOf putMarks markOf setMark clearMark clearNotes sameNames namedB newNameB entryB attributesB addressesB zeroTailB inodeB countedB leadB isSlot entryAt filled naming framedB headerB freeCountsB zeroBlockB blanksB bodyB soundB enter created written dropLink unlinked setParent moved putFile addBlock addBlocks putSize zeroRest keepFirst cutTo isKind zeroInode lessFree moreFree guardOf createPlan writePlan shortenPlan holdsNone unlinkPlan isBelow renameTo renamePlan roomIn makeRoom freshHeader emptyRoot freshStore freshDesk isLocked anyLocked startImage startDesk nextInode targetBlock lockedStep freeStep stepOf copiedEntry copiedEntries copiedBlock putCounts finishImage deskFramed imageBlocks imageAllowed isRunning blocksFit deskFits imageFits notesFit hasSlot slotNames isNamed outcome next run threeGuards decision live guarded started start step isCopied noteMade noteTaken cutsImage cutImage cutEntries clearMarks setMarks zeroed
 unlinked-file = (refl, refl)
 
 pub into-child : outcome (call (rename 1 nameA 3 nameA)) (run parentAndChild (fresh 3 3)) .answer ≡ Refused IntoItself
-unfolding fresh parentAndChild live.guarded desk.reservedZero allBelow someBelow leadsB count firstFrom first table part splice numAt toBytes putNum wordBytes digit marked withMark withoutMark entryInode isEmpty sameByte sameName nameLength entryName legalEntry entryFor plainByte isDots legalName blockOf putInBlock zeroBlock blocksUsed kthBlock isFree freeInode named freeBlock headerOf putFree putComplete putHeader reservedZero kindOf spareOf linksOf sizeOf parentOf putLinks attributeEntry putAttributes addressOf putAddress addressesOf putAddresses inodeOf putInode slots slotAt entryOf slotNamed findSlot slotEmpty emptySlot putEntry clearEntry deskOf putDesk copiedOf putCopied marksOf putMarks markOf setMark clearMark clearNotes sameNames namedB newNameB entryB attributesB addressesB zeroTailB inodeB countedB leadB isSlot entryAt filled naming framedB headerB freeCountsB zeroBlockB blanksB bodyB soundB enter created written dropLink unlinked setParent moved putFile addBlock addBlocks putSize zeroRest keepFirst cutTo isKind zeroInode lessFree moreFree guarded createPlan writePlan shortenPlan holdsNone unlinkPlan isBelow renameTo renamePlan roomIn makeRoom freshHeader emptyRoot freshStore freshDesk isLocked startImage startDesk nextInode targetBlock lockedStep freeStep stepOf copiedEntry copiedEntries copiedBlock putCounts finishImage deskFramed imageBlocks imageAllowed isRunning blocksFit deskFits imageFits notesFit hasSlot slotNames isNamed outcome next run liveCreate liveWrite liveShorten liveUnlink liveRename started start step isCopied noteMade noteTaken cutsImage cutImage zeroed
+unfolding fresh parentAndChild desk.reservedZero allBelow someBelow leadsB count firstFrom first table part splice numAt toBytes putNum wordBytes digit marked withMark withoutMark entryInode isEmpty sameByte sameName nameLength entryName legalEntry entryFor plainByte isDots legalName blockOf putInBlock zeroBlock blocksUsed kthBlock isFree freeInode named freeBlock headerOf putFree putComplete putHeader reservedZero kindOf spareOf linksOf sizeOf parentOf putLinks attributeEntry putAttributes addressOf putAddress addressesOf putAddresses inodeOf putInode slots slotAt entryOf slotNamed findSlot slotEmpty emptySlot putEntry clearEntry deskOf putDesk copiedOf putCopied marksOf putMarks markOf setMark clearMark clearNotes sameNames namedB newNameB entryB attributesB addressesB zeroTailB inodeB countedB leadB isSlot entryAt filled naming framedB headerB freeCountsB zeroBlockB blanksB bodyB soundB enter created written dropLink unlinked setParent moved putFile addBlock addBlocks putSize zeroRest keepFirst cutTo isKind zeroInode lessFree moreFree guardOf createPlan writePlan shortenPlan holdsNone unlinkPlan isBelow renameTo renamePlan roomIn makeRoom freshHeader emptyRoot freshStore freshDesk isLocked anyLocked startImage startDesk nextInode targetBlock lockedStep freeStep stepOf copiedEntry copiedEntries copiedBlock putCounts finishImage deskFramed imageBlocks imageAllowed isRunning blocksFit deskFits imageFits notesFit hasSlot slotNames isNamed outcome next run threeGuards decision live guarded started start step isCopied noteMade noteTaken cutsImage cutImage cutEntries clearMarks setMarks zeroed
 into-child = refl

@@ -24,10 +24,12 @@ use Rattle.desk.specs.Desk.{deskOf}
 use Rattle.sound.specs.declared.Form.the-variants.{Store}
 use Rattle.sound.proofs.SoundLaws.{is-sound}
 use Rattle.entries.specs.declared.Kind.{Kind}
-use Rattle.files.specs.Plain.{create, write}
+use Rattle.files.specs.Effect.{create, write}
 use Rattle.checkpoint.specs.Fit.{isRunning, imageAllowed, imageBlocks, blocksFit, deskFits, imageFits, notesFit}
 use Rattle.checkpoint.specs.Table.{createTable, writeTable, startTable}
-use Rattle.checkpoint.specs.List.{World, Ready, call, starts, outcome}
+use Rattle.checkpoint.specs.Busy.{anyLocked}
+use Rattle.checkpoint.specs.Live.{World}
+use Rattle.checkpoint.specs.List.{Ready, call, starts, outcome}
 use Rattle.checkpoint.proofs.TableLaws.{create-table, write-table, start-table}
 use Rattle.cases.specs.Cases.{TrackCases, Writes, Creates, inodes}
 use Rattle.cases.proofs.Runs.{three-steps, finish, reused-block, moved-directory, unlinked-file, into-child}
@@ -35,10 +37,10 @@ use Rattle.cases.proofs.Runs.{three-steps, finish, reused-block, moved-
 -- a create of a legal name in an empty slot
 created : (w : World) (d : ℕ) (name : List ℕ) (k : Kind) (c : Creates w d name) (t : ℕ) → legalName name ≡ true → emptySlot (w .store) (inodes w) d ≡ At t
     → outcome (call (create d name k)) w .answer ≡ Done (c .inode)
-unfolding outcome createTable
+unfolding outcome createTable anyLocked
 created w d name k c t l u =
     let r = c .ready in
-    create-table (w .store) (w .image) (w .desk) d name k
+    create-table w d name k
     ∙ rw (r .framed, r .desk, r .sound, r .notes, l, c .directory, c .new, c .free, u, c .idle)
 
 -- ---- names
@@ -56,9 +58,9 @@ fifteen-illegal : (name : List ℕ) → length name ≡ 15 → legalName name �
 fifteen-illegal name e = fails (legalName name) (λ t. let b = legal-bounds name t in let c = b .1 in omega arith)
 
 fifteen : (w : World) (d : ℕ) (name : List ℕ) (k : Kind) → Ready w → length name ≡ 15 → outcome (call (create d name k)) w .answer ≡ Refused IllegalName
-unfolding outcome createTable
+unfolding outcome createTable anyLocked
 fifteen w d name k r e =
-    create-table (w .store) (w .image) (w .desk) d name k
+    create-table w d name k
     ∙ rw (r .framed, r .desk, r .sound, r .notes, fifteen-illegal name e)
 
 fourteen : (w : World) (d t : ℕ) (name : List ℕ) (k : Kind) (c : Creates w d name) → length name ≡ 14
@@ -79,12 +81,12 @@ file-size w i r f =
 
 module _ (w : World) (i o : ℕ) (xs : List ℕ) (h : Writes w i o xs) where
   write-done : o ≤ sizeOf (w .store) i → o + length xs ≤ 768 → outcome (call (write i o xs)) w .answer ≡ Done (max (sizeOf (w .store) i) (o + length xs))
-  unfolding outcome writeTable
+  unfolding outcome writeTable anyLocked
   write-done a b =
       let r = h .ready in
       let z : sizeOf (w .store) i ≤ 768 = file-size w i r (h .file) in
       let f = h .free (max (sizeOf (w .store) i) (o + length xs)) (omega arith) in
-      write-table (w .store) (w .image) (w .desk) i o xs
+      write-table w i o xs
       ∙ rw (
         r .framed,
         r .desk,
@@ -98,10 +100,10 @@ module _ (w : World) (i o : ℕ) (xs : List ℕ) (h : Writes w i o xs) where
       )
 
   write-refused : ltb (sizeOf (w .store) i) o || ltb mostFileBytes (o + length xs) ≡ true → outcome (call (write i o xs)) w .answer ≡ Refused PastEnd
-  unfolding outcome writeTable
+  unfolding outcome writeTable anyLocked
   write-refused q =
       let r = h .ready in
-      write-table (w .store) (w .image) (w .desk) i o xs
+      write-table w i o xs
       ∙ rw (r .framed, r .desk, r .sound, r .notes, h .file, q)
 
   to-768 : o ≤ sizeOf (w .store) i → o + length xs ≡ 768 → outcome (call (write i o xs)) w .answer ≡ Done 768
@@ -138,10 +140,10 @@ module _ (w : World) (d : ℕ) (name : List ℕ) (k : Kind) (c : Creates w d nam
   twelve = omega arith
 
   no-slot : ((t : ℕ) → t < 48 → slotEmpty (w .store) (inodes w) d t ≡ false) → outcome (call (create d name k)) w .answer ≡ Refused NoSlot
-  unfolding outcome createTable
+  unfolding outcome createTable anyLocked
   no-slot h =
       let r = c .ready in
-      create-table (w .store) (w .image) (w .desk) d name k
+      create-table w d name k
       ∙ rw (r .framed, r .desk, r .sound, r .notes, legal-name, c .directory, c .new, c .free, none h, twelve)
 
 -- the image of a running copy has a length that a start allows

@@ -20,10 +20,11 @@ use Rattle.answers.specs.declared.Answer.the-variants.{Done, Refused}
 use Rattle.sound.specs.Sound.{inodesIn, blocksIn}
 use Rattle.sound.specs.Place.{naming}
 use Rattle.entries.specs.declared.Kind.{Kind}
-use Rattle.files.specs.Plain.{create, write, rename}
+use Rattle.files.specs.Effect.{create, write, rename}
 use Rattle.checkpoint.specs.Fit.{isRunning}
-use Rattle.checkpoint.specs.Busy.{busyOne}
-use Rattle.checkpoint.specs.List.{World, Ready, call, steps, starts, outcome, next, run, Finish}
+use Rattle.checkpoint.specs.Busy.{isLocked}
+use Rattle.checkpoint.specs.Live.{World}
+use Rattle.checkpoint.specs.List.{Ready, call, steps, starts, outcome, next, run, Finish}
 use Rattle.cases.specs.Worlds.{fresh, nameA, reusedBlock, movedDirectory, unlinkedFile, parentAndChild}
 
 -- the counts of the world's store
@@ -38,7 +39,7 @@ pub record Writes (w : World) (i o : ℕ) (xs : List ℕ) : Type 0 where
   pub ready : Ready w
   pub file : isFile (w .store) (inodes w) i ≡ true
   pub free : (z : ℕ) → z ≤ mostFileBytes → blocksUsed z - blocksUsed (sizeOf (w .store) i) ≤ headerOf (w .store) .«free_blocks»
-  pub idle : busyOne (w .desk) i ≡ false
+  pub idle : isLocked (w .desk) i ≡ false
 
 -- a create of a new name in the directory d, of no locked inode, with an inode to be had
 pub record Creates (w : World) (d : ℕ) (name : List ℕ) : Type 0 where
@@ -47,7 +48,7 @@ pub record Creates (w : World) (d : ℕ) (name : List ℕ) : Type 0 where
   pub new : findSlot (w .store) (inodes w) d name ≡ Absent
   pub inode : ℕ
   pub free : freeInode (w .store) (inodes w) ≡ At inode
-  pub idle : busyOne (w .desk) d ≡ false
+  pub idle : isLocked (w .desk) d ≡ false
 
 pub record TrackCases : Type 0 where
   -- "N 1, empty root: three steps finish."

@@ -5,8 +5,9 @@ use lib.ListN.{replicate}
 use Rattle.layout.specs.Block.{storeLength}
 use Rattle.format.specs.Format.{freshStore, freshDesk}
 use Rattle.entries.specs.declared.Kind.the-variants.{File, Directory}
-use Rattle.files.specs.Plain.{create, write, shorten, unlink, rename}
-use Rattle.checkpoint.specs.List.{World, Event, call, steps, starts}
+use Rattle.files.specs.Effect.{create, write, shorten, unlink, rename}
+use Rattle.checkpoint.specs.Live.{World}
+use Rattle.checkpoint.specs.List.{Event, call, steps, starts}
 
 -- a fresh store of n inodes and b blocks, an image of as many blocks and a fresh desk
 unfoldable pub fresh : ℕ → ℕ → World

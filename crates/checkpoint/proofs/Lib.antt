@@ -1,2 +1,10 @@
+pub mod ConditionLaws
+pub mod DecisionLaws
+pub mod PlainAnswers
 pub mod PlainLaws
+pub mod RefusedLaws
+pub mod RowLaws
 pub mod TableLaws
+pub mod Copy
+pub mod Run
+pub mod Demands

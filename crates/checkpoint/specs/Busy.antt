@@ -1,23 +1,25 @@
--- Refusal 14, "busy: a write or shortening of the locked inode; a create, link, unlink or rename in a locked directory; a link to, unlink or move of the locked inode". d is the desk.
+-- Refusal 14, "busy: a write or shortening of the locked inode; a create, link, unlink or rename in a locked directory; a link to, unlink or move of the locked inode": the copy has locked one of the inodes that the call's effect touches.
+-- These are: of a write or shortening, the file; of a create, the directory; of a link or unlink, the directory and the inode linked to or unlinked; of a rename within a directory, the directory; of a move, which is a rename in both, the two directories and the inode moved; of look up and read, none.
 use Prim.Native.Nat.{ℕ}
-use mathlib.Core.Bool.{Bool, _&&_, _||_}
-use mathlib.Core.List.{List}
+use mathlib.Core.Bool.{Bool, false, _&&_, _||_}
+use mathlib.Core.List.{List, [], _∷_}
 use lib.Dec.{eqb}
+use Rattle.bounded.specs.Search.{pick}
 use Rattle.desk.specs.Desk.{deskOf}
+use Rattle.answers.specs.declared.Refusal.the-variants.{Busy}
+use Rattle.files.specs.Effect.{Planned, refused, does}
 use Rattle.checkpoint.specs.Fit.{isRunning}
 
--- inode i is locked by a running copy
+-- inode i is locked by a running copy. d is the desk
 unfoldable pub isLocked : List ℕ → ℕ → Bool
 isLocked d i = isRunning d && eqb (deskOf d .locked) i
 
--- a write or shortening of i; a create or rename in i
-abbrev pub busyOne : List ℕ → ℕ → Bool
-busyOne d i = isLocked d i
+-- one of them is
+unfoldable pub anyLocked : List ℕ → List ℕ → Bool
+anyLocked d [] = false
+anyLocked d (i ∷ is) = isLocked d i || anyLocked d is
 
--- a link to or unlink of i in the directory e
-abbrev pub busyTwo : List ℕ → ℕ → ℕ → Bool
-busyTwo d e i = isLocked d e || isLocked d i
-
--- a move of i from the directory e to f
-abbrev pub busyMove : List ℕ → ℕ → ℕ → ℕ → Bool
-busyMove d e f i = isLocked d e || (isLocked d f || isLocked d i)
+-- 14 comes after the plan's refusals
+abbrev pub unlessBusy : List ℕ → Planned → Planned
+unlessBusy d (does x) = pick (anyLocked d (x .touches)) (refused Busy) (does x)
+unlessBusy d (refused e) = refused e

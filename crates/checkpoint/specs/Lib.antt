@@ -6,4 +6,6 @@ pub mod Copier
 pub mod Live
 pub mod Table
 pub mod List
+pub mod Finished
+pub mod Progress
 pub mod Demand

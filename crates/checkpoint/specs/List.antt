@@ -1,14 +1,12 @@
 -- "The list in demand 3": events, what each does and answers, the run of a list, and what stood untouched, from calls and stores alone.
-use Prim.Native.Nat.{ℕ, suc, _+_, _*_}
+use Prim.Native.Nat.{ℕ, suc}
 use mathlib.Core.Path.{_≡_}
-use mathlib.Core.Bool.{Bool, true, false, _&&_}
+use mathlib.Core.Bool.{Bool, true, false, _&&_, _||_}
 use mathlib.Core.List.{List, [], _∷_}
 use lib.Dec.{eqb}
 use Rattle.bounded.specs.Search.{pick}
-use Rattle.bounded.specs.declared.Found.the-variants.{At}
 use Rattle.layout.specs.Sizes.{rootInode, isComplete}
 use Rattle.layout.specs.Header.{headerOf}
-use Rattle.directory.specs.Slot.{mostSlots, findSlot}
 use Rattle.answers.specs.declared.Answer.{Answer}
 use Rattle.answers.specs.declared.Refusal.the-variants.{Busy}
 use Rattle.answers.specs.Refusal.{refusalNumber}
@@ -18,15 +16,9 @@ use Rattle.sound.specs.Sound.{inodesIn, framedB, isSound}
 use Rattle.sound.specs.declared.Form.the-variants.{Store}
 use Rattle.checkpoint.specs.Fit.{deskFramed, notesFit}
 use Rattle.sound.specs.Place.{dirOf, filled, naming}
-use Rattle.files.specs.Plain.{Call, lookUp, read, create, write, shorten, link, unlink, rename, plainLookUp, plainRead, plain}
-use Rattle.files.specs.Plain as files
-use Rattle.checkpoint.specs.Live.{Outcome, left, liveCreate, liveWrite, liveShorten, liveLink, liveUnlink, liveRename, start, step, ask}
-
--- the three buffers
-pub record World : Type 0 where
-  pub store : List ℕ
-  pub image : List ℕ
-  pub desk : List ℕ
+use Rattle.files.specs.Effect.{Call, Entry, placeIn, onPlanned, plainDecision}
+use Rattle.files.specs.Plain.{plain}
+use Rattle.checkpoint.specs.Live.{World, Outcome, live, outOf, start, step, ask}
 
 -- refusals 1, 2 and 3 do not come
 pub record Ready (w : World) : Type 0 where
@@ -42,35 +34,9 @@ pub data Event : Type 0 where
   asks : Event
   starts : Event
 
--- ---- what the library does to one file call
--- "Look up and read take the store alone"
-abbrev pub fromStore : files.Outcome → World → Outcome
-fromStore o w = left (o .answer) (o .store) (w .image) (w .desk)
-
-abbrev pub liveCall : Call → World → Outcome
-liveCall (lookUp d name) w = fromStore (plainLookUp (w .store) d name) w
-liveCall (read i o out) w = fromStore (plainRead (w .store) i o out) w
-liveCall (create d name k) w = liveCreate (w .store) (w .image) (w .desk) d name k
-liveCall (write i o xs) w = liveWrite (w .store) (w .image) (w .desk) i o xs
-liveCall (shorten i z) w = liveShorten (w .store) (w .image) (w .desk) i z
-liveCall (link d name i) w = liveLink (w .store) (w .image) (w .desk) d name i
-liveCall (unlink d name) w = liveUnlink (w .store) (w .image) (w .desk) d name
-liveCall (rename d name e other) w = liveRename (w .store) (w .image) (w .desk) d name e other
-
--- a read's out-buffer after the call
-abbrev pub outOf : Call → World → List ℕ
-outOf (lookUp d name) w = []
-outOf (read i o out) w = plainRead (w .store) i o out .out
-outOf (create d name k) w = []
-outOf (write i o xs) w = []
-outOf (shorten i z) w = []
-outOf (link d name i) w = []
-outOf (unlink d name) w = []
-outOf (rename d name e other) w = []
-
 -- ---- one event
 unfoldable pub outcome : Event → World → Outcome
-outcome (call c) w = liveCall c w
+outcome (call c) w = live c w
 outcome steps w = step (w .store) (w .image) (w .desk)
 outcome asks w = ask (w .store) (w .image) (w .desk)
 outcome starts w = start (w .store) (w .image) (w .desk)
@@ -115,31 +81,25 @@ pub data Finish : List Event → World → Type 0 where
   more : {e : Event} {es : List Event} {w : World} → restarts e w ≡ false → completes e w ≡ false → Finish es (next e w) → Finish (e ∷ es) w
 
 -- ---- entries: "a directory's slot, filled at the start; it is unlinked or moved when an accepted unlink or move empties it"
--- an accepted unlink or move takes the entry of the name from slot t of directory d: that of place p
-pub record TakesAt (s : List ℕ) (d : ℕ) (name : List ℕ) (p : ℕ) : Type 0 where
-  pub slot : ℕ
-  pub found : findSlot s (inodesIn s) d name ≡ At slot
-  pub at : p + mostSlots ≡ mostSlots * d + slot
+-- the entries that a call takes out of the store s; only unlink and move take any
+abbrev pub takenFrom : Call → List ℕ → List Entry
+takenFrom c s = onPlanned (plainDecision c s) (λ x. x .taken) (λ e. [])
 
-abbrev pub TakenBy : Call → World → ℕ → Type 0
-TakenBy (unlink d name) w p = TakesAt (w .store) d name p
-TakenBy (rename d name e other) w p = (d ≡ e → ⊥) × TakesAt (w .store) d name p
-TakenBy (lookUp d name) w p = ⊥
-TakenBy (read i o out) w p = ⊥
-TakenBy (create d name k) w p = ⊥
-TakenBy (write i o xs) w p = ⊥
-TakenBy (shorten i z) w p = ⊥
-TakenBy (link d name i) w p = ⊥
+-- one of the entries stands at place p
+unfoldable pub anyAt : List Entry → ℕ → Bool
+anyAt [] p = false
+anyAt (x ∷ xs) p = eqb (placeIn x) p || anyAt xs p
 
-abbrev pub Takes : Event → World → ℕ → Type 0
-Takes (call c) w p = (accepted (call c) w ≡ true) × TakenBy c w p
-Takes steps w p = ⊥
-Takes asks w p = ⊥
-Takes starts w p = ⊥
+-- an accepted call takes the entry out of place p
+abbrev pub takes : Event → World → ℕ → Bool
+takes (call c) w p = accepted (call c) w && anyAt (takenFrom c (w .store)) p
+takes steps w p = false
+takes asks w p = false
+takes starts w p = false
 
 unfoldable pub Untouched : List Event → World → ℕ → Type 0
 Untouched [] w p = Unit {0}
-Untouched (e ∷ es) w p = (Takes e w p → ⊥) × Untouched es (next e w) p
+Untouched (e ∷ es) w p = (takes e w p ≡ false) × Untouched es (next e w) p
 
 -- the entry at p stood at the start, and neither it nor any above it was taken: "Above it is the entry that names its directory, and so on up to root."
 pub data Kept (es : List Event) (w : World) : ℕ → Type 0 where
@@ -156,7 +116,7 @@ acceptedSteps (asks ∷ es) w c = acceptedSteps es (next asks w) c
 
 -- ---- the plain store: "fed the list's file calls and their arguments in order, less those answered 14"
 abbrev pub isBusy : Call → World → Bool
-isBusy c w = eqb (refusalOf (liveCall c w .answer)) (refusalNumber Busy)
+isBusy c w = eqb (refusalOf (live c w .answer)) (refusalNumber Busy)
 
 -- what a file call answers: its answer, and a read's out-buffer
 pub record Reply : Type 0 where
@@ -168,7 +128,7 @@ unfoldable pub replies : List Event → World → List Reply
 replies [] w = []
 replies (call c ∷ es) w =
     pick (isBusy c w) (replies es (next (call c) w))
-    (record { answer = liveCall c w .answer; out = outOf c w } ∷ replies es (next (call c) w))
+    (record { answer = live c w .answer; out = outOf c w } ∷ replies es (next (call c) w))
 replies (steps ∷ es) w = replies es (next steps w)
 replies (asks ∷ es) w = replies es (next asks w)
 replies (starts ∷ es) w = replies es (next starts w)

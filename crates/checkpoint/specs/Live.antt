@@ -1,6 +1,6 @@
 -- The public calls over the three buffers: guards (1, 2, 3), the plain store's plan (4 to 13), busy (14), then the bytes. s is the store, m the image, d the desk.
 use Prim.Native.Nat.{ℕ, _+_}
-use mathlib.Core.Bool.{Bool, not, _&&_}
+use mathlib.Core.Bool.{Bool, true, false, not, _&&_}
 use mathlib.Core.List.{List}
 use lib.ListN.{length}
 use Rattle.bounded.specs.Search.{pick}
@@ -9,30 +9,25 @@ use Rattle.desk.specs.Desk.{deskOf}
 use Rattle.sound.specs.Sound.{framedB, isSound, inodesIn, blocksIn}
 use Rattle.sound.specs.declared.Form.the-variants.{Store}
 use Rattle.answers.specs.declared.Refusal.{Refusal}
-use Rattle.answers.specs.declared.Refusal.the-variants.{BadBuffer, UnsoundStore, BadDesk, Busy, WrongState, ImageFull}
+use Rattle.answers.specs.declared.Refusal.the-variants.{BadBuffer, UnsoundStore, BadDesk, WrongState, ImageFull}
 use Rattle.answers.specs.declared.Answer.{Answer}
 use Rattle.answers.specs.declared.Answer.the-variants.{Done, Refused}
-use Rattle.content.specs.declared.NumberPlan.{NumberPlan}
-use Rattle.content.specs.declared.NumberPlan.the-variants.{To, NoNumber}
-use Rattle.content.specs.Plan.{writePlan, shortenPlan}
-use Rattle.content.specs.Apply.{written, shortened}
-use Rattle.entries.specs.declared.Kind.{Kind}
-use Rattle.entries.specs.declared.CreatePlan.{CreatePlan}
-use Rattle.entries.specs.declared.LinkPlan.{LinkPlan}
-use Rattle.entries.specs.declared.UnlinkPlan.{UnlinkPlan}
-use Rattle.entries.specs.declared.RenamePlan.{RenamePlan}
-use Rattle.entries.specs.declared.CreatePlan.the-variants.{Make, NoCreate}
-use Rattle.entries.specs.declared.LinkPlan.the-variants.{Add, NoLink}
-use Rattle.entries.specs.declared.UnlinkPlan.the-variants.{Take, NoUnlink}
-use Rattle.entries.specs.declared.RenamePlan.the-variants.{Same, Rename, Move, NoRename}
-use Rattle.entries.specs.Plan.{createPlan, linkPlan, unlinkPlan, renamePlan}
-use Rattle.entries.specs.Apply.{created, linked, unlinked, renamed, moved}
+use Rattle.files.specs.declared.Guard.{Guard}
+use Rattle.files.specs.declared.Guard.the-variants.{Pass, Stop}
+use Rattle.files.specs.Guard.{guardOf, onGuard}
+use Rattle.files.specs.Effect.{Call, lookUp, read, create, write, shorten, link, unlink, rename, Planned, refused, does, onPlanned, planned, given}
 use Rattle.checkpoint.specs.declared.Status.{Status}
 use Rattle.checkpoint.specs.declared.Status.the-variants.{Is, NoStatus}
 use Rattle.checkpoint.specs.Fit.{deskFramed, imageAllowed, imageBlocks, isRunning, notesFit}
-use Rattle.checkpoint.specs.Busy.{busyOne, busyTwo, busyMove}
-use Rattle.checkpoint.specs.Notes.{noteMade, noteTaken, cutImage}
+use Rattle.checkpoint.specs.Busy.{unlessBusy}
+use Rattle.checkpoint.specs.Notes.{cutEntries, clearMarks, setMarks}
 use Rattle.checkpoint.specs.Copier.{startImage, startDesk, Step, lock, copy, close, finish, full, stepOf, stepImage, stepDesk}
+
+-- the three buffers
+pub record World : Type 0 where
+  pub store : List ℕ
+  pub image : List ℕ
+  pub desk : List ℕ
 
 -- what a call leaves: its answer, and the content of each buffer
 pub record Outcome : Type 0 where
@@ -49,64 +44,49 @@ abbrev pub refuse : Refusal → List ℕ → List ℕ → List ℕ → Outcome
 refuse e s m d = left (Refused e) s m d
 
 -- "looked at lowest first": 1, 2 and 3 by the buffers, before all others
+unfoldable pub threeGuards : List ℕ → List ℕ → List ℕ → Guard
+threeGuards s m d =
+    pick (not (framedB mostStoreBlocks s && deskFramed d)) (Stop BadBuffer)
+    (pick (not (isSound Store s)) (Stop UnsoundStore)
+    (pick (not (notesFit s m d)) (Stop BadDesk)
+    (Pass (inodesIn s) (blocksIn s))))
+
+-- ---- the file calls
+-- "Look up and read take the store alone"
+abbrev pub storeAlone : Call → Bool
+storeAlone (lookUp d name) = true
+storeAlone (read i o out) = true
+storeAlone (create d name k) = false
+storeAlone (write i o xs) = false
+storeAlone (shorten i z) = false
+storeAlone (link d name i) = false
+storeAlone (unlink d name) = false
+storeAlone (rename d name e other) = false
+
+abbrev pub guardsOf : Call → World → Guard
+guardsOf c w = pick (storeAlone c) (guardOf (w .store)) (threeGuards (w .store) (w .image) (w .desk))
+
+-- refusals 1 to 14 in order, or what is done
+unfoldable pub decision : Call → World → Planned
+decision c w = onGuard (guardsOf c w) (λ n b. unlessBusy (w .desk) (planned c (w .store) n b)) refused
+
+-- the store's bytes, then the image's entries and the marks, by what is taken out and made
+abbrev pub leavesIn : World → Planned → Outcome
+leavesIn w (does x) =
+    let n = inodesIn (w .store) in
+    left (Done (x .answer)) (x .store) (cutEntries (w .image) (w .desk) n (x .taken)) (setMarks (clearMarks (w .desk) n (x .taken)) n (x .made))
+leavesIn w (refused e) = refuse e (w .store) (w .image) (w .desk)
+
+unfoldable pub live : Call → World → Outcome
+live c w = leavesIn w (decision c w)
+
+-- a read's out-buffer after the call, [] for the other calls
+unfoldable pub outOf : Call → World → List ℕ
+outOf c w = onPlanned (decision c w) (λ x. x .out) (λ e. given c)
+
+-- ---- the other calls: what follows where 1, 2 and 3 do not come
 unfoldable pub guarded : List ℕ → List ℕ → List ℕ → Outcome → Outcome
-guarded s m d o =
-    pick (not (framedB mostStoreBlocks s && deskFramed d)) (refuse BadBuffer s m d)
-    (pick (not (isSound Store s)) (refuse UnsoundStore s m d)
-    (pick (not (notesFit s m d)) (refuse BadDesk s m d)
-    o))
-
--- 14, or what follows
-abbrev pub unless : Bool → List ℕ → List ℕ → List ℕ → Outcome → Outcome
-unless busy s m d o = pick busy (refuse Busy s m d) o
-
--- ---- what a plan does; n and b are the counts of inodes and blocks
-abbrev pub doCreate : List ℕ → List ℕ → List ℕ → ℕ → ℕ → List ℕ → Kind → CreatePlan → Outcome
-doCreate s m d n e name k (Make i r) = unless (busyOne d e) s m d (left (Done i) (created s n e name k i r) m (noteMade d n e (r .slot)))
-doCreate s m d n e name k (NoCreate f) = refuse f s m d
-
-abbrev pub doWrite : List ℕ → List ℕ → List ℕ → ℕ → ℕ → ℕ → ℕ → List ℕ → NumberPlan → Outcome
-doWrite s m d n b i o xs (To z) = unless (busyOne d i) s m d (left (Done z) (written s n b i o xs z) m d)
-doWrite s m d n b i o xs (NoNumber f) = refuse f s m d
-
-abbrev pub doShorten : List ℕ → List ℕ → List ℕ → ℕ → ℕ → NumberPlan → Outcome
-doShorten s m d n i (To z) = unless (busyOne d i) s m d (left (Done z) (shortened s n i z) m d)
-doShorten s m d n i (NoNumber f) = refuse f s m d
-
-abbrev pub doLink : List ℕ → List ℕ → List ℕ → ℕ → ℕ → List ℕ → ℕ → LinkPlan → Outcome
-doLink s m d n e name i (Add r) = unless (busyTwo d e i) s m d (left (Done 0) (linked s n e name i r) m (noteMade d n e (r .slot)))
-doLink s m d n e name i (NoLink f) = refuse f s m d
-
-abbrev pub doUnlink : List ℕ → List ℕ → List ℕ → ℕ → ℕ → UnlinkPlan → Outcome
-doUnlink s m d n e (Take t i) = unless (busyTwo d e i) s m d (left (Done 0) (unlinked s n e t i) (cutImage m d n e t i) (noteTaken d n e t))
-doUnlink s m d n e (NoUnlink f) = refuse f s m d
-
-abbrev pub doRename : List ℕ → List ℕ → List ℕ → ℕ → ℕ → ℕ → List ℕ → RenamePlan → Outcome
-doRename s m d n e f other Same = unless (busyOne d e) s m d (left (Done 0) s m d)
-doRename s m d n e f other (Rename t i) = unless (busyOne d e) s m d (left (Done 0) (renamed s n e other t i) m d)
-doRename s m d n e f other (Move t i r) =
-    unless (busyMove d e f i) s m d
-    (left (Done 0) (moved s n e f other t i r) (cutImage m d n e t i) (noteMade (noteTaken d n e t) n f (r .slot)))
-doRename s m d n e f other (NoRename g) = refuse g s m d
-
--- ---- the file calls that take all three buffers
-unfoldable pub liveCreate : List ℕ → List ℕ → List ℕ → ℕ → List ℕ → Kind → Outcome
-liveCreate s m d e name k = guarded s m d (doCreate s m d (inodesIn s) e name k (createPlan s (inodesIn s) (blocksIn s) e name))
-
-unfoldable pub liveWrite : List ℕ → List ℕ → List ℕ → ℕ → ℕ → List ℕ → Outcome
-liveWrite s m d i o xs = guarded s m d (doWrite s m d (inodesIn s) (blocksIn s) i o xs (writePlan s (inodesIn s) i o (length xs)))
-
-unfoldable pub liveShorten : List ℕ → List ℕ → List ℕ → ℕ → ℕ → Outcome
-liveShorten s m d i z = guarded s m d (doShorten s m d (inodesIn s) i (shortenPlan s (inodesIn s) i z))
-
-unfoldable pub liveLink : List ℕ → List ℕ → List ℕ → ℕ → List ℕ → ℕ → Outcome
-liveLink s m d e name i = guarded s m d (doLink s m d (inodesIn s) e name i (linkPlan s (inodesIn s) (blocksIn s) e name i))
-
-unfoldable pub liveUnlink : List ℕ → List ℕ → List ℕ → ℕ → List ℕ → Outcome
-liveUnlink s m d e name = guarded s m d (doUnlink s m d (inodesIn s) e (unlinkPlan s (inodesIn s) e name))
-
-unfoldable pub liveRename : List ℕ → List ℕ → List ℕ → ℕ → List ℕ → ℕ → List ℕ → Outcome
-liveRename s m d e name f other = guarded s m d (doRename s m d (inodesIn s) e f other (renamePlan s (inodesIn s) (blocksIn s) e name f other))
+guarded s m d o = onGuard (threeGuards s m d) (λ n b. o) (λ e. refuse e s m d)
 
 -- ---- start: 1 (the image too), 2, 3, 15
 unfoldable pub started : List ℕ → List ℕ → List ℕ → Outcome

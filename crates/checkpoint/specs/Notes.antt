@@ -1,11 +1,12 @@
 -- "While the copy runs, create, link and move set the new entry's mark, and unlink and move clear the old one". m is the image, d the desk, n the inode count, e a directory.
 use Prim.Native.Nat.{ℕ}
 use mathlib.Core.Bool.{Bool, not, _&&_}
-use mathlib.Core.List.{List}
+use mathlib.Core.List.{List, [], _∷_}
 use lib.Dec.{eqb, leb}
 use Rattle.bounded.specs.Search.{pick}
 use Rattle.desk.specs.Desk.{copiedOf, setMark, clearMark}
 use Rattle.directory.specs.Slot.{clearEntry}
+use Rattle.files.specs.Effect.{Entry}
 use Rattle.checkpoint.specs.Fit.{isRunning}
 use Rattle.checkpoint.specs.Image.{slotNames}
 
@@ -27,3 +28,16 @@ cutsImage m d n e t i = isRunning d && (isCopied d n e && (not (isCopied d n i) 
 
 unfoldable pub cutImage : List ℕ → List ℕ → ℕ → ℕ → ℕ → ℕ → List ℕ
 cutImage m d n e t i = pick (cutsImage m d n e t i) (clearEntry m n e t) m
+
+-- ---- the same for the entries that a call takes out, and those that it makes
+unfoldable pub cutEntries : List ℕ → List ℕ → ℕ → List Entry → List ℕ
+cutEntries m d n [] = m
+cutEntries m d n (x ∷ xs) = cutEntries (cutImage m d n (x .directory) (x .slot) (x .inode)) d n xs
+
+unfoldable pub clearMarks : List ℕ → ℕ → List Entry → List ℕ
+clearMarks d n [] = d
+clearMarks d n (x ∷ xs) = clearMarks (noteTaken d n (x .directory) (x .slot)) n xs
+
+unfoldable pub setMarks : List ℕ → ℕ → List Entry → List ℕ
+setMarks d n [] = d
+setMarks d n (x ∷ xs) = setMarks (noteMade d n (x .directory) (x .slot)) n xs

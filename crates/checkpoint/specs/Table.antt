@@ -24,7 +24,7 @@ use Rattle.answers.specs.declared.Answer.the-variants.{Refused}
 use Rattle.answers.specs.Refusal.{refusalNumber}
 use Rattle.entries.specs.Plan.{holdsNone, isBelow}
 use Rattle.checkpoint.specs.Fit.{deskFramed, imageAllowed, isRunning, notesFit}
-use Rattle.checkpoint.specs.Busy.{busyOne, busyTwo, busyMove}
+use Rattle.checkpoint.specs.Busy.{anyLocked}
 use Rattle.checkpoint.specs.Copier.{targetBlock}
 
 pub record Row : Type 0 where
@@ -102,7 +102,7 @@ createTable s m d e name =
     ∷ row (not (found (freeInode s (inodesIn s)))) NoInode
     ∷ row (noBlock s e) NoBlocks
     ∷ row (noSlot s e) NoSlot
-    ∷ row (busyOne d e) Busy
+    ∷ row (anyLocked d (e ∷ [])) Busy
     ∷ [])
 
 unfoldable pub writeTable : List ℕ → List ℕ → List ℕ → ℕ → ℕ → List ℕ → List Row
@@ -111,7 +111,7 @@ writeTable s m d i o xs =
     (row (not (isFile s (inodesIn s) i)) WrongInode
     ∷ row (ltb (sizeOf s i) o || ltb mostFileBytes (o + length xs)) PastEnd
     ∷ row (ltb (headerOf s .«free_blocks») (blocksUsed (max (sizeOf s i) (o + length xs)) - blocksUsed (sizeOf s i))) NoBlocks
-    ∷ row (busyOne d i) Busy
+    ∷ row (anyLocked d (i ∷ [])) Busy
     ∷ [])
 
 unfoldable pub shortenTable : List ℕ → List ℕ → List ℕ → ℕ → ℕ → List Row
@@ -119,7 +119,7 @@ shortenTable s m d i z =
     liveRows s m d
     (row (not (isFile s (inodesIn s) i)) WrongInode
     ∷ row (ltb (sizeOf s i) z) PastEnd
-    ∷ row (busyOne d i) Busy
+    ∷ row (anyLocked d (i ∷ [])) Busy
     ∷ [])
 
 unfoldable pub linkTable : List ℕ → List ℕ → List ℕ → ℕ → List ℕ → ℕ → List Row
@@ -130,7 +130,7 @@ linkTable s m d e name i =
     ∷ row (found (findSlot s (inodesIn s) e name)) NameTaken
     ∷ row (noBlock s e) NoBlocks
     ∷ row (noSlot s e) NoSlot
-    ∷ row (busyTwo d e i) Busy
+    ∷ row (anyLocked d (e ∷ i ∷ [])) Busy
     ∷ [])
 
 unfoldable pub unlinkTable : List ℕ → List ℕ → List ℕ → ℕ → List ℕ → List Row
@@ -141,7 +141,7 @@ unlinkTable s m d e name =
     ∷ row (not (isDirectory s (inodesIn s) e)) WrongInode
     ∷ row (not (found (findSlot s (inodesIn s) e name))) NameAbsent
     ∷ row (eqb (kindOf s i) directoryKind && not (holdsNone s (inodesIn s) i)) NotEmpty
-    ∷ row (busyTwo d e i) Busy
+    ∷ row (anyLocked d (e ∷ i ∷ [])) Busy
     ∷ [])
 
 -- "7 new name taken by another entry": 10, 12 and 13 are for a move alone
@@ -157,7 +157,7 @@ renameTable s m d e name f other =
     ∷ row (moves && isBelow s (inodesIn s) i f) IntoItself
     ∷ row (moves && noBlock s f) NoBlocks
     ∷ row (moves && noSlot s f) NoSlot
-    ∷ row (pick moves (busyMove d e f i) (busyOne d e)) Busy
+    ∷ row (anyLocked d (pick moves (e ∷ f ∷ i ∷ []) (e ∷ []))) Busy
     ∷ [])
 
 unfoldable pub startTable : List ℕ → List ℕ → List ℕ → List Row

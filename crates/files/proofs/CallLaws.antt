@@ -1,10 +1,9 @@
 -- The calls: what the guards let through, and each way that a call returns.
 use Prim.Native.Nat.{ℕ}
-use mathlib.Core.Path.{_≡_, refl, sym, ap, ap₂, _∙_}
-use mathlib.Core.Bool.{Bool, true, false, not}
+use mathlib.Core.Path.{_≡_, refl, sym, ap, _∙_}
+use mathlib.Core.Bool.{true, false}
 use mathlib.Core.List.{List}
 use native.Mathlib.Omega.{arith}
-use Rattle.bounded.specs.Search.{pick}
 use Rattle.bounded.proofs.SearchLaws.{pick-not}
 use Rattle.layout.specs.Sizes.{mostStoreBlocks}
 use Rattle.sound.specs.Sound.{Sound, framedB, isSound, inodesIn, blocksIn}
@@ -16,7 +15,8 @@ use Rattle.answers.specs.declared.Answer.the-variants.{Refused}
 use Rattle.files.specs.declared.Guard.{Guard}
 use Rattle.files.specs.declared.Guard.the-variants.{Pass, Stop}
 use Rattle.files.specs.Guard.{guardOf}
-use Rattle.files.specs.Plain.{Outcome, left, shown, guarded}
+use Rattle.files.specs.Effect.{Call, planned, plainDecision, given}
+use Rattle.files.specs.Plain.{Outcome, left, shown, leaves, plain}
 
 -- ---- the guards in code
 module _ (s : List ℕ) where
@@ -55,12 +55,12 @@ module _ (s : List ℕ) where
         blocks = cc (c .1);
       }
 
--- ---- a call returns: g is what the guard has answered, f the call by the store's counts, x what it leaves
-module _ (s out : List ℕ) (g : Guard) (e : g ≡ guardOf s) (f : ℕ → ℕ → Outcome) where
-  pub call-through : (n b : ℕ) (x : Outcome) → g ≡ Pass n b → x ≡ f n b → shown x ≡ shown (guarded s out f)
-  unfolding guarded
+-- ---- a call returns: g is what the guard has answered, x what it leaves
+module _ (c : Call) (s : List ℕ) (g : Guard) (e : g ≡ guardOf s) where
+  pub call-through : (n b : ℕ) (x : Outcome) → g ≡ Pass n b → x ≡ leaves s (given c) (planned c s n b) → shown x ≡ shown (plain c s)
+  unfolding plain plainDecision
   call-through n b x h q = let p = sym e ∙ h in rw p (ap shown q)
 
-  pub call-stopped : (w : Refusal) → g ≡ Stop w → shown (left (Refused w) s out) ≡ shown (guarded s out f)
-  unfolding guarded
+  pub call-stopped : (w : Refusal) → g ≡ Stop w → shown (left (Refused w) s (given c)) ≡ shown (plain c s)
+  unfolding plain plainDecision
   call-stopped w h = let p = sym e ∙ h in rw p refl

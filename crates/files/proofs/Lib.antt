@@ -1,3 +1,12 @@
+pub mod EffectFacts
+pub mod Lawful
+pub mod LawfulCalls
+pub mod LawfulContent
+pub mod LawfulEnter
+pub mod LawfulRename
+pub mod LawfulStays
+pub mod LawfulSteady
+pub mod LawfulUnlink
 pub mod CallLaws
 pub mod PlainKeeps
 pub mod PlainLaws

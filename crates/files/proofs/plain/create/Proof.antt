@@ -1,8 +1,6 @@
-use Prim.Native.Nat.{ℕ}
 use mathlib.Core.Path.{sym, _∙_}
 use denote.Ref.{now}
-use Rattle.entries.specs.Plan.{createPlan}
-use Rattle.files.specs.Plain.{doCreate, plainCreate}
+use Rattle.files.specs.Effect.{create}
 use Rattle.files.proofs.CallLaws.{passed, call-through, call-stopped}
 use borrow.Author.Needs.{needs}
 use Rattle.files.proofs.plain.create.Statement.{statement}
@@ -24,15 +22,13 @@ same-length : tie.Need-same-length
 same-length c = search needs
 
 returns : tie.Need-returns
-unfolding plainCreate
-returns c = let a = c .before .before .before .before .before .before .before .before .before .before .before .args in call-through _ _ _ (c .before .before .before .before .before .before .before .guard .ensures) (λ (n b : ℕ). doCreate (now (a .store)) n (a .dir) (now (a .name)) (a .kind) (createPlan (now (a .store)) n b (a .dir) (now (a .name)))) _ _ _ (c .before .before .before .before .before .n .given .1) (c .before .before .do-create .ensures)
+returns c = let a = c .before .before .before .before .before .before .before .before .before .before .before .args in call-through (create (a .dir) (now (a .name)) (a .kind)) _ _ (c .before .before .before .before .before .before .before .guard .ensures) _ _ _ (c .before .before .before .before .before .n .given .1) (c .before .before .do-create .ensures)
 
 same-length-2 : tie.Need-same-length-2
 same-length-2 c = search needs
 
 returns-2 : tie.Need-returns-2
-unfolding plainCreate
-returns-2 c = call-stopped _ _ _ (c .before .before .before .guard .ensures) _ _ (c .before .why .given .1)
+returns-2 c = let a = c .before .before .before .before .before .before .before .args in call-stopped (create (a .dir) (now (a .name)) (a .kind)) _ _ (c .before .before .before .guard .ensures) _ (c .before .why .given .1)
 
 pub create-spec : {M : Type 1} → statement M
 create-spec =

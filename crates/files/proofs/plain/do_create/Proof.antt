@@ -5,7 +5,8 @@ use denote.Ref.{now}
 use Rattle.names.proofs.NameLaws.{legal-bounds}
 use Rattle.answers.specs.declared.Answer.the-variants.{Done}
 use Rattle.entries.proofs.PlanFacts.{creates}
-use Rattle.files.specs.Plain.{left, doCreate}
+use Rattle.files.specs.Effect.{doCreate}
+use Rattle.files.specs.Plain.{left, leaves}
 use borrow.Author.Needs.{needs}
 use Rattle.files.proofs.plain.do_create.Statement.{statement}
 use Rattle.files.proofs.plain.do_create.Tie as tie
@@ -32,7 +33,7 @@ returns : tie.Need-returns
 returns c =
     let a = c .before .before .before .before .before .before .before .before .before .before .before .args in
     ap (λ (t : List ℕ). left (Done (c .before .before .before .before .before .i .given .0 .0)) t []) (c .before .before .create .ensures)
-    ∙ ap (doCreate (now (a .s)) (a .n) (a .d) (now (a .name)) (a .kind)) (sym (c .before .before .before .before .before .i .given .1) ∙ c .before .before .before .before .before .before .before .create-plan .ensures)
+    ∙ ap (λ p. leaves (now (a .s)) [] (doCreate (now (a .s)) (a .n) (a .d) (now (a .name)) (a .kind) p)) (sym (c .before .before .before .before .before .i .given .1) ∙ c .before .before .before .before .before .before .before .create-plan .ensures)
 
 same-length-2 : tie.Need-same-length-2
 same-length-2 c = search needs
@@ -40,7 +41,7 @@ same-length-2 c = search needs
 returns-2 : tie.Need-returns-2
 returns-2 c =
     let a = c .before .before .before .before .before .before .before .args in
-    ap (doCreate (now (a .s)) (a .n) (a .d) (now (a .name)) (a .kind)) (sym (c .before .why .given .1) ∙ c .before .before .before .create-plan .ensures)
+    ap (λ p. leaves (now (a .s)) [] (doCreate (now (a .s)) (a .n) (a .d) (now (a .name)) (a .kind) p)) (sym (c .before .why .given .1) ∙ c .before .before .before .create-plan .ensures)
 
 pub do-create-spec : {M : Type 1} → statement M
 do-create-spec =

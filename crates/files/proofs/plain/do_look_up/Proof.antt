@@ -1,7 +1,8 @@
 use mathlib.Core.List.{[]}
 use mathlib.Core.Path.{sym, ap, _∙_}
 use denote.Ref.{now}
-use Rattle.files.specs.Plain.{doLookUp}
+use Rattle.files.specs.Effect.{doLookUp}
+use Rattle.files.specs.Plain.{leaves}
 use borrow.Author.Needs.{needs}
 use Rattle.files.proofs.plain.do_look_up.Statement.{statement}
 use Rattle.files.proofs.plain.do_look_up.Tie as tie
@@ -16,10 +17,10 @@ enum-known-why : tie.Need-enum-known-why
 enum-known-why c = search needs
 
 returns : tie.Need-returns
-returns c = ap (doLookUp (now (c .before .before .before .before .before .before .args .s)) []) (sym (c .before .i .given .1) ∙ c .before .before .before .look-up-plan .ensures)
+returns c = ap (λ p. leaves (now (c .before .before .before .before .before .before .args .s)) [] (doLookUp (now (c .before .before .before .before .before .before .args .s)) p)) (sym (c .before .i .given .1) ∙ c .before .before .before .look-up-plan .ensures)
 
 returns-2 : tie.Need-returns-2
-returns-2 c = ap (doLookUp (now (c .before .before .before .before .before .before .args .s)) []) (sym (c .before .why .given .1) ∙ c .before .before .before .look-up-plan .ensures)
+returns-2 c = ap (λ p. leaves (now (c .before .before .before .before .before .before .args .s)) [] (doLookUp (now (c .before .before .before .before .before .before .args .s)) p)) (sym (c .before .why .given .1) ∙ c .before .before .before .look-up-plan .ensures)
 
 pub do-look-up-spec : {M : Type 1} → statement M
 do-look-up-spec =

@@ -8,7 +8,8 @@ use Rattle.directory.proofs.SlotLaws.{find-below}
 use Rattle.answers.specs.declared.Answer.the-variants.{Done}
 use Rattle.changes.proofs.SlotPlaceLaws.{found-here}
 use Rattle.entries.proofs.PlanFacts.{renames, moves}
-use Rattle.files.specs.Plain.{left, doRename}
+use Rattle.files.specs.Effect.{doRename}
+use Rattle.files.specs.Plain.{left, leaves}
 use borrow.Author.Needs.{needs}
 use Rattle.files.proofs.plain.do_rename.Statement.{statement}
 use Rattle.files.proofs.plain.do_rename.Tie as tie
@@ -51,7 +52,7 @@ same-length : tie.Need-same-length
 same-length c = search needs
 
 returns : tie.Need-returns
-returns c = let a = c .before .before .before .before .before .before .before .args in ap (doRename (now (a .s)) (a .n) (a .d) (a .e) (now (a .other))) (sym (c .enum-told .given .1) ∙ c .before .before .rename-plan .ensures)
+returns c = let a = c .before .before .before .before .before .before .before .args in ap (λ p. leaves (now (a .s)) [] (doRename (now (a .s)) (a .n) (a .d) (a .e) (now (a .other)) p)) (sym (c .enum-told .given .1) ∙ c .before .before .rename-plan .ensures)
 
 same-length-2 : tie.Need-same-length-2
 same-length-2 c = search needs
@@ -60,7 +61,7 @@ returns-2 : tie.Need-returns-2
 returns-2 c =
     let a = c .before .before .before .before .before .before .before .before .before .before .before .before .args in
     ap (λ (t : List ℕ). left (Done 0) t []) (c .before .before .rename .ensures)
-    ∙ ap (doRename (now (a .s)) (a .n) (a .d) (a .e) (now (a .other))) (sym (c .before .before .before .before .before .t .given .1) ∙ c .before .before .before .before .before .before .before .rename-plan .ensures)
+    ∙ ap (λ p. leaves (now (a .s)) [] (doRename (now (a .s)) (a .n) (a .d) (a .e) (now (a .other)) p)) (sym (c .before .before .before .before .before .t .given .1) ∙ c .before .before .before .before .before .before .before .rename-plan .ensures)
 
 same-length-3 : tie.Need-same-length-3
 same-length-3 c = search needs
@@ -69,13 +70,13 @@ returns-3 : tie.Need-returns-3
 returns-3 c =
     let a = c .before .before .before .before .before .before .before .before .before .before .before .before .args in
     ap (λ (t : List ℕ). left (Done 0) t []) (c .before .before .move-entry .ensures)
-    ∙ ap (doRename (now (a .s)) (a .n) (a .d) (a .e) (now (a .other))) (sym (c .before .before .before .before .before .t2 .given .1) ∙ c .before .before .before .before .before .before .before .rename-plan .ensures)
+    ∙ ap (λ p. leaves (now (a .s)) [] (doRename (now (a .s)) (a .n) (a .d) (a .e) (now (a .other)) p)) (sym (c .before .before .before .before .before .t2 .given .1) ∙ c .before .before .before .before .before .before .before .rename-plan .ensures)
 
 same-length-4 : tie.Need-same-length-4
 same-length-4 c = search needs
 
 returns-4 : tie.Need-returns-4
-returns-4 c = let a = c .before .before .before .before .before .before .before .before .args in ap (doRename (now (a .s)) (a .n) (a .d) (a .e) (now (a .other))) (sym (c .before .why .given .1) ∙ c .before .before .before .rename-plan .ensures)
+returns-4 c = let a = c .before .before .before .before .before .before .before .before .args in ap (λ p. leaves (now (a .s)) [] (doRename (now (a .s)) (a .n) (a .d) (a .e) (now (a .other)) p)) (sym (c .before .why .given .1) ∙ c .before .before .before .rename-plan .ensures)
 
 pub do-rename-spec : {M : Type 1} → statement M
 do-rename-spec =

@@ -5,7 +5,8 @@ use native.Mathlib.Omega.{arith}
 use denote.Ref.{now}
 use Rattle.answers.specs.declared.Answer.the-variants.{Done}
 use Rattle.content.proofs.PlanFacts.{shortens}
-use Rattle.files.specs.Plain.{left, doShorten}
+use Rattle.files.specs.Effect.{doShorten}
+use Rattle.files.specs.Plain.{left, leaves}
 use borrow.Author.Needs.{needs}
 use Rattle.files.proofs.plain.do_shorten.Statement.{statement}
 use Rattle.files.proofs.plain.do_shorten.Tie as tie
@@ -35,13 +36,13 @@ returns : tie.Need-returns
 returns c =
     let a = c .before .before .before .before .before .before .before .before .before .before .args in
     ap (λ (t : List ℕ). left (Done (c .before .before .before .before .before .y .given .0 .0)) t []) (c .before .before .shorten-file .ensures)
-    ∙ ap (doShorten (now (a .s)) (a .n) (a .i)) (sym (c .before .before .before .before .before .y .given .1) ∙ c .before .before .before .before .before .before .before .shorten-plan .ensures)
+    ∙ ap (λ p. leaves (now (a .s)) [] (doShorten (now (a .s)) (a .n) (a .i) p)) (sym (c .before .before .before .before .before .y .given .1) ∙ c .before .before .before .before .before .before .before .shorten-plan .ensures)
 
 same-length-2 : tie.Need-same-length-2
 same-length-2 c = search needs
 
 returns-2 : tie.Need-returns-2
-returns-2 c = let a = c .before .before .before .before .before .before .args in ap (doShorten (now (a .s)) (a .n) (a .i)) (sym (c .before .why .given .1) ∙ c .before .before .before .shorten-plan .ensures)
+returns-2 c = let a = c .before .before .before .before .before .before .args in ap (λ p. leaves (now (a .s)) [] (doShorten (now (a .s)) (a .n) (a .i) p)) (sym (c .before .why .given .1) ∙ c .before .before .before .shorten-plan .ensures)
 
 pub do-shorten-spec : {M : Type 1} → statement M
 do-shorten-spec =

@@ -7,7 +7,8 @@ use Rattle.directory.proofs.SlotLaws.{find-below}
 use Rattle.answers.specs.declared.Answer.the-variants.{Done}
 use Rattle.changes.proofs.SlotPlaceLaws.{found-here}
 use Rattle.entries.proofs.PlanFacts.{unlinks}
-use Rattle.files.specs.Plain.{left, doUnlink}
+use Rattle.files.specs.Effect.{doUnlink}
+use Rattle.files.specs.Plain.{left, leaves}
 use borrow.Author.Needs.{needs}
 use Rattle.files.proofs.plain.do_unlink.Statement.{statement}
 use Rattle.files.proofs.plain.do_unlink.Tie as tie
@@ -37,13 +38,13 @@ returns : tie.Need-returns
 returns c =
     let a = c .before .before .before .before .before .before .before .before .before .before .before .args in
     ap (λ (t : List ℕ). left (Done 0) t []) (c .before .before .unlink .ensures)
-    ∙ ap (doUnlink (now (a .s)) (a .n) (a .d)) (sym (c .before .before .before .before .before .t .given .1) ∙ c .before .before .before .before .before .before .before .unlink-plan .ensures)
+    ∙ ap (λ p. leaves (now (a .s)) [] (doUnlink (now (a .s)) (a .n) (a .d) p)) (sym (c .before .before .before .before .before .t .given .1) ∙ c .before .before .before .before .before .before .before .unlink-plan .ensures)
 
 same-length-2 : tie.Need-same-length-2
 same-length-2 c = search needs
 
 returns-2 : tie.Need-returns-2
-returns-2 c = let a = c .before .before .before .before .before .before .before .args in ap (doUnlink (now (a .s)) (a .n) (a .d)) (sym (c .before .why .given .1) ∙ c .before .before .before .unlink-plan .ensures)
+returns-2 c = let a = c .before .before .before .before .before .before .before .args in ap (λ p. leaves (now (a .s)) [] (doUnlink (now (a .s)) (a .n) (a .d) p)) (sym (c .before .why .given .1) ∙ c .before .before .before .unlink-plan .ensures)
 
 pub do-unlink-spec : {M : Type 1} → statement M
 do-unlink-spec =

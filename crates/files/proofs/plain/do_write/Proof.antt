@@ -3,7 +3,8 @@ use mathlib.Core.List.{List, []}
 use mathlib.Core.Path.{sym, ap, _∙_}
 use denote.Ref.{now}
 use Rattle.answers.specs.declared.Answer.the-variants.{Done}
-use Rattle.files.specs.Plain.{left, doWrite}
+use Rattle.files.specs.Effect.{doWrite}
+use Rattle.files.specs.Plain.{left, leaves}
 use borrow.Author.Needs.{needs}
 use Rattle.files.proofs.plain.do_write.Statement.{statement}
 use Rattle.files.proofs.plain.do_write.Tie as tie
@@ -27,7 +28,7 @@ returns : tie.Need-returns
 returns c =
     let a = c .before .before .before .before .before .before .before .before .before .before .before .args in
     ap (λ (t : List ℕ). left (Done (c .before .before .before .before .before .z .given .0 .0)) t []) (c .before .before .write-file .ensures)
-    ∙ ap (doWrite (now (a .s)) (a .n) (a .b) (a .i) (a .o) (now (a .xs))) (sym (c .before .before .before .before .before .z .given .1) ∙ c .before .before .before .before .before .before .before .write-plan .ensures)
+    ∙ ap (λ p. leaves (now (a .s)) [] (doWrite (now (a .s)) (a .n) (a .b) (a .i) (a .o) (now (a .xs)) p)) (sym (c .before .before .before .before .before .z .given .1) ∙ c .before .before .before .before .before .before .before .write-plan .ensures)
 
 same-length-2 : tie.Need-same-length-2
 same-length-2 c = search needs
@@ -35,7 +36,7 @@ same-length-2 c = search needs
 returns-2 : tie.Need-returns-2
 returns-2 c =
     let a = c .before .before .before .before .before .before .before .args in
-    ap (doWrite (now (a .s)) (a .n) (a .b) (a .i) (a .o) (now (a .xs))) (sym (c .before .why .given .1) ∙ c .before .before .before .write-plan .ensures)
+    ap (λ p. leaves (now (a .s)) [] (doWrite (now (a .s)) (a .n) (a .b) (a .i) (a .o) (now (a .xs)) p)) (sym (c .before .why .given .1) ∙ c .before .before .before .write-plan .ensures)
 
 pub do-write-spec : {M : Type 1} → statement M
 do-write-spec =

@@ -1,9 +1,6 @@
-use Prim.Native.Nat.{ℕ}
-use mathlib.Core.List.{[]}
 use mathlib.Core.Path.{sym, _∙_}
 use denote.Ref.{now}
-use Rattle.entries.specs.Plan.{lookUpPlan}
-use Rattle.files.specs.Plain.{doLookUp, plainLookUp}
+use Rattle.files.specs.Effect.{lookUp}
 use Rattle.files.proofs.CallLaws.{passed, call-through, call-stopped}
 use borrow.Author.Needs.{needs}
 use Rattle.files.proofs.plain.look_up.Statement.{statement}
@@ -22,12 +19,10 @@ enum-known-why : tie.Need-enum-known-why
 enum-known-why c = search needs
 
 returns : tie.Need-returns
-unfolding plainLookUp
-returns c = let a = c .before .before .before .before .before .before .before .args in call-through _ _ _ (c .before .before .before .before .guard .ensures) (λ (n b : ℕ). doLookUp (now (a .store)) [] (lookUpPlan (now (a .store)) n (a .dir) (now (a .name)))) _ _ _ (c .before .before .n .given .1) (c .do-look-up .ensures)
+returns c = let a = c .before .before .before .before .before .before .before .args in call-through (lookUp (a .dir) (now (a .name))) _ _ (c .before .before .before .before .guard .ensures) _ _ _ (c .before .before .n .given .1) (c .do-look-up .ensures)
 
 returns-2 : tie.Need-returns-2
-unfolding plainLookUp
-returns-2 c = call-stopped _ _ _ (c .before .before .before .guard .ensures) _ _ (c .before .why .given .1)
+returns-2 c = let a = c .before .before .before .before .before .before .args in call-stopped (lookUp (a .dir) (now (a .name))) _ _ (c .before .before .before .guard .ensures) _ (c .before .why .given .1)
 
 pub look-up-spec : {M : Type 1} → statement M
 look-up-spec =

@@ -1,9 +1,6 @@
-use Prim.Native.Nat.{ℕ}
 use mathlib.Core.Path.{sym, _∙_}
 use denote.Ref.{now}
-use lib.ListN.{length}
-use Rattle.content.specs.Plan.{readPlan}
-use Rattle.files.specs.Plain.{doRead, plainRead}
+use Rattle.files.specs.Effect.{read}
 use Rattle.files.proofs.CallLaws.{passed, call-through, call-stopped}
 use borrow.Author.Needs.{needs}
 use Rattle.files.proofs.plain.read.Statement.{statement}
@@ -25,12 +22,10 @@ same-length : tie.Need-same-length
 same-length c = search needs
 
 returns : tie.Need-returns
-unfolding plainRead
-returns c = let a = c .before .before .before .before .before .before .before .before .before .before .args in call-through _ _ _ (c .before .before .before .before .before .before .before .guard .ensures) (λ (n b : ℕ). doRead (now (a .store)) n (a .inode) (a .offset) (now (a .out)) (readPlan (now (a .store)) n (a .inode) (a .offset) (length (now (a .out))))) _ _ _ (c .before .before .before .before .before .n .given .1) (c .before .before .do-read .ensures)
+returns c = let a = c .before .before .before .before .before .before .before .before .before .before .args in call-through (read (a .inode) (a .offset) (now (a .out))) _ _ (c .before .before .before .before .before .before .before .guard .ensures) _ _ _ (c .before .before .before .before .before .n .given .1) (c .before .before .do-read .ensures)
 
 returns-2 : tie.Need-returns-2
-unfolding plainRead
-returns-2 c = call-stopped _ _ _ (c .before .before .before .guard .ensures) _ _ (c .before .why .given .1)
+returns-2 c = let a = c .before .before .before .before .before .before .args in call-stopped (read (a .inode) (a .offset) (now (a .out))) _ _ (c .before .before .before .guard .ensures) _ (c .before .why .given .1)
 
 pub read-spec : {M : Type 1} → statement M
 read-spec =

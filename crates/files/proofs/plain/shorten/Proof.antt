@@ -1,8 +1,5 @@
-use Prim.Native.Nat.{ℕ}
 use mathlib.Core.Path.{sym, _∙_}
-use denote.Ref.{now}
-use Rattle.content.specs.Plan.{shortenPlan}
-use Rattle.files.specs.Plain.{doShorten, plainShorten}
+use Rattle.files.specs.Effect.{shorten}
 use Rattle.files.proofs.CallLaws.{passed, call-through, call-stopped}
 use borrow.Author.Needs.{needs}
 use Rattle.files.proofs.plain.shorten.Statement.{statement}
@@ -24,15 +21,13 @@ same-length : tie.Need-same-length
 same-length c = search needs
 
 returns : tie.Need-returns
-unfolding plainShorten
-returns c = let a = c .before .before .before .before .before .before .before .before .before .before .args in call-through _ _ _ (c .before .before .before .before .before .before .before .guard .ensures) (λ (n b : ℕ). doShorten (now (a .store)) n (a .inode) (shortenPlan (now (a .store)) n (a .inode) (a .length))) _ _ _ (c .before .before .before .before .before .n .given .1) (c .before .before .do-shorten .ensures)
+returns c = let a = c .before .before .before .before .before .before .before .before .before .before .args in call-through (shorten (a .inode) (a .length)) _ _ (c .before .before .before .before .before .before .before .guard .ensures) _ _ _ (c .before .before .before .before .before .n .given .1) (c .before .before .do-shorten .ensures)
 
 same-length-2 : tie.Need-same-length-2
 same-length-2 c = search needs
 
 returns-2 : tie.Need-returns-2
-unfolding plainShorten
-returns-2 c = call-stopped _ _ _ (c .before .before .before .guard .ensures) _ _ (c .before .why .given .1)
+returns-2 c = let a = c .before .before .before .before .before .before .args in call-stopped (shorten (a .inode) (a .length)) _ _ (c .before .before .before .guard .ensures) _ (c .before .why .given .1)
 
 pub shorten-spec : {M : Type 1} → statement M
 shorten-spec =

@@ -1,9 +1,6 @@
-use Prim.Native.Nat.{ℕ}
 use mathlib.Core.Path.{sym, _∙_}
 use denote.Ref.{now}
-use lib.ListN.{length}
-use Rattle.content.specs.Plan.{writePlan}
-use Rattle.files.specs.Plain.{doWrite, plainWrite}
+use Rattle.files.specs.Effect.{write}
 use Rattle.files.proofs.CallLaws.{passed, call-through, call-stopped}
 use borrow.Author.Needs.{needs}
 use Rattle.files.proofs.plain.write.Statement.{statement}
@@ -25,15 +22,13 @@ same-length : tie.Need-same-length
 same-length c = search needs
 
 returns : tie.Need-returns
-unfolding plainWrite
-returns c = let a = c .before .before .before .before .before .before .before .before .before .before .before .args in call-through _ _ _ (c .before .before .before .before .before .before .before .guard .ensures) (λ (n b : ℕ). doWrite (now (a .store)) n b (a .inode) (a .offset) (now (a .bytes)) (writePlan (now (a .store)) n (a .inode) (a .offset) (length (now (a .bytes))))) _ _ _ (c .before .before .before .before .before .n .given .1) (c .before .before .do-write .ensures)
+returns c = let a = c .before .before .before .before .before .before .before .before .before .before .before .args in call-through (write (a .inode) (a .offset) (now (a .bytes))) _ _ (c .before .before .before .before .before .before .before .guard .ensures) _ _ _ (c .before .before .before .before .before .n .given .1) (c .before .before .do-write .ensures)
 
 same-length-2 : tie.Need-same-length-2
 same-length-2 c = search needs
 
 returns-2 : tie.Need-returns-2
-unfolding plainWrite
-returns-2 c = call-stopped _ _ _ (c .before .before .before .guard .ensures) _ _ (c .before .why .given .1)
+returns-2 c = let a = c .before .before .before .before .before .before .before .args in call-stopped (write (a .inode) (a .offset) (now (a .bytes))) _ _ (c .before .before .before .guard .ensures) _ (c .before .why .given .1)
 
 pub write-spec : {M : Type 1} → statement M
 write-spec =

@@ -1,0 +1,112 @@
+-- Tables of conditions, one condition at a time: the answer of what is decided is the first condition that holds. s is the store, m the image, d the desk.
+use mathlib.Core.Path.{_≡_, refl}
+use mathlib.Core.Bool.{Bool, true, false, not, _&&_}
+use mathlib.Core.List.{List, [], _∷_}
+use Prim.Native.Nat.{ℕ, _-_}
+use lib.Dec.{ltb}
+use Rattle.bounded.specs.Search.{pick, onFound}
+use Rattle.bounded.specs.declared.Found.{Found}
+use Rattle.bounded.specs.declared.Found.the-variants.{At, Absent}
+use Rattle.layout.specs.Sizes.{mostStoreBlocks, addressCount}
+use Rattle.layout.specs.Inode.{sizeOf}
+use Rattle.layout.specs.Block.{blocksUsed}
+use Rattle.layout.specs.Free.{freeBlock}
+use Rattle.directory.specs.Slot.{slots, emptySlot}
+use Rattle.sound.specs.Sound.{framedB, isSound, inodesIn, blocksIn}
+use Rattle.sound.specs.declared.Form.the-variants.{Store}
+use Rattle.answers.specs.declared.Refusal.{Refusal}
+use Rattle.answers.specs.declared.Refusal.the-variants.{BadBuffer, UnsoundStore, BadDesk, NoBlocks, NoSlot, Busy}
+use Rattle.answers.specs.declared.Answer.{Answer}
+use Rattle.answers.specs.declared.Answer.the-variants.{Done, Refused}
+use Rattle.entries.specs.declared.Room.{Room}
+use Rattle.entries.specs.declared.RoomPlan.the-variants.{Has, NoRoom}
+use Rattle.entries.specs.Room.{room, roomIn, onRoom}
+use Rattle.files.specs.declared.Guard.the-variants.{Pass, Stop}
+use Rattle.files.specs.Guard.{onGuard}
+use Rattle.files.specs.Effect.{Call, Effect, Planned, refused, does, planned, plainDecision, given}
+use Rattle.files.specs.Plain.{leaves, plain}
+use Rattle.files.proofs.PlainLaws.{on-guard}
+use Rattle.checkpoint.specs.Fit.{deskFramed, notesFit}
+use Rattle.checkpoint.specs.Busy.{unlessBusy}
+use Rattle.checkpoint.specs.Live.{World, Outcome, threeGuards, storeAlone, decision, leavesIn, live, guarded}
+use Rattle.checkpoint.proofs.DecisionLaws.{guarded-is}
+use Rattle.checkpoint.specs.Table.{Row, row, firstOf, found, orZero, storeRows, liveRows, noBlock, noSlot}
+
+-- the answer x is the first of rs that holds, else a
+pub record Gives (x : Answer) (rs : List Row) (a : Answer) : Type 0 where
+  pub first : x ≡ firstOf rs a
+
+-- ---- one condition more at the head of a table; h is the answer of what was decided
+module _ {A : Type 0} (h : A → Answer) where
+  pub by-pick : (b : Bool) (x y : A) {e : Refusal} {rs : List Row} {a : Answer} → h x ≡ Refused e → Gives (h y) rs a → Gives (h (pick b x y)) (row b e ∷ rs) a
+  by-pick true x y p q = record { first = p }
+  by-pick false x y p q = record { first = q .first }
+
+  -- what is found refuses
+  pub by-found : (f : Found) (g : ℕ → A) (y : A) {e : Refusal} {rs : List Row} {a : Answer}
+      → ((t : ℕ) → h (g t) ≡ Refused e) → Gives (h y) rs a → Gives (h (onFound f g y)) (row (found f) e ∷ rs) a
+  by-found (At t) g y p q = record { first = p t }
+  by-found Absent g y p q = record { first = q .first }
+
+  -- what is not found refuses
+  pub by-absent : (f : Found) (g : ℕ → A) (y : A) {e : Refusal} {rs : List Row} {a : Answer}
+      → h y ≡ Refused e → Gives (h (g (orZero f))) rs a → Gives (h (onFound f g y)) (row (not (found f)) e ∷ rs) a
+  by-absent (At t) g y p q = record { first = q .first }
+  by-absent Absent g y p q = record { first = p }
+
+  -- room for an entry more in the directory e
+  pub by-room : (s : List ℕ) (e : ℕ) (f : Room → A) (g : Refusal → A) {rs : List Row} {a : Answer}
+      → ((x : Refusal) → h (g x) ≡ Refused x)
+      → ((r : Room) → Gives (h (f r)) rs a)
+      → Gives (h (onRoom (roomIn s (inodesIn s) (blocksIn s) e) f g)) (row (noBlock s e) NoBlocks ∷ row (noSlot s e) NoSlot ∷ rs) a
+  unfolding roomIn
+  by-room s e f g {rs} {a} p q = go (emptySlot s (inodesIn s) e) (ltb (blocksUsed (sizeOf s e)) addressCount) (freeBlock s (inodesIn s) (blocksIn s))
+    where
+      go : (t : Found) (b : Bool) (c : Found)
+          → Gives (h (onRoom (onFound t (λ j. Has (room j 0)) (pick b (onFound c (λ j. Has (room (slots s e) j)) (NoRoom NoBlocks)) (NoRoom NoSlot))) f g))
+          (row (not (found t) && (b && not (found c))) NoBlocks ∷ row (not (found t) && not b) NoSlot ∷ rs) a
+      go (At t) b c = record { first = q (room t 0) .first }
+      go Absent true (At c) = record { first = q (room (slots s e) c) .first }
+      go Absent true Absent = record { first = p NoBlocks }
+      go Absent false c = record { first = p NoSlot }
+
+-- the last condition, and what is done where it does not hold
+pub by-busy : (b : Bool) (w : World) (x : Effect) → Gives (leavesIn w (pick b (refused Busy) (does x)) .answer) (row b Busy ∷ []) (Done (x .answer))
+by-busy true w x = record { first = refl }
+by-busy false w x = record { first = refl }
+
+-- 1, 2 and 3
+pub by-guards : (s m d : List ℕ) (o : Outcome) {rs : List Row} {a : Answer} → Gives (o .answer) rs a → Gives (guarded s m d o .answer) (liveRows s m d rs) a
+by-guards s m d o q =
+    let h : Outcome → Answer = λ z. z .answer in
+    rw (guarded-is s m d o)
+    (by-pick h (not (framedB mostStoreBlocks s && deskFramed d)) _ _ refl
+    (by-pick h (not (isSound Store s)) _ _ refl
+    (by-pick h (not (notesFit s m d)) _ _ refl q)))
+
+-- of a file call that takes all three buffers
+pub by-three : (c : Call) (w : World) {rs : List Row} {a : Answer} → storeAlone c ≡ false
+    → Gives (leavesIn w (unlessBusy (w .desk) (planned c (w .store) (inodesIn (w .store)) (blocksIn (w .store)))) .answer) rs a → Gives (live c w .answer) (liveRows (w .store) (w .image) (w .desk) rs) a
+unfolding live decision threeGuards
+by-three c w {rs} {a} z q = rw z (go (framedB mostStoreBlocks (w .store) && deskFramed (w .desk)) (isSound Store (w .store)) (notesFit (w .store) (w .image) (w .desk)))
+  where
+    go : (x y z : Bool) → Gives (leavesIn w (onGuard (pick (not x) (Stop BadBuffer) (pick (not y) (Stop UnsoundStore) (pick (not z) (Stop BadDesk) (Pass (inodesIn (w .store)) (blocksIn (w .store))))))
+        (λ n b. unlessBusy (w .desk) (planned c (w .store) n b)) refused) .answer) (row (not x) BadBuffer ∷ row (not y) UnsoundStore ∷ row (not z) BadDesk ∷ rs) a
+    go true true true = record { first = q .first }
+    go true true false = record { first = refl }
+    go true false z = record { first = refl }
+    go false y z = record { first = refl }
+
+-- 1 and 2 of a call on the store alone
+pub by-store : (c : Call) (s : List ℕ) {rs : List Row} {a : Answer} → Gives (leaves s (given c) (planned c s (inodesIn s) (blocksIn s)) .answer) rs a → Gives (plain c s .answer) (storeRows s rs) a
+unfolding plain plainDecision
+by-store c s q =
+    let h : Planned → Answer = λ p. leaves s (given c) p .answer in
+    rw (on-guard s (planned c s) refused) (by-pick h (not (framedB mostStoreBlocks s)) _ _ refl (by-pick h (not (isSound Store s)) _ _ refl q))
+
+-- no condition is left
+pub by-none : {x : ℕ} → Gives (Done x) [] (Done x)
+by-none = record { first = refl }
+
+pub give : (x : Answer) (rs : List Row) (a : Answer) → Gives x rs a → x ≡ firstOf rs a
+give x rs a q = q .first

@@ -1,0 +1,180 @@
+-- Image and desk lie after a file call as they did before it. s is the store, m the image, d the desk, n and b the counts of inodes and image blocks, x the call's effect.
+use Prim.Native.Nat.{ℕ, zero, suc, _+_, _*_, _≤_, _<_}
+use mathlib.Core.Path.{_≡_, refl, sym, ap, ap₂, _∙_, subst}
+use mathlib.Core.Logic.{_≢_}
+use mathlib.Core.Bool.{Bool, true, false, _&&_}
+use mathlib.Core.List.{List, [], _∷_}
+use native.Mathlib.Omega.{arith}
+use borrow.Author.Tests.{eq-eqb}
+use lib.Dec.{eqb}
+use lib.ListN.{length, replicate}
+use Rattle.bounded.specs.Search.{pick}
+use Rattle.octets.specs.Octets.{part, splice}
+use Rattle.layout.specs.Sizes.{addressCount, mostStoreBlocks}
+use Rattle.layout.specs.Inode.{kindOf, sizeOf, freeKind, directoryKind}
+use Rattle.layout.specs.Block.{blockOf, blocksUsed, kthBlock}
+use Rattle.names.specs.Entry.{entryBytes, entryInode}
+use Rattle.directory.specs.Slot.{mostSlots, slotsInBlock}
+use Rattle.desk.specs.Sizes.{deskLength, running}
+use Rattle.desk.specs.declared.Desk.{Desk}
+use Rattle.desk.specs.Desk.{deskOf, markOf}
+use Rattle.sound.specs.Place.{placeOf}
+use Rattle.sound.specs.Sound.{Sound, inodesIn}
+use Rattle.changes.proofs.StoreLaws.{dir-of}
+use Rattle.changes.proofs.SoundTreeLaws.{body-at}
+use Rattle.files.specs.Effect.{Entry, placeIn, Effect}
+use Rattle.files.proofs.Lawful.{All, Away, Stands, Stays, Lawful}
+use Rattle.files.proofs.EffectFacts.{all-map}
+use Rattle.checkpoint.specs.Fit.{isRunning}
+use Rattle.checkpoint.specs.Busy.{anyLocked}
+use Rattle.checkpoint.specs.Notes.{isCopied, cutEntries, clearMarks, setMarks}
+use Rattle.checkpoint.specs.Copier.{copiedEntry, copiedEntries, copiedBlock}
+use Rattle.checkpoint.proofs.Copy.Laid.{DeskLaid, Laid, Open, cost, costSoFar}
+use Rattle.checkpoint.proofs.Copy.CallNotes.{MarksAlone, same-copied, Ranged, call-notes, mark-away, apart-locked}
+use Rattle.checkpoint.proofs.Copy.CutLaid.{sum-same}
+use Rattle.checkpoint.proofs.Copy.CutEntries.{Whole, entries-laid}
+
+-- ---- a block that is copied by the same marks is the same
+module _ (d e : List ℕ) (n i k : ℕ) (l : k < addressCount) (marks : (t : ℕ) → t < mostSlots → markOf e n i t ≡ markOf d n i t) (copied : (j : ℕ) → isCopied e n j ≡ isCopied d n j) where
+  entry-same : (x : List ℕ) (j : ℕ) → j < slotsInBlock → copiedEntry e n i k x j ≡ copiedEntry d n i k x j
+  unfolding copiedEntry
+  entry-same x j u =
+      ap₂ (λ (a b : Bool). pick (a && b) (splice x (entryBytes * j) (replicate entryBytes 0)) x)
+      (marks (slotsInBlock * k + j) (omega arith)) (copied (entryInode (part x (entryBytes * j) entryBytes)))
+
+  entries-same : (x : List ℕ) (j : ℕ) → j ≤ slotsInBlock → copiedEntries e n i k x j ≡ copiedEntries d n i k x j
+  unfolding copiedEntries
+  entries-same x zero u = refl
+  entries-same x (suc j) u = entry-same (copiedEntries e n i k x j) j (omega arith) ∙ ap (λ (y : List ℕ). copiedEntry d n i k y j) (entries-same x j (omega arith))
+
+  -- of an inode that stays
+  pub block-same : (s t : List ℕ) → k < blocksUsed (sizeOf s i) → Stays s t n i → copiedBlock t e n i k ≡ copiedBlock s d n i k
+  unfolding copiedBlock
+  block-same s t u r =
+      let a : kindOf t i ≡ kindOf s i = r .inode .kind in
+      let b : blockOf t n (kthBlock t n i k) ≡ blockOf s n (kthBlock s n i k) = ap (blockOf t n) (r .inode .blocks k l) ∙ r .bytes k u in
+      ap₂ (λ (v : ℕ) (y : List ℕ). pick (eqb v directoryKind) (copiedEntries e n i k y slotsInBlock) y) a b
+      ∙ ap (λ (y : List ℕ). pick (eqb (kindOf s i) directoryKind) y (blockOf s n (kthBlock s n i k))) (entries-same (blockOf s n (kthBlock s n i k)) slotsInBlock (omega arith))
+
+-- ---- another store, and other marks: the locked inode stays, and so do its marks
+module _ {n b : ℕ} {s m d : List ℕ} (k : Sound mostStoreBlocks false s) (x : n ≡ inodesIn s) (h : Laid n b s m d) (t e : List ℕ) (a : MarksAlone n d e)
+    (stays : deskOf d .locked ≢ 0 → Stays s t n (deskOf d .locked)) (marks : deskOf d .locked ≢ 0 → (u : ℕ) → u < mostSlots → markOf e n (deskOf d .locked) u ≡ markOf d n (deskOf d .locked) u) where
+  lock-same : deskOf e .locked ≡ deskOf d .locked
+  lock-same = ap (λ (z : Desk). z .locked) (a .head)
+
+  copied-same : deskOf e .copied ≡ deskOf d .copied
+  copied-same = ap (λ (z : Desk). z .copied) (a .head)
+
+  desk : DeskLaid n b e
+  desk =
+      let f = h .desk in
+      let l = lock-same in
+      let g = f .high in
+      record {
+        long = a .long ∙ f .long;
+        inodes = ap (λ (z : Desk). z .inodes) (a .head) ∙ f .inodes;
+        blocks = ap (λ (z : Desk). z .blocks) (a .head) ∙ f .blocks;
+        state = ap (λ (z : Desk). z .state) (a .head) ∙ f .state;
+        reserved = a .reserved ∙ f .reserved;
+        bytes = λ i l o. subst (λ (z : ℕ). z ≤ 1) (sym (a .copied i l o)) (f .bytes i l o);
+        high = omega arith;
+        none = λ z. copied-same ∙ f .none (sym l ∙ z);
+      }
+
+  opened-here : deskOf d .locked ≢ 0 → Open n b t m e (deskOf d .locked) (deskOf d .copied)
+  opened-here z =
+      let o = h .opened z in
+      let r = stays z in
+      let w = dir-of s n k x (deskOf d .locked) (o .low) (h .desk .high) .few in
+      let f = o .few in
+      record {
+        low = o .low;
+        new = same-copied a (deskOf d .locked) ∙ o .new;
+        spare = o .spare;
+        links = o .links;
+        size = o .size;
+        parent = o .parent;
+        few = subst (λ (y : ℕ). deskOf d .copied ≤ blocksUsed y) (sym (r .inode .size)) f;
+        named = o .named;
+        rest = o .rest;
+        blocks = λ j l. o .blocks j l ∙ sym (block-same d e n (deskOf d .locked) j (omega arith) (marks z) (same-copied a) s t (omega arith) r);
+      }
+
+  opened : deskOf e .locked ≢ 0 → Open n b t m e (deskOf e .locked) (deskOf e .copied)
+  opened z = subst (λ (y : Desk). Open n b t m e (y .locked) (y .copied)) (sym (a .head)) (opened-here (λ w. z (lock-same ∙ w)))
+
+  costs : (j : ℕ) → j < n → cost m d n j ≡ cost m e n j
+  unfolding cost
+  costs j l = ap (λ (z : Bool). pick z (2 + blocksUsed (sizeOf m (j + 1))) 0) (sym (same-copied a (j + 1)))
+
+  so-far : costSoFar d ≡ costSoFar e
+  unfolding costSoFar
+  so-far = ap (λ (z : Desk). pick (eqb (z .locked) 0) 0 (1 + z .copied)) (sym (a .head))
+
+  pub notes-laid : Laid n b t m e
+  notes-laid = record {
+    desk = desk;
+    frame = h .frame;
+    inodes = λ i l o z. h .inodes i l o (λ w. z (w ∙ sym lock-same));
+    blank = λ i l o c. h .blank i l o (sym (same-copied a i) ∙ c);
+    opened = opened;
+    once = h .once;
+    blanks = h .blanks;
+    fair = h .fair;
+    steps = ap (λ (z : Desk). z .steps) (a .head) ∙ h .steps ∙ ap₂ _+_ (sum-same (cost m d n) (cost m e n) n costs) so-far;
+  }
+
+-- ---- a call
+-- an entry that stands in a sound store
+pub stands-ranged : (s : List ℕ) (n : ℕ) (y : Entry) → Stands s n y → Ranged n y
+stands-ranged s n y r = record { low = r .low; high = r .high; small = r .small }
+
+pub stands-whole : (s : List ℕ) (n : ℕ) → Sound mostStoreBlocks false s → n ≡ inodesIn s → (y : Entry) → Stands s n y → Whole n y
+stands-whole s n k e y r =
+    let l = r .low in
+    let o = r .high in
+    let u = r .small in
+    let z = body-at s n k e .entries (placeIn y) (omega arith) (r .stands) .low in
+    record { ranged = stands-ranged s n y r; some = subst (λ (v : ℕ). 1 ≤ v) (r .names) z }
+
+-- the slots of a directory that is not among theirs
+pub away-from : (n i t : ℕ) (ys : List Entry) → t < mostSlots → 1 ≤ i → All (Ranged n) ys → All (λ y. i ≢ y .directory) ys → Away (placeOf i t) ys
+away-from n i t [] u l r a = tt
+away-from n i t (y ∷ ys) u l r a = ((λ z. let v = r .0 .low in let w = r .0 .small in a .0 (omega arith)), away-from n i t ys u l (r .1) (a .1))
+
+module _ {n b : ℕ} {s m d : List ℕ} (k : Sound mostStoreBlocks false s) (e : n ≡ inodesIn s) (h : Laid n b s m d) (x : Effect) (f : Lawful s n x) where
+  pub taken-whole : All (Whole n) (x .taken)
+  taken-whole = all-map _ _ (x .taken) (stands-whole s n k e) (f .stood)
+
+  pub taken-ranged : All (Ranged n) (x .taken)
+  taken-ranged = all-map _ _ (x .taken) (stands-ranged s n) (f .stood)
+
+  pub made-ranged : All (Ranged n) (x .made)
+  made-ranged = all-map _ _ (x .made) (stands-ranged (x .store) n) (f .stands)
+
+  pub desk-long : deskLength n ≤ length d
+  desk-long = let l = h .desk .long in omega arith
+
+  pub runs : isRunning d ≡ true
+  unfolding isRunning
+  runs = eq-eqb (deskOf d .state) running (h .desk .state)
+
+  abbrev noted : List ℕ
+  noted = setMarks (clearMarks d n (x .taken)) n (x .made)
+
+  module _ (a : anyLocked d (x .touches) ≡ false) (used : deskOf d .locked ≢ 0 → kindOf s (deskOf d .locked) ≢ freeKind) where
+    lock-stays : deskOf d .locked ≢ 0 → Stays s (x .store) n (deskOf d .locked)
+    lock-stays z = f .untouched (deskOf d .locked) (h .opened z .low) (h .desk .high) (used z) (apart-locked d (x .touches) runs a)
+
+    lock-marks : deskOf d .locked ≢ 0 → (u : ℕ) → u < mostSlots → markOf noted n (deskOf d .locked) u ≡ markOf d n (deskOf d .locked) u
+    lock-marks z u v =
+        let l = h .opened z .low in
+        let g = f .apart (deskOf d .locked) (apart-locked d (x .touches) runs a) in
+        mark-away d n (x .taken) (x .made) desk-long taken-ranged made-ranged (deskOf d .locked) u l (h .desk .high) v
+        (away-from n (deskOf d .locked) u (x .taken) v l taken-ranged (all-map _ _ (x .taken) (λ y p. p .0) (g .0)))
+        (away-from n (deskOf d .locked) u (x .made) v l made-ranged (g .1))
+
+    pub call-laid : Laid n b (x .store) (cutEntries m d n (x .taken)) noted
+    call-laid =
+        notes-laid k e (entries-laid k e h (x .taken) taken-whole) (x .store) noted
+        (call-notes d n (x .taken) (x .made) desk-long taken-ranged made-ranged) lock-stays lock-marks

@@ -1,0 +1,184 @@
+-- The step that closes the locked inode: what it leaves of image and desk, and what the inode then is in the image. l is the locked inode.
+use Prim.Native.Nat.{ℕ, _+_, _*_, _-_, _/_, _%_, _≤_, _<_}
+use mathlib.Core.Path.{_≡_, refl, sym, ap, _∙_, subst}
+use mathlib.Core.Logic.{_≢_}
+use mathlib.Core.Bool.{true, false}
+use mathlib.Core.List.{List}
+use native.Mathlib.Decide.{ℕ-discrete}
+use native.Mathlib.Omega.{arith}
+use lib.ListN.{length, getD}
+use Rattle.bounded.specs.Update.{Changed, here, there}
+use Rattle.octets.proofs.PartLaws.{length-inside}
+use Rattle.layout.specs.Sizes.{mostStoreBlocks, addressCount, blockBytes}
+use Rattle.layout.specs.Inode.{InodeFits, kindOf, sizeOf, parentOf, inodeOf, freeKind, fileKind, directoryKind}
+use Rattle.layout.specs.Block.{blockOf, blocksUsed, kthBlock}
+use Rattle.directory.specs.Slot.{slots, entryOf}
+use Rattle.desk.specs.declared.Desk.{Desk}
+use Rattle.desk.specs.Desk.{deskOf, copiedOf, putCopied, markOf}
+use Rattle.desk.specs.Next.{unlocking}
+use Rattle.desk.proofs.DeskLaws.{length-putDesk, length-putCopied, desk-putDesk, reserved-putDesk, reserved-putCopied, copied-putDesk, copied-same, copied-other, mark-putDesk, mark-putCopied}
+use Rattle.sound.specs.Inode.{InodeSound}
+use Rattle.sound.specs.Sound.{Sound, inodesIn, blocksIn}
+use Rattle.changes.proofs.SameLaws.{InInode, NewInode, each-inode, put-attributes, attributes-blocks, attributes-new}
+use Rattle.changes.proofs.KeepLaws.{inode-kept}
+use Rattle.changes.proofs.StoreLaws.{dir-of}
+use Rattle.changes.proofs.SoundTreeLaws.{body-at}
+use Rattle.checkpoint.specs.Notes.{isCopied}
+use Rattle.checkpoint.specs.Copier.{close, copiedBlock, unlinkedInode, stepImage, stepDesk}
+use Rattle.checkpoint.proofs.Copy.Laid.{DeskLaid, Open, Laid}
+use Rattle.checkpoint.proofs.Copy.SeenLaws.{copied-is, copied-like}
+use Rattle.checkpoint.proofs.Copy.PasteLaws.{pasted, file-block, slot-pasted}
+
+-- the locked inode, in use in a sound store, has all its blocks copied
+pub record Closing (n b : ℕ) (s m d : List ℕ) : Type 0 where
+  pub laid : Laid n b s m d
+  pub sound : Sound mostStoreBlocks false s
+  pub inodes : n ≡ inodesIn s
+  pub on : deskOf d .locked ≢ 0
+  pub used : kindOf s (deskOf d .locked) ≢ freeKind
+  pub all : blocksUsed (sizeOf s (deskOf d .locked)) ≤ deskOf d .copied
+
+module _ {n b : ℕ} {s m d : List ℕ} (c : Closing n b s m d) where
+  abbrev l : ℕ
+  l = deskOf d .locked
+
+  -- image and desk after the step
+  abbrev m′ : List ℕ
+  m′ = stepImage s m d n (close l)
+
+  abbrev d′ : List ℕ
+  d′ = stepDesk d (close l)
+
+  pub lock : Open n b s m d l (deskOf d .copied)
+  lock = c .laid .opened (c .on)
+
+  pub low : 1 ≤ l
+  low = lock .low
+
+  pub high : l ≤ n
+  high = c .laid .desk .high
+
+  pub full : deskOf d .copied ≡ blocksUsed (sizeOf s l)
+  full = let a = lock .few in let e = c .all in omega arith
+
+  -- ---- the desk
+  long : length (putCopied d l 1) ≡ 16 + 9 * n
+  long = length-putCopied d l 1 ∙ c .laid .desk .long
+
+  pub desk-closed : deskOf d′ ≡ unlocking (deskOf d)
+  desk-closed = let e = long in desk-putDesk (putCopied d l 1) (unlocking (deskOf d)) (omega arith)
+
+  copied-new : copiedOf d′ l ≡ 1
+  copied-new =
+      let e = c .laid .desk .long in
+      let a = high in
+      copied-putDesk (putCopied d l 1) (unlocking (deskOf d)) l ∙ copied-same d l 1 low (omega arith)
+
+  copied-else : (i : ℕ) → 1 ≤ i → i ≢ l → copiedOf d′ i ≡ copiedOf d i
+  copied-else i o z = copied-putDesk (putCopied d l 1) (unlocking (deskOf d)) i ∙ copied-other d l i 1 low o z
+
+  pub copied-closed : (i : ℕ) → Changed (isCopied d n) l true i (isCopied d′ n i)
+  copied-closed i = elim (ℕ-discrete i l) as (λ _. Changed (isCopied d n) l true i (isCopied d′ n i)) [
+    | yes e ↦ here e (ap (isCopied d′ n) e ∙ copied-is d′ n l low high copied-new)
+    | no e ↦ there e (copied-like d d′ n i (λ o _. copied-else i o e))
+  ]
+
+  pub marks-closed : (i t : ℕ) → markOf d′ n i t ≡ markOf d n i t
+  marks-closed i t = mark-putDesk (putCopied d l 1) (unlocking (deskOf d)) n i t ∙ mark-putCopied d n l i t 1 low high
+
+  pub desk-laid : DeskLaid n b d′
+  desk-laid =
+      let e = desk-closed in
+      let f = c .laid .desk in
+      record {
+        long = length-putDesk (putCopied d l 1) (unlocking (deskOf d)) ∙ long;
+        inodes = ap (λ (v : Desk). v .inodes) e ∙ f .inodes;
+        blocks = ap (λ (v : Desk). v .blocks) e ∙ f .blocks;
+        state = ap (λ (v : Desk). v .state) e ∙ f .state;
+        reserved = reserved-putDesk (putCopied d l 1) (unlocking (deskOf d)) ∙ reserved-putCopied d l 1 ∙ f .reserved;
+        bytes = λ i o q. each-inode (λ i. 1 ≤ i → i ≤ n → copiedOf d′ i ≤ 1) l i (λ _ _. let z = copied-new in omega arith) (λ z _ _. subst (λ (y : ℕ). y ≤ 1) (sym (copied-else i o z)) (f .bytes i o q)) o q;
+        high = let z = ap (λ (v : Desk). v .locked) e in omega arith;
+        none = λ _. ap (λ (v : Desk). v .copied) e;
+      }
+
+  -- ---- the image
+  pub fits : InodeFits m n l
+  fits = let f = c .laid .frame in let e = f .long in record { low = low; high = high; few = f .most-inodes; area = omega arith }
+
+  pub in-inode : InInode m m′ n l
+  in-inode = put-attributes m n l fits (unlinkedInode (inodeOf s n l))
+
+  pub new : NewInode m′ l (unlinkedInode (inodeOf s n l))
+  new = attributes-new m n l fits (unlinkedInode (inodeOf s n l))
+
+  pub new-kind : kindOf m′ l ≡ kindOf s l
+  new-kind = new .kind ∙ (unfold inodeOf in refl)
+
+  pub new-size : sizeOf m′ l ≡ sizeOf s l
+  new-size = new .size ∙ (unfold inodeOf in refl)
+
+  pub new-parent : parentOf m′ l ≡ parentOf s l
+  new-parent = new .parent ∙ (unfold inodeOf in refl)
+
+  pub same-blocks : (i : ℕ) → 1 ≤ i → i ≤ n → (k : ℕ) → k < addressCount → kthBlock m′ n i k ≡ kthBlock m n i k
+  same-blocks i o q k a = each-inode (λ i. 1 ≤ i → i ≤ n → kthBlock m′ n i k ≡ kthBlock m n i k) l i (λ _ _. attributes-blocks m n l fits (unlinkedInode (inodeOf s n l)) k a) (λ z x y. in-inode .others i x y z .blocks k a) o q
+
+  pub few : blocksUsed (sizeOf s l) ≤ addressCount
+  few = dir-of s n (c .sound) (c .inodes) l low high .few
+
+  store : InodeSound s n (blocksIn s) l
+  store = body-at s n (c .sound) (c .inodes) .inodes l low high
+
+  -- its blocks
+  pub new-block : (k : ℕ) → k < blocksUsed (sizeOf s l) → blockOf m′ n (kthBlock m′ n l k) ≡ copiedBlock s d n l k
+  new-block k u =
+      let f = few in
+      let e = full in
+      ap (blockOf m′ n) (same-blocks l low high k (omega arith)) ∙ in-inode .bytes (kthBlock m n l k) ∙ lock .blocks k (omega arith)
+
+  pub file-same : kindOf s l ≡ fileKind → (k : ℕ) → k < blocksUsed (sizeOf s l) → blockOf m′ n (kthBlock m′ n l k) ≡ blockOf s n (kthBlock s n l k)
+  file-same e k u = new-block k u ∙ file-block s d n l k (λ z. let y = sym e ∙ z in omega arith)
+
+  pub entry-new : kindOf s l ≡ directoryKind → (t : ℕ) → t < slots s l → entryOf m′ n l t ≡ pasted d n l t (entryOf s n l t)
+  unfolding slots
+  entry-new e t u =
+      let r = dir-of s n (c .sound) (c .inodes) l low high .blocks (t / 4) (omega arith) in
+      let a = r .low in
+      let i = r .inside in
+      slot-pasted s m′ d n l t e (unfold blockOf in length-inside s _ blockBytes (omega arith)) (new-block (t / 4) (omega arith))
+
+  tail : kindOf m′ l ≡ fileKind → (sizeOf m′ l % blockBytes ≡ 0 → ⊥) → (o : ℕ) → o < blockBytes → sizeOf m′ l % blockBytes ≤ o → getD (blockOf m′ n (kthBlock m′ n l (sizeOf m′ l / blockBytes))) o 0 ≡ 0
+  unfolding blocksUsed
+  tail k q o u w =
+      let z = new-size in
+      let e : kindOf s l ≡ fileKind = sym new-kind ∙ k in
+      let v : sizeOf m′ l / blockBytes ≡ sizeOf s l / blockBytes = ap (λ (y : ℕ). y / blockBytes) z in
+      ap (λ (y : ℕ). getD (blockOf m′ n (kthBlock m′ n l y)) o 0) v
+      ∙ ap (λ (y : List ℕ). getD y o 0) (file-same e (sizeOf s l / blockBytes) (omega arith))
+      ∙ store .tail e (λ y. q (omega arith)) o u (omega arith)
+
+  new-sound : InodeSound m′ n b l
+  unfolding kthBlock
+  new-sound =
+      let a = new-kind in
+      let z = new-size in
+      let u = c .used in
+      let r = store in
+      let e = full in
+      let w : blocksUsed (sizeOf m′ l) ≡ blocksUsed (sizeOf s l) = ap blocksUsed z in
+      record {
+        kind = rw a (r .kind);
+        spare = new .spare;
+        free = λ k. absurd (u (sym a ∙ k));
+        size = rw z (r .size);
+        used = λ k f g. rw (same-blocks l low high k f) (lock .named k f (omega arith));
+        rest = λ k f g. same-blocks l low high k f ∙ lock .rest k f (omega arith);
+        directory = λ k. ap (λ (y : ℕ). y % blockBytes) z ∙ r .directory (sym a ∙ k);
+        tail = tail;
+        parent = λ k. new-parent ∙ r .parent (sym a ∙ k);
+      }
+
+  pub inodes-sound : (i : ℕ) → 1 ≤ i → i ≤ n → InodeSound m′ n b i
+  inodes-sound i o q =
+      each-inode (λ i. 1 ≤ i → i ≤ n → InodeSound m′ n b i) l i (λ _ _. new-sound)
+      (λ z x y. inode-kept m m′ n b i (in-inode .others i x y z) (λ _ _. in-inode .bytes _) (c .laid .inodes i x y z)) o q

@@ -1,0 +1,138 @@
+-- Image and desk lie as they did after entries of the image are cut. s is the store, m the image, d the desk, n and b the counts of inodes and image blocks.
+use Prim.Native.Nat.{ℕ, zero, suc, _+_, _*_, _/_, _≤_, _<_}
+use mathlib.Core.Path.{_≡_, refl, sym, ap, ap₂, _∙_, subst}
+use mathlib.Core.Logic.{_≢_, inl}
+use mathlib.Core.Bool.{true, false, not}
+use mathlib.Core.List.{List}
+use native.Mathlib.Decide.{ℕ-discrete}
+use native.Mathlib.Omega.{arith}
+use borrow.Author.Tests.{not-true}
+use lib.ListN.{getD}
+use Rattle.bounded.specs.Search.{pick}
+use Rattle.bounded.specs.Sum.{sum}
+use Rattle.layout.specs.Sizes.{addressCount, blockBytes, mostStoreBlocks}
+use Rattle.layout.specs.Inode.{sizeOf, place}
+use Rattle.layout.specs.Block.{blockOf, blocksUsed, kthBlock}
+use Rattle.layout.specs.Free.{named}
+use Rattle.names.specs.Entry.{isEmpty}
+use Rattle.directory.specs.Slot.{mostSlots, clearEntry}
+use Rattle.desk.specs.Desk.{deskOf}
+use Rattle.sound.specs.Place.{isSlot, entryAt, placeOf}
+use Rattle.sound.specs.Sound.{Sound, inodesIn, unnamedB}
+use Rattle.sound.proofs.FactLaws.{unnamed}
+use Rattle.changes.proofs.StoreLaws.{dir-of}
+use Rattle.changes.proofs.KeepLaws.{inode-kept}
+use Rattle.changes.proofs.AddressLaws.{same-named, same-differ}
+use Rattle.changes.proofs.EntryWriteLaws.{SlotIn}
+use Rattle.checkpoint.specs.Notes.{isCopied}
+use Rattle.checkpoint.proofs.Copy.Laid.{Laid, Open, Frame, Fair, cost, costSoFar}
+use Rattle.checkpoint.proofs.Copy.NamingLaws.{used-other}
+use Rattle.checkpoint.proofs.Copy.CutLaws.{inside, in-use, slot-same, cut-inode, cut-block, cut-file, cut-empty, cut-other}
+
+-- sums of what is equal
+pub sum-same : (f g : ℕ → ℕ) (n : ℕ) → ((k : ℕ) → k < n → f k ≡ g k) → sum f n ≡ sum g n
+unfolding sum
+sum-same f g zero h = refl
+sum-same f g (suc n) h = ap₂ _+_ (sum-same f g n (λ k l. h k (omega arith))) (h n (omega arith))
+
+-- no more than twelve blocks are copied
+pub copied-few : {n b : ℕ} {s m d : List ℕ} → Sound mostStoreBlocks false s → n ≡ inodesIn s → Laid n b s m d → deskOf d .locked ≢ 0 → deskOf d .copied ≤ addressCount
+copied-few {n} {b} {s} {m} {d} k x h z =
+    let o = h .opened z in
+    let u = o .few in
+    let v = dir-of s n k x (deskOf d .locked) (o .low) (h .desk .high) .few in
+    omega arith
+
+module _ {n b : ℕ} {s m d : List ℕ} (k : Sound mostStoreBlocks false s) (x : n ≡ inodesIn s) (h : Laid n b s m d) (e t : ℕ) (slot : SlotIn m n e t) where
+  abbrev cut : List ℕ
+  cut = clearEntry m n e t
+
+  frame : Frame n b cut
+  frame =
+      let f = h .frame in
+      let g = inside h e t slot .frame in
+      record {
+        some-inodes = f .some-inodes;
+        most-inodes = f .most-inodes;
+        some-blocks = f .some-blocks;
+        most-blocks = f .most-blocks;
+        long = g .long ∙ f .long;
+        inodes = g .inodes ∙ f .inodes;
+        blocks = g .blocks ∙ f .blocks;
+        root = g .root ∙ f .root;
+        complete = g .complete ∙ f .complete;
+        reserved = g .reserved ∙ f .reserved;
+      }
+
+  not-locked : deskOf d .locked ≢ e
+  not-locked z = used-other h e (slot .low) (slot .high) (in-use h e t slot) (sym z)
+
+  opened : deskOf d .locked ≢ 0 → Open n b s cut d (deskOf d .locked) (deskOf d .copied)
+  unfolding kthBlock
+  opened z =
+      let o = h .opened z in
+      let l = deskOf d .locked in
+      let high = h .desk .high in
+      let r = cut-inode h e t slot l (o .low) high in
+      let w = copied-few k x h z in
+      record {
+        low = o .low;
+        new = o .new;
+        spare = r .spare ∙ o .spare;
+        links = r .links ∙ o .links;
+        size = r .size ∙ o .size;
+        parent = r .parent ∙ o .parent;
+        few = o .few;
+        named = λ j a c. subst (λ (y : ℕ). (1 ≤ y) × (y ≤ b)) (sym (r .blocks j a)) (o .named j a c);
+        rest = λ j a c. r .blocks j a ∙ o .rest j a c;
+        blocks = λ j a.
+            ap (blockOf cut n) (r .blocks j (omega arith))
+            ∙ cut-block h e t slot l j (o .low) high not-locked (omega arith) (o .named j (omega arith) a .0) ∙ o .blocks j a;
+      }
+
+  addresses : (j : ℕ) → 1 ≤ j → j ≤ n → (i : ℕ) → i < addressCount → kthBlock cut n j i ≡ kthBlock m n j i
+  addresses j a c = cut-inode h e t slot j a c .blocks
+
+  -- a block that no address names is not the one written
+  other-block : (i : ℕ) → unnamedB m n i ≡ true → i + 1 ≢ kthBlock m n e (t / 4)
+  unfolding kthBlock
+  other-block i u z =
+      let a = slot .low in
+      let c = slot .high in
+      let f = slot .small in
+      unnamed m n (i + 1) (not-true (named m n (i + 1)) u) (place e (t / 4)) (omega arith) (sym z)
+
+  blanks : (i : ℕ) → i < b → unnamedB cut n i ≡ true → (o : ℕ) → o < blockBytes → getD (blockOf cut n (i + 1)) o 0 ≡ 0
+  blanks i l u o v =
+      let w : unnamedB m n i ≡ true = ap not (sym (same-named m cut n addresses (i + 1))) ∙ u in
+      ap (λ (y : List ℕ). getD y o 0) (inside h e t slot .others (i + 1) (omega arith) (other-block i w)) ∙ h .blanks i l w o v
+
+  fair : (p : ℕ) → p < mostSlots * n → isSlot cut p ≡ true → Fair (entryAt cut n p)
+  fair p l y = go (ℕ-discrete p (placeOf e t))
+    where
+      y′ : isSlot m p ≡ true
+      y′ = sym (slot-same h e t slot p l) ∙ y
+
+      go : Dec (p ≡ placeOf e t) → Fair (entryAt cut n p)
+      go (yes z) = inl (ap (λ (q : ℕ). isEmpty (entryAt cut n q)) z ∙ cut-empty h e t slot)
+      go (no z) = subst Fair (sym (cut-other h e t slot p l z y′)) (h .fair p l y′)
+
+  costs : (j : ℕ) → j < n → cost m d n j ≡ cost cut d n j
+  unfolding cost
+  costs j l = ap (λ (z : ℕ). pick (isCopied d n (j + 1)) (2 + blocksUsed z) 0) (sym (cut-inode h e t slot (j + 1) (omega arith) (omega arith) .size))
+
+  pub cut-laid : Laid n b s cut d
+  cut-laid = record {
+    desk = h .desk;
+    frame = frame;
+    inodes = λ i l o z.
+        inode-kept m cut n b i (cut-inode h e t slot i l o)
+        (λ f r. cut-file h e t slot i (sizeOf m i / blockBytes) l o f (let g = h .inodes i l o z .size in omega arith) (let g = h .inodes i l o z .size in (unfold blocksUsed in omega arith)))
+        (h .inodes i l o z);
+    blank = λ i l o c. cut-inode h e t slot i l o .kind ∙ h .blank i l o c;
+    opened = opened;
+    once = same-differ m cut n addresses (h .once);
+    blanks = blanks;
+    fair = fair;
+    steps = h .steps ∙ ap (λ (z : ℕ). z + costSoFar d) (sum-same (cost m d n) (cost cut d n) n costs);
+  }

@@ -1,0 +1,147 @@
+-- A lock: image and desk lie as they must, and the theory sees nothing but the locked inode. s is the store, m the image, d the desk, n and b the counts of inodes and image blocks, l the inode.
+use Prim.Native.Nat.{ℕ, _+_, _*_, _≤_, _<_}
+use mathlib.Core.Path.{_≡_, refl, sym, ap, _∙_}
+use mathlib.Core.Logic.{_≢_, _⊎_, inl, inr}
+use mathlib.Core.Bool.{false}
+use mathlib.Core.List.{List}
+use native.Mathlib.Omega.{arith}
+use borrow.Author.Tests.{ne-eqb}
+use Rattle.layout.specs.Sizes.{rootInode}
+use Rattle.layout.specs.Inode.{sizeOf}
+use Rattle.layout.specs.Block.{blocksUsed}
+use Rattle.layout.proofs.ViewLaws.{below-in}
+use Rattle.directory.specs.Slot.{mostSlots}
+use Rattle.desk.specs.declared.Desk.{Desk}
+use Rattle.desk.specs.Desk.{deskOf, putDesk}
+use Rattle.desk.specs.Next.{locking}
+use Rattle.desk.proofs.DeskLaws.{length-putDesk, desk-putDesk, reserved-putDesk, copied-putDesk}
+use Rattle.sound.specs.Place.{naming}
+use Rattle.copying.specs.Deed.{Alike, Quiet, Locked}
+use Rattle.checkpoint.specs.Image.{imageNaming}
+use Rattle.checkpoint.specs.Notes.{isCopied}
+use Rattle.checkpoint.specs.Copier.{lock, stepDesk}
+use Rattle.checkpoint.proofs.Copy.Seen.{shelfOf, seen}
+use Rattle.checkpoint.proofs.Copy.Laid.{Laid, DeskLaid, Open, costSoFar}
+use Rattle.checkpoint.proofs.Copy.NamingLaws.{same-naming}
+use Rattle.checkpoint.proofs.Copy.NoteLaws.{SameNotes, put-desk, same-marked, same-costs}
+
+-- ---- any header that is written to the desk of a running copy
+-- it is read back
+pub put-read : {n b : ℕ} {d : List ℕ} → DeskLaid n b d → (h : Desk) → deskOf (putDesk d h) ≡ h
+put-read {d = d} w h = let e = w .long in desk-putDesk d h (omega arith)
+
+-- it has the same counts and state, and tells of an inode
+pub desk-laid : {n b : ℕ} {d : List ℕ} → DeskLaid n b d → (h : Desk) → h .inodes ≡ n → h .blocks ≡ b → h .state ≡ deskOf d .state → h .locked ≤ n → (h .locked ≡ 0 → h .copied ≡ 0) → DeskLaid n b (putDesk d h)
+desk-laid {n} {b} {d} w h i k s l z =
+    let e = put-read w h in
+    record {
+      long = length-putDesk d h ∙ w .long;
+      inodes = ap (λ (x : Desk). x .inodes) e ∙ i;
+      blocks = ap (λ (x : Desk). x .blocks) e ∙ k;
+      state = ap (λ (x : Desk). x .state) e ∙ s ∙ w .state;
+      reserved = reserved-putDesk d h ∙ w .reserved;
+      bytes = λ j a c. rw (copied-putDesk d h j) (w .bytes j a c);
+      high = rw e l;
+      none = rw e z;
+    }
+
+pub free-cost : (d : List ℕ) → deskOf d .locked ≡ 0 → costSoFar d ≡ 0
+unfolding costSoFar
+free-cost d e = rw e
+
+pub locked-cost : (d : List ℕ) → deskOf d .locked ≢ 0 → costSoFar d ≡ 1 + deskOf d .copied
+unfolding costSoFar
+locked-cost d e = rw (ne-eqb (deskOf d .locked) 0 e)
+
+-- the same shelf
+pub alike-stays : (n : ℕ) (m : List ℕ) (i : ℕ) → Alike (shelfOf n m) (shelfOf n m) i
+alike-stays n m i = record { kind = refl; parent = refl; size = refl; bytes = λ _. refl }
+
+-- what the theory sees the image name
+pub seen-naming : {n b : ℕ} {s m d : List ℕ} → Laid n b s m d → (p : ℕ) → p < mostSlots * n → seen n s m d .image .names p ≡ imageNaming m n p
+unfolding seen shelfOf
+seen-naming {n} {m = m} h p l = below-in (mostSlots * n) (naming m n) p l ∙ sym (same-naming h p l)
+
+-- ---- the lock
+module _ {n b : ℕ} {s m d : List ℕ} (h : Laid n b s m d) (l : ℕ) where
+  abbrev new : List ℕ
+  new = stepDesk d (lock l)
+
+  read : deskOf new ≡ locking (deskOf d) l
+  read = put-read (h .desk) (locking (deskOf d) l)
+
+  notes : SameNotes d new n
+  notes = put-desk d (locking (deskOf d) l) n
+
+  pub lock-quiet : Quiet (seen n s m d) (seen n s m (stepDesk d (lock l)))
+  unfolding seen
+  lock-quiet = record {
+    store = refl;
+    names = λ q. refl;
+    entries = λ q _. refl;
+    inodes = alike-stays n m;
+    marked = same-marked notes;
+    copied = notes .copied;
+  }
+
+  pub lock-now : seen n s m (stepDesk d (lock l)) .locked ≡ l
+  unfolding seen
+  lock-now = ap (λ (x : Desk). x .locked) read
+
+  module _ (none : deskOf d .locked ≡ 0) (low : 1 ≤ l) (high : l ≤ n) (fresh : isCopied d n l ≡ false) where
+    -- no inode is locked: each is sound by itself
+    opened : Open n b s m new l 0
+    opened =
+        let k = h .blank l low high fresh in
+        let w = h .inodes l low high (λ z. omega arith) in
+        let z = w .free k .1 .0 in
+        let u : blocksUsed (sizeOf m l) ≡ 0 = rw z (unfold blocksUsed in refl) in
+        record {
+          low = low;
+          new = notes .copied l ∙ fresh;
+          spare = w .spare;
+          links = w .free k .0;
+          size = z;
+          parent = w .free k .1 .1;
+          few = omega arith;
+          named = λ j _ a. absurd (omega arith);
+          rest = λ j a _. w .rest j a (omega arith);
+          blocks = λ j a. absurd (omega arith);
+        }
+
+    pub lock-laid : Laid n b s m (stepDesk d (lock l))
+    lock-laid =
+        let e = read in
+        let a : deskOf new .locked ≡ l = ap (λ (x : Desk). x .locked) e in
+        let c : deskOf new .copied ≡ 0 = ap (λ (x : Desk). x .copied) e in
+        let t : deskOf new .steps ≡ deskOf d .steps + 1 = ap (λ (x : Desk). x .steps) e in
+        let x = free-cost d none in
+        let y = locked-cost new (λ z. omega arith) in
+        let v = same-costs m m d new n (notes .copied) (λ i _ _. refl) in
+        let o = h .steps in
+        record {
+          desk = desk-laid (h .desk) (locking (deskOf d) l) (h .desk .inodes) (h .desk .blocks) refl high (λ z. absurd (omega arith));
+          frame = h .frame;
+          inodes = λ i p q _. h .inodes i p q (λ z. omega arith);
+          blank = λ i p q r. h .blank i p q (sym (notes .copied i) ∙ r);
+          opened = λ _. rw (a, c) opened;
+          once = h .once;
+          blanks = h .blanks;
+          fair = h .fair;
+          steps = omega arith;
+        }
+
+    -- as the theory says it
+    pub lock-locked : ((l ≡ rootInode) ⊎ ((p : ℕ) × (p < mostSlots * n) × (imageNaming m n p ≡ l))) → Locked n (seen n s m d) (seen n s m (stepDesk d (lock l))) l
+    lock-locked by = record {
+      quiet = lock-quiet;
+      none = unfold seen in none;
+      now = lock-now;
+      low = low;
+      high = high;
+      new = unfold seen in fresh;
+      by = elim by [
+        | inl e ↦ inl e
+        | inr r ↦ inr (r .0, seen-naming h (r .0) (r .1) ∙ r .2)
+      ];
+    }

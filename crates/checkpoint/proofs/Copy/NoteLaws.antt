@@ -1,0 +1,96 @@
+-- What a header written to the desk leaves: copied inodes, marks, and what a step would copy. s is the store, m the image, d the desk, n the inode count.
+use Prim.Native.Nat.{ℕ, zero, suc, _+_, _*_, _≤_}
+use mathlib.Core.Path.{_≡_, refl, ap, ap₂, _∙_}
+use mathlib.Core.Bool.{Bool, true, false, _&&_}
+use mathlib.Core.List.{List}
+use lib.Dec.{eqb, leb, ltb}
+use lib.ListN.{length, replicate}
+use native.Mathlib.Omega.{arith}
+use Rattle.bounded.specs.Search.{pick}
+use Rattle.bounded.specs.Sum.{sum}
+use Rattle.bounded.specs.Reflect.{Reflects}
+use Rattle.bounded.proofs.ReflectLaws.{r-eq, r-le, r-and}
+use Rattle.octets.specs.Octets.{part, splice}
+use Rattle.octets.proofs.PartLaws.{length-splice}
+use Rattle.layout.specs.Inode.{kindOf, sizeOf, directoryKind}
+use Rattle.layout.specs.Block.{blockOf, blocksUsed, kthBlock}
+use Rattle.names.specs.Entry.{entryBytes, entryInode}
+use Rattle.directory.specs.Slot.{mostSlots, slotsInBlock}
+use Rattle.desk.specs.declared.Desk.{Desk}
+use Rattle.desk.specs.Desk.{putDesk, copiedOf, markOf}
+use Rattle.desk.proofs.DeskLaws.{copied-putDesk, mark-putDesk}
+use Rattle.sound.specs.Place.{dirOf, slotOf}
+use Rattle.checkpoint.specs.Notes.{isCopied}
+use Rattle.checkpoint.specs.Copier.{copiedEntry, copiedEntries, copiedBlock}
+use Rattle.checkpoint.proofs.Copy.Seen.{markedAt}
+use Rattle.checkpoint.proofs.Copy.Laid.{cost}
+use Rattle.checkpoint.proofs.Copy.SumLaws.{sum-ext}
+
+-- ---- desks with the same copied inodes and the same marks
+pub record SameNotes (d e : List ℕ) (n : ℕ) : Type 0 where
+  pub copied : (i : ℕ) → isCopied e n i ≡ isCopied d n i
+  pub marks : (i t : ℕ) → markOf e n i t ≡ markOf d n i t
+
+pub put-desk : (d : List ℕ) (h : Desk) (n : ℕ) → SameNotes d (putDesk d h) n
+unfolding isCopied
+put-desk d h n = record {
+  copied = λ i. ap (λ (x : ℕ). leb 1 i && (leb i n && eqb x 1)) (copied-putDesk d h i);
+  marks = λ i t. mark-putDesk d h n i t;
+}
+
+-- inode i is copied just where its byte says so
+pub copied-is : (d : List ℕ) (n i : ℕ) → Reflects (isCopied d n i) ((1 ≤ i) × ((i ≤ n) × (copiedOf d i ≡ 1)))
+unfolding isCopied
+copied-is d n i = r-and (r-le 1 i) (r-and (r-le i n) (r-eq (copiedOf d i) 1))
+
+-- ---- the block that a step copies depends on the marks of its directory and on the copied inodes
+module _ (d e : List ℕ) (n i : ℕ) (copied : (j : ℕ) → isCopied e n j ≡ isCopied d n j) (marks : (t : ℕ) → markOf e n i t ≡ markOf d n i t) where
+  copied-entry : (k : ℕ) (x : List ℕ) (j : ℕ) → copiedEntry e n i k x j ≡ copiedEntry d n i k x j
+  unfolding copiedEntry
+  copied-entry k x j = rw (marks (slotsInBlock * k + j), copied (entryInode (part x (entryBytes * j) entryBytes)))
+
+  copied-entries : (k : ℕ) (x : List ℕ) (j : ℕ) → copiedEntries e n i k x j ≡ copiedEntries d n i k x j
+  unfolding copiedEntries
+  copied-entries k x zero = refl
+  copied-entries k x (suc j) =
+      copied-entry k (copiedEntries e n i k x j) j ∙ ap (λ (y : List ℕ). copiedEntry d n i k y j) (copied-entries k x j)
+
+  pub copied-block : (s : List ℕ) (k : ℕ) → copiedBlock s e n i k ≡ copiedBlock s d n i k
+  unfolding copiedBlock
+  copied-block s k =
+      ap (λ (y : List ℕ). pick (eqb (kindOf s i) directoryKind) y (blockOf s n (kthBlock s n i k))) (copied-entries k (blockOf s n (kthBlock s n i k)) slotsInBlock)
+
+-- its length is that of the store's block
+module _ (d : List ℕ) (n i k : ℕ) where
+  length-entry : (x : List ℕ) (j : ℕ) → length (copiedEntry d n i k x j) ≡ length x
+  unfolding copiedEntry
+  length-entry x j = go (markOf d n i (slotsInBlock * k + j) && isCopied d n (entryInode (part x (entryBytes * j) entryBytes)))
+    where
+      go : (t : Bool) → length (pick t (splice x (entryBytes * j) (replicate entryBytes 0)) x) ≡ length x
+      go true = length-splice x (entryBytes * j) (replicate entryBytes 0)
+      go false = refl
+
+  length-entries : (x : List ℕ) (j : ℕ) → length (copiedEntries d n i k x j) ≡ length x
+  unfolding copiedEntries
+  length-entries x zero = refl
+  length-entries x (suc j) = length-entry (copiedEntries d n i k x j) j ∙ length-entries x j
+
+  pub length-copied-block : (s : List ℕ) → length (copiedBlock s d n i k) ≡ length (blockOf s n (kthBlock s n i k))
+  unfolding copiedBlock
+  length-copied-block s = go (eqb (kindOf s i) directoryKind)
+    where
+      go : (t : Bool) → length (pick t (copiedEntries d n i k (blockOf s n (kthBlock s n i k)) slotsInBlock) (blockOf s n (kthBlock s n i k))) ≡ length (blockOf s n (kthBlock s n i k))
+      go true = length-entries (blockOf s n (kthBlock s n i k)) slotsInBlock
+      go false = refl
+
+-- ---- the marks that are seen
+pub same-marked : {d e : List ℕ} {n : ℕ} → SameNotes d e n → (p : ℕ) → markedAt n e p ≡ markedAt n d p
+unfolding markedAt
+same-marked {n = n} h p = ap (λ (x : Bool). pick (ltb p (mostSlots * n)) x false) (h .marks (dirOf p) (slotOf p))
+
+-- ---- the steps that were taken: the same where the copied inodes and the image's sizes are
+pub same-costs : (m t d e : List ℕ) (n : ℕ) → ((i : ℕ) → isCopied e n i ≡ isCopied d n i) → ((i : ℕ) → 1 ≤ i → i ≤ n → sizeOf t i ≡ sizeOf m i) → sum (cost t e n) n ≡ sum (cost m d n) n
+unfolding cost
+same-costs m t d e n c z =
+    sum-ext (cost t e n) (cost m d n) n
+    (λ k l. ap₂ (λ (a : Bool) (b : ℕ). pick a (2 + blocksUsed b) 0) (c (k + 1)) (z (k + 1) (omega arith) (omega arith)))

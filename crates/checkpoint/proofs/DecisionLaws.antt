@@ -1,0 +1,195 @@
+-- What a live file call is decided to do, for all calls at once: as the plain one, or the copy is in the way, or a guard refuses; and what holds of each planned effect holds of it.
+use Prim.Native.Nat.{ℕ, _≤_}
+use mathlib.Core.Path.{_≡_, refl, sym, ap, _∙_, subst}
+use mathlib.Core.Logic.{_≢_, ⊎-elim}
+use mathlib.Core.Bool.{Bool, true, false, not, _&&_, _||_}
+use mathlib.Core.List.{List, [], _∷_}
+use native.Mathlib.Omega.{arith}
+use borrow.Author.Tests.{eq-eqb}
+use lib.Dec.{eqb}
+use Rattle.bounded.specs.Search.{pick}
+use Rattle.bounded.proofs.BoolLaws.{clash, and-left, or-l, or-cases}
+use Rattle.layout.specs.Sizes.{mostStoreBlocks}
+use Rattle.layout.specs.Inode.{kindOf, freeKind}
+use Rattle.desk.specs.Desk.{deskOf}
+use Rattle.sound.specs.Sound.{framedB, isSound, inodesIn, blocksIn}
+use Rattle.sound.specs.declared.Form.the-variants.{Store}
+use Rattle.sound.proofs.SoundLaws.{is-sound}
+use Rattle.answers.specs.declared.Refusal.{Refusal}
+use Rattle.answers.specs.declared.Refusal.the-variants.{BadBuffer, UnsoundStore, BadDesk, IllegalName, WrongInode, NameAbsent, NameTaken, NotEmpty, PastEnd, IntoItself, NoInode, NoBlocks, NoSlot, Busy, WrongState, ImageFull}
+use Rattle.answers.specs.Refusal.{refusalNumber}
+use Rattle.files.specs.declared.Guard.{Guard}
+use Rattle.files.specs.declared.Guard.the-variants.{Pass, Stop}
+use Rattle.files.specs.Guard.{guardOf, onGuard}
+use Rattle.files.specs.Effect.{Call, Effect, Planned, refused, does, onPlanned, planned, plainDecision}
+use Rattle.files.proofs.Lawful.{Apart, Stays, Lawful, Each}
+use Rattle.files.proofs.LawfulCalls.{lawful}
+use Rattle.checkpoint.specs.Fit.{deskFramed, isRunning, notesFit}
+use Rattle.checkpoint.specs.Busy.{isLocked, anyLocked, unlessBusy}
+use Rattle.checkpoint.specs.Live.{World, Outcome, refuse, threeGuards, storeAlone, decision, leavesIn, live, guarded}
+use Rattle.checkpoint.specs.List.{Ready, call, outcome, accepted, refusalOf, takenFrom, anyAt, takes}
+
+-- ---- the guards as a chain of tests
+pub guarded-is : (s m d : List ℕ) (o : Outcome)
+    → guarded s m d o ≡ pick (not (framedB mostStoreBlocks s && deskFramed d)) (refuse BadBuffer s m d) (pick (not (isSound Store s)) (refuse UnsoundStore s m d) (pick (not (notesFit s m d)) (refuse BadDesk s m d) o))
+unfolding guarded threeGuards
+guarded-is s m d o = go (framedB mostStoreBlocks s && deskFramed d) (isSound Store s) (notesFit s m d)
+  where
+    go : (a b c : Bool) → onGuard (pick (not a) (Stop BadBuffer) (pick (not b) (Stop UnsoundStore) (pick (not c) (Stop BadDesk) (Pass (inodesIn s) (blocksIn s))))) (λ n k. o) (λ e. refuse e s m d)
+        ≡ pick (not a) (refuse BadBuffer s m d) (pick (not b) (refuse UnsoundStore s m d) (pick (not c) (refuse BadDesk s m d) o))
+    go true true true = refl
+    go true true false = refl
+    go true false c = refl
+    go false b c = refl
+
+-- ---- beside the plain decision p: q is the same, or the copy is in the way, or one of the refusals 1 to 3 comes
+pub data Beside (w : World) (p q : Planned) : Type 0 where
+  same : q ≡ p → Beside w p q
+  busy : isRunning (w .desk) ≡ true → q ≡ refused Busy → Beside w p q
+  unfit : (e : Refusal) → 1 ≤ refusalNumber e → refusalNumber e ≤ 3 → (Ready w → ⊥) → q ≡ refused e → Beside w p q
+
+-- a call is busy only while a copy runs
+locked-runs : (d is : List ℕ) → anyLocked d is ≡ true → isRunning d ≡ true
+unfolding anyLocked isLocked
+locked-runs d [] e = absurd (clash false e refl)
+locked-runs d (i ∷ is) e = ⊎-elim (and-left (isRunning d) (eqb (deskOf d .locked) i)) (locked-runs d is) (or-cases (isLocked d i) (anyLocked d is) e)
+
+beside-busy : (w : World) (p : Planned) → Beside w p (unlessBusy (w .desk) p)
+beside-busy w (refused e) = same refl
+beside-busy w (does x) = go (anyLocked (w .desk) (x .touches)) refl
+  where
+    go : (b : Bool) → anyLocked (w .desk) (x .touches) ≡ b → Beside w (does x) (pick b (refused Busy) (does x))
+    go true e = busy (locked-runs (w .desk) (x .touches) e) refl
+    go false e = same refl
+
+pub beside : (c : Call) (w : World) → Beside w (plainDecision c (w .store)) (decision c w)
+unfolding plainDecision decision threeGuards guardOf
+beside c w = go (storeAlone c) (framedB mostStoreBlocks (w .store)) (deskFramed (w .desk)) (isSound Store (w .store)) (notesFit (w .store) (w .image) (w .desk)) refl refl
+  where
+    o : Guard
+    o = Pass (inodesIn (w .store)) (blocksIn (w .store))
+
+    last : Beside w (planned c (w .store) (inodesIn (w .store)) (blocksIn (w .store))) (unlessBusy (w .desk) (planned c (w .store) (inodesIn (w .store)) (blocksIn (w .store))))
+    last = beside-busy w (planned c (w .store) (inodesIn (w .store)) (blocksIn (w .store)))
+
+    go : (a f d s n : Bool) → deskFramed (w .desk) ≡ d → notesFit (w .store) (w .image) (w .desk) ≡ n
+        → Beside w (onGuard (pick (not f) (Stop BadBuffer) (pick (not s) (Stop UnsoundStore) o)) (planned c (w .store)) refused)
+        (onGuard (pick a (pick (not f) (Stop BadBuffer) (pick (not s) (Stop UnsoundStore) o)) (pick (not (f && d)) (Stop BadBuffer) (pick (not s) (Stop UnsoundStore) (pick (not n) (Stop BadDesk) o))))
+        (λ n b. unlessBusy (w .desk) (planned c (w .store) n b)) refused)
+    go true false d s n y t = same refl
+    go true true d false n y t = same refl
+    go true true d true n y t = last
+    go false false d s n y t = same refl
+    go false true false s n y t = unfit BadBuffer (omega arith) (omega arith) (λ r. clash false (sym y ∙ r .desk) refl) refl
+    go false true true false n y t = same refl
+    go false true true true false y t = unfit BadDesk (omega arith) (omega arith) (λ r. clash false (sym t ∙ r .notes) refl) refl
+    go false true true true true y t = last
+
+-- ---- what holds of a planned effect
+-- Q holds of it, and the copy has locked nothing that it touches
+abbrev pub Allowed : (Effect → Type 0) → World → Effect → Type 0
+Allowed Q w x = Q x × (anyLocked (w .desk) (x .touches) ≡ false)
+
+module _ (Q : Effect → Type 0) where
+  each-unless : (w : World) (q : Planned) → Each Q q → Each (Allowed Q w) (unlessBusy (w .desk) q)
+  each-unless w (refused e) h = tt
+  each-unless w (does x) h = go (anyLocked (w .desk) (x .touches)) refl
+    where
+      go : (b : Bool) → anyLocked (w .desk) (x .touches) ≡ b → Each (Allowed Q w) (pick b (refused Busy) (does x))
+      go true e = tt
+      go false e = (h, e)
+
+  pub each-decided : (c : Call) (w : World) → Each Q (planned c (w .store) (inodesIn (w .store)) (blocksIn (w .store))) → Each (Allowed Q w) (decision c w)
+  unfolding decision threeGuards guardOf
+  each-decided c w h = go (storeAlone c) (framedB mostStoreBlocks (w .store)) (deskFramed (w .desk)) (isSound Store (w .store)) (notesFit (w .store) (w .image) (w .desk))
+    where
+      o : Guard
+      o = Pass (inodesIn (w .store)) (blocksIn (w .store))
+
+      last : Each (Allowed Q w) (unlessBusy (w .desk) (planned c (w .store) (inodesIn (w .store)) (blocksIn (w .store))))
+      last = each-unless w (planned c (w .store) (inodesIn (w .store)) (blocksIn (w .store))) h
+
+      go : (a f d s n : Bool) → Each (Allowed Q w) (onGuard (pick a (pick (not f) (Stop BadBuffer) (pick (not s) (Stop UnsoundStore) o)) (pick (not (f && d)) (Stop BadBuffer) (pick (not s) (Stop UnsoundStore) (pick (not n) (Stop BadDesk) o))))
+          (λ n b. unlessBusy (w .desk) (planned c (w .store) n b)) refused)
+      go true false d s n = tt
+      go true true d false n = tt
+      go true true d true n = last
+      go false false d s n = tt
+      go false true false s n = tt
+      go false true true false n = tt
+      go false true true true false = tt
+      go false true true true true = last
+
+-- ---- what an accepted call does, by the laws of its effect
+apart-locked : (d is : List ℕ) → isRunning d ≡ true → anyLocked d is ≡ false → Apart (deskOf d .locked) is
+unfolding anyLocked isLocked
+apart-locked d [] r e = tt
+apart-locked d (i ∷ is) r e = (
+  λ z. clash (isLocked d i || anyLocked d is) (or-l (isLocked d i) (anyLocked d is) (rw (r, eq-eqb (deskOf d .locked) i z) refl)) e,
+  apart-locked d is r (or-no (isLocked d i) (anyLocked d is) e),
+)
+  where
+    or-no : (a b : Bool) → (a || b) ≡ false → b ≡ false
+    or-no true b e = absurd (clash true refl e)
+    or-no false b e = e
+
+-- the laws, and the locked inode is none of those that are touched
+pub record Lives (w : World) (x : Effect) : Type 0 where
+  pub laws : Lawful (w .store) (inodesIn (w .store)) x
+  pub locked : isRunning (w .desk) ≡ true → Apart (deskOf (w .desk) .locked) (x .touches)
+
+pub lives : (c : Call) (w : World) (x : Effect) → Ready w → decision c w ≡ does x → Lives w x
+lives c w x r e =
+    let h = each-decided (Lawful (w .store) (inodesIn (w .store))) c w (lawful c (w .store) (inodesIn (w .store)) (blocksIn (w .store)) (is-sound Store (w .store) .to (r .sound)) refl refl) in
+    let k = subst (Each (Allowed (Lawful (w .store) (inodesIn (w .store))) w)) e h in
+    record { laws = k .0; locked = λ g. apart-locked (w .desk) (x .touches) g (k .1) }
+
+-- the locked inode stays, with its bytes
+pub locked-stays : (c : Call) (w : World) (x : Effect) → Ready w → isRunning (w .desk) ≡ true → decision c w ≡ does x
+    → 1 ≤ deskOf (w .desk) .locked → deskOf (w .desk) .locked ≤ inodesIn (w .store) → kindOf (w .store) (deskOf (w .desk) .locked) ≢ freeKind
+    → Stays (w .store) (x .store) (inodesIn (w .store)) (deskOf (w .desk) .locked)
+locked-stays c w x r g e l m u = let k = lives c w x r e in k .laws .untouched (deskOf (w .desk) .locked) l m u (k .locked g)
+
+-- ---- accepted
+not-none : (e : Refusal) → eqb (refusalNumber e) 0 ≡ false
+not-none BadBuffer = refl
+not-none UnsoundStore = refl
+not-none BadDesk = refl
+not-none IllegalName = refl
+not-none WrongInode = refl
+not-none NameAbsent = refl
+not-none NameTaken = refl
+not-none NotEmpty = refl
+not-none PastEnd = refl
+not-none IntoItself = refl
+not-none NoInode = refl
+not-none NoBlocks = refl
+not-none NoSlot = refl
+not-none Busy = refl
+not-none WrongState = refl
+not-none ImageFull = refl
+
+no-both : {A : Type 0} (x : Effect) (e : Refusal) → does x ≡ refused e → A
+no-both x e h = let z : _≡_ {A = ℕ} 0 1 = cc in absurd (omega arith)
+
+-- it is accepted, when and only when it is decided to do something
+done-is : (w : World) (q : Planned) → eqb (refusalOf (leavesIn w q .answer)) 0 ≡ onPlanned q (λ x. true) (λ e. false)
+done-is w (does x) = refl
+done-is w (refused e) = not-none e
+
+pub accepted-is : (c : Call) (w : World) → accepted (call c) w ≡ onPlanned (decision c w) (λ x. true) (λ e. false)
+unfolding outcome live
+accepted-is c w = done-is w (decision c w)
+
+-- what an accepted call takes out is what its effect takes out
+taken-is : (w : World) (p q : Planned) (z : ℕ) → Beside w p q
+    → (onPlanned q (λ x. true) (λ e. false) && anyAt (onPlanned p (λ x. x .taken) (λ e. [])) z) ≡ onPlanned q (λ x. anyAt (x .taken) z) (λ e. false)
+taken-is w p (refused e) z b = refl
+taken-is w p (does x) z b = elim b [
+  | same e ↦ ap (λ r. anyAt (onPlanned r (λ y. y .taken) (λ e. [])) z) (sym e)
+  | busy r e ↦ no-both x Busy e
+  | unfit f l m n e ↦ no-both x f e
+]
+
+pub takes-is : (c : Call) (w : World) (z : ℕ) → takes (call c) w z ≡ onPlanned (decision c w) (λ x. anyAt (x .taken) z) (λ e. false)
+takes-is c w z = ap (λ (b : Bool). b && anyAt (takenFrom c (w .store)) z) (accepted-is c w) ∙ taken-is w (plainDecision c (w .store)) (decision c w) z (beside c w)

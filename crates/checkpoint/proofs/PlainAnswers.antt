@@ -1,0 +1,210 @@
+-- What the plain store answers: 1 or 2, a plan's refusal (4 to 13), or that it is done; nothing of a desk or a copy.
+use Prim.Native.Nat.{ℕ, _+_, _-_, _≤_, max}
+use mathlib.Core.Path.{_≡_, refl, sym, ap, _∙_}
+use mathlib.Core.Bool.{Bool, true, false, not, _&&_, _||_}
+use mathlib.Core.List.{List}
+use native.Mathlib.Omega.{arith}
+use lib.Dec.{eqb, leb, ltb}
+use lib.ListN.{length}
+use Rattle.bounded.specs.Search.{pick, onFound}
+use Rattle.bounded.specs.declared.Found.{Found}
+use Rattle.bounded.specs.declared.Found.the-variants.{At, Absent}
+use Rattle.bounded.proofs.BoolLaws.{clash}
+use Rattle.layout.specs.Sizes.{mostStoreBlocks, mostFileBytes, addressCount}
+use Rattle.layout.specs.Header.{headerOf}
+use Rattle.layout.specs.Inode.{kindOf, sizeOf, directoryKind, isFile, isDirectory}
+use Rattle.layout.specs.Block.{blocksUsed}
+use Rattle.layout.specs.Free.{freeInode, freeBlock}
+use Rattle.names.specs.Name.{legalName}
+use Rattle.directory.specs.Slot.{findSlot, emptySlot, inodeAt}
+use Rattle.sound.specs.Sound.{framedB, isSound, inodesIn, blocksIn}
+use Rattle.sound.specs.declared.Form.the-variants.{Store}
+use Rattle.answers.specs.declared.Refusal.the-variants.{BadBuffer, UnsoundStore, NoBlocks, NoSlot}
+use Rattle.answers.specs.Refusal.{refusalNumber}
+use Rattle.answers.specs.declared.Answer.{Answer}
+use Rattle.content.specs.declared.NumberPlan.{NumberPlan}
+use Rattle.content.specs.Plan.{readPlan, writePlan, shortenPlan}
+use Rattle.entries.specs.declared.Kind.{Kind}
+use Rattle.entries.specs.declared.Room.{Room}
+use Rattle.entries.specs.declared.RoomPlan.{RoomPlan}
+use Rattle.entries.specs.declared.RoomPlan.the-variants.{Has, NoRoom}
+use Rattle.entries.specs.declared.CreatePlan.{CreatePlan}
+use Rattle.entries.specs.declared.LinkPlan.{LinkPlan}
+use Rattle.entries.specs.declared.UnlinkPlan.{UnlinkPlan}
+use Rattle.entries.specs.declared.RenamePlan.{RenamePlan}
+use Rattle.entries.specs.declared.CreatePlan.the-variants.{Make, NoCreate}
+use Rattle.entries.specs.declared.LinkPlan.the-variants.{Add, NoLink}
+use Rattle.entries.specs.declared.RenamePlan.the-variants.{Move, NoRename}
+use Rattle.entries.specs.Room.{roomIn, onRoom}
+use Rattle.entries.specs.Plan.{holdsNone, isBelow, lookUpPlan, createPlan, linkPlan, unlinkPlan, renameTo, renamePlan}
+use Rattle.files.specs.Effect.{Call, lookUp, read, create, write, shorten, link, unlink, rename, Planned, refused, does, onPlanned, doLookUp, doRead, doCreate, doWrite, doShorten, doLink, doUnlink, doRename, planned, plainDecision, given}
+use Rattle.files.specs.Plain.{leaves, plain}
+use Rattle.files.specs.Plain as files
+use Rattle.files.proofs.PlainLaws.{on-guard}
+use Rattle.checkpoint.specs.Live.{Outcome}
+use Rattle.checkpoint.specs.List.{refusalOf}
+
+-- ---- by cases
+pub by-pick : {A : Type 0} (P : A → Type 0) (b : Bool) {x y : A} → P x → P y → P (pick b x y)
+by-pick P true p q = p
+by-pick P false p q = q
+
+by-found : {A : Type 0} (P : A → Type 0) (r : Found) {g : ℕ → A} {y : A} → ((t : ℕ) → P (g t)) → P y → P (onFound r g y)
+by-found P (At t) p q = p t
+by-found P Absent p q = q
+
+by-room : (P : RoomPlan → Type 0) (s : List ℕ) (n b d : ℕ) → ((r : Room) → P (Has r)) → P (NoRoom NoBlocks) → P (NoRoom NoSlot) → P (roomIn s n b d)
+unfolding roomIn
+by-room P s n b d h p q =
+    by-found P (emptySlot s n d) (λ t. h _)
+    (by-pick P (ltb (blocksUsed (sizeOf s d)) addressCount) (by-found P (freeBlock s n b) (λ c. h _) p) q)
+
+-- ---- the answers of plans: 0 for a plan that is done, or 4 to 13
+abbrev ordinary : ℕ → Bool
+ordinary k = eqb k 0 || (leb 4 k && leb k 13)
+
+-- one of those numbers is not j, which is none
+apart : (k j : ℕ) → ordinary k ≡ true → ordinary j ≡ false → k ≡ j → ⊥
+apart k j p q e = clash (ordinary k) p (ap ordinary e ∙ q)
+
+abbrev numberIn : Planned → ℕ
+numberIn p = onPlanned p (λ x. 0) refusalNumber
+
+abbrev Ordinary : Planned → Type 0
+Ordinary p = ordinary (numberIn p) ≡ true
+
+look-up-ordinary : (s : List ℕ) (n d : ℕ) (name : List ℕ) → Ordinary (doLookUp s (lookUpPlan s n d name))
+unfolding lookUpPlan
+look-up-ordinary s n d name =
+    let P : NumberPlan → Type 0 = λ x. Ordinary (doLookUp s x) in
+    by-pick P (not (legalName name)) refl
+    (by-pick P (not (isDirectory s n d)) refl
+    (by-found P (findSlot s n d name) (λ t. refl) refl))
+
+read-ordinary : (s : List ℕ) (n i o : ℕ) (out : List ℕ) (k : ℕ) → Ordinary (doRead s n i o out (readPlan s n i o k))
+unfolding readPlan
+read-ordinary s n i o out k =
+    let P : NumberPlan → Type 0 = λ x. Ordinary (doRead s n i o out x) in
+    by-pick P (not (isFile s n i)) refl (by-pick P (ltb (sizeOf s i) o) refl refl)
+
+create-ordinary : (s : List ℕ) (n b d : ℕ) (name : List ℕ) (k : Kind) → Ordinary (doCreate s n d name k (createPlan s n b d name))
+unfolding createPlan
+create-ordinary s n b d name k =
+    let P : CreatePlan → Type 0 = λ x. Ordinary (doCreate s n d name k x) in
+    by-pick P (not (legalName name)) refl
+    (by-pick P (not (isDirectory s n d)) refl
+    (by-found P (findSlot s n d name) (λ t. refl)
+    (by-found P (freeInode s n) (λ i. by-room (λ x. P (onRoom x (λ r. Make i r) NoCreate)) s n b d (λ r. refl) refl refl)
+    refl)))
+
+write-ordinary : (s : List ℕ) (n b i o : ℕ) (xs : List ℕ) (k : ℕ) → Ordinary (doWrite s n b i o xs (writePlan s n i o k))
+unfolding writePlan
+write-ordinary s n b i o xs k =
+    let P : NumberPlan → Type 0 = λ x. Ordinary (doWrite s n b i o xs x) in
+    by-pick P (not (isFile s n i)) refl
+    (by-pick P (ltb (sizeOf s i) o || ltb mostFileBytes (o + k)) refl
+    (by-pick P (ltb (headerOf s .«free_blocks») (blocksUsed (max (sizeOf s i) (o + k)) - blocksUsed (sizeOf s i))) refl
+    refl))
+
+shorten-ordinary : (s : List ℕ) (n i z : ℕ) → Ordinary (doShorten s n i (shortenPlan s n i z))
+unfolding shortenPlan
+shorten-ordinary s n i z =
+    let P : NumberPlan → Type 0 = λ x. Ordinary (doShorten s n i x) in
+    by-pick P (not (isFile s n i)) refl (by-pick P (ltb (sizeOf s i) z) refl refl)
+
+link-ordinary : (s : List ℕ) (n b d : ℕ) (name : List ℕ) (i : ℕ) → Ordinary (doLink s n d name i (linkPlan s n b d name i))
+unfolding linkPlan
+link-ordinary s n b d name i =
+    let P : LinkPlan → Type 0 = λ x. Ordinary (doLink s n d name i x) in
+    by-pick P (not (legalName name)) refl
+    (by-pick P (not (isDirectory s n d && isFile s n i)) refl
+    (by-found P (findSlot s n d name) (λ t. refl)
+    (by-room (λ x. P (onRoom x Add NoLink)) s n b d (λ r. refl) refl refl)))
+
+unlink-ordinary : (s : List ℕ) (n d : ℕ) (name : List ℕ) → Ordinary (doUnlink s n d (unlinkPlan s n d name))
+unfolding unlinkPlan
+unlink-ordinary s n d name =
+    let P : UnlinkPlan → Type 0 = λ x. Ordinary (doUnlink s n d x) in
+    by-pick P (not (legalName name)) refl
+    (by-pick P (not (isDirectory s n d)) refl
+    (by-found P (findSlot s n d name)
+    (λ t. by-pick P (eqb (kindOf s (inodeAt s n d t)) directoryKind && not (holdsNone s n (inodeAt s n d t))) refl refl)
+    refl))
+
+rename-ordinary : (s : List ℕ) (n b d : ℕ) (name : List ℕ) (e : ℕ) (other : List ℕ) → Ordinary (doRename s n d e other (renamePlan s n b d name e other))
+unfolding renamePlan renameTo
+rename-ordinary s n b d name e other =
+    let P : RenamePlan → Type 0 = λ x. Ordinary (doRename s n d e other x) in
+    by-pick P (not (legalName name && legalName other)) refl
+    (by-pick P (not (isDirectory s n d && isDirectory s n e)) refl
+    (by-found P (findSlot s n d name)
+    (λ t. by-pick P (eqb d e)
+    (by-found P (findSlot s n e other) (λ u. by-pick P (eqb u t) refl refl) refl)
+    (by-found P (findSlot s n e other) (λ u. refl)
+    (by-pick P (isBelow s n (inodeAt s n d t) e) refl
+    (by-room (λ x. P (onRoom x (λ r. Move t (inodeAt s n d t) r) NoRename)) s n b e (λ r. refl) refl refl))))
+    refl))
+
+ordinary-planned : (c : Call) (s : List ℕ) (n b : ℕ) → Ordinary (planned c s n b)
+ordinary-planned (lookUp d name) s n b = look-up-ordinary s n d name
+ordinary-planned (read i o out) s n b = read-ordinary s n i o out (length out)
+ordinary-planned (create d name k) s n b = create-ordinary s n b d name k
+ordinary-planned (write i o xs) s n b = write-ordinary s n b i o xs (length xs)
+ordinary-planned (shorten i z) s n b = shorten-ordinary s n i z
+ordinary-planned (link d name i) s n b = link-ordinary s n b d name i
+ordinary-planned (unlink d name) s n b = unlink-ordinary s n d name
+ordinary-planned (rename d name e other) s n b = rename-ordinary s n b d name e other
+
+-- ---- the plain store's answers
+-- no answer of a desk or a copy
+pub record Deskless (a : Answer) : Type 0 where
+  pub third : refusalOf a ≡ 3 → ⊥
+  pub fourteenth : refusalOf a ≡ 14 → ⊥
+  pub fifteenth : refusalOf a ≡ 15 → ⊥
+  pub sixteenth : refusalOf a ≡ 16 → ⊥
+
+-- the plain store is framed and sound
+pub record StoreFits (s : List ℕ) : Type 0 where
+  pub framed : framedB mostStoreBlocks s ≡ true
+  pub sound : isSound Store s ≡ true
+
+-- what a plain call answers
+pub record Plainly (s : List ℕ) (o : files.Outcome) : Type 0 where
+  pub never : Deskless (o .answer)
+  pub first : StoreFits s → refusalOf (o .answer) ≡ 1 → ⊥
+  pub second : StoreFits s → refusalOf (o .answer) ≡ 2 → ⊥
+
+low : (a : Answer) → refusalOf a ≤ 2 → Deskless a
+low a h = record { third = λ e. omega arith; fourteenth = λ e. omega arith; fifteenth = λ e. omega arith; sixteenth = λ e. omega arith }
+
+planned-plainly : (s out : List ℕ) (p : Planned) → Ordinary p → Plainly s (leaves s out p)
+planned-plainly s out (does x) h = record { never = low _ (omega arith); first = λ f e. omega arith; second = λ f e. omega arith }
+planned-plainly s out (refused r) h =
+    let k = refusalNumber r in
+    record {
+      never = record { third = apart k 3 h refl; fourteenth = apart k 14 h refl; fifteenth = apart k 15 h refl; sixteenth = apart k 16 h refl };
+      first = λ f. apart k 1 h refl;
+      second = λ f. apart k 2 h refl;
+    }
+
+pub plainly : (c : Call) (s : List ℕ) → Plainly s (plain c s)
+unfolding plain plainDecision
+plainly c s = rw (on-guard s (planned c s) refused) (go (framedB mostStoreBlocks s) (isSound Store s) refl refl)
+  where
+    go : (a b : Bool) → framedB mostStoreBlocks s ≡ a → isSound Store s ≡ b
+        → Plainly s (leaves s (given c) (pick (not a) (refused BadBuffer) (pick (not b) (refused UnsoundStore) (planned c s (inodesIn s) (blocksIn s)))))
+    go false b p q = record {
+      never = low _ (omega arith);
+      first = λ f e. clash false (sym p ∙ f .framed) refl;
+      second = λ f e. omega arith;
+    }
+    go true false p q = record {
+      never = low _ (omega arith);
+      first = λ f e. omega arith;
+      second = λ f e. clash false (sym q ∙ f .sound) refl;
+    }
+    go true true p q = planned-plainly s (given c) (planned c s (inodesIn s) (blocksIn s)) (ordinary-planned c s (inodesIn s) (blocksIn s))
+
+-- the plain store answers neither 3 nor 14 to 16
+pub plain-never : (c : Call) (s : List ℕ) → Deskless (plain c s .answer)
+plain-never c s = plainly c s .never

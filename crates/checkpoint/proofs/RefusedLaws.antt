@@ -1,0 +1,100 @@
+-- A refusal "changes no lent buffer, save that 16 marks the copy stopped and unlocks what was being copied". s is the store, m the image, d the desk.
+use mathlib.Core.Path.{_≡_, refl, sym, ap, _∙_}
+use mathlib.Core.Bool.{Bool, true, false, not, _&&_, true≢false}
+use mathlib.Core.List.{List}
+use mathlib.Core.Logic.{_⊎_, inl, inr, ⊎-elim}
+use Prim.Native.Nat.{ℕ, _-_}
+use lib.Dec.{eqb}
+use lib.ListN.{length}
+use Rattle.bounded.specs.Search.{pick}
+use Rattle.layout.specs.Sizes.{mostStoreBlocks}
+use Rattle.desk.specs.Desk.{deskOf, putDesk}
+use Rattle.desk.specs.Next.{stopping}
+use Rattle.sound.specs.Sound.{framedB, isSound, inodesIn}
+use Rattle.sound.specs.declared.Form.the-variants.{Store}
+use Rattle.answers.specs.declared.Refusal.{Refusal}
+use Rattle.answers.specs.declared.Refusal.the-variants.{BadBuffer, UnsoundStore, BadDesk, WrongState, ImageFull}
+use Rattle.answers.specs.declared.Answer.{Answer}
+use Rattle.answers.specs.declared.Answer.the-variants.{Done, Refused}
+use Rattle.answers.specs.Refusal.{refusalNumber}
+use Rattle.files.specs.Effect.{Call, Planned, refused, does}
+use Rattle.files.proofs.PlainLaws.{never}
+use Rattle.checkpoint.specs.Fit.{deskFramed, imageAllowed, isRunning, notesFit}
+use Rattle.checkpoint.specs.Copier.{stepOf, Step, lock, copy, close, finish, full}
+use Rattle.checkpoint.specs.Live.{World, Outcome, left, refuse, decision, leavesIn, live, guarded, doStep, started, start, step}
+use Rattle.checkpoint.proofs.DecisionLaws.{guarded-is}
+
+abbrev pub Keeps : List ℕ → List ℕ → List ℕ → Outcome → Type 0
+Keeps s m d o = (e : Refusal) → o .answer ≡ Refused e → o ≡ refuse e s m d
+
+pick-has : (P : Outcome → Type 0) (b : Bool) (o p : Outcome) → P o → P p → P (pick b o p)
+pick-has P true o p f g = f
+pick-has P false o p f g = g
+
+module _ (s m d : List ℕ) where
+  guarded-has : (P : Outcome → Type 0) (o : Outcome)
+      → P (refuse BadBuffer s m d)
+      → P (refuse UnsoundStore s m d)
+      → P (refuse BadDesk s m d)
+      → P o
+      → P (guarded s m d o)
+  guarded-has P o f g h k =
+      rw (guarded-is s m d o)
+      (pick-has P (not (framedB mostStoreBlocks s && deskFramed d)) _ _ f
+      (pick-has P (not (isSound Store s)) _ _ g
+      (pick-has P (not (notesFit s m d)) _ _ h k)))
+
+  keeps-refused : (f : Refusal) → Keeps s m d (refuse f s m d)
+  keeps-refused f e h = ap (λ (a : Answer). left a s m d) h
+
+  keeps-done : (x : ℕ) (t n k : List ℕ) → Keeps s m d (left (Done x) t n k)
+  keeps-done x t n k e h = never x e h
+
+  keeps-guarded : (o : Outcome) → Keeps s m d o → Keeps s m d (guarded s m d o)
+  keeps-guarded o f = guarded-has (Keeps s m d) o (keeps-refused BadBuffer) (keeps-refused UnsoundStore) (keeps-refused BadDesk) f
+
+  pub start-refused : Keeps s m d (start s m d)
+  unfolding start started
+  start-refused =
+      pick-has (Keeps s m d) (framedB mostStoreBlocks s && (deskFramed d && not (imageAllowed (inodesIn s) (length m)))) _ _ (keeps-refused BadBuffer)
+      (keeps-guarded _ (pick-has (Keeps s m d) (isRunning d) _ _ (keeps-refused WrongState) (keeps-done 0 _ _ _)))
+
+  -- 16 "sets state 3 and fields 6-9 to zero and changes nothing more"
+  abbrev KeepsBut16 : Outcome → Type 0
+  KeepsBut16 o =
+      (e : Refusal)
+      → o .answer ≡ Refused e
+      → ((e ≡ ImageFull → ⊥) × (o ≡ refuse e s m d)) ⊎ ((e ≡ ImageFull) × (o ≡ left (Refused e) s m (putDesk d (stopping (deskOf d)))))
+
+  not-16 : (f : Refusal) → eqb (refusalNumber f) 16 ≡ false → KeepsBut16 (refuse f s m d)
+  not-16 f n e h =
+      let z : f ≡ e = cc in
+      inl (λ w. true≢false (sym (ap (λ (r : Refusal). eqb (refusalNumber r) 16) (z ∙ w)) ∙ n), keeps-refused f e h)
+
+  keeps-step : (p : Step) → KeepsBut16 (doStep s m d (inodesIn s) p)
+  keeps-step (lock i) e h = never _ e h
+  keeps-step (copy i k c) e h = never _ e h
+  keeps-step (close i) e h = never _ e h
+  keeps-step finish e h = never _ e h
+  keeps-step full e h = let z : e ≡ ImageFull = cc in inr (z, ap (λ (a : Answer). left a s m (putDesk d (stopping (deskOf d)))) h)
+
+  step-keeps : KeepsBut16 (step s m d)
+  unfolding step
+  step-keeps =
+      guarded-has KeepsBut16 _ (not-16 BadBuffer refl) (not-16 UnsoundStore refl) (not-16 BadDesk refl)
+      (pick-has KeepsBut16 (isRunning d) _ _ (keeps-step (stepOf s m d (inodesIn s))) (not-16 WrongState refl))
+
+  pub step-refused : (e : Refusal) → (e ≡ ImageFull → ⊥) → step s m d .answer ≡ Refused e → step s m d ≡ refuse e s m d
+  step-refused e n h = ⊎-elim (λ w. w .1) (λ w. absurd (n (w .0))) (step-keeps e h)
+
+  pub step-full : step s m d .answer ≡ Refused ImageFull → step s m d ≡ left (Refused ImageFull) s m (putDesk d (stopping (deskOf d)))
+  step-full h = ⊎-elim (λ w. absurd (w .0 refl)) (λ w. w .1) (step-keeps ImageFull h)
+
+-- a file call
+leaves-keeps : (w : World) (p : Planned) → Keeps (w .store) (w .image) (w .desk) (leavesIn w p)
+leaves-keeps w (does x) = keeps-done (w .store) (w .image) (w .desk) (x .answer) _ _ _
+leaves-keeps w (refused f) = keeps-refused (w .store) (w .image) (w .desk) f
+
+pub live-refused : (c : Call) (w : World) → Keeps (w .store) (w .image) (w .desk) (live c w)
+unfolding live
+live-refused c w = leaves-keeps w (decision c w)

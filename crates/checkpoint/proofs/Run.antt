@@ -1,0 +1,16 @@
+pub mod Moments
+pub mod Going
+pub mod Turned
+pub mod Calls
+pub mod Starts
+pub mod Rests
+pub mod Ends
+pub mod Stops
+pub mod Lists
+pub mod Results
+pub mod Counts
+pub mod Progresses
+pub mod Busies
+pub mod Finales
+pub mod Stood
+pub mod Honesty

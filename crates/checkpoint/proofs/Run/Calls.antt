@@ -1,0 +1,110 @@
+-- A file call, a question and a start while a copy runs. n and b are the counts of inodes and image blocks.
+use Prim.Native.Nat.{ℕ, _+_, _*_, _≤_, _<_}
+use mathlib.Core.Path.{_≡_, refl, sym, ap, _∙_, subst}
+use mathlib.Core.Bool.{Bool, true, false, not, _&&_}
+use mathlib.Core.List.{List}
+use native.Mathlib.Omega.{arith}
+use borrow.Author.Tests.{eq-eqb, le-leb}
+use lib.Dec.{eqb, leb}
+use lib.ListN.{length}
+use Rattle.layout.specs.Sizes.{mostStoreBlocks, mostImageBlocks}
+use Rattle.layout.specs.Block.{storeLength}
+use Rattle.desk.specs.Desk.{deskOf}
+use Rattle.sound.specs.Sound.{Sound, inodesIn, blocksIn}
+use Rattle.answers.specs.declared.Answer.the-variants.{Done}
+use Rattle.answers.specs.declared.Refusal.the-variants.{WrongState}
+use Rattle.files.specs.Effect.{Call, Effect, Planned, does, refused, planned}
+use Rattle.files.proofs.Lawful.{Each, Lawful}
+use Rattle.files.proofs.LawfulCalls.{lawful}
+use Rattle.copying.specs.View.{Shelf, View, Tidy}
+use Rattle.copying.specs.Deed.{Alike, Deed, Quiet, called, rests}
+use Rattle.copying.proofs.HoldsLaws.{holds-does}
+use Rattle.checkpoint.specs.Fit.{imageAllowed, imageBlocks}
+use Rattle.checkpoint.specs.Notes.{cutEntries, clearMarks, setMarks}
+use Rattle.checkpoint.specs.Busy.{anyLocked}
+use Rattle.checkpoint.specs.Live.{World, Outcome, left, refuse, decision, leavesIn, live, started, start, ask}
+use Rattle.checkpoint.specs.List.{Ready, Event, call, asks, starts, outcome, next}
+use Rattle.checkpoint.proofs.DecisionLaws.{Allowed, each-decided}
+use Rattle.checkpoint.proofs.Copy.Seen.{seen}
+use Rattle.checkpoint.proofs.Copy.PartedLaws.{Parted, taken-made-apart}
+use Rattle.checkpoint.proofs.Copy.TidyLaws.{store-tidy}
+use Rattle.checkpoint.proofs.Copy.CallLaid.{call-laid}
+use Rattle.checkpoint.proofs.Copy.CallSeen.{call-called}
+use Rattle.checkpoint.proofs.Run.Going.{seenIn, Running, ready, runs, locked-used, guards-pass, leftIn, next-is}
+use Rattle.checkpoint.proofs.Run.Turned.{Goes}
+
+-- an image of the length of b blocks is allowed, and b are told by its length
+pub blocks-told : (n b k : ℕ) → k ≡ storeLength n b → imageBlocks n k ≡ b
+unfolding imageBlocks
+blocks-told n b k e = omega arith
+
+pub image-allowed : (n b k : ℕ) → 1 ≤ b → b ≤ mostImageBlocks → k ≡ storeLength n b → imageAllowed n k ≡ true
+unfolding imageAllowed
+image-allowed n b k l m e =
+    let h = blocks-told n b k e in
+    rw (h, le-leb 1 b l, le-leb b mostImageBlocks m, eq-eqb k (storeLength n b) e) refl
+
+each-both : (P Q : Effect → Type 0) (q : Planned) → Each P q → Each Q q → Each (λ x. P x × Q x) q
+each-both P Q (refused e) a b = tt
+each-both P Q (does x) a b = (a, b)
+
+alike-self : (x : Shelf) (i : ℕ) → Alike x x i
+alike-self x i = record { kind = refl; parent = refl; size = refl; bytes = λ e. refl }
+
+module _ (n b : ℕ) (w : World) (r : Running n b w) where
+  -- nothing is done
+  same-goes : (v : World) → v ≡ w → Goes n b w v
+  same-goes v e = rw e record {
+    still = r;
+    deed = rests (record { store = refl; names = λ q. refl; entries = λ q z. refl; inodes = alike-self (seenIn n w .image); marked = λ q. refl; copied = λ i. refl }) refl;
+  }
+
+  -- the world after an effect
+  abbrev made : Effect → World
+  made x = record { store = x .store; image = cutEntries (w .image) (w .desk) n (x .taken); desk = setMarks (clearMarks (w .desk) n (x .taken)) n (x .made) }
+
+  made-tidy : (x : Effect) → n ≡ inodesIn (x .store) → Sound mostStoreBlocks false (x .store) → Tidy n (seenIn n (made x) .store)
+  unfolding seen
+  made-tidy x c h = store-tidy (x .store) n h c
+
+  made-goes : (x : Effect) → Lawful (w .store) n x → Parted x → anyLocked (w .desk) (x .touches) ≡ false → Goes n b w (made x)
+  made-goes x y p a =
+      let c : n ≡ inodesIn (x .store) = r .count ∙ sym (y .frame .inodes) in
+      let d = called (call-called (r .sound) (r .count) (r .laid) x y p a) in
+      record {
+        still = record {
+          count = c;
+          sound = y .sound;
+          laid = call-laid (r .sound) (r .count) (r .laid) x y a (locked-used r);
+          holds = holds-does n (seenIn n w) (seenIn n (made x)) (r .holds) d (made-tidy x c (y .sound));
+        };
+        deed = d;
+      }
+
+  decided : (c : Call) (q : Planned) → decision c w ≡ q → Each (Allowed (λ x. Lawful (w .store) n x × Parted x) w) q → Goes n b w (leftIn (leavesIn w q))
+  decided c (refused e) h k = same-goes w refl
+  decided c (does x) h k =
+      subst (λ (i : ℕ). Goes n b w (record { store = x .store; image = cutEntries (w .image) (w .desk) i (x .taken); desk = setMarks (clearMarks (w .desk) i (x .taken)) i (x .made) }))
+      (r .count) (made-goes x (k .0 .0) (k .0 .1) (k .1))
+
+  pub call-goes : (c : Call) → Goes n b w (next (call c) w)
+  unfolding next outcome live
+  call-goes c =
+      let h = lawful c (w .store) (inodesIn (w .store)) (blocksIn (w .store)) (r .sound) refl refl in
+      let p = taken-made-apart c (w .store) (inodesIn (w .store)) (blocksIn (w .store)) (r .sound) refl refl in
+      let k = subst (λ (i : ℕ). Each (Lawful (w .store) i) (planned c (w .store) (inodesIn (w .store)) (blocksIn (w .store)))) (sym (r .count)) h in
+      decided c (decision c w) refl (each-decided (λ x. Lawful (w .store) n x × Parted x) c w (each-both _ _ (planned c (w .store) (inodesIn (w .store)) (blocksIn (w .store))) k p))
+
+  pub asks-goes : Goes n b w (next asks w)
+  unfolding outcome ask
+  asks-goes = same-goes (next asks w) (next-is asks w (left (Done 0) (w .store) (w .image) (w .desk)) (guards-pass w (ready r) _))
+
+  pub start-busy : outcome starts w ≡ refuse WrongState (w .store) (w .image) (w .desk)
+  unfolding outcome start started
+  start-busy =
+      let a : imageAllowed (inodesIn (w .store)) (length (w .image)) ≡ true = rw (sym (r .count)) (image-allowed n b (length (w .image)) (r .laid .frame .some-blocks) (r .laid .frame .most-blocks) (r .laid .frame .long)) in
+      let g = ready r in
+      rw (a, g .framed, g .desk) (guards-pass w g _ ∙ rw (runs r) refl)
+
+  pub starts-goes : Goes n b w (next starts w)
+  starts-goes = same-goes (next starts w) (next-is starts w _ start-busy)

@@ -1,0 +1,137 @@
+-- Accepted steps, counted from the latest start, are those in the desk. n and b are the counts of inodes and image blocks.
+use Prim.Native.Nat.{ℕ, suc, _+_, _*_, _≤_, _<_}
+use mathlib.Core.Path.{_≡_, refl, sym, ap, _∙_}
+use mathlib.Core.Bool.{Bool, true, false, not, _&&_, _||_}
+use mathlib.Core.List.{List, [], _∷_}
+use native.Mathlib.Omega.{arith}
+use borrow.Author.Tests.{leb-true, eqb-true}
+use lib.Dec.{eqb, leb}
+use Rattle.bounded.specs.Search.{pick}
+use Rattle.bounded.proofs.BoolLaws.{clash, fails}
+use Rattle.desk.specs.declared.Desk.{Desk}
+use Rattle.desk.specs.Desk.{deskOf, setMark, clearMark}
+use Rattle.desk.proofs.DeskLaws.{desk-setMark, desk-clearMark}
+use Rattle.answers.specs.declared.Answer.{Answer}
+use Rattle.answers.specs.declared.Answer.the-variants.{Done, Refused}
+use Rattle.answers.specs.declared.Refusal.the-variants.{ImageFull}
+use Rattle.sound.specs.Sound.{inodesIn}
+use Rattle.files.specs.Effect.{Call, Entry, Planned, does, refused}
+use Rattle.checkpoint.specs.declared.Status.{Status}
+use Rattle.checkpoint.specs.declared.Status.the-variants.{Is}
+use Rattle.checkpoint.specs.Fit.{isRunning, stepsAnInode, deskFits, mostSteps}
+use Rattle.checkpoint.specs.Notes.{noteMade, noteTaken, clearMarks, setMarks}
+use Rattle.checkpoint.specs.Live.{World, Outcome, decision, leavesIn, live, asStatus, status, ask}
+use Rattle.checkpoint.specs.List.{Ready, Event, call, steps, asks, starts, outcome, next, accepted, refusalOf, run, acceptedSteps}
+use Rattle.checkpoint.specs.Finished.{countOf}
+use Rattle.checkpoint.specs.Demand.{Reported}
+use Rattle.checkpoint.proofs.Copy.FitLaws.{laid-steps, notes-fit-is, desk-fits-is}
+use Rattle.checkpoint.proofs.Run.Going as going
+use Rattle.checkpoint.proofs.Run.Going.{Running, next-is, leftIn}
+use Rattle.checkpoint.proofs.Run.Turned.{Stepped, on, ends, halts, stepped}
+use Rattle.checkpoint.proofs.Run.Calls.{start-busy}
+use Rattle.checkpoint.proofs.Run.Rests.{Resting, idle, step-idle, steps-kept, asks-kept}
+use Rattle.checkpoint.proofs.Run.Ends.{finals, halted}
+use Rattle.checkpoint.proofs.Run.Lists.{Going, runs, rests, fit, counted, start-anew, start-taken, going-next, going-run}
+
+-- ---- a call writes marks alone
+module _ (d : List ℕ) (n : ℕ) where
+  made-head : (e t : ℕ) → deskOf (noteMade d n e t) ≡ deskOf d
+  unfolding noteMade
+  made-head e t = go (isRunning d)
+    where
+      go : (b : Bool) → deskOf (pick b (setMark d n e t) d) ≡ deskOf d
+      go true = desk-setMark d n e t
+      go false = refl
+
+  taken-head : (e t : ℕ) → deskOf (noteTaken d n e t) ≡ deskOf d
+  unfolding noteTaken
+  taken-head e t = go (isRunning d)
+    where
+      go : (b : Bool) → deskOf (pick b (clearMark d n e t) d) ≡ deskOf d
+      go true = desk-clearMark d n e t
+      go false = refl
+
+sets-head : (d : List ℕ) (n : ℕ) (xs : List Entry) → deskOf (setMarks d n xs) ≡ deskOf d
+unfolding setMarks
+sets-head d n [] = refl
+sets-head d n (x ∷ xs) = sets-head (noteMade d n (x .directory) (x .slot)) n xs ∙ made-head d n (x .directory) (x .slot)
+
+clears-head : (d : List ℕ) (n : ℕ) (xs : List Entry) → deskOf (clearMarks d n xs) ≡ deskOf d
+unfolding clearMarks
+clears-head d n [] = refl
+clears-head d n (x ∷ xs) = clears-head (noteTaken d n (x .directory) (x .slot)) n xs ∙ taken-head d n (x .directory) (x .slot)
+
+leaves-head : (w : World) (q : Planned) → deskOf (leavesIn w q .desk) ≡ deskOf (w .desk)
+leaves-head w (does x) = sets-head (clearMarks (w .desk) (inodesIn (w .store)) (x .taken)) (inodesIn (w .store)) (x .made) ∙ clears-head (w .desk) (inodesIn (w .store)) (x .taken)
+leaves-head w (refused e) = refl
+
+pub call-head : (c : Call) (w : World) → deskOf (next (call c) w .desk) ≡ deskOf (w .desk)
+unfolding next outcome live
+call-head c w = leaves-head w (decision c w)
+
+-- ---- one event
+not-accepted : (e : Event) (w : World) (o : Outcome) → outcome e w ≡ o → eqb (refusalOf (o .answer)) 0 ≡ false → accepted e w ≡ false
+not-accepted e w o h f = ap (λ (x : Outcome). eqb (refusalOf (x .answer)) 0) h ∙ f
+
+abbrev pub stepsIn : World → ℕ
+stepsIn w = deskOf (w .desk) .steps
+
+module _ (n b : ℕ) (w : World) where
+  step-count : Running n b w → Stepped n b w → (c : ℕ) → stepsIn w ≡ c → stepsIn (next steps w) ≡ pick (accepted steps w) (suc c) c
+  step-count r (on g k a) c h = rw (ap (λ (x : Answer). eqb (refusalOf x) 0) a) (let e = k in omega arith)
+  step-count r (ends f) c h =
+      let k = finals n b w r f in
+      let a : accepted steps w ≡ true = ap (λ (x : Answer). eqb (refusalOf x) 0) (k .answer) in
+      rw a (let e = k .counts in omega arith)
+  step-count r (halts f) c h =
+      let k = halted n b w r f in
+      let a : accepted steps w ≡ false = ap (λ (x : Answer). eqb (refusalOf x) 0) (k .answer) in
+      rw a (k .counts ∙ h)
+
+  same-count : (e : Event) → next e w ≡ w → (c : ℕ) → stepsIn w ≡ c → stepsIn (next e w) ≡ c
+  same-count e v c h = ap stepsIn v ∙ h
+
+  count-steps : Going n b w → (c : ℕ) → stepsIn w ≡ c → stepsIn (next steps w) ≡ pick (accepted steps w) (suc c) c
+  count-steps (runs r) c h = step-count r (stepped n b w r) c h
+  count-steps (rests r) c h = rw (not-accepted steps w _ (step-idle n b w r) refl) (same-count steps (next-is steps w _ (step-idle n b w r)) c h)
+
+  count-starts : Going n b w → (c : ℕ) → stepsIn w ≡ c → stepsIn (next starts w) ≡ pick (accepted starts w) 0 c
+  count-starts (runs r) c h = rw (not-accepted starts w _ (start-busy n b w r) refl) (same-count starts (next-is starts w _ (start-busy n b w r)) c h)
+  count-starts (rests r) c h = rw (start-taken n b w r) (start-anew n b w r .steps)
+
+  pub asks-same : Going n b w → next asks w ≡ w
+  unfolding outcome ask
+  asks-same g = next-is asks w _ (going.guards-pass w (fit g) _)
+
+-- ---- the list
+pub steps-counted : (n b : ℕ) (es : List Event) (w : World) (c : ℕ) → Going n b w → stepsIn w ≡ c → stepsIn (run es w) ≡ acceptedSteps es w c
+unfolding run acceptedSteps
+steps-counted n b [] w c g h = h
+steps-counted n b (call x ∷ es) w c g h = steps-counted n b es (next (call x) w) c (going-next n b w (call x) g) (ap (λ (y : Desk). y .steps) (call-head x w) ∙ h)
+steps-counted n b (steps ∷ es) w c g h = steps-counted n b es (next steps w) (pick (accepted steps w) (suc c) c) (going-next n b w steps g) (count-steps n b w g c h)
+steps-counted n b (asks ∷ es) w c g h = steps-counted n b es (next asks w) c (going-next n b w asks g) (same-count n b w asks (asks-same n b w g) c h)
+steps-counted n b (starts ∷ es) w c g h = steps-counted n b es (next starts w) (pick (accepted starts w) 0 c) (going-next n b w starts g) (count-starts n b w g c h)
+
+-- ---- what the state question reports, and the bound
+asked : (n b : ℕ) (w : World) → Going n b w → status (w .store) (w .image) (w .desk) ≡ Is (deskOf (w .desk) .state) (deskOf (w .desk) .locked) (deskOf (w .desk) .steps)
+unfolding status ask
+asked n b w g = ap (λ (o : Outcome). asStatus (o .answer) (w .desk)) (going.guards-pass w (fit g) _)
+
+bounded-steps : (n b : ℕ) (w : World) → Going n b w → deskOf (w .desk) .steps ≤ stepsAnInode * n + 1
+bounded-steps n b w (runs r) = let l = laid-steps (r .laid) (r .sound) (r .count) in omega arith
+bounded-steps n b w (rests r) =
+    let k = notes-fit-is (w .store) (w .image) (w .desk) .to (r .fit .notes) in
+    let l = desk-fits-is (w .desk) .to (k .0) .1 .1 .1 .1 .1 .1 .1 in
+    let m : deskOf (w .desk) .steps ≤ stepsAnInode * deskOf (w .desk) .inodes + 1 = rw (idle r) at l in
+    let i = k .1 .0 in
+    let c = r .count in
+    omega arith
+
+pub reported : (n b : ℕ) (es : List Event) (w : World) → Going n b w → deskOf (w .desk) .steps ≡ 0 → Reported es w
+reported n b es w g z =
+    let h = going-run n b es w g in
+    let e = steps-counted n b es w 0 g z in
+    record {
+      reports = asked n b (run es w) h ∙ ap (Is (deskOf (run es w .desk) .state) (deskOf (run es w .desk) .locked)) e;
+      bound = let l = bounded-steps n b (run es w) h in let c = counted g in omega arith;
+    }

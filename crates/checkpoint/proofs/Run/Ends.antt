@@ -1,0 +1,231 @@
+-- A copy that ends: by its last step, or by 16. n and b are the counts of inodes and image blocks.
+use Prim.Native.Nat.{ℕ, _+_, _*_, _≤_, _<_}
+use mathlib.Core.Path.{_≡_, refl, sym, ap, _∙_, subst}
+use mathlib.Core.Logic.{_≢_, _⊎_, inl, inr}
+use mathlib.Core.Bool.{Bool, true, false, not, _&&_, _||_}
+use mathlib.Core.List.{List}
+use native.Mathlib.Omega.{arith}
+use borrow.Author.Tests.{eq-eqb, ne-eqb, le-leb}
+use lib.Dec.{eqb, leb}
+use lib.ListN.{length}
+use Rattle.bounded.specs.Search.{pick}
+use Rattle.bounded.specs.Below.{allBelow}
+use Rattle.bounded.proofs.BoolLaws.{and-true, or-l, or-r}
+use Rattle.bounded.proofs.BelowLaws.{all-of}
+use Rattle.layout.specs.Sizes.{mostInodes, mostImageBlocks, isComplete}
+use Rattle.layout.specs.Header.{headerOf}
+use Rattle.desk.specs.Sizes.{deskHeaderBytes, deskLength, idle, running, finished, stopped}
+use Rattle.desk.specs.declared.Desk.{Desk}
+use Rattle.desk.specs.Desk.{deskOf, putDesk, copiedOf, reservedZero}
+use Rattle.desk.specs.Next.{finishing, stopping}
+use Rattle.desk.proofs.DeskLaws.{desk-putDesk, length-putDesk, copied-putDesk, reserved-putDesk}
+use Rattle.sound.specs.Sound.{Sound, inodesIn}
+use Rattle.copying.specs.Deed.{Quiet}
+use Rattle.copying.proofs.EndLaws.{tidy-image}
+use Rattle.answers.specs.declared.Refusal.the-variants.{ImageFull}
+use Rattle.answers.specs.declared.Answer.the-variants.{Done, Refused}
+use Rattle.checkpoint.specs.Fit.{deskFramed, deskFits, blocksFit, isRunning, mostSteps, mostCopied, stepsAnInode, notesFit, imageFits}
+use Rattle.checkpoint.specs.Copier.{Step, finish, full, stepOf, finishImage}
+use Rattle.checkpoint.specs.Live.{World, Outcome, left, doStep}
+use Rattle.checkpoint.specs.List.{Ready, steps, outcome, next, accepted, completes, refusalOf}
+use Rattle.checkpoint.proofs.Copy.Laid.{DeskLaid, Laid}
+use Rattle.checkpoint.proofs.Copy.FitLaws.{laid-steps}
+use Rattle.checkpoint.proofs.Copy.FinishFacts as facts
+use Rattle.checkpoint.proofs.Copy.FinishSeen.{finish-sound, finish-quiet}
+use Rattle.checkpoint.proofs.Run.Going.{seenIn, Running, ready, step-is, leftIn, next-is}
+use Rattle.checkpoint.proofs.Run.Turned.{Finishes, Fills}
+use Rattle.checkpoint.proofs.Run.Rests.{Resting}
+
+-- a desk header at rest
+pub record AtRest (n b : ℕ) (h : Desk) : Type 0 where
+  pub inodes : h .inodes ≡ n
+  pub blocks : h .blocks ≡ b
+  pub state : (h .state ≡ finished) ⊎ (h .state ≡ stopped)
+  pub locked : h .locked ≡ 0
+  pub copied : h .copied ≡ 0
+  pub steps : h .steps ≤ stepsAnInode * n + 1
+
+module _ (n b : ℕ) (d : List ℕ) (k : DeskLaid n b d) (h : Desk) (r : AtRest n b h) where
+  long : deskHeaderBytes ≤ length d
+  long = let e = k .long in omega arith
+
+  is : deskOf (putDesk d h) ≡ h
+  is = desk-putDesk d h long
+
+  inodes-is : deskOf (putDesk d h) .inodes ≡ n
+  inodes-is = ap (λ (x : Desk). x .inodes) is ∙ r .inodes
+
+  blocks-is : deskOf (putDesk d h) .blocks ≡ b
+  blocks-is = ap (λ (x : Desk). x .blocks) is ∙ r .blocks
+
+  state-is : deskOf (putDesk d h) .state ≡ h .state
+  state-is = ap (λ (x : Desk). x .state) is
+
+  locked-is : deskOf (putDesk d h) .locked ≡ 0
+  locked-is = ap (λ (x : Desk). x .locked) is ∙ r .locked
+
+  copied-is : deskOf (putDesk d h) .copied ≡ 0
+  copied-is = ap (λ (x : Desk). x .copied) is ∙ r .copied
+
+  steps-is : deskOf (putDesk d h) .steps ≡ h .steps
+  steps-is = ap (λ (x : Desk). x .steps) is
+
+  rest-state : (deskOf (putDesk d h) .state ≡ finished) ⊎ (deskOf (putDesk d h) .state ≡ stopped)
+  rest-state = elim (r .state) [ inl f ↦ inl (state-is ∙ f) | inr f ↦ inr (state-is ∙ f) ]
+
+  rest-idle : isRunning (putDesk d h) ≡ false
+  unfolding isRunning
+  rest-idle = ne-eqb (deskOf (putDesk d h) .state) running (λ e. elim rest-state [ inl f ↦ omega arith | inr f ↦ omega arith ])
+
+  rest-framed : 1 ≤ n → n ≤ mostInodes → deskFramed (putDesk d h) ≡ true
+  unfolding deskFramed
+  rest-framed l m =
+      let e : length (putDesk d h) ≡ deskLength n = length-putDesk d h ∙ k .long in
+      let i = inodes-is in
+      let x = deskOf (putDesk d h) .inodes in
+      and-true (leb 1 x) _ (le-leb 1 x (omega arith)) (and-true (leb x mostInodes) _ (le-leb x mostInodes (omega arith)) (eq-eqb (length (putDesk d h)) (deskLength x) (omega arith)))
+
+  rest-blocks : 1 ≤ b → b ≤ mostImageBlocks → blocksFit (putDesk d h) ≡ true
+  unfolding blocksFit
+  rest-blocks l m =
+      let i = blocks-is in
+      let x = deskOf (putDesk d h) .blocks in
+      let no : eqb (deskOf (putDesk d h) .state) idle ≡ false = ne-eqb (deskOf (putDesk d h) .state) idle (λ e. elim rest-state [ inl f ↦ omega arith | inr f ↦ omega arith ]) in
+      rw no (and-true (leb 1 x) _ (le-leb 1 x (omega arith)) (le-leb x mostImageBlocks (omega arith)))
+
+  rest-steps : leb (deskOf (putDesk d h) .steps) (mostSteps (putDesk d h)) ≡ true
+  rest-steps =
+      let i = inodes-is in
+      let s = steps-is in
+      let a = r .steps in
+      rw rest-idle (le-leb (deskOf (putDesk d h) .steps) (stepsAnInode * deskOf (putDesk d h) .inodes + 1) (omega arith))
+
+  rest-bytes : allBelow (λ j. leb (copiedOf (putDesk d h) (j + 1)) 1) (deskOf (putDesk d h) .inodes) ≡ true
+  rest-bytes =
+      let i = inodes-is in
+      all-of (λ j. leb (copiedOf (putDesk d h) (j + 1)) 1) (deskOf (putDesk d h) .inodes) (λ j l.
+      let e = copied-putDesk d h (j + 1) in
+      let f = k .bytes (j + 1) (omega arith) (omega arith) in
+      le-leb (copiedOf (putDesk d h) (j + 1)) 1 (omega arith))
+
+  rest-fits : 1 ≤ b → b ≤ mostImageBlocks → deskFits (putDesk d h) ≡ true
+  unfolding deskFits
+  rest-fits l m =
+      let x = deskOf (putDesk d h) in
+      let lo = locked-is in
+      let co = copied-is in
+      and-true (leb (x .state) stopped) _ (le-leb (x .state) stopped (elim rest-state [ inl f ↦ omega arith | inr f ↦ omega arith ]))
+      (and-true (blocksFit (putDesk d h)) _ (rest-blocks l m)
+      (and-true (reservedZero (putDesk d h)) _ (reserved-putDesk d h ∙ k .reserved)
+      (and-true (allBelow (λ j. leb (copiedOf (putDesk d h) (j + 1)) 1) (x .inodes)) _ rest-bytes
+      (and-true (leb (x .locked) (x .inodes)) _ (le-leb (x .locked) (x .inodes) (omega arith))
+      (and-true (leb (x .copied) mostCopied) _ (le-leb (x .copied) mostCopied (omega arith))
+      (and-true (isRunning (putDesk d h) || (eqb (x .locked) 0 && eqb (x .copied) 0)) _
+      (or-r (isRunning (putDesk d h)) _ (and-true (eqb (x .locked) 0) _ (eq-eqb (x .locked) 0 lo) (eq-eqb (x .copied) 0 co)))
+      rest-steps))))))
+
+module _ (n b : ℕ) (w : World) (r : Running n b w) where
+  -- the world at rest, with image m
+  comes-to-rest : (m : List ℕ) (h : Desk) → length m ≡ length (w .image) → AtRest n b h → Resting n b (record { store = w .store; image = m; desk = putDesk (w .desk) h })
+  unfolding notesFit
+  comes-to-rest m h e a =
+      let k = r .laid .desk in
+      let f = r .laid .frame in
+      record {
+        count = r .count;
+        fit = record {
+          framed = ready r .framed;
+          sound = ready r .sound;
+          desk = rest-framed n b (w .desk) k h a (f .some-inodes) (f .most-inodes);
+          notes =
+              and-true (deskFits (putDesk (w .desk) h)) _ (rest-fits n b (w .desk) k h a (f .some-blocks) (f .most-blocks))
+              (and-true (eqb (deskOf (putDesk (w .desk) h) .inodes) (inodesIn (w .store))) _ (eq-eqb _ _ (inodes-is n b (w .desk) k h a ∙ r .count))
+              (or-l (not (isRunning (putDesk (w .desk) h))) (imageFits m (putDesk (w .desk) h)) (ap not (rest-idle n b (w .desk) k h a))));
+        };
+        long = e ∙ f .long;
+        some-blocks = f .some-blocks;
+        most-blocks = f .most-blocks;
+        state = rest-state n b (w .desk) k h a;
+      }
+
+  few-steps : deskOf (w .desk) .steps ≤ stepsAnInode * n
+  few-steps = laid-steps (r .laid) (r .sound) (r .count)
+
+  outcome-is : (p : Step) → stepOf (w .store) (w .image) (w .desk) n ≡ p → outcome steps w ≡ doStep (w .store) (w .image) (w .desk) n p
+  outcome-is p e = step-is r ∙ ap (doStep (w .store) (w .image) (w .desk) n) e
+
+  header : (h : Desk) → deskOf (putDesk (w .desk) h) ≡ h
+  header h = let e = r .laid .desk .long in desk-putDesk (w .desk) h (omega arith)
+
+  -- ---- the last step
+  pub record Finals : Type 0 where
+    pub image : next steps w .image ≡ finishImage (w .image) n b
+    pub store : next steps w .store ≡ w .store
+    pub rest : Resting n b (next steps w)
+    pub state : deskOf (next steps w .desk) .state ≡ finished
+    pub locked : deskOf (next steps w .desk) .locked ≡ deskOf (w .desk) .locked
+    pub counts : deskOf (next steps w .desk) .steps ≡ deskOf (w .desk) .steps + 1
+    pub answer : outcome steps w .answer ≡ Done (deskOf (w .desk) .steps + 1)
+    pub sound : Sound mostImageBlocks true (finishImage (w .image) n b)
+    pub quiet : Quiet (seenIn n w) (seenIn n (next steps w))
+
+  -- the world that it leaves
+  abbrev done : World
+  done = record { store = w .store; image = finishImage (w .image) n b; desk = putDesk (w .desk) (finishing (deskOf (w .desk))) }
+
+  done-is : Finishes n b w → next steps w ≡ done
+  done-is f =
+      next-is steps w _ (outcome-is finish (f .is))
+      ∙ ap (λ (m : List ℕ). record { store = w .store; image = m; desk = putDesk (w .desk) (finishing (deskOf (w .desk))) }) (ap (finishImage (w .image) n) (r .laid .desk .blocks))
+
+  done-rest : Finishes n b w → Resting n b done
+  done-rest f =
+      let few = few-steps in
+      let f1 = r .laid .frame in
+      let finished-is = facts.finished (w .image) n b (f1 .most-inodes) (omega arith) in
+      comes-to-rest (finishImage (w .image) n b) (finishing (deskOf (w .desk))) (finished-is .long) record {
+        inodes = r .laid .desk .inodes;
+        blocks = r .laid .desk .blocks;
+        state = inl refl;
+        locked = f .none;
+        copied = r .laid .desk .none (f .none);
+        steps = omega arith;
+      }
+
+  pub finals : Finishes n b w → Finals
+  finals f =
+      let v = done-is f in
+      let h = header (finishing (deskOf (w .desk))) in
+      record {
+        image = ap (λ (x : World). x .image) v;
+        store = ap (λ (x : World). x .store) v;
+        rest = rw v (done-rest f);
+        state = ap (λ (x : World). deskOf (x .desk) .state) v ∙ ap (λ (x : Desk). x .state) h;
+        locked = ap (λ (x : World). deskOf (x .desk) .locked) v ∙ ap (λ (x : Desk). x .locked) h;
+        counts = ap (λ (x : World). deskOf (x .desk) .steps) v ∙ ap (λ (x : Desk). x .steps) h;
+        answer = ap (λ (o : Outcome). o .answer) (outcome-is finish (f .is));
+        sound = finish-sound (r .laid) (f .none) (tidy-image (r .holds) (f .ended));
+        quiet = rw v (finish-quiet (r .laid) (f .none));
+      }
+
+  -- ---- 16
+  pub record Halted : Type 0 where
+    pub is : next steps w ≡ record { store = w .store; image = w .image; desk = putDesk (w .desk) (stopping (deskOf (w .desk))) }
+    pub rest : Resting n b (next steps w)
+    pub state : deskOf (next steps w .desk) .state ≡ stopped
+    pub counts : deskOf (next steps w .desk) .steps ≡ deskOf (w .desk) .steps
+    pub answer : outcome steps w .answer ≡ Refused ImageFull
+
+  pub halted : Fills n b w → Halted
+  halted f =
+      let o = outcome-is full (f .is) in
+      let v = next-is steps w _ o in
+      let h = header (stopping (deskOf (w .desk))) in
+      let few = few-steps in
+      record {
+        is = v;
+        rest = rw v (comes-to-rest (w .image) (stopping (deskOf (w .desk))) refl record { inodes = r .laid .desk .inodes; blocks = r .laid .desk .blocks; state = inr refl; locked = refl; copied = refl; steps = omega arith });
+        state = ap (λ (x : World). deskOf (x .desk) .state) v ∙ ap (λ (x : Desk). x .state) h;
+        counts = ap (λ (x : World). deskOf (x .desk) .steps) v ∙ ap (λ (x : Desk). x .steps) h;
+        answer = ap (λ (o : Outcome). o .answer) o;
+      }

@@ -1,0 +1,82 @@
+-- A world in which a copy runs, one in which it rests, and what each event does to a running one. n and b are the counts of inodes and image blocks.
+use Prim.Native.Nat.{ℕ, _+_, _*_, _≤_, _<_}
+use mathlib.Core.Path.{_≡_, refl, sym, ap, _∙_, subst}
+use mathlib.Core.Logic.{_≢_, _⊎_, inl, inr, ⊎-elim}
+use mathlib.Core.Bool.{Bool, true, false, not, _&&_}
+use mathlib.Core.List.{List}
+use native.Mathlib.Omega.{arith}
+use borrow.Author.Tests.{eq-eqb, ne-eqb}
+use lib.Dec.{eqb}
+use lib.ListN.{length}
+use Rattle.bounded.specs.Search.{pick}
+use Rattle.bounded.proofs.BoolLaws.{clash}
+use Rattle.layout.specs.Sizes.{mostStoreBlocks, mostImageBlocks, isComplete, notComplete, rootInode}
+use Rattle.layout.specs.Header.{headerOf}
+use Rattle.layout.specs.Inode.{kindOf, freeKind}
+use Rattle.layout.specs.Block.{storeLength}
+use Rattle.layout.proofs.ViewLaws.{within-in, below-in, is-below, below-out}
+use Rattle.directory.specs.Slot.{mostSlots}
+use Rattle.desk.specs.Sizes.{running, finished, stopped}
+use Rattle.desk.specs.Desk.{deskOf}
+use Rattle.sound.specs.Place.{naming}
+use Rattle.sound.specs.Sound.{Sound, isSound, framedB, inodesIn}
+use Rattle.sound.specs.declared.Form.the-variants.{Store}
+use Rattle.copying.specs.View.{View, Tidy}
+use Rattle.copying.specs.Deed.{Deed, Quiet, locks, closes, called, rests}
+use Rattle.copying.specs.Holds.{Holds, Ended}
+use Rattle.copying.proofs.HoldsLaws.{holds-does}
+use Rattle.checkpoint.specs.Fit.{deskFramed, isRunning, notesFit}
+use Rattle.checkpoint.specs.Copier.{Step, lock, copy, close, finish, full, stepOf, stepImage, stepDesk, finishImage}
+use Rattle.checkpoint.specs.Live.{World, Outcome, left, guarded, doStep, step}
+use Rattle.checkpoint.specs.List.{Ready, Event, steps, outcome, next, accepted, completes}
+use Rattle.checkpoint.proofs.DecisionLaws.{guarded-is}
+use Rattle.checkpoint.proofs.Copy.Seen.{shelfOf, seen}
+use Rattle.checkpoint.proofs.Copy.Laid.{Laid}
+use Rattle.checkpoint.proofs.Copy.FitLaws.{laid-ready}
+
+-- the view of a world
+abbrev pub seenIn : ℕ → World → View
+seenIn n w = seen n (w .store) (w .image) (w .desk)
+
+pub record Running (n b : ℕ) (w : World) : Type 0 where
+  pub count : n ≡ inodesIn (w .store)
+  pub sound : Sound mostStoreBlocks false (w .store)
+  pub laid : Laid n b (w .store) (w .image) (w .desk)
+  pub holds : Holds n (seenIn n w)
+
+pub ready : {n b : ℕ} {w : World} → Running n b w → Ready w
+ready r = laid-ready (r .laid) (r .sound) (r .count)
+
+pub runs : {n b : ℕ} {w : World} → Running n b w → isRunning (w .desk) ≡ true
+unfolding isRunning
+runs {w = w} r = eq-eqb (deskOf (w .desk) .state) running (r .laid .desk .state)
+
+-- byte 8 of a running copy is 0
+pub incomplete : {n b : ℕ} {w : World} → Running n b w → eqb (headerOf (w .image) .complete) isComplete ≡ false
+incomplete {w = w} r = let e = r .laid .frame .complete in ne-eqb (headerOf (w .image) .complete) isComplete (λ z. omega arith)
+
+-- the locked inode is in use
+pub locked-used : {n b : ℕ} {w : World} → Running n b w → deskOf (w .desk) .locked ≢ 0 → kindOf (w .store) (deskOf (w .desk) .locked) ≢ freeKind
+unfolding seen shelfOf
+locked-used {n} {b} {w} r z f =
+    let h = r .holds .lock z in
+    let l = h .high in
+    h .used (within-in n (kindOf (w .store)) (deskOf (w .desk) .locked) (omega arith) l ∙ f)
+
+-- ---- behind the guards
+pub guards-pass : (w : World) → Ready w → (o : Outcome) → guarded (w .store) (w .image) (w .desk) o ≡ o
+guards-pass w r o = guarded-is (w .store) (w .image) (w .desk) o ∙ rw (r .framed, r .desk, r .sound, r .notes) refl
+
+pub step-is : {n b : ℕ} {w : World} → Running n b w → outcome steps w ≡ doStep (w .store) (w .image) (w .desk) n (stepOf (w .store) (w .image) (w .desk) n)
+unfolding outcome step
+step-is {n} {b} {w} r =
+    guards-pass w (ready r) _
+    ∙ rw (runs r) (ap (λ (k : ℕ). doStep (w .store) (w .image) (w .desk) k (stepOf (w .store) (w .image) (w .desk) k)) (sym (r .count)))
+
+-- a world after an outcome
+abbrev pub leftIn : Outcome → World
+leftIn o = record { store = o .store; image = o .image; desk = o .desk }
+
+pub next-is : (e : Event) (w : World) (o : Outcome) → outcome e w ≡ o → next e w ≡ leftIn o
+unfolding next
+next-is e w o h = ap leftIn h

@@ -1,0 +1,308 @@
+-- A finished copy: sound, with every kept entry, and nothing false. n and b are the counts of inodes and image blocks.
+use Prim.Native.Nat.{ℕ, zero, suc, _+_, _-_, _*_, _≤_, _<_}
+use mathlib.Core.Path.{_≡_, refl, sym, ap, _∙_, subst}
+use mathlib.Core.Logic.{_≢_}
+use mathlib.Core.Bool.{Bool, true, false}
+use mathlib.Core.List.{List, [], _∷_, _++_}
+use native.Mathlib.Omega.{arith}
+use lib.ListN.{length}
+use Rattle.layout.specs.Sizes.{mostStoreBlocks, mostImageBlocks}
+use Rattle.layout.specs.Inode.{kindOf, sizeOf, fileKind}
+use Rattle.layout.proofs.ViewLaws.{within-in, below-in}
+use Rattle.names.specs.Entry.{entryName}
+use Rattle.directory.specs.Slot.{mostSlots}
+use Rattle.desk.specs.Desk.{deskOf}
+use Rattle.sound.specs.Entry.{EntrySound}
+use Rattle.sound.specs.Place.{entryAt, filled, naming}
+use Rattle.sound.specs.Sound.{Sound, inodesIn}
+use Rattle.sound.proofs.PlaceLaws.{naming-filled}
+use Rattle.content.specs.Content.{fileBytes}
+use Rattle.copying.specs.View.{View}
+use Rattle.copying.specs.Deed.{Alike, Quiet}
+use Rattle.copying.specs.Holds.{Fresh, Ended}
+use Rattle.copying.specs.History.{Told, Spell, Chain}
+use Rattle.copying.specs.History as history
+use Rattle.copying.proofs.HistoryLaws.{told-holds}
+use Rattle.copying.proofs.EndLaws.{all-honest, kept-there, kept-body, kept-kind}
+use Rattle.checkpoint.specs.Copier.{finishImage}
+use Rattle.checkpoint.specs.Live.{World}
+use Rattle.checkpoint.specs.List.{Event, steps, next, run, Moment, Finish, Kept}
+use Rattle.checkpoint.specs.Finished.{countOf, HadName, HadBytes, HadKind, Copied, Names, Throughout, Honest, Finished}
+use Rattle.checkpoint.proofs.Copy.Seen.{seen, shelfOf}
+use Rattle.checkpoint.proofs.Copy.FinishSeen.{finish-inodes}
+use Rattle.checkpoint.proofs.Run.Moments.{at, at-end, moment-at, Parts, parts}
+use Rattle.checkpoint.proofs.Run.Going.{seenIn, Running}
+use Rattle.checkpoint.proofs.Run.Ends.{finals}
+use Rattle.checkpoint.proofs.Run.Lists.{Going, runs, counted, going-at}
+use Rattle.checkpoint.proofs.Run.Finales.{views, Finale, finale, told}
+use Rattle.checkpoint.proofs.Run.Stood.{entry-of, InRange, kept-range, chain}
+
+-- ---- what the view says of the bytes
+module _ (n : ℕ) (w : World) where
+  store-names : (p : ℕ) → p < mostSlots * n → seenIn n w .store .names p ≡ naming (w .store) n p
+  unfolding seen shelfOf
+  store-names p l = below-in (mostSlots * n) (naming (w .store) n) p l
+
+  image-names : (p : ℕ) → p < mostSlots * n → seenIn n w .image .names p ≡ naming (w .image) n p
+  unfolding seen shelfOf
+  image-names p l = below-in (mostSlots * n) (naming (w .image) n) p l
+
+  store-kind : (i : ℕ) → 1 ≤ i → i ≤ n → seenIn n w .store .kind i ≡ kindOf (w .store) i
+  unfolding seen shelfOf
+  store-kind i l m = within-in n (kindOf (w .store)) i l m
+
+  image-kind : (i : ℕ) → 1 ≤ i → i ≤ n → seenIn n w .image .kind i ≡ kindOf (w .image) i
+  unfolding seen shelfOf
+  image-kind i l m = within-in n (kindOf (w .image)) i l m
+
+-- an inode of the image is alike one of a store: in bytes
+pub record AlikeIn (n : ℕ) (s m : List ℕ) (i : ℕ) : Type 0 where
+  pub kind : kindOf m i ≡ kindOf s i
+  pub size : sizeOf m i ≡ sizeOf s i
+  pub bytes : kindOf s i ≡ fileKind → fileBytes m n i 0 (sizeOf m i) ≡ fileBytes s n i 0 (sizeOf s i)
+
+alike-in : (n : ℕ) (v w : World) (i : ℕ) → 1 ≤ i → i ≤ n → Alike (seenIn n v .store) (seenIn n w .image) i → AlikeIn n (v .store) (w .image) i
+unfolding seen shelfOf
+alike-in n v w i l m a = record {
+  kind = sym (within-in n (kindOf (w .image)) i l m) ∙ a .kind ∙ within-in n (kindOf (v .store)) i l m;
+  size = sym (within-in n (sizeOf (w .image)) i l m) ∙ a .size ∙ within-in n (sizeOf (v .store)) i l m;
+  bytes = λ e. a .bytes (within-in n (kindOf (v .store)) i l m ∙ e);
+}
+
+-- ---- moments
+module _ (n : ℕ) (es : List Event) (w v : World) (p : ℕ) where
+  -- the slot held the entry at a moment u
+  had-name : (u : World) → Moment es w u → n ≡ countOf w → n ≡ countOf u → 1 ≤ naming (u .store) n p → entryAt (v .image) n p ≡ entryAt (u .store) n p → HadName es w (v .image) p
+  had-name u h e f l k = record {
+    moment = u;
+    in-time = h;
+    held = subst (λ (m : ℕ). filled (u .store) m p ≡ true) f (naming-filled (u .store) n p l);
+    name = ap (λ (m : ℕ). entryName (entryAt (v .image) m p)) (sym e) ∙ ap entryName k ∙ ap (λ (m : ℕ). entryName (entryAt (u .store) m p)) f;
+  }
+
+module _ (n : ℕ) (es : List Event) (w v : World) (i : ℕ) where
+  had-bytes : (u : World) → Moment es w u → n ≡ countOf w → n ≡ countOf u → AlikeIn n (u .store) (v .image) i → kindOf (u .store) i ≡ fileKind → HadBytes es w (v .image) i
+  had-bytes u h e f a k = record {
+    moment = u;
+    in-time = h;
+    kind = k;
+    size = a .size;
+    bytes =
+        ap (λ (m : ℕ). fileBytes (v .image) m i 0 (sizeOf (v .image) i)) (sym e) ∙ a .bytes k
+        ∙ ap (fileBytes (u .store) n i 0) (sym (a .size)) ∙ ap (λ (m : ℕ). fileBytes (u .store) m i 0 (sizeOf (v .image) i)) f;
+  }
+
+-- a slot that names i at every moment
+each-moment : (es : List Event) (w : World) (p i : ℕ) → ((j : ℕ) → j ≤ length es → Names (at es w j) p i) → Throughout es w p i
+unfolding Throughout at
+each-moment [] w p i h = h 0 (omega arith)
+each-moment (e ∷ es) w p i h = (h 0 (omega arith), each-moment es (next e w) p i (λ j l. h (suc j) (omega arith)))
+
+-- ---- a list that ends in its finish
+module _ (b : ℕ) (es : List Event) (w : World) (r : Running (countOf w) b w) (fr : Fresh (seenIn (countOf w) w)) (f : Finale (countOf w) b es w) where
+  abbrev n : ℕ
+  n = countOf w
+
+  abbrev k : ℕ
+  k = length es
+
+  abbrev t : ℕ → View
+  t = views n es w
+
+  abbrev v : World
+  v = run es w
+
+  tells : Told t n k
+  tells = told n b es w fr f
+
+  last-view : t k ≡ seenIn n v
+  last-view = ap (seenIn n) (at-end es w)
+
+  ended-last : Ended (seenIn n (next steps (f .before)))
+  ended-last =
+      let q = finals n b (f .before) (f .runs) (f .finishes) .quiet in
+      let e = f .finishes .ended in
+      record {
+        root = q .copied _ ∙ e .root;
+        last = λ p z. let h = q .names p in rw h (q .copied (seenIn n (f .before) .image .names p) ∙ e .last p (λ y. z (h ∙ y)));
+      }
+
+  ended : Ended (t k)
+  ended = subst Ended (sym (last-view ∙ ap (seenIn n) (f .is))) ended-last
+
+  -- at every moment as many inodes
+  count-at : (j : ℕ) → n ≡ countOf (at es w j)
+  count-at j = counted (going-at n b es w (at es w j) (runs r) (moment-at es w j))
+
+  range : (p : ℕ) → t k .image .names p ≢ 0 → (1 ≤ t k .image .names p) × (t k .image .names p ≤ n)
+  range p z = (omega arith, told-holds t n k tells k (omega arith) .0 .high p)
+
+  names-last : (p : ℕ) → p < mostSlots * n → t k .image .names p ≡ naming (v .image) n p
+  names-last p l = ap (λ (x : View). x .image .names p) last-view ∙ image-names n v p l
+
+  entry-last : (j p : ℕ) → t k .image .entry p ≡ t j .store .entry p → entryAt (v .image) n p ≡ entryAt (at es w j .store) n p
+  unfolding seen shelfOf
+  entry-last j p e = ap (λ (x : World). entryAt (x .image) n p) (sym (at-end es w)) ∙ e
+
+  alike-last : (j i : ℕ) → 1 ≤ i → i ≤ n → Alike (t j .store) (t k .image) i → AlikeIn n (at es w j .store) (v .image) i
+  alike-last j i l m a = alike-in n (at es w j) v i l m (subst (λ (x : View). Alike (t j .store) (x .image) i) last-view a)
+
+  -- ---- a kept entry
+  module _ (p : ℕ) (kept : Kept es w p) where
+    some : 1 ≤ n
+    some = r .laid .frame .some-inodes
+
+    going : Going n b w
+    going = runs r
+
+    inside : InRange n w p
+    inside = kept-range n b es w going some p kept
+
+    held : Chain t k p
+    held = chain n b es w going some p k kept
+
+    there : t k .image .names p ≡ t 0 .store .names p
+    there = kept-there t n k tells ended p held .1
+
+    first-names : t 0 .store .names p ≡ naming (w .store) n p
+    unfolding at
+    first-names = store-names n w p (inside .below)
+
+    first-low : 1 ≤ naming (w .store) n p
+    first-low = entry-of n b w going p (inside .below) (inside .stands) .low
+
+    first-high : naming (w .store) n p ≤ n
+    first-high = entry-of n b w going p (inside .below) (inside .stands) .high
+
+    same-inode : naming (v .image) n p ≡ naming (w .store) n p
+    same-inode = sym (names-last p (inside .below)) ∙ there ∙ first-names
+
+    shown : t k .image .names p ≢ 0
+    shown z = let a = there in let c = first-names in let l = first-low in omega arith
+
+    same-kind : kindOf (v .image) (naming (v .image) n p) ≡ kindOf (w .store) (naming (w .store) n p)
+    unfolding at
+    same-kind =
+        ap (kindOf (v .image)) same-inode
+        ∙ sym (image-kind n v (naming (w .store) n p) first-low first-high)
+        ∙ ap (λ (x : View). x .image .kind (naming (w .store) n p)) (sym last-view)
+        ∙ ap (t k .image .kind) (sym first-names)
+        ∙ kept-kind t n k tells ended p held
+        ∙ ap (t 0 .store .kind) first-names
+        ∙ store-kind n w (naming (w .store) n p) first-low first-high
+
+    name-had : HadName es w (v .image) p
+    name-had =
+        let s = all-honest t k (told-holds t n k tells k (omega arith) .1) ended p shown in
+        let j = s .entry-at in
+        let a = s .names j (s .from-entry) (s .entry-to) in
+        let c = store-names n (at es w j) p (inside .below) in
+        had-name n es w v p (at es w j) (moment-at es w j) refl (count-at j) (omega (arith, shown)) (entry-last j p (s .entry))
+
+    bytes-had : kindOf (w .store) (naming (w .store) n p) ≡ fileKind → HadBytes es w (v .image) (naming (w .store) n p)
+    bytes-had e =
+        let h = kept-body t n k tells ended p held in
+        let j = h .0 in
+        let a = alike-last j (naming (w .store) n p) first-low first-high (subst (λ (i : ℕ). Alike (t j .store) (t k .image) i) first-names (h .2)) in
+        had-bytes n es w v (naming (w .store) n p) (at es w j) (moment-at es w j) refl (count-at j) a (sym (a .kind) ∙ ap (kindOf (v .image)) (sym same-inode) ∙ same-kind ∙ e)
+
+    copied : Copied es w (v .image) p
+    copied = record {
+      stands = let l = first-low in let e = same-inode in naming-filled (v .image) n p (omega arith);
+      inode = same-inode;
+      kind = same-kind;
+      name = name-had;
+      file = bytes-had;
+    }
+
+  -- ---- nothing false
+  final-image : v .image ≡ finishImage (f .before .image) n b
+  final-image = ap (λ (x : World). x .image) (f .is) ∙ finals n b (f .before) (f .runs) (f .finishes) .image
+
+  final-sound : Sound mostImageBlocks true (v .image)
+  final-sound = rw final-image (finals n b (f .before) (f .runs) (f .finishes) .sound)
+
+  final-count : inodesIn (v .image) ≡ n
+  final-count = ap inodesIn final-image ∙ finish-inodes (f .runs .laid)
+
+  module _ (p : ℕ) (l : p < mostSlots * n) (full : filled (v .image) n p ≡ true) where
+    low : 1 ≤ naming (v .image) n p
+    low = subst (λ (m : ℕ). (q : ℕ) → q < mostSlots * m → filled (v .image) m q ≡ true → EntrySound (v .image) m q) final-count (final-sound .entries) p l full .low
+
+    seen-there : t k .image .names p ≢ 0
+    seen-there z = let a = names-last p l in let c = low in omega arith
+
+    spell : Spell t k p
+    spell = all-honest t k (told-holds t n k tells k (omega arith) .1) ended p seen-there
+
+    in-order : spell .from ≤ spell .to
+    in-order = let a = spell .from-entry in let c = spell .entry-to in omega arith
+
+    cuts : Parts es w (spell .from) (spell .to)
+    cuts = parts es w (spell .from) (spell .to) in-order (spell .past)
+
+    abbrev start : World
+    start = run (cuts .before) w
+
+    -- a moment of the spell, as one of its part of the list
+    moment-is : (j : ℕ) → spell .from ≤ j → j ≤ spell .to → at (cuts .during) start (j - spell .from) ≡ at es w j
+    moment-is j a c = cuts .each (j - spell .from) (omega arith) ∙ ap (at es w) (back (spell .from) j a)
+      where
+        back : (a j : ℕ) → a ≤ j → j - a + a ≡ j
+        back a j l = omega arith
+
+    in-spell : (j : ℕ) → spell .from ≤ j → j ≤ spell .to → Moment (cuts .during) start (at es w j)
+    in-spell j a c = subst (Moment (cuts .during) start) (moment-is j a c) (moment-at (cuts .during) start (j - spell .from))
+
+    start-count : n ≡ countOf start
+    start-count = count-at (spell .from) ∙ ap countOf (sym (cuts .first))
+
+    -- the store's slot names the inode
+    names-then : (j : ℕ) → spell .from ≤ j → j ≤ spell .to → naming (at es w j .store) n p ≡ naming (v .image) n p
+    names-then j a c = sym (store-names n (at es w j) p l) ∙ spell .names j a c ∙ names-last p l
+
+    then-names : (j : ℕ) → spell .from ≤ j → j ≤ spell .to → Names (at es w j) p (naming (v .image) n p)
+    then-names j a c =
+        let e = names-then j a c in
+        let o = low in
+        let h = naming-filled (at es w j .store) n p (omega arith) in
+        record { stands = subst (λ (m : ℕ). filled (at es w j .store) m p ≡ true) (count-at j) h; inode = ap (λ (m : ℕ). naming (at es w j .store) m p) (sym (count-at j)) ∙ e }
+
+    throughout : Throughout (cuts .during) start p (naming (v .image) n p)
+    throughout = each-moment (cuts .during) start p (naming (v .image) n p) (λ j h.
+        let e = cuts .long in
+        let o = in-order in
+        subst (λ (x : World). Names x p (naming (v .image) n p)) (sym (cuts .each j (omega arith))) (then-names (j + spell .from) (omega arith) (omega arith)))
+
+    inode-range : naming (v .image) n p ≤ n
+    inode-range = let a = names-last p l in let c = range p seen-there .1 in omega arith
+
+    inode-like : AlikeIn n (at es w (spell .inode-at) .store) (v .image) (naming (v .image) n p)
+    inode-like = alike-last (spell .inode-at) (naming (v .image) n p) low inode-range (subst (λ (i : ℕ). Alike (t (spell .inode-at) .store) (t k .image) i) (names-last p l) (spell .inode))
+
+    honest : Honest es w (v .image) p
+    honest =
+        let i = spell .inode-at in
+        let x = spell .entry-at in
+        let m = in-spell i (spell .from-inode) (spell .inode-to) in
+        let o = low in
+        let e = names-then x (spell .from-entry) (spell .entry-to) in
+        record {
+          before = cuts .before;
+          during = cuts .during;
+          after = cuts .rest;
+          parts = cuts .whole;
+          named = throughout;
+          name = had-name n (cuts .during) start v p (at es w x) (in-spell x (spell .from-entry) (spell .entry-to)) start-count (count-at x) (omega arith) (entry-last x p (spell .entry));
+          kind = record { moment = at es w i; in-time = m; kind = inode-like .kind };
+          file = λ h. had-bytes n (cuts .during) start v (naming (v .image) n p) (at es w i) m start-count (count-at i) inode-like (sym (inode-like .kind) ∙ h);
+        }
+
+  pub finished : Finished es w
+  finished = record {
+    count = final-count;
+    sound = final-sound;
+    entries = copied;
+    honest = honest;
+    state = ap (λ (x : World). deskOf (x .desk) .state) (f .is) ∙ finals n b (f .before) (f .runs) (f .finishes) .state;
+  }

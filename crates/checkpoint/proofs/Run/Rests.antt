@@ -1,0 +1,119 @@
+-- A world in which no copy runs, after one was started: what each event does to it. n and b are the counts of inodes and image blocks.
+use Prim.Native.Nat.{ℕ, _+_, _*_, _≤_, _<_}
+use mathlib.Core.Path.{_≡_, refl, sym, ap, _∙_, subst}
+use mathlib.Core.Logic.{_⊎_, inl, inr}
+use mathlib.Core.Bool.{Bool, true, false, not, _&&_}
+use mathlib.Core.List.{List, [], _∷_}
+use native.Mathlib.Omega.{arith}
+use borrow.Author.Tests.{ne-eqb}
+use lib.Dec.{eqb}
+use lib.ListN.{length}
+use Rattle.bounded.specs.Search.{pick}
+use Rattle.bounded.proofs.BoolLaws.{clash, and-left, and-right}
+use Rattle.layout.specs.Sizes.{mostStoreBlocks, mostImageBlocks}
+use Rattle.layout.specs.Block.{storeLength}
+use Rattle.desk.specs.Sizes.{running, finished, stopped}
+use Rattle.desk.specs.Desk.{deskOf}
+use Rattle.sound.specs.Sound.{Sound, isSound, framedB, soundB, inodesIn, blocksIn}
+use Rattle.sound.specs.declared.Form.the-variants.{Store}
+use Rattle.sound.proofs.SoundLaws.{is-sound}
+use Rattle.answers.specs.declared.Answer.the-variants.{Done}
+use Rattle.answers.specs.declared.Refusal.the-variants.{WrongState}
+use Rattle.files.specs.Effect.{Call, Entry, Effect, Planned, does, refused, planned}
+use Rattle.files.proofs.Lawful.{Each, Lawful}
+use Rattle.files.proofs.LawfulCalls.{lawful}
+use Rattle.checkpoint.specs.Fit.{deskFits, isRunning, notesFit, imageFits}
+use Rattle.checkpoint.specs.Notes.{noteMade, noteTaken, cutsImage, cutImage, cutEntries, clearMarks, setMarks}
+use Rattle.checkpoint.specs.Live.{World, Outcome, left, refuse, decision, leavesIn, live, doStep, step, ask}
+use Rattle.checkpoint.specs.List.{Ready, Event, call, steps, asks, starts, outcome, next}
+use Rattle.checkpoint.proofs.DecisionLaws.{Allowed, each-decided}
+use Rattle.checkpoint.proofs.Run.Going.{guards-pass, leftIn, next-is}
+
+pub record Resting (n b : ℕ) (w : World) : Type 0 where
+  pub count : n ≡ inodesIn (w .store)
+  pub fit : Ready w
+  pub long : length (w .image) ≡ storeLength n b
+  pub some-blocks : 1 ≤ b
+  pub most-blocks : b ≤ mostImageBlocks
+  pub state : (deskOf (w .desk) .state ≡ finished) ⊎ (deskOf (w .desk) .state ≡ stopped)
+
+pub idle : {n b : ℕ} {w : World} → Resting n b w → isRunning (w .desk) ≡ false
+unfolding isRunning
+idle {w = w} r = ne-eqb (deskOf (w .desk) .state) running (λ e. elim (r .state) [ inl f ↦ omega arith | inr f ↦ omega arith ])
+
+-- ---- a call writes neither image nor desk
+module _ (d : List ℕ) (i : isRunning d ≡ false) (n : ℕ) where
+  no-cut : (m : List ℕ) (xs : List Entry) → cutEntries m d n xs ≡ m
+  unfolding cutEntries cutImage cutsImage
+  no-cut m [] = refl
+  no-cut m (x ∷ xs) = rw i (no-cut m xs)
+
+  no-clear : (xs : List Entry) → clearMarks d n xs ≡ d
+  unfolding clearMarks noteTaken
+  no-clear [] = refl
+  no-clear (x ∷ xs) = rw i (no-clear xs)
+
+  no-set : (xs : List Entry) → setMarks d n xs ≡ d
+  unfolding setMarks noteMade
+  no-set [] = refl
+  no-set (x ∷ xs) = rw i (no-set xs)
+
+-- the buffers fit another sound store of as many inodes
+refit : (w : World) (s : List ℕ) → Ready w → Sound mostStoreBlocks false s → inodesIn s ≡ inodesIn (w .store) → Ready (record { store = s; image = w .image; desk = w .desk })
+unfolding soundB notesFit
+refit w s r h e =
+    let k = is-sound Store s .from h in
+    record {
+      framed = and-left (framedB mostStoreBlocks s) _ k;
+      sound = k;
+      desk = r .desk;
+      notes = rw e (r .notes);
+    }
+
+module _ (n b : ℕ) (w : World) (r : Resting n b w) where
+  sound : Sound mostStoreBlocks false (w .store)
+  sound = is-sound Store (w .store) .to (r .fit .sound)
+
+  -- store, image and desk after a call
+  pub record Kept (v : World) : Type 0 where
+    pub rest : Resting n b v
+    pub image : v .image ≡ w .image
+    pub desk : v .desk ≡ w .desk
+
+  stays : (s : List ℕ) → Sound mostStoreBlocks false s → inodesIn s ≡ inodesIn (w .store) → Kept (record { store = s; image = w .image; desk = w .desk })
+  stays s h e = record {
+    rest = record { count = r .count ∙ sym e; fit = refit w s (r .fit) h e; long = r .long; some-blocks = r .some-blocks; most-blocks = r .most-blocks; state = r .state };
+    image = refl;
+    desk = refl;
+  }
+
+  pub same-kept : (v : World) → v ≡ w → Kept v
+  same-kept v e = rw e (record { rest = r; image = refl; desk = refl })
+
+  decided : (q : Planned) → Each (Lawful (w .store) (inodesIn (w .store))) q → Kept (leftIn (leavesIn w q))
+  decided (refused e) k = same-kept w refl
+  decided (does x) k =
+      let i = idle r in
+      rw (no-cut (w .desk) i (inodesIn (w .store)) (w .image) (x .taken), no-clear (w .desk) i (inodesIn (w .store)) (x .taken), no-set (w .desk) i (inodesIn (w .store)) (x .made))
+      (stays (x .store) (k .sound) (k .frame .inodes))
+
+  drop-allowed : (q : Planned) → Each (Allowed (Lawful (w .store) (inodesIn (w .store))) w) q → Each (Lawful (w .store) (inodesIn (w .store))) q
+  drop-allowed (refused e) k = tt
+  drop-allowed (does x) k = k .0
+
+  pub call-kept : (c : Call) → Kept (next (call c) w)
+  unfolding next outcome live
+  call-kept c =
+      let h = lawful c (w .store) (inodesIn (w .store)) (blocksIn (w .store)) sound refl refl in
+      decided (decision c w) (drop-allowed (decision c w) (each-decided (Lawful (w .store) (inodesIn (w .store))) c w h))
+
+  pub asks-kept : Kept (next asks w)
+  unfolding outcome ask
+  asks-kept = same-kept (next asks w) (next-is asks w (left (Done 0) (w .store) (w .image) (w .desk)) (guards-pass w (r .fit) _))
+
+  pub step-idle : outcome steps w ≡ refuse WrongState (w .store) (w .image) (w .desk)
+  unfolding outcome step
+  step-idle = guards-pass w (r .fit) _ ∙ rw (idle r) refl
+
+  pub steps-kept : Kept (next steps w)
+  steps-kept = same-kept (next steps w) (next-is steps w _ step-idle)

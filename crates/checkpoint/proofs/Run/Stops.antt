@@ -1,0 +1,82 @@
+-- What 16 leaves in the desk, byte by byte.
+use Prim.Native.Nat.{ℕ, zero, suc, _+_, _-_, _*_, _/_, _%_, _≤_, _<_}
+use mathlib.Core.Path.{_≡_, refl, sym, ap, _∙_}
+use mathlib.Core.List.{List, [], _∷_}
+use native.Mathlib.Omega.{arith}
+use native.Mathlib.Decide.{decLt}
+use lib.ListN.{length, getD}
+use Rattle.octets.specs.Octets.{Octets, Apart, part, splice, numAt, toBytes, putNum}
+use Rattle.octets.proofs.PartLaws.{splice-out, splice-in, length-splice}
+use Rattle.octets.proofs.NumLaws.{num-suc, length-toBytes, length-num}
+use Rattle.desk.specs.Sizes.{stopped, deskHeaderBytes}
+use Rattle.desk.specs.declared.Desk.{Desk}
+use Rattle.desk.specs.Desk.{deskOf, putDesk}
+use Rattle.desk.specs.Next.{stopping}
+
+-- a number's bytes are those that it was read from
+byte-back : (k : ℕ) (d : List ℕ) (o j : ℕ) → Octets d → j < k → getD (toBytes k (numAt k d o)) j 0 ≡ getD d (o + j) 0
+unfolding numAt toBytes
+byte-back zero d o j h l = absurd (omega arith)
+byte-back (suc zero) d o zero h l = ap (λ (x : ℕ). getD d x 0) (same o)
+  where
+    same : (o : ℕ) → o ≡ o + 0
+    same o = omega arith
+byte-back (suc zero) d o (suc j) h l = absurd (omega arith)
+byte-back (suc (suc k)) d o zero h l =
+    let b = h o in
+    let e : (getD d o 0 + 256 * numAt (suc k) d (o + 1)) % 256 ≡ getD d o 0 = omega arith in
+    e ∙ ap (λ (x : ℕ). getD d x 0) (same o)
+  where
+    same : (o : ℕ) → o ≡ o + 0
+    same o = omega arith
+byte-back (suc (suc k)) d o (suc j) h l =
+    let b = h o in
+    let e : (getD d o 0 + 256 * numAt (suc k) d (o + 1)) / 256 ≡ numAt (suc k) d (o + 1) = omega arith in
+    ap (λ (v : ℕ). getD (toBytes (suc k) v) j 0) e ∙ byte-back (suc k) d (o + 1) j h (omega arith) ∙ ap (λ (x : ℕ). getD d x 0) (more o j)
+  where
+    more : (o j : ℕ) → o + 1 + j ≡ o + suc j
+    more o j = omega arith
+
+-- byte x of a number that is written, of another one, and of one written as it was
+put-byte : (k : ℕ) (s : List ℕ) (o v x : ℕ) → Apart x 1 o k → getD (putNum k s o v) x 0 ≡ getD s x 0
+unfolding putNum
+put-byte k s o v x a = splice-out s o (toBytes k v) x (rw (length-toBytes k v) a)
+
+keep-byte : (k : ℕ) (s d : List ℕ) (o x : ℕ) → Octets d → o + k ≤ length s → getD s x 0 ≡ getD d x 0 → getD (putNum k s o (numAt k d o)) x 0 ≡ getD d x 0
+unfolding putNum
+keep-byte k s d o x h l e = elim (decLt x o) [
+  | yes a ↦ put-byte k s o (numAt k d o) x (omega arith) ∙ e
+  | no a ↦ elim (decLt x (o + k)) [
+    | no c ↦ put-byte k s o (numAt k d o) x (omega arith) ∙ e
+    | yes c ↦
+        let n = length-toBytes k (numAt k d o) in
+        let f : x ≡ o + (x - o) = omega arith in
+        ap (λ (y : ℕ). getD (putNum k s o (numAt k d o)) y 0) f
+        ∙ splice-in s o (toBytes k (numAt k d o)) (x - o) (omega arith) (omega arith)
+        ∙ byte-back k d o (x - o) h (omega arith)
+        ∙ ap (λ (y : ℕ). getD d y 0) (sym f)
+  ]
+]
+
+pub stop-bytes : (d : List ℕ) → Octets d → deskHeaderBytes ≤ length d → (x : ℕ) → (x ≡ 4 → ⊥) → (6 ≤ x → x ≤ 9 → ⊥) → getD (putDesk d (stopping (deskOf d))) x 0 ≡ getD d x 0
+unfolding putDesk deskOf
+stop-bytes d h l x a b =
+    let s1 = putNum 2 d 0 (numAt 2 d 0) in
+    let l1 = length-num 2 d 0 (numAt 2 d 0) in
+    let s2 = putNum 2 s1 2 (numAt 2 d 2) in
+    let l2 = length-num 2 s1 2 (numAt 2 d 2) in
+    let s3 = putNum 1 s2 4 stopped in
+    let l3 = length-num 1 s2 4 stopped in
+    let s4 = putNum 2 s3 6 0 in
+    let l4 = length-num 2 s3 6 0 in
+    let s5 = putNum 2 s4 8 0 in
+    let l5 = length-num 2 s4 8 0 in
+    let e1 = keep-byte 2 d d 0 x h (omega arith) refl in
+    let e2 = keep-byte 2 s1 d 2 x h (omega arith) e1 in
+    let e3 = put-byte 1 s2 4 stopped x (omega arith) ∙ e2 in
+    let e4 = put-byte 2 s3 6 0 x (outside 6 (omega arith) (omega arith)) ∙ e3 in
+    let e5 = put-byte 2 s4 8 0 x (outside 8 (omega arith) (omega arith)) ∙ e4 in
+    keep-byte 4 s5 d 12 x h (omega arith) e5
+  where
+    outside : (o : ℕ) → 6 ≤ o → o ≤ 8 → Apart x 1 o 2
+    outside o l m = elim (decLt x 6) [ yes c ↦ omega arith | no c ↦ elim (decLt 9 x) [ yes f ↦ omega arith | no f ↦ absurd (b (omega arith) (omega arith)) ] ]

@@ -1,0 +1,4 @@
+pub mod View
+pub mod Deed
+pub mod Holds
+pub mod History

@@ -1,0 +1,145 @@
+-- The laws of the effects of create and link: an entry made. n and b are the counts of inodes and blocks.
+use Prim.Native.Nat.{ℕ, _+_, _-_, _*_, _<_}
+use mathlib.Core.Path.{_≡_, refl, sym, ap, _∙_}
+use mathlib.Core.Logic.{_≢_, inl}
+use mathlib.Core.Bool.{true, false}
+use mathlib.Core.List.{List, [], _∷_}
+use native.Mathlib.Omega.{arith}
+use Rattle.layout.specs.Sizes.{mostStoreBlocks}
+use Rattle.layout.specs.Inode.{linksOf, fileKind, isFile}
+use Rattle.layout.proofs.ViewLaws.{inode-fits}
+use Rattle.directory.specs.Slot.{mostSlots, slotEmpty, findSlot}
+use Rattle.bounded.specs.declared.Found.the-variants.{At, Absent}
+use Rattle.bounded.proofs.BoolLaws.{clash, fails}
+use Rattle.layout.specs.Free.{freeInode}
+use Rattle.names.specs.Entry.{isEmpty}
+use Rattle.sound.specs.Place.{entryAt, filled, placeOf}
+use Rattle.sound.specs.Sound.{Sound, inodesIn, blocksIn}
+use Rattle.sound.proofs.PlaceLaws.{filled-is, entry-place}
+use Rattle.changes.proofs.SameLaws.{put-entry}
+use Rattle.changes.proofs.StoreLaws.{kind-fits, fits}
+use Rattle.changes.proofs.FreeLaws.{free-inode}
+use Rattle.changes.proofs.EntryWriteLaws.{SlotIn, place-below}
+use Rattle.changes.proofs.ChangeLaws.{Filled}
+use Rattle.entries.specs.declared.Room.{Room}
+use Rattle.entries.specs.declared.Kind.{Kind}
+use Rattle.entries.specs.declared.RoomPlan.the-variants.{Has}
+use Rattle.entries.specs.Room.{roomIn, makeRoom}
+use Rattle.entries.specs.Plan.{createPlan, linkPlan}
+use Rattle.entries.specs.Apply.{newInode, enter, created, linked}
+use Rattle.entries.specs.declared.CreatePlan.{CreatePlan}
+use Rattle.entries.specs.declared.LinkPlan.{LinkPlan}
+use Rattle.entries.specs.declared.CreatePlan.the-variants.{Make, NoCreate}
+use Rattle.entries.specs.declared.LinkPlan.the-variants.{Add, NoLink}
+use Rattle.entries.proofs.PlanFacts.{NewIn, moves, links, creates}
+use Rattle.entries.proofs.RoomLaws.{slot, Roomed, same-kind, same-find, same-free-inode}
+use Rattle.entries.proofs.LinkKeeps.{link-filled}
+use Rattle.entries.proofs.CreateKeeps.{create-filled, new-addresses}
+use Rattle.entries.proofs.PlanKeeps.{linked-sound, created-sound}
+use Rattle.files.specs.Effect.{entry, changes, doCreate, doLink, planned, create, link}
+use Rattle.files.proofs.Lawful.{Stands, SameNaming, Lawful, Each}
+use Rattle.files.proofs.LawfulSteady.{blocks-of, slot-low, Steady, steady-then, put-steady, links-steady, new-steady, roomed, room-steady, room-count, room-dir, room-slot}
+
+-- ---- an entry made in the room: link and create. m is the store with room, w the store after
+pub made-stands : (m w : List ℕ) (n d t i : ℕ) (name : List ℕ) → SlotIn m n d t → Filled m w n (placeOf d t) i name → Stands w n (entry d t i)
+made-stands m w n d t i name y o = record { low = y .low; high = y .high; small = y .small; stands = o .stands; names = o .names }
+
+bare-slot : (s : List ℕ) (n d t : ℕ) → SlotIn s n d t → slotEmpty s n d t ≡ true → filled s n (placeOf d t) ≡ false
+unfolding slotEmpty
+bare-slot s n d t y e =
+    fails (filled s n (placeOf d t))
+    (λ f. clash (isEmpty (entryAt s n (placeOf d t))) (ap isEmpty (entry-place s n d t (y .low) (y .small)) ∙ e) (filled-is s n (placeOf d t) .to f .1))
+
+module _ (s : List ℕ) (n b d : ℕ) (name : List ℕ) (r : Room) (h : Sound mostStoreBlocks false s) (x : n ≡ inodesIn s) (y : b ≡ blocksIn s)
+    (new : NewIn s n d name) (e : roomIn s n b d ≡ Has r) where
+  abbrev m : List ℕ
+  m = makeRoom s n d r
+
+  room : Roomed s m n d (r .slot)
+  room = roomed s n b d r h x y (new .directory) e
+
+  there : SlotIn m n d (r .slot)
+  there = room-slot s n b d r h x y (new .directory) e
+
+  count : n ≡ inodesIn m
+  count = room-count s n b d r h x y (new .directory) e
+
+  pub still : findSlot m n d name ≡ Absent
+  still = same-find s m n d (r .slot) room name (new .legal) d (there .low) (there .high) ∙ new .absent
+
+  pub was-bare : filled s n (placeOf d (r .slot)) ≡ false
+  was-bare = sym (room .tree .places (placeOf d (r .slot)) (place-below there) .stands) ∙ bare-slot m n d (r .slot) there (room .empty)
+
+  -- the places of a store w in which the room is filled
+  made-others : (w : List ℕ) (i : ℕ) → Filled m w n (placeOf d (r .slot)) i name → (q : ℕ) → q < mostSlots * n → q ≢ placeOf d (r .slot) → SameNaming s w n q
+  made-others w i o q l z =
+      let p = o .others q l z in
+      let g = room .tree .places q l in
+      record { stands = p .stands ∙ g .stands; names = p .names ∙ g .names }
+
+  entered-steady : (i : ℕ) → Steady s (enter s n d r i name) n (d ∷ [])
+  unfolding enter
+  entered-steady i = steady-then (blocks-of s n h x) (room-steady s n b d r h x y (new .directory) e) (put-steady m n d (r .slot) i name (blocks-of m n (room .sound) count) there) (λ j z. (z, z))
+
+  link-lawful : (i : ℕ) → isFile s n i ≡ true → Sound mostStoreBlocks false (linked s n d name i r) → Lawful s n (changes 0 (linked s n d name i r) (d ∷ i ∷ []) [] (entry d (r .slot) i ∷ []))
+  unfolding linked enter
+  link-lawful i file sound =
+      let here = same-kind s m n fileKind i (room .tree .kinds) ∙ file in
+      let o = link-filled m n d (r .slot) i name (room .sound) count (room-dir s n b d r h x y (new .directory) e) here (room .slot) (room .empty) (new .legal) still in
+      let g = entered-steady i in
+      let f = inode-fits s (enter s n d r i name) n i (g .frame .long) (kind-fits s n h x fileKind i file) in
+      let a = steady-then {ks = d ∷ i ∷ []} (blocks-of s n h x) g (links-steady (enter s n d r i name) n i (linksOf (enter s n d r i name) i + 1) f) (λ j z. ((z .0, tt), (z .1 .0, tt))) in
+      record {
+        sound = sound;
+        frame = a .frame;
+        stood = tt;
+        gone = tt;
+        stands = (made-stands m _ n d (r .slot) i name there o, tt);
+        bare = (λ _. was-bare, tt);
+        one-taken = omega arith;
+        one-made = omega arith;
+        moves = tt;
+        others = λ q l _ z. made-others _ i o q l (z .0);
+        kinds = λ j l k z. inl (a .kinds j l k z);
+        untouched = a .stays;
+        apart = λ j z. (tt, (z .0, tt));
+      }
+
+  create-lawful : (k : Kind) (i : ℕ) → freeInode s n ≡ At i → Sound mostStoreBlocks false (created s n d name k i r) → Lawful s n (changes i (created s n d name k i r) (d ∷ []) [] (entry d (r .slot) i ∷ []))
+  unfolding created enter
+  create-lawful k i free sound =
+      let o = create-filled m n d (r .slot) i k name (room .sound) count (room-dir s n b d r h x y (new .directory) e) (same-free-inode s m n (room .tree .kinds) ∙ free) (room .slot) (room .empty) (new .legal) still in
+      let g = entered-steady i in
+      let z = free-inode s n i free in
+      let f = inode-fits s (enter s n d r i name) n i (g .frame .long) (fits s n h x i (z .low) (z .high)) in
+      let c = put-entry m n d (r .slot) (slot-low m m n d (r .slot) (blocks-of m n (room .sound) count) there) i name .inodes i (z .low) (z .high) .kind ∙ room .tree .kinds i (z .low) (z .high) ∙ z .kind in
+      let a = steady-then {ks = d ∷ []} (blocks-of s n h x) g (new-steady (enter s n d r i name) n i (newInode k d) f c (new-addresses k d)) (λ j u. (u, tt)) in
+      record {
+        sound = sound;
+        frame = a .frame;
+        stood = tt;
+        gone = tt;
+        stands = (made-stands m _ n d (r .slot) i name there o, tt);
+        bare = (λ _. was-bare, tt);
+        one-taken = omega arith;
+        one-made = omega arith;
+        moves = tt;
+        others = λ q l _ z. made-others _ i o q l (z .0);
+        kinds = λ j l k z. inl (a .kinds j l k z);
+        untouched = a .stays;
+        apart = λ j z. (tt, (z .0, tt));
+      }
+
+pub lawful-link : (s : List ℕ) (n b d : ℕ) (name : List ℕ) (i : ℕ) → Sound mostStoreBlocks false s → n ≡ inodesIn s → b ≡ blocksIn s → Each (Lawful s n) (planned (link d name i) s n b)
+lawful-link s n b d name i h x y = go (linkPlan s n b d name i) refl
+  where
+    go : (p : LinkPlan) → linkPlan s n b d name i ≡ p → Each (Lawful s n) (doLink s n d name i p)
+    go (NoLink w) e = tt
+    go (Add r) e = let c = links s n b d name i r e in link-lawful s n b d name r h x y (c .new) (c .room) i (c .file) (linked-sound s n b h x y d name i r e)
+
+pub lawful-create : (s : List ℕ) (n b d : ℕ) (name : List ℕ) (k : Kind) → Sound mostStoreBlocks false s → n ≡ inodesIn s → b ≡ blocksIn s → Each (Lawful s n) (planned (create d name k) s n b)
+lawful-create s n b d name k h x y = go (createPlan s n b d name) refl
+  where
+    go : (p : CreatePlan) → createPlan s n b d name ≡ p → Each (Lawful s n) (doCreate s n d name k p)
+    go (NoCreate w) e = tt
+    go (Make i r) e = let c = creates s n b d name i r e in create-lawful s n b d name r h x y (c .new) (c .room) k i (c .inode) (created-sound s n b h x y d name k i r e)

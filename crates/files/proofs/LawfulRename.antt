@@ -1,0 +1,164 @@
+-- The laws of rename's effects: within a directory, and a move. n and b are the counts of inodes and blocks.
+use Prim.Native.Nat.{ℕ, _-_, _<_}
+use mathlib.Core.Path.{_≡_, refl, sym, ap, _∙_, subst}
+use mathlib.Core.Logic.{inl}
+use mathlib.Core.Bool.{Bool, true, false}
+use mathlib.Core.List.{List, [], _∷_}
+use native.Mathlib.Omega.{arith}
+use lib.Dec.{eqb}
+use Rattle.bounded.specs.Search.{pick}
+use Rattle.layout.specs.Sizes.{mostStoreBlocks}
+use Rattle.layout.specs.Inode.{InodeFits, kindOf, spareOf, inodeOf, putAttributes, directoryKind, isKind, isDirectory, withParent}
+use Rattle.layout.specs.Block.{kthBlock}
+use Rattle.layout.proofs.ViewLaws.{inode-fits}
+use Rattle.directory.specs.Slot.{slots, slotEmpty, findSlot, putEntry, clearEntry, inodeAt}
+use Rattle.directory.proofs.SlotLaws.{find-below}
+use Rattle.bounded.specs.declared.Found.the-variants.{Absent}
+use Rattle.names.specs.Name.{legalName}
+use Rattle.names.specs.Entry.{isEmpty, entryInode}
+use Rattle.sound.specs.Place.{placeOf}
+use Rattle.sound.specs.Sound.{Sound, inodesIn, blocksIn}
+use Rattle.changes.proofs.SameLaws.{SameInode, frame-stays, inode-stays, each-inode, put-entry, clear-entry}
+use Rattle.changes.proofs.StoreLaws.{fits}
+use Rattle.changes.proofs.EntryWriteLaws.{SlotIn, slot-in, place-below}
+use Rattle.changes.proofs.InodeWriteLaws.{parent-relinked}
+use Rattle.changes.proofs.SlotPlaceLaws.{entry-here, found-full, place-filled}
+use Rattle.changes.proofs.SoundTreeLaws.{body-at}
+use Rattle.changes.proofs.KeepLaws.{same-slots}
+use Rattle.entries.specs.declared.Room.{Room}
+use Rattle.entries.specs.Room.{makeRoom}
+use Rattle.entries.specs.Plan.{renamePlan}
+use Rattle.entries.specs.Apply.{renamed, setParent, moved}
+use Rattle.entries.specs.declared.RenamePlan.{RenamePlan}
+use Rattle.entries.specs.declared.RenamePlan.the-variants.{Same, Rename, Move, NoRename}
+use Rattle.entries.proofs.PlanFacts.{renames, moves}
+use Rattle.entries.proofs.RoomLaws.{slot, same-kind}
+use Rattle.entries.proofs.PlanKeeps.{moved-sound}
+use Rattle.entries.proofs.MoveKeeps.{not-below, below-kept, move-emptied, move-filled}
+use Rattle.entries.proofs.RenameKeeps.{rename-filled, rename-sound}
+use Rattle.files.specs.Effect.{entry, changes, doRename, planned, rename}
+use Rattle.files.proofs.Lawful.{SameNaming, Lawful, Each}
+use Rattle.files.proofs.LawfulSteady.{blocks-of, blocks-same, slot-low, Steady, steady-then, put-steady, clear-steady, roomed, room-steady, room-count, room-slot}
+use Rattle.files.proofs.LawfulEnter.{still, was-bare}
+use Rattle.files.proofs.LawfulStays.{same-store}
+
+-- ---- rename within a directory
+module _ (s : List ℕ) (n d t i : ℕ) (other : List ℕ) (h : Sound mostStoreBlocks false s) (x : n ≡ inodesIn s)
+    (dir : isDirectory s n d ≡ true) (inside : t < slots s d) (full : slotEmpty s n d t ≡ false) (is : i ≡ inodeAt s n d t)
+    (legal : legalName other ≡ true) (absent : findSlot s n d other ≡ Absent) where
+  rename-lawful : Lawful s n (changes 0 (renamed s n d other t i) (d ∷ []) [] [])
+  rename-lawful =
+      let o = rename-filled s n d t i other h x dir inside full is legal absent in
+      let y = entry-here s n d t i h x dir inside full is in
+      let a = put-steady s n d t i other (blocks-of s n h x) (y .slot) in
+      let f = place-filled s n d t (y .slot) full in
+      record {
+        sound = rename-sound s n d t i other h x dir inside full is legal absent;
+        frame = a .frame;
+        stood = tt;
+        gone = tt;
+        stands = tt;
+        bare = tt;
+        one-taken = omega arith;
+        one-made = omega arith;
+        moves = tt;
+        others = λ q l _ _.
+            each-inode (SameNaming s (putEntry s n d t i other) n) (placeOf d t) q (record { stands = o .stands ∙ sym f; names = o .names ∙ sym (y .names) })
+            (λ z. let p = o .others q l z in record { stands = p .stands; names = p .names });
+        kinds = λ j l m z. inl (a .kinds j l m z);
+        untouched = a .stays;
+        apart = λ j _. (tt, tt);
+      }
+
+-- ---- a move
+parent-steady : (s : List ℕ) (n i e : ℕ) → InodeFits s n i → spareOf s i ≡ 0 → Steady s (setParent s n i e) n (i ∷ [])
+unfolding setParent
+parent-steady s n i e f z = go (eqb (kindOf s i) directoryKind)
+  where
+    go : (b : Bool) → Steady s (pick b (putAttributes s i (withParent (inodeOf s n i) e)) s) n (i ∷ [])
+    go true =
+        let r = parent-relinked s n i f e z in
+        record {
+          frame = r .inode .frame;
+          kinds = λ j l m _. each-inode (λ a. kindOf (putAttributes s i (withParent (inodeOf s n i) e)) a ≡ kindOf s a) i j (r .body .kind) (λ y. r .inode .others j l m y .kind);
+          stays = λ j l m _ y. record { inode = r .inode .others j l m (y .0); bytes = λ k _. r .inode .bytes (kthBlock s n j k) };
+        }
+    go false = record { frame = frame-stays s; kinds = λ j l m _. refl; stays = λ j l m _ _. record { inode = inode-stays s n j; bytes = λ k _. refl } }
+
+slot-same : (s t : List ℕ) (n d u : ℕ) → SameInode s t n d → SlotIn s n d u → SlotIn t n d u
+slot-same s t n d u a y = record { low = y .low; high = y .high; dir = a .kind ∙ y .dir; inside = subst (λ (z : ℕ). u < z) (sym (same-slots a)) (y .inside); small = y .small }
+
+module _ (s : List ℕ) (n b d : ℕ) (name : List ℕ) (e : ℕ) (other : List ℕ) (t i : ℕ) (r : Room) (h : Sound mostStoreBlocks false s) (x : n ≡ inodesIn s) (y : b ≡ blocksIn s)
+    (q : renamePlan s n b d name e other ≡ Move t i r) where
+  move-lawful : Lawful s n (changes 0 (moved s n d e other t i r) (d ∷ e ∷ i ∷ []) (entry d t i ∷ []) (entry e (r .slot) i ∷ []))
+  unfolding moved slotEmpty
+  move-lawful =
+      let c = moves s n b d name e other t i r q in
+      let w = c .0 .entry in
+      let v = c .0 .new in
+      let o = c .1 in
+      let g = makeRoom s n e r in
+      let room = roomed s n b e r h x y (v .directory) (o .room) in
+      let there = room-slot s n b e r h x y (v .directory) (o .room) in
+      let count = room-count s n b e r h x y (v .directory) (o .room) in
+      let same : (k j : ℕ) → isKind g n k j ≡ isKind s n k j = λ k j. same-kind s g n k j (room .tree .kinds) in
+      let inside = find-below s n d name t (w .found) in
+      let full = found-full s n d name t (w .legal) (w .found) in
+      let old = entry-here s n d t i h x (w .directory) inside full (w .inode) in
+      let bytes = room .entries d t (old .slot .low) (old .slot .high) inside in
+      let from = same directoryKind d ∙ w .directory in
+      let inside-g = subst (λ (z : ℕ). t < z) (sym (same-slots (room .others d (old .slot .low) (old .slot .high) (o .other)))) inside in
+      let below = below-kept g n i e (room .sound) count (old .low) (old .not-root) (same directoryKind e ∙ v .directory) s (room .tree) (old .high) (not-below s n i e h x (old .low) (old .not-root) (v .directory) (o .outside)) in
+      let free = still s n b e other r h x y v (o .room) in
+      let emptied = move-emptied g n d t i e (r .slot) other (room .sound) count from inside-g (ap isEmpty bytes ∙ full) (w .inode ∙ ap entryInode (sym bytes))
+      (same directoryKind e ∙ v .directory) (room .slot) (room .empty) (v .legal) free below in
+      let filling = move-filled g n d t i e (r .slot) other (room .sound) count from inside-g (ap isEmpty bytes ∙ full) (w .inode ∙ ap entryInode (sym bytes))
+      (same directoryKind e ∙ v .directory) (room .slot) (room .empty) (v .legal) free below in
+      let here = slot-in g n d t (room .sound) count from inside-g in
+      let bg = blocks-of g n (room .sound) count in
+      let cleared = clear-entry g n d t (slot-low g g n d t bg here) in
+      let cut = clearEntry g n d t in
+      let into = slot-same g cut n e (r .slot) (cleared .inodes e (there .low) (there .high)) there in
+      let bc = blocks-same g cut n (cleared .inodes) bg in
+      let entered = putEntry cut n e (r .slot) i other in
+      let put = put-entry cut n e (r .slot) (slot-low cut cut n e (r .slot) bc into) i other in
+      let a : Steady s entered n (d ∷ e ∷ []) =
+      steady-then (blocks-of s n h x) (room-steady s n b e r h x y (v .directory) (o .room))
+      (steady-then {ks = d ∷ e ∷ []} bg (clear-steady g n d t bg here) (put-steady cut n e (r .slot) i other bc into) (λ j z. ((z .0, tt), (z .1 .0, tt))))
+      (λ j z. ((z .1 .0, tt), z)) in
+      let f = inode-fits s entered n i (a .frame .long) (fits s n h x i (old .low) (old .high)) in
+      let spare : spareOf entered i ≡ 0 = put .inodes i (old .low) (old .high) .spare ∙ cleared .inodes i (old .low) (old .high) .spare ∙ body-at g n (room .sound) count .inodes i (old .low) (old .high) .spare in
+      let p : Steady s (setParent entered n i e) n (d ∷ e ∷ i ∷ []) = steady-then (blocks-of s n h x) a (parent-steady entered n i e f spare) (λ j z. ((z .0, (z .1 .0, tt)), (z .1 .1 .0, tt))) in
+      record {
+        sound = moved-sound s n b h x y d name e other t i r q;
+        frame = p .frame;
+        stood = (record { low = old .slot .low; high = old .slot .high; small = old .slot .small; stands = place-filled s n d t (old .slot) full; names = old .names }, tt);
+        gone = (λ z. filling .others (placeOf d t) (place-below (old .slot)) (z .0) .stands ∙ emptied .stands, tt);
+        stands = (record { low = there .low; high = there .high; small = there .small; stands = filling .stands; names = filling .names }, tt);
+        bare = (λ _. was-bare s n b e other r h x y v (o .room), tt);
+        one-taken = omega arith;
+        one-made = omega arith;
+        moves = ((refl, tt), tt);
+        others = λ k l z u.
+            let j = filling .others k l (u .0) in
+            let j′ = emptied .others k l (z .0) in
+            let j″ = room .tree .places k l in
+            record { stands = j .stands ∙ j′ .stands ∙ j″ .stands; names = j .names ∙ j′ .names ∙ j″ .names };
+        kinds = λ j l k z. inl (p .kinds j l k z);
+        untouched = p .stays;
+        apart = λ j z. (((z .0, z .1 .1 .0), tt), (z .1 .0, tt));
+      }
+
+pub lawful-rename : (s : List ℕ) (n b d : ℕ) (name : List ℕ) (e : ℕ) (other : List ℕ) → Sound mostStoreBlocks false s → n ≡ inodesIn s → b ≡ blocksIn s → Each (Lawful s n) (planned (rename d name e other) s n b)
+lawful-rename s n b d name e other h x y = go (renamePlan s n b d name e other) refl
+  where
+    go : (p : RenamePlan) → renamePlan s n b d name e other ≡ p → Each (Lawful s n) (doRename s n d e other p)
+    go (NoRename w) q = tt
+    go Same q = same-store s n 0 [] (d ∷ []) h
+    go (Rename t i) q =
+        let c = renames s n b d name e other t i q in
+        let w = c .0 .entry in
+        let o = c .0 .new in
+        rename-lawful s n d t i other h x (w .directory) (find-below s n d name t (w .found)) (found-full s n d name t (w .legal) (w .found)) (w .inode)
+        (o .legal) (subst (λ (z : ℕ). findSlot s n z other ≡ Absent) (sym (c .1)) (o .absent))
+    go (Move t i r) q = move-lawful s n b d name e other t i r h x y q

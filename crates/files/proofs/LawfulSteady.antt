@@ -1,0 +1,168 @@
+-- Changes that keep all kinds, and all of every inode in use but some. n and b are the counts of inodes and blocks.
+use Prim.Native.Nat.{ℕ, _-_, _/_, _≤_, _<_}
+use mathlib.Core.Path.{_≡_, refl, sym, ap, _∙_, subst}
+use mathlib.Core.Logic.{_≢_}
+use mathlib.Core.Bool.{true, false}
+use mathlib.Core.List.{List, [], _∷_}
+use native.Mathlib.Omega.{arith}
+use borrow.Author.Tests.{ne-eqb}
+use lib.Dec.{eqb}
+use lib.ListN.{replicate}
+use Rattle.layout.specs.Sizes.{mostStoreBlocks, addressCount}
+use Rattle.layout.specs.declared.inode.Inode.{Inode}
+use Rattle.layout.specs.Inode.{InodeFits, kindOf, sizeOf, putInode, putLinks, freeKind, directoryKind, isDirectory}
+use Rattle.layout.specs.Block.{blocksUsed, blockOf, kthBlock}
+use Rattle.layout.specs.Header.{lessFree}
+use Rattle.layout.proofs.FrameLaws.{length-inode}
+use Rattle.directory.specs.Slot.{putEntry, clearEntry}
+use Rattle.sound.specs.Sound.{Sound, inodesIn, blocksIn}
+use Rattle.changes.proofs.SameLaws.{SameFrame, SameInode, SameBlock, InBlock, frame-then, inode-then, each-inode, put-entry, clear-entry, less-free}
+use Rattle.changes.proofs.StoreLaws.{dir-of, one-at, kind-some, kind-most, kind-is}
+use Rattle.changes.proofs.FreeLaws.{free-block}
+use Rattle.changes.proofs.EntryWriteLaws.{SlotIn, slot-in, slot-block}
+use Rattle.changes.proofs.InodeWriteLaws.{links-relinked}
+use Rattle.changes.proofs.BaredLaws.{put-bared}
+use Rattle.content.specs.Content.{addBlock}
+use Rattle.content.proofs.GrowLaws.{grown-bytes, block-added}
+use Rattle.entries.specs.declared.Room.{Room}
+use Rattle.entries.specs.declared.RoomPlan.the-variants.{Has}
+use Rattle.entries.specs.Room.{roomIn, makeRoom}
+use Rattle.entries.proofs.RoomLaws.{IsRoom, slot, block, is-room, Roomed, make-room, same-kind}
+use Rattle.files.proofs.Lawful.{Apart, Stays}
+
+-- ---- the blocks of a store: few of an inode, and none twice
+pub record Blocks (s : List ℕ) (n : ℕ) : Type 0 where
+  pub few : (j : ℕ) → 1 ≤ j → j ≤ n → blocksUsed (sizeOf s j) ≤ 12
+  pub low : (j k : ℕ) → 1 ≤ j → j ≤ n → k < blocksUsed (sizeOf s j) → 1 ≤ kthBlock s n j k
+  pub once : (i k j a : ℕ) → 1 ≤ i → i ≤ n → 1 ≤ j → j ≤ n → k < blocksUsed (sizeOf s i) → a < blocksUsed (sizeOf s j) → kthBlock s n i k ≡ kthBlock s n j a → i ≡ j
+
+pub blocks-of : (s : List ℕ) (n : ℕ) → Sound mostStoreBlocks false s → n ≡ inodesIn s → Blocks s n
+blocks-of s n h x = record {
+  few = λ j l m. dir-of s n h x j l m .few;
+  low = λ j k l m u. dir-of s n h x j l m .blocks k u .low;
+  once = λ i k j a l m p q u w e. one-at s n h x i k j a l m p q u w e .0;
+}
+
+pub blocks-same : (s t : List ℕ) (n : ℕ) → ((j : ℕ) → 1 ≤ j → j ≤ n → SameInode s t n j) → Blocks s n → Blocks t n
+blocks-same s t n a c = record {
+  few = λ j l m. rw (a j l m .size) (c .few j l m);
+  low = λ j k l m u. let f = c .few j l m in let v = used j k l m u in rw (a j l m .blocks k (omega arith)) (c .low j k l m v);
+  once = λ i k j b l m p q u w e.
+      let f = c .few i l m in
+      let g = c .few j p q in
+      let v = used i k l m u in
+      let y = used j b p q w in
+      c .once i k j b l m p q v y (sym (a i l m .blocks k (omega arith)) ∙ e ∙ a j p q .blocks b (omega arith));
+}
+  where
+    used : (j k : ℕ) → 1 ≤ j → j ≤ n → k < blocksUsed (sizeOf t j) → k < blocksUsed (sizeOf s j)
+    used j k l m u = subst (λ (z : ℕ). k < blocksUsed z) (a j l m .size) u
+
+-- ---- a write in the block of slot t of d: the blocks of the other inodes stay
+module _ (s w : List ℕ) (n d t : ℕ) (c : Blocks s n) (y : SlotIn s n d t) where
+  pub slot-low : 1 ≤ kthBlock s n d (t / 4)
+  slot-low = c .low d (t / 4) (y .low) (y .high) (slot-block s d t (y .inside))
+
+  others-bytes : InBlock s w n (kthBlock s n d (t / 4)) → (j : ℕ) → 1 ≤ j → j ≤ n → j ≢ d → (k : ℕ) → k < blocksUsed (sizeOf s j) → SameBlock s w n (kthBlock s n j k)
+  others-bytes g j l m z k u =
+      g .others (kthBlock s n j k) (c .low j k l m u) (λ e. z (c .once j k d (t / 4) l m (y .low) (y .high) u (slot-block s d t (y .inside)) e))
+
+-- ---- changes that keep all kinds, and all of every inode in use but some
+pub record Steady (s t : List ℕ) (n : ℕ) (is : List ℕ) : Type 0 where
+  pub frame : SameFrame s t
+  pub kinds : (j : ℕ) → 1 ≤ j → j ≤ n → kindOf s j ≢ freeKind → kindOf t j ≡ kindOf s j
+  pub stays : (j : ℕ) → 1 ≤ j → j ≤ n → kindOf s j ≢ freeKind → Apart j is → Stays s t n j
+
+stays-then : {s t u : List ℕ} {n j : ℕ} → blocksUsed (sizeOf s j) ≤ 12 → Stays s t n j → Stays t u n j → Stays s u n j
+stays-then {s} {t} {u} {n} {j} few a b = record {
+  inode = inode-then (a .inode) (b .inode);
+  bytes = λ k l.
+      let e : kthBlock t n j k ≡ kthBlock s n j k = a .inode .blocks k (omega arith) in
+      ap (blockOf u n) (sym e) ∙ b .bytes k (subst (λ (z : ℕ). k < blocksUsed z) (sym (a .inode .size)) l) ∙ ap (blockOf t n) e ∙ a .bytes k l;
+}
+
+module _ {s t u : List ℕ} {n : ℕ} {is js ks : List ℕ} (c : Blocks s n)
+    (a : Steady s t n is) (b : Steady t u n js) (f : (j : ℕ) → Apart j ks → Apart j is × Apart j js) where
+  pub steady-then : Steady s u n ks
+  steady-then = record {
+    frame = frame-then (a .frame) (b .frame);
+    kinds = λ j l m z. let e = a .kinds j l m z in b .kinds j l m (λ y. z (sym e ∙ y)) ∙ e;
+    stays = λ j l m z y.
+        let e = a .kinds j l m z in
+        stays-then (c .few j l m) (a .stays j l m z (f j y .0)) (b .stays j l m (λ w. z (sym e ∙ w)) (f j y .1));
+  }
+
+-- a write in slot t of d
+slot-steady : (s w : List ℕ) (n d t : ℕ) → Blocks s n → SlotIn s n d t → InBlock s w n (kthBlock s n d (t / 4)) → Steady s w n (d ∷ [])
+slot-steady s w n d t c y g = record {
+  frame = g .frame;
+  kinds = λ j l m _. g .inodes j l m .kind;
+  stays = λ j l m _ z. record { inode = g .inodes j l m; bytes = others-bytes s w n d t c y g j l m (z .0) };
+}
+
+pub put-steady : (s : List ℕ) (n d t i : ℕ) (name : List ℕ) → Blocks s n → SlotIn s n d t → Steady s (putEntry s n d t i name) n (d ∷ [])
+put-steady s n d t i name c y = slot-steady s (putEntry s n d t i name) n d t c y (put-entry s n d t (slot-low s s n d t c y) i name)
+
+pub clear-steady : (s : List ℕ) (n d t : ℕ) → Blocks s n → SlotIn s n d t → Steady s (clearEntry s n d t) n (d ∷ [])
+clear-steady s n d t c y = slot-steady s (clearEntry s n d t) n d t c y (clear-entry s n d t (slot-low s s n d t c y))
+
+-- other links
+pub links-steady : (s : List ℕ) (n i v : ℕ) → InodeFits s n i → Steady s (putLinks s i v) n (i ∷ [])
+links-steady s n i v f =
+    let r = links-relinked s n i f v in
+    record {
+      frame = r .inode .frame;
+      kinds = λ j l m _. each-inode (λ a. kindOf (putLinks s i v) a ≡ kindOf s a) i j (r .body .kind) (λ z. r .inode .others j l m z .kind);
+      stays = λ j l m _ z. record { inode = r .inode .others j l m (z .0); bytes = λ k _. r .inode .bytes (kthBlock s n j k) };
+    }
+
+-- a new inode where one was free
+pub new-steady : (s : List ℕ) (n i : ℕ) (v : Inode) → InodeFits s n i → kindOf s i ≡ freeKind → v .addresses ≡ replicate addressCount 0 → Steady s (lessFree (putInode s n i v) 1 0) n []
+new-steady s n i v f e a =
+    let l = f .area in
+    let g = length-inode s n i v in
+    let c = less-free (putInode s n i v) n (omega arith) 1 0 in
+    let r = put-bared s _ n i _ _ v f a c in
+    let other : (j : ℕ) → kindOf s j ≢ freeKind → j ≢ i = λ j z y. z (ap (kindOf s) y ∙ e) in
+    record {
+      frame = r .frame;
+      kinds = λ j l m z. r .others j l m (other j z) .kind;
+      stays = λ j l m z _. record { inode = r .others j l m (other j z); bytes = λ k _. r .bytes (kthBlock s n j k) };
+    }
+
+-- room in d
+module _ (s : List ℕ) (n b d : ℕ) (r : Room) (h : Sound mostStoreBlocks false s) (x : n ≡ inodesIn s) (y : b ≡ blocksIn s)
+    (k : isDirectory s n d ≡ true) (e : roomIn s n b d ≡ Has r) where
+  pub roomed : Roomed s (makeRoom s n d r) n d (r .slot)
+  roomed = make-room s n b d h x y k r e
+
+  room-bytes : (j a : ℕ) → 1 ≤ j → j ≤ n → a < blocksUsed (sizeOf s j) → SameBlock s (makeRoom s n d r) n (kthBlock s n j a)
+  unfolding makeRoom
+  room-bytes j a l m u = go (is-room s n b d r e)
+    where
+      go : IsRoom s n b d r → SameBlock s (makeRoom s n d r) n (kthBlock s n j a)
+      go (slot t f q) = rw q refl
+      go (block c w f q) =
+          let o = free-block s n b c f in
+          let z : eqb c 0 ≡ false = ne-eqb c 0 (let l = o .low in (λ o. omega arith)) in
+          let low = kind-some s n directoryKind d k in
+          let high = kind-most s n directoryKind d k in
+          let i = kind-is s n directoryKind d k in
+          let used : kindOf s d ≢ freeKind = λ g. omega arith in
+          rw (q, z) (grown-bytes s (addBlock s n d c) n b d c h x y (block-added s n b d c h x y low high w o) low high used w (o .low) (o .high) (o .free) j a l m u)
+
+  pub room-steady : Steady s (makeRoom s n d r) n (d ∷ [])
+  room-steady = record {
+    frame = roomed .frame;
+    kinds = λ j l m _. roomed .tree .kinds j l m;
+    stays = λ j l m _ z. record { inode = roomed .others j l m (z .0); bytes = λ a u. room-bytes j a l m u };
+  }
+
+  pub room-count : n ≡ inodesIn (makeRoom s n d r)
+  room-count = x ∙ sym (roomed .frame .inodes)
+
+  pub room-dir : isDirectory (makeRoom s n d r) n d ≡ true
+  room-dir = same-kind s (makeRoom s n d r) n directoryKind d (roomed .tree .kinds) ∙ k
+
+  pub room-slot : SlotIn (makeRoom s n d r) n d (r .slot)
+  room-slot = slot-in (makeRoom s n d r) n d (r .slot) (roomed .sound) room-count room-dir (roomed .slot)

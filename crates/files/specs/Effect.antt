@@ -1,0 +1,134 @@
+-- A file call, and what it does to a sound store: a refusal, or one effect. n and b are the counts of inodes and blocks, which the guard tells.
+use Prim.Native.Nat.{ℕ}
+use mathlib.Core.List.{List, [], _∷_}
+use lib.ListN.{length}
+use Rattle.octets.specs.Octets.{splice}
+use Rattle.sound.specs.Place.{placeOf}
+use Rattle.answers.specs.declared.Refusal.{Refusal}
+use Rattle.content.specs.declared.NumberPlan.{NumberPlan}
+use Rattle.content.specs.declared.NumberPlan.the-variants.{To, NoNumber}
+use Rattle.content.specs.Content.{fileBytes}
+use Rattle.content.specs.Plan.{readPlan, writePlan, shortenPlan}
+use Rattle.content.specs.Apply.{written, shortened}
+use Rattle.entries.specs.declared.Kind.{Kind}
+use Rattle.entries.specs.declared.CreatePlan.{CreatePlan}
+use Rattle.entries.specs.declared.LinkPlan.{LinkPlan}
+use Rattle.entries.specs.declared.UnlinkPlan.{UnlinkPlan}
+use Rattle.entries.specs.declared.RenamePlan.{RenamePlan}
+use Rattle.entries.specs.declared.CreatePlan.the-variants.{Make, NoCreate}
+use Rattle.entries.specs.declared.LinkPlan.the-variants.{Add, NoLink}
+use Rattle.entries.specs.declared.UnlinkPlan.the-variants.{Take, NoUnlink}
+use Rattle.entries.specs.declared.RenamePlan.the-variants.{Same, Rename, Move, NoRename}
+use Rattle.entries.specs.Plan.{lookUpPlan, createPlan, linkPlan, unlinkPlan, renamePlan}
+use Rattle.entries.specs.Apply.{created, linked, unlinked, renamed, moved}
+use Rattle.files.specs.Guard.{guardOf, onGuard}
+
+-- "File calls are look up, create, read, write, shorten, link, unlink and rename", with their arguments; a read has its out-buffer as it comes in
+pub data Call : Type 0 where
+  lookUp : (d : ℕ) (name : List ℕ) → Call
+  read : (i o : ℕ) (out : List ℕ) → Call
+  create : (d : ℕ) (name : List ℕ) (k : Kind) → Call
+  write : (i o : ℕ) (xs : List ℕ) → Call
+  shorten : (i z : ℕ) → Call
+  link : (d : ℕ) (name : List ℕ) (i : ℕ) → Call
+  unlink : (d : ℕ) (name : List ℕ) → Call
+  rename : (d : ℕ) (name : List ℕ) (e : ℕ) (other : List ℕ) → Call
+
+-- an entry: a directory's slot, and the inode that it names
+pub record Entry : Type 0 where
+  pub directory : ℕ
+  pub slot : ℕ
+  pub inode : ℕ
+
+abbrev pub entry : ℕ → ℕ → ℕ → Entry
+entry d t i = record { directory = d; slot = t; inode = i }
+
+abbrev pub placeIn : Entry → ℕ
+placeIn x = placeOf (x .directory) (x .slot)
+
+-- the answer; store and out-buffer after it; the inodes that refusal 14 looks at; the entries taken out and those made
+pub record Effect : Type 0 where
+  pub answer : ℕ
+  pub store : List ℕ
+  pub out : List ℕ
+  pub touches : List ℕ
+  pub taken : List Entry
+  pub made : List Entry
+
+-- it looks, and changes nothing
+abbrev pub looks : ℕ → List ℕ → List ℕ → Effect
+looks a s out = record { answer = a; store = s; out = out; touches = []; taken = []; made = [] }
+
+abbrev pub changes : ℕ → List ℕ → List ℕ → List Entry → List Entry → Effect
+changes a s touches taken made = record { answer = a; store = s; out = []; touches = touches; taken = taken; made = made }
+
+pub data Planned : Type 0 where
+  refused : Refusal → Planned
+  does : Effect → Planned
+
+abbrev pub onPlanned : {A : Type 0} → Planned → (Effect → A) → (Refusal → A) → A
+onPlanned (does x) f g = f x
+onPlanned (refused e) f g = g e
+
+-- ---- what a plan does to the store s: "Create and look up answer the inode, read its count, write and shorten the new size"
+abbrev pub doLookUp : List ℕ → NumberPlan → Planned
+doLookUp s (To i) = does (looks i s [])
+doLookUp s (NoNumber e) = refused e
+
+-- "other out-bytes stay"
+abbrev pub doRead : List ℕ → ℕ → ℕ → ℕ → List ℕ → NumberPlan → Planned
+doRead s n i o out (To k) = does (looks k s (splice out 0 (fileBytes s n i o k)))
+doRead s n i o out (NoNumber e) = refused e
+
+abbrev pub doCreate : List ℕ → ℕ → ℕ → List ℕ → Kind → CreatePlan → Planned
+doCreate s n d name k (Make i r) = does (changes i (created s n d name k i r) (d ∷ []) [] (entry d (r .slot) i ∷ []))
+doCreate s n d name k (NoCreate e) = refused e
+
+abbrev pub doWrite : List ℕ → ℕ → ℕ → ℕ → ℕ → List ℕ → NumberPlan → Planned
+doWrite s n b i o xs (To z) = does (changes z (written s n b i o xs z) (i ∷ []) [] [])
+doWrite s n b i o xs (NoNumber e) = refused e
+
+abbrev pub doShorten : List ℕ → ℕ → ℕ → NumberPlan → Planned
+doShorten s n i (To z) = does (changes z (shortened s n i z) (i ∷ []) [] [])
+doShorten s n i (NoNumber e) = refused e
+
+abbrev pub doLink : List ℕ → ℕ → ℕ → List ℕ → ℕ → LinkPlan → Planned
+doLink s n d name i (Add r) = does (changes 0 (linked s n d name i r) (d ∷ i ∷ []) [] (entry d (r .slot) i ∷ []))
+doLink s n d name i (NoLink e) = refused e
+
+abbrev pub doUnlink : List ℕ → ℕ → ℕ → UnlinkPlan → Planned
+doUnlink s n d (Take t i) = does (changes 0 (unlinked s n d t i) (d ∷ i ∷ []) (entry d t i ∷ []) [])
+doUnlink s n d (NoUnlink e) = refused e
+
+-- "A rename within a directory keeps its slot and its mark; to the same name it changes nothing." A move takes the old entry and makes the new one.
+abbrev pub doRename : List ℕ → ℕ → ℕ → ℕ → List ℕ → RenamePlan → Planned
+doRename s n d e other Same = does (changes 0 s (d ∷ []) [] [])
+doRename s n d e other (Rename t i) = does (changes 0 (renamed s n d other t i) (d ∷ []) [] [])
+doRename s n d e other (Move t i r) = does (changes 0 (moved s n d e other t i r) (d ∷ e ∷ i ∷ []) (entry d t i ∷ []) (entry e (r .slot) i ∷ []))
+doRename s n d e other (NoRename f) = refused f
+
+-- ---- a call on a sound store: refusals 4 to 13, or what is done
+abbrev pub planned : Call → List ℕ → ℕ → ℕ → Planned
+planned (lookUp d name) s n b = doLookUp s (lookUpPlan s n d name)
+planned (read i o out) s n b = doRead s n i o out (readPlan s n i o (length out))
+planned (create d name k) s n b = doCreate s n d name k (createPlan s n b d name)
+planned (write i o xs) s n b = doWrite s n b i o xs (writePlan s n i o (length xs))
+planned (shorten i z) s n b = doShorten s n i (shortenPlan s n i z)
+planned (link d name i) s n b = doLink s n d name i (linkPlan s n b d name i)
+planned (unlink d name) s n b = doUnlink s n d (unlinkPlan s n d name)
+planned (rename d name e other) s n b = doRename s n d e other (renamePlan s n b d name e other)
+
+-- on any bytes: refusals 1 and 2 come before all others
+unfoldable pub plainDecision : Call → List ℕ → Planned
+plainDecision c s = onGuard (guardOf s) (planned c s) refused
+
+-- the out-buffer as it comes in, [] for a call that has none
+abbrev pub given : Call → List ℕ
+given (lookUp d name) = []
+given (read i o out) = out
+given (create d name k) = []
+given (write i o xs) = []
+given (shorten i z) = []
+given (link d name i) = []
+given (unlink d name) = []
+given (rename d name e other) = []
