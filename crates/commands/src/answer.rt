@@ -1,21 +1,21 @@
 // The line that answers a command.
 ghost use mathlib.Core.Path.{_≡_};
-ghost use mathlib.Core.List.{_∷_, _++_};
+ghost use mathlib.Core.List.{_++_};
 ghost use Prim.Native.Nat.{_+_, _*_, _≤_};
 ghost use lib.ListN.{length, take};
 ghost use Rattle.answers.specs.Refusal.{refusalNumber};
 ghost use Rattle.answers.specs.Told.{told};
-ghost use Rattle.commands.specs.Text.{Put, decimalText, bytesText};
-ghost use Rattle.commands.specs.Line.{okText, toldText, replyText, sumsText, isError, ending, lineText};
+ghost use Rattle.text.specs.Put.{Put, decimalText};
+ghost use Rattle.commands.specs.Line.{toldText, laidText, shownText, replyText, sumText, sumsText, isError, ending, lineText};
 use crate::Reply;
 use crate::Sums;
-use crate::bytes::front;
-use crate::text::put;
-use crate::text::put_bytes;
-use crate::text::put_decimal;
-use crate::text::put_sum;
 use answers::Answer;
 use answers::Refusal;
+use text::pieces::front;
+use text::put::put;
+use text::put::put_bytes;
+use text::put::put_decimal;
+use text::put::put_hex;
 
 pub fn refusal_number(e: Refusal) -> usize
     ensures { λ r. ⌜ r ≡ refusalNumber e ⌝ }
@@ -73,7 +73,7 @@ fn put_told(out: &mut [u8], o: usize, a: Answer) -> usize
 
 fn put_laid(out: &mut [u8], o: usize, a: Answer, d: Answer) -> usize
     requires { ⌜ o + 44 ≤ length (now out) ⌝ }
-    ensures { λ r. ⌜ Put (now (out .entry)) o ((okText ++ decimalText (told a .number)) ++ (32 ∷ decimalText (told d .number))) r (now (out .exit)) ⌝ }
+    ensures { λ r. ⌜ Put (now (out .entry)) o (laidText a d) r (now (out .exit)) ⌝ }
     ensures { λ r. ⌜ r ≤ o + 44 ⌝ }
 {
     let e = put_numbered(&mut *out, o, b"ok ", told_number(a));
@@ -82,7 +82,7 @@ fn put_laid(out: &mut [u8], o: usize, a: Answer, d: Answer) -> usize
 
 fn put_shown(out: &mut [u8], o: usize, n: usize, k: usize, page: &[u8]) -> usize
     requires { ⌜ o + 25 + 2 * length (now page) ≤ length (now out) ⌝ }
-    ensures { λ r. ⌜ Put (now (out .entry)) o ((okText ++ decimalText n) ++ (32 ∷ bytesText (take k (now (page .entry))))) r (now (out .exit)) ⌝ }
+    ensures { λ r. ⌜ Put (now (out .entry)) o (shownText n (take k (now (page .entry)))) r (now (out .exit)) ⌝ }
     ensures { λ r. ⌜ r ≤ o + 25 + 2 * length (now (page .entry)) ⌝ }
 {
     let shown = front(page, k);
@@ -105,6 +105,16 @@ fn put_reply(out: &mut [u8], o: usize, reply: Reply, page: &[u8]) -> usize
         Reply::Laid(a, d) => put_laid(out, o, a, d),
         Reply::Shown(n, k) => put_shown(out, o, n, k, page),
     }
+}
+
+// A space, and the 16 hex digits of a checksum.
+fn put_sum(out: &mut [u8], o: usize, n: u64) -> usize
+    requires { ⌜ o + 17 ≤ length (now out) ⌝ }
+    ensures { λ r. ⌜ Put (now (out .entry)) o (sumText n) r (now (out .exit)) ⌝ }
+    ensures { λ r. ⌜ r ≡ o + 17 ⌝ }
+{
+    let e = put(&mut *out, o, b" ");
+    put_hex(out, e, n, 16)
 }
 
 fn put_sums(out: &mut [u8], o: usize, sums: Sums) -> usize

@@ -1,57 +1,8 @@
-// Command lines and their answers: a line taken apart, and an answer as text. All on slices; what comes from outside may be any bytes.
+// The command lines of the vectors: what a line asks for, and the line that answers it. All on slices; what comes from outside may be any bytes.
 pub mod answer;
-pub mod bytes;
-pub mod checksum;
-pub mod fields;
-pub mod numbers;
 pub mod parse;
-pub mod text;
-pub mod words;
 
 use answers::Answer;
-
-// What a field is as a decimal number.
-pub enum Number {
-    Value(usize),
-    NoNumber,
-}
-
-// What a field is as bytes in hex: how many were written, or that it is none or that they don't fit.
-pub enum Hex {
-    Bytes(usize),
-    NotHex,
-}
-
-// Two numbers of a command, or that it lacks one.
-pub enum Pair {
-    Both(usize, usize),
-    NoPair,
-}
-
-// The commands by their first field.
-pub enum Verb {
-    New,
-    Poke,
-    Lay,
-    Check,
-    LookUp,
-    Create,
-    Read,
-    Write,
-    Shorten,
-    Link,
-    Unlink,
-    Rename,
-    Unknown,
-}
-
-// The three buffers by their words.
-pub enum Place {
-    Store,
-    Image,
-    Desk,
-    Nowhere,
-}
 
 // What a command asks for, with its numbers; a name or bytes in hex stand in a lent buffer, here is their count. `Bad` is no command.
 pub enum Command {

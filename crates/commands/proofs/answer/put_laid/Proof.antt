@@ -1,9 +1,9 @@
-use Rattle.commands.proofs.TextLaws.{put-on, put-same}
-use Rattle.commands.specs.Line.{okText}
-use Rattle.commands.specs.Text.{decimalText}
+use Rattle.text.proofs.PutLaws.{put-on, put-same}
+use Rattle.text.specs.Letters.{letters}
+use Rattle.text.specs.Put.{decimalText}
 use native.Mathlib.Omega.{arith}
 use Prim.Native.Nat.{ℕ}
-use mathlib.Core.List.{_∷_, _++_}
+use mathlib.Core.List.{_++_}
 use mathlib.Core.Path.{ap₂}
 use borrow.Author.Needs.{needs}
 use Rattle.commands.proofs.answer.put_laid.Statement.{statement}
@@ -32,7 +32,7 @@ same-length c = search needs
 
 returns : tie.Need-returns
 returns c = (
-  put-same _ _ _ _ _ _ (ap₂ (λ (x y : ℕ). (okText ++ decimalText x) ++ (32 ∷ decimalText y)) (c .before .before .before .before .before .before .before .before .before .told-number .ensures) (c .before .before .before .told-number2 .ensures))
+  put-same _ _ _ _ _ _ (ap₂ (λ (x y : ℕ). (letters "ok " ++ decimalText x) ++ (letters " " ++ decimalText y)) (c .before .before .before .before .before .before .before .before .before .told-number .ensures) (c .before .before .before .told-number2 .ensures))
       (put-on _ _ _ _ _ _ _ _ (c .before .before .before .before .before .before .before .before .put-numbered .ensures .0) (c .before .before .put-numbered2 .ensures .0)),
   omega (arith, c .before .before .before .before .before .before .before .before .put-numbered .ensures .1, c .before .before .put-numbered2 .ensures .1),
 )

@@ -1,5 +1,5 @@
 use Rattle.commands.proofs.LineLaws.{error-text, plain-text, yes-text, no-text, told-text, laid-text, shown-text}
-use Rattle.commands.proofs.TextLaws.{put-same}
+use Rattle.text.proofs.PutLaws.{put-same}
 use native.Mathlib.Omega.{arith}
 use borrow.Author.Needs.{needs}
 use Rattle.commands.proofs.answer.put_reply.Statement.{statement}

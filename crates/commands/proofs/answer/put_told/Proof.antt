@@ -1,5 +1,5 @@
 use Rattle.commands.proofs.LineLaws.{done-text, refused-text}
-use Rattle.commands.proofs.TextLaws.{put-same}
+use Rattle.text.proofs.PutLaws.{put-same}
 use native.Mathlib.Omega.{arith}
 use borrow.Author.Needs.{needs}
 use Rattle.commands.proofs.answer.put_told.Statement.{statement}
