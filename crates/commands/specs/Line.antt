@@ -4,25 +4,24 @@ use mathlib.Core.Bool.{Bool, true, false}
 use mathlib.Core.List.{List, _++_}
 use lib.ListN.{take}
 use Rattle.answers.specs.declared.Answer.{Answer}
-use Rattle.answers.specs.declared.Answer.the-variants.{Done, Refused}
+use Rattle.answers.specs.declared.Answer.the-variants as answer
 use Rattle.answers.specs.Refusal.{refusalNumber}
-use Rattle.answers.specs.Told.{told}
 use Rattle.bounded.specs.Search.{pick}
 use Rattle.io.specs.Digits.{digits}
 use Rattle.text.specs.Letters.{letters}
 use Rattle.text.specs.Put.{decimalText, bytesText}
 use Rattle.commands.specs.declared.Reply.{Reply}
-use Rattle.commands.specs.declared.Reply.the-variants.{Error, Plain, Yes, No, Told, Laid, Shown}
+use Rattle.commands.specs.declared.Reply.the-variants.{Error, Plain, Yes, No, Done, Refused, Laid, Shown}
 use Rattle.commands.specs.declared.Sums.{Sums}
 
--- `ok` and the answer's number, or `no` and the refusal's
-unfoldable pub toldText : Answer → List ℕ
-toldText (Done n) = letters "ok " ++ decimalText n
-toldText (Refused e) = letters "no " ++ decimalText (refusalNumber e)
+-- "`ok` and the answer's numbers, or `no` and the number"
+abbrev pub replyOf : Answer → Reply
+replyOf (answer.Done n) = Done n
+replyOf (answer.Refused e) = Refused (refusalNumber e)
 
 -- "`ok A D`, A and D being 0 or the refusal"
-abbrev pub laidText : Answer → Answer → List ℕ
-laidText a d = (letters "ok " ++ decimalText (told a .number)) ++ (letters " " ++ decimalText (told d .number))
+abbrev pub laidText : ℕ → ℕ → List ℕ
+laidText a d = (letters "ok " ++ decimalText a) ++ (letters " " ++ decimalText d)
 
 -- "the count, then the whole out-buffer"
 abbrev pub shownText : ℕ → List ℕ → List ℕ
@@ -34,7 +33,8 @@ replyText Error page = letters "err"
 replyText Plain page = letters "ok"
 replyText Yes page = letters "yes"
 replyText No page = letters "no"
-replyText (Told a) page = toldText a
+replyText (Done n) page = letters "ok " ++ decimalText n
+replyText (Refused n) page = letters "no " ++ decimalText n
 replyText (Laid a d) page = laidText a d
 replyText (Shown n k) page = shownText n (take k page)
 
@@ -50,7 +50,8 @@ isError Error = true
 isError Plain = false
 isError Yes = false
 isError No = false
-isError (Told a) = false
+isError (Done n) = false
+isError (Refused n) = false
 isError (Laid a d) = false
 isError (Shown n k) = false
 

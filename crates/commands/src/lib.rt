@@ -2,8 +2,6 @@
 pub mod answer;
 pub mod parse;
 
-use answers::Answer;
-
 // What a command asks for, with its numbers; a name or bytes in hex stand in a lent buffer, here is their count. `Bad` is no command.
 pub enum Command {
     New(usize, usize, usize),
@@ -26,14 +24,16 @@ pub enum Command {
     Bad,
 }
 
-// What a command answers. `Shown` is a read's count, and how many bytes of its out-buffer are shown.
+// What a command answers, in numbers. `Laid` has those of the two layout calls, `Shown` a read's count and how many bytes of its out-buffer are
+// shown.
 pub enum Reply {
     Error,
     Plain,
     Yes,
     No,
-    Told(Answer),
-    Laid(Answer, Answer),
+    Done(usize),
+    Refused(usize),
+    Laid(usize, usize),
     Shown(usize, usize),
 }
 
