@@ -16,7 +16,8 @@ use Rattle.text.specs.Hex.{hexCount, takeHex}
 use Rattle.text.specs.declared.Number.{Number}
 use Rattle.text.specs.declared.Number.the-variants.{Value, NoNumber}
 use Rattle.commands.specs.declared.Command.{Command}
-use Rattle.commands.specs.declared.Command.the-variants.{New, PokeStore, PokeImage, PokeDesk, LayStore, LayDesk, CheckStore, CheckImage, LookUp, CreateFile, CreateDirectory, Read, Write, Shorten, Link, Unlink, Rename, Bad}
+use Rattle.commands.specs.declared.Command.the-variants.{New, PokeStore, PokeImage, PokeDesk, LayStore, LayDesk, CheckStore, CheckImage, Read, File, Bad}
+use Rattle.commands.specs.declared.Call.the-variants.{LookUp, CreateFile, CreateDirectory, Write, Shorten, Link, Unlink, Rename}
 
 -- ---- The forms: `#` is a number, `*` and `+` are bytes in hex, for the first and the second of two buffers; any other field is itself
 pub record Form : Type 0 where
@@ -37,15 +38,15 @@ forms =
     ∷ form "lay desk #" (λ _ inodes _ _. LayDesk inodes)
     ∷ form "chk store" (λ _ _ _ _. CheckStore)
     ∷ form "chk image" (λ _ _ _ _. CheckImage)
-    ∷ form "lk # *" (λ dir name _ _. LookUp dir name)
-    ∷ form "mk # * f" (λ dir name _ _. CreateFile dir name)
-    ∷ form "mk # * d" (λ dir name _ _. CreateDirectory dir name)
+    ∷ form "lk # *" (λ dir name _ _. File (LookUp dir name))
+    ∷ form "mk # * f" (λ dir name _ _. File (CreateFile dir name))
+    ∷ form "mk # * d" (λ dir name _ _. File (CreateDirectory dir name))
     ∷ form "rd # # #" (λ inode offset length _. Read inode offset length)
-    ∷ form "wr # # *" (λ inode offset bytes _. Write inode offset bytes)
-    ∷ form "sh # #" (λ inode size _ _. Shorten inode size)
-    ∷ form "ln # * #" (λ dir name inode _. Link dir name inode)
-    ∷ form "rm # *" (λ dir name _ _. Unlink dir name)
-    ∷ form "mv # * # +" (λ dir name to new. Rename dir name to new)
+    ∷ form "wr # # *" (λ inode offset bytes _. File (Write inode offset bytes))
+    ∷ form "sh # #" (λ inode size _ _. File (Shorten inode size))
+    ∷ form "ln # * #" (λ dir name inode _. File (Link dir name inode))
+    ∷ form "rm # *" (λ dir name _ _. File (Unlink dir name))
+    ∷ form "mv # * # +" (λ dir name to new. File (Rename dir name to new))
     ∷ []
 
 -- the forms as one text, a form a line

@@ -2,7 +2,19 @@
 pub mod answer;
 pub mod parse;
 
-// What a command asks for, with its numbers; a name or bytes in hex stand in a lent buffer, here is their count. `Bad` is no command.
+// A file call but a read, with its numbers; a name or bytes stand in a lent buffer, here is their count.
+pub enum Call {
+    LookUp(usize, usize),
+    CreateFile(usize, usize),
+    CreateDirectory(usize, usize),
+    Write(usize, usize, usize),
+    Shorten(usize, usize),
+    Link(usize, usize, usize),
+    Unlink(usize, usize),
+    Rename(usize, usize, usize, usize),
+}
+
+// What a command asks for. `Bad` is no command.
 pub enum Command {
     New(usize, usize, usize),
     PokeStore(usize, usize),
@@ -12,15 +24,8 @@ pub enum Command {
     LayDesk(usize),
     CheckStore,
     CheckImage,
-    LookUp(usize, usize),
-    CreateFile(usize, usize),
-    CreateDirectory(usize, usize),
     Read(usize, usize, usize),
-    Write(usize, usize, usize),
-    Shorten(usize, usize),
-    Link(usize, usize, usize),
-    Unlink(usize, usize),
-    Rename(usize, usize, usize, usize),
+    File(Call),
     Bad,
 }
 

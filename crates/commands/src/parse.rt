@@ -4,6 +4,7 @@ ghost use Prim.Native.Nat.{_≤_};
 ghost use lib.ListN.{length};
 ghost use Rattle.text.specs.Pieces.{piece};
 ghost use Rattle.commands.specs.Command.{isArrow, commandIn, fieldValue, valueAt, worth, fits, formOf, bytesAt, asked, askedBy, parsed, parsedBy, parseCommand};
+use crate::Call;
 use crate::Command;
 use bounded::Found;
 use text::Number;
@@ -125,15 +126,15 @@ fn asked(j: usize, a: usize, b: usize, c: usize, d: usize) -> Command
         5 => Command::LayDesk(b),
         6 => Command::CheckStore,
         7 => Command::CheckImage,
-        8 => Command::LookUp(a, b),
-        9 => Command::CreateFile(a, b),
-        10 => Command::CreateDirectory(a, b),
+        8 => Command::File(Call::LookUp(a, b)),
+        9 => Command::File(Call::CreateFile(a, b)),
+        10 => Command::File(Call::CreateDirectory(a, b)),
         11 => Command::Read(a, b, c),
-        12 => Command::Write(a, b, c),
-        13 => Command::Shorten(a, b),
-        14 => Command::Link(a, b, c),
-        15 => Command::Unlink(a, b),
-        16 => Command::Rename(a, b, c, d),
+        12 => Command::File(Call::Write(a, b, c)),
+        13 => Command::File(Call::Shorten(a, b)),
+        14 => Command::File(Call::Link(a, b, c)),
+        15 => Command::File(Call::Unlink(a, b)),
+        16 => Command::File(Call::Rename(a, b, c, d)),
         _ => Command::Bad,
     }
 }

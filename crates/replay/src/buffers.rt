@@ -1,7 +1,9 @@
 // The commands on whole buffers.
 ghost use Rattle.replay.specs.Fit.{Fit};
-use answers::Answer;
 use commands::Reply;
+use commands::answer::reply;
+use commands::answer::told_number;
+use sound::Form;
 
 // How many bytes of the program's arrays are store, image and desk.
 pub struct Lengths {
@@ -19,18 +21,6 @@ pub struct Step {
 // No count beyond this one has a buffer here, and none up to it is a length that overflows.
 const MOST: usize = 65536;
 
-fn fresh_store(store: &mut [u8], n: usize, b: usize) -> Answer {
-    let k = store.len();
-    octets::zero_range(&mut *store, 0, k);
-    format::lay_out_store(store, n, b)
-}
-
-fn fresh_desk(desk: &mut [u8], n: usize) -> Answer {
-    let k = desk.len();
-    octets::zero_range(&mut *desk, 0, k);
-    format::lay_out_desk(desk, n)
-}
-
 // Zeroed buffers, and the two layout calls.
 fn fresh(
     store: &mut [u8],
@@ -43,11 +33,12 @@ fn fresh(
     requires { ⌜ Fit lengths (now store) (now image) (now desk) ⌝ }
 {
     let s = lengths.store;
-    let i = lengths.image;
     let d = lengths.desk;
-    let laid = fresh_store(&mut store[0..s], n, b);
-    octets::zero_range(&mut *image, 0, i);
-    Reply::Laid(laid, fresh_desk(&mut desk[0..d], n))
+    octets::zero_range(&mut *store, 0, s);
+    octets::zero_range(image, 0, lengths.image);
+    octets::zero_range(&mut *desk, 0, d);
+    let laid = told_number(format::lay_out_store(&mut store[0..s], n, b));
+    Reply::Laid(laid, told_number(format::lay_out_desk(&mut desk[0..d], n)))
 }
 
 // Buffers for n inodes, b blocks and i blocks in the image; where they don't fit, the old ones stay.
@@ -84,6 +75,14 @@ pub fn renewed(
     Step { reply, lengths }
 }
 
+pub fn lay_store(store: &mut [u8], n: usize, b: usize) -> Reply {
+    reply(format::lay_out_store(store, n, b))
+}
+
+pub fn lay_desk(desk: &mut [u8], n: usize) -> Reply {
+    reply(format::lay_out_desk(desk, n))
+}
+
 pub fn poke(buffer: &mut [u8], offset: usize, byte: usize) -> Reply {
     if buffer.len() <= offset {
         return Reply::Error;
@@ -95,6 +94,10 @@ pub fn poke(buffer: &mut [u8], offset: usize, byte: usize) -> Reply {
     Reply::Plain
 }
 
-pub fn verdict(sound: bool) -> Reply {
-    if sound { Reply::Yes } else { Reply::No }
+pub fn check(form: Form, bytes: &[u8]) -> Reply {
+    if sound::check::check(form, bytes) {
+        Reply::Yes
+    } else {
+        Reply::No
+    }
 }
