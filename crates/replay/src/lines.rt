@@ -15,6 +15,7 @@ use commands::parse::command;
 use commands::parse::parse;
 use libc::STDOUT_FILENO;
 use sound::Form;
+use text::pieces::front;
 
 // What an out-buffer holds before a read.
 const FILLER: u8 = 170;
@@ -104,7 +105,7 @@ fn sums(store: &[u8], image: &[u8], desk: &[u8], lengths: Lengths) -> Sums
 fn print(reply: Reply, page: &[u8; 4096], sums: Sums) {
     let mut out = [0u8; 8290];
     let n = put_line(&mut out, 0, reply, page, sums);
-    io::write_all(STDOUT_FILENO, &out[..n]);
+    io::write_all(STDOUT_FILENO, front(&out, n));
 }
 
 fn answer(

@@ -1,47 +1,38 @@
+use Rattle.replay.specs.Fit.{Within}
+use borrow.Author.Needs.{needs}
+use native.Mathlib.Omega.{arith}
 use Rattle.replay.proofs.input.next_line.Statement.{statement}
 use Rattle.replay.proofs.input.next_line.Tie as tie
-use Rattle.replay.proofs.input.next_line.Reads as reads
-use Rattle.replay.proofs.input.next_line.Lts as lts
-use Rattle.replay.proofs.input.Input.begun.Reads as begun-reads
-use Rattle.replay.proofs.input.advance.Reads as advance-reads
 
 abbrev Inv-loop : tie.InvT-loop
-Inv-loop piece₀ line₀ s₀ turns₀ piece line s turns = ?
+Inv-loop piece₀ line₀ s₀ turns₀ piece line s turns = Within s
 
 abbrev μ-loop : tie.MeasureT-loop
-μ-loop piece₀ line₀ s₀ turns₀ piece line s turns = ?
+μ-loop piece₀ line₀ s₀ turns₀ piece line s turns = turns
 
--- src/input.rt:102:9
 begun-requires : tie.Need-begun-requires Inv-loop μ-loop
-begun-requires c κs = ?
+begun-requires c κs = search needs
 
--- src/input.rt:104:5
 loop-holds : tie.Need-loop-holds Inv-loop μ-loop
-loop-holds c = ?
+loop-holds c = search needs
 
--- src/input.rt:105:9
 advance-requires : tie.Need-advance-requires Inv-loop μ-loop
-advance-requires c κs = ?
+advance-requires c κs = search needs
 
--- src/input.rt:106:9
 sub-turns : tie.Need-sub-turns Inv-loop μ-loop
-sub-turns c = ?
+sub-turns c = omega arith
 
--- src/input.rt:104:5
 loop-less : tie.Need-loop-less Inv-loop μ-loop
-loop-less c = ?
+loop-less c = omega arith
 
--- src/input.rt:104:5
 loop-again : tie.Need-loop-again Inv-loop μ-loop
-loop-again c = ?
+loop-again c = search needs
 
--- src/input.rt:98:1
 returns : tie.Need-returns Inv-loop μ-loop
-returns c = ?
+returns c = search needs
 
--- src/input.rt:98:1
 returns-2 : tie.Need-returns-2 Inv-loop μ-loop
-returns-2 c = ?
+returns-2 c = search needs
 
 pub next-line-spec : {M : Type 1} → statement M
 next-line-spec =
