@@ -41,6 +41,14 @@ impl Input {
         self
     }
 
+    // How much of the line is looked at: nothing of one that there was no room for.
+    pub fn taken(self) -> usize
+        requires { ⌜ Within self ⌝ }
+        ensures { λ r. ⌜ r ≤ 65536 ⌝ }
+    {
+        if self.long { 0 } else { self.used }
+    }
+
     // n bytes were read; none at the end of the input.
     fn read(mut self, n: usize) -> Input
         requires { ⌜ Within self × (n ≤ 65536) ⌝ }

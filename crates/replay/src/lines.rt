@@ -14,7 +14,6 @@ use commands::answer::put_line;
 use commands::parse::command;
 use commands::parse::parse;
 use libc::STDOUT_FILENO;
-use sound::Form;
 use text::pieces::front;
 
 // What an out-buffer holds before a read.
@@ -31,16 +30,9 @@ fn dispatch(
     other: &[u8],
 ) -> Reply {
     match command {
-        Command::PokeStore(o, x) => buffers::poke(store, o, x),
-        Command::PokeImage(o, x) => buffers::poke(image, o, x),
-        Command::PokeDesk(o, x) => buffers::poke(desk, o, x),
-        Command::LayStore(n, b) => buffers::lay_store(store, n, b),
-        Command::LayDesk(n) => buffers::lay_desk(desk, n),
-        Command::CheckStore => buffers::check(Form::Store, store),
-        Command::CheckImage => buffers::check(Form::Image, image),
         Command::Read(i, o, k) => calls::read(store, i, o, k, page),
         Command::File(c) => calls::call(c, store, name, other),
-        Command::New(_, _, _) | Command::Bad => Reply::Error,
+        _ => buffers::run(command, store, image, desk),
     }
 }
 
@@ -60,18 +52,7 @@ fn step(
     let mut other = [0u8; 32768];
     let command = parse(cmd, &mut name, &mut other);
     if let Command::New(n, b, i) = command {
-        return buffers::renewed(
-            store,
-            image,
-            desk,
-            n,
-            b,
-            i,
-            Step {
-                reply: Reply::Error,
-                lengths,
-            },
-        );
+        return buffers::renewed(store, image, desk, n, b, i, lengths);
     }
     let s = lengths.store;
     let i = lengths.image;
@@ -150,10 +131,8 @@ fn end_line(
         return lengths;
     }
     let whole = &line[..];
-    if input.long {
-        return answer(&whole[0..0], store, image, desk, lengths);
-    }
-    answer(&whole[0..used], store, image, desk, lengths)
+    let end = input.taken();
+    answer(&whole[0..end], store, image, desk, lengths)
 }
 
 // The whole input; its lines are counted down from a number that no run uses up.
