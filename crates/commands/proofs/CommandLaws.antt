@@ -1,67 +1,136 @@
--- Laws of a line's command: a call's answer is the definition's as soon as its arguments are.
-use Prim.Native.Nat.{ℕ}
-use mathlib.Core.Path.{_≡_, refl, ap, sym, _∙_}
-use mathlib.Core.Bool.{Bool}
-use mathlib.Core.List.{List}
-use Rattle.commands.specs.Fields.{field}
-use Rattle.commands.specs.Hex.{Taken, taken, takeHex}
-use Rattle.commands.specs.Words.{isWord, verbOf, placeOf}
-use Rattle.commands.specs.Number.{numberOf}
-use Rattle.commands.specs.Command.{Parsed, parsed, both, counted, numberAndBytes, only, createOf, writeOf, linkOf, renameOf, layIn, layCommand, byVerb, parseCommand}
-use Rattle.commands.specs.declared.Hex.{Hex}
-use Rattle.commands.specs.declared.Number.{Number}
-use Rattle.commands.specs.declared.Pair.{Pair}
-use Rattle.commands.specs.declared.Place.{Place}
-use Rattle.commands.specs.declared.Verb.{Verb}
+-- Laws of what a command line asks for: what the code's turns and branches find is the definition's.
+use Prim.Native.Nat.{ℕ, zero, suc, _-_, _≤_}
+use mathlib.Core.Path.{_≡_, refl, sym, ap, _∙_}
+use mathlib.Core.Bool.{Bool, true, false}
+use mathlib.Core.List.{List, [], _∷_}
+use native.Mathlib.Omega.{arith}
+use lib.ListN.{length, take, drop, length-drop}
+use lib.Seq.{take-all}
+use Rattle.bounded.specs.Search.{first, firstFrom}
+use Rattle.bounded.specs.declared.Found.{Found}
+use Rattle.bounded.specs.declared.Found.the-variants.{At, Absent}
+use Rattle.bounded.proofs.SearchLaws.{first-begin}
+use Rattle.octets.specs.Octets.{part}
+use Rattle.text.specs.Letters.{letters}
+use Rattle.text.specs.Number.{numberOf, onNumber}
+use Rattle.text.specs.Hex.{hexCount, takeHex}
+use Rattle.text.specs.Pieces.{placeFrom, piece, pieces, isWord}
+use Rattle.text.specs.declared.Number.{Number}
+use Rattle.text.specs.declared.Number.the-variants.{Value, NoNumber}
+use Rattle.text.proofs.PieceLaws.{front-all, front-part}
+use Rattle.commands.specs.Command.{isArrow, commandIn, Form, forms, askedIn, asked, fieldValue, valueAt, worth, hasValue, fits, bytesAt, parsed, formOf, askedBy, parsedBy}
 use Rattle.commands.specs.declared.Command.{Command}
+use Rattle.commands.specs.declared.Command.the-variants.{Bad}
 
-pub taken-answer : (h : Hex) (b : List ℕ) (t : Taken) → taken h b ≡ t → h ≡ t .answer
-taken-answer h b t e = ap (λ (x : Taken). x .answer) e
+-- ---- the command of a line
+-- what stands from k on, four bytes of it
+pub arrow-at : (s w : List ℕ) (k n : ℕ) (r : Bool) → n ≡ length s → w ≡ take 4 (take (n - k) (drop k s)) → r ≡ isWord w (letters " => ") → r ≡ isArrow s k
+unfolding isArrow part
+arrow-at s w k n r e h q = q ∙ ap (λ (l : List ℕ). isWord l (letters " => ")) (h ∙ ap (take 4) (take-all (n - k) (drop k s) (omega (arith, length-drop k s))))
 
-pub taken-buffer : (h : Hex) (b : List ℕ) (t : Taken) → taken h b ≡ t → b ≡ t .buffer
-taken-buffer h b t e = ap (λ (x : Taken). x .buffer) e
+module _ (s : List ℕ) where
+  pub command-part : (k : ℕ) → placeFrom (isArrow s) 0 (length s) ≡ k → take (k - 0) s ≡ commandIn s
+  unfolding commandIn
+  command-part k e = front-part s k ∙ ap (λ (m : ℕ). take m s) (sym e)
 
--- ---- fields as numbers
-pub number-with-bytes : (a h b b₂ : List ℕ) (n : Number) (x : Hex) (r : Pair) → taken x b₂ ≡ takeHex h b → n ≡ numberOf a → r ≡ counted n x → (r ≡ numberAndBytes a h b) × (b₂ ≡ takeHex h b .buffer)
-number-with-bytes a h b b₂ n x r t e k = (k ∙ rw (e, taken-answer x b₂ (takeHex h b) t) refl, taken-buffer x b₂ (takeHex h b) t)
+  pub command-all : placeFrom (isArrow s) 0 (length s) ≡ length s → s ≡ commandIn s
+  unfolding commandIn
+  command-all e = front-all s (placeFrom (isArrow s) 0 (length s)) (omega arith)
 
-pub bytes-at : (a a₂ h h₂ b : List ℕ) (p : Pair) → p ≡ numberAndBytes a h b → a ≡ a₂ → h ≡ h₂ → p ≡ numberAndBytes a₂ h₂ b
-bytes-at a a₂ h h₂ b p k e f = k ∙ rw (e, f) refl
+-- ---- what a field is worth
+module _ (p s : List ℕ) (a b : ℕ) (r : Number) where
+  pub value-number : isWord p (letters "#") ≡ true → r ≡ numberOf s → r ≡ fieldValue p s a b
+  unfolding fieldValue
+  value-number h e = rw h e
 
-pub buffer-at : (h h₂ b b₂ : List ℕ) → b₂ ≡ takeHex h b .buffer → h ≡ h₂ → b₂ ≡ takeHex h₂ b .buffer
-buffer-at h h₂ b b₂ k e = k ∙ ap (λ (x : List ℕ). takeHex x b .buffer) e
+  pub value-name : isWord p (letters "#") ≡ false → isWord p (letters "*") ≡ true → r ≡ hexCount s a → r ≡ fieldValue p s a b
+  unfolding fieldValue
+  value-name g h e = rw (g, h) e
 
-pub number-at : (f g : List ℕ) (n : Number) → n ≡ numberOf f → f ≡ g → n ≡ numberOf g
-number-at f g n k e = k ∙ ap numberOf e
+  pub value-other : isWord p (letters "#") ≡ false → isWord p (letters "*") ≡ false → isWord p (letters "+") ≡ true → r ≡ hexCount s b → r ≡ fieldValue p s a b
+  unfolding fieldValue
+  value-other f g h e = rw (f, g, h) e
 
-pub both-are : (n n₂ m m₂ : Number) (p : Pair) → p ≡ both n m → n ≡ n₂ → m ≡ m₂ → p ≡ both n₂ m₂
-both-are n n₂ m m₂ p k e f = k ∙ rw (e, f) refl
+module _ (p s : List ℕ) (a b : ℕ) (f : isWord p (letters "#") ≡ false) (g : isWord p (letters "*") ≡ false) (h : isWord p (letters "+") ≡ false) where
+  pub value-word : isWord s p ≡ true → Value 0 ≡ fieldValue p s a b
+  unfolding fieldValue
+  value-word e = rw (f, g, h, e) refl
 
--- ---- commands
-pub only-is : (f g : Bool) (k l r : Command) → r ≡ only f k → f ≡ g → k ≡ l → r ≡ only g l
-only-is f g k l r x e u = x ∙ rw (e, u) refl
+  pub value-none : isWord s p ≡ false → NoNumber ≡ fieldValue p s a b
+  unfolding fieldValue
+  value-none e = rw (f, g, h, e) refl
 
-pub create-is : (p q : Pair) (f g d e : Bool) (r : Command) → r ≡ createOf p f d → p ≡ q → f ≡ g → d ≡ e → r ≡ createOf q g e
-create-is p q f g d e r x u v w = x ∙ rw (u, v, w) refl
+pub value-at : (form cmd p s : List ℕ) (a b k : ℕ) (r : Number) → p ≡ piece form 32 k → s ≡ piece cmd 32 k → r ≡ fieldValue p s a b → r ≡ valueAt form cmd a b k
+unfolding valueAt
+value-at form cmd p s a b k r e f h = h ∙ rw (e, f) refl
 
-pub write-is : (n m : Number) (p q : Pair) (r : Command) → r ≡ writeOf n p → n ≡ m → p ≡ q → r ≡ writeOf m q
-write-is n m p q r x u v = x ∙ rw (u, v) refl
+module _ (form cmd : List ℕ) (a b k : ℕ) (r : Number) (e : r ≡ valueAt form cmd a b k) where
+  pub worth-value : (n : ℕ) → r ≡ Value n → n ≡ worth form cmd a b k
+  unfolding worth
+  worth-value n h = rw (← e, h) refl
 
-pub link-is : (p q : Pair) (n m : Number) (r : Command) → r ≡ linkOf p n → p ≡ q → n ≡ m → r ≡ linkOf q m
-link-is p q n m r x u v = x ∙ rw (u, v) refl
+  pub worth-none : r ≡ NoNumber → 0 ≡ worth form cmd a b k
+  unfolding worth
+  worth-none h = rw (← e, h) refl
 
-pub rename-is : (p p₂ q q₂ : Pair) (r : Command) → r ≡ renameOf p q → p ≡ p₂ → q ≡ q₂ → r ≡ renameOf p₂ q₂
-rename-is p p₂ q q₂ r x u v = x ∙ rw (u, v) refl
+  pub has-value : (n : ℕ) → r ≡ Value n → hasValue (valueAt form cmd a b k) ≡ true
+  has-value n h = rw (← e, h) refl
 
-pub word-at : (s t w : List ℕ) (r : Bool) → r ≡ isWord s w → s ≡ t → r ≡ isWord t w
-word-at s t w r k e = k ∙ ap (λ (x : List ℕ). isWord x w) e
+  pub has-none : r ≡ NoNumber → hasValue (valueAt form cmd a b k) ≡ false
+  has-none h = rw (← e, h) refl
 
--- f is field 1, v the place that it names
-pub lay-by : (cmd f : List ℕ) (v w : Place) (r : Command) → f ≡ field cmd 1 → v ≡ placeOf f → v ≡ w → r ≡ layIn w cmd → r ≡ layCommand cmd
-lay-by cmd f v w r p q e k = let z : w ≡ placeOf (field cmd 1) = sym e ∙ (q ∙ ap placeOf p) in k ∙ ap (λ (x : Place). layIn x cmd) z
+-- ---- the form that a command fits, and the field that is to be p
+pub search-begin : (f : ℕ → Bool) (n m : ℕ) → m ≡ n → first f n ≡ firstFrom f 0 (m - 0)
+search-begin f n m e = first-begin f n ∙ ap (λ (i : ℕ). firstFrom f 0 (i - 0)) (sym e)
 
--- f is field 0, v what it says, and that is w
-pub parsed-by : (cmd b o f : List ℕ) (v w : Verb) (r r₂ : Command) (b₂ o₂ b₃ o₃ : List ℕ)
-    → f ≡ field cmd 0 → v ≡ verbOf f → v ≡ w → byVerb w cmd b o ≡ parsed r₂ b₃ o₃ → r ≡ r₂ → b₂ ≡ b₃ → o₂ ≡ o₃ → parsed r b₂ o₂ ≡ parseCommand cmd b o
-unfolding parseCommand
-parsed-by cmd b o f v w r r₂ b₂ o₂ b₃ o₃ p q e k x y z = rw (x, y, z, sym p, sym q, e) (sym k)
+pub fits-line : (lines cmd l : List ℕ) (a b j : ℕ) (r v : Bool) → l ≡ piece lines 10 j → r ≡ fits l cmd a b → r ≡ v → fits (piece lines 10 j) cmd a b ≡ v
+fits-line lines cmd l a b j r v e h t = rw (← e) (sym h ∙ t)
+
+pub word-field : (form p l : List ℕ) (k : ℕ) (r v : Bool) → l ≡ piece form 32 k → r ≡ isWord l p → r ≡ v → isWord (piece form 32 k) p ≡ v
+word-field form p l k r v e h t = rw (← e) (sym h ∙ t)
+
+module _ (form p cmd : List ℕ) where
+  pub bytes-found : (k : ℕ) → first (λ j. isWord (piece form 32 j) p) (pieces form 32) ≡ At k → piece cmd 32 k ≡ bytesAt form p cmd
+  unfolding bytesAt
+  bytes-found k e = rw e refl
+
+  pub bytes-none : first (λ j. isWord (piece form 32 j) p) (pieces form 32) ≡ Absent → [] ≡ bytesAt form p cmd
+  unfolding bytesAt
+  bytes-none e = rw e refl
+
+-- ---- what a form asks for
+pub asked-is : (i j a b c d : ℕ) → j ≡ i → asked i a b c d ≡ asked j a b c d
+asked-is i j a b c d e = ap (λ (x : ℕ). asked x a b c d) (sym e)
+
+past : (fs : List Form) (j a b c d : ℕ) → length fs ≤ j → Bad ≡ askedIn fs j a b c d
+past [] j a b c d l = refl
+past (f ∷ fs) zero a b c d l = absurd (omega arith)
+past (f ∷ fs) (suc j) a b c d l = past fs j a b c d (omega arith)
+
+-- j is none of the numbers below k, as a `match` leaves it
+abbrev pub NoneBelow : ℕ → ℕ → Type 0
+NoneBelow zero j = Unit
+NoneBelow (suc k) j = NoneBelow k j × (j ≡ k → ⊥)
+
+above : (k j : ℕ) → NoneBelow k j → k ≤ j
+above zero j h = omega arith
+above (suc k) j h = let l = above k j (h .0) in let n = h .1 in omega arith
+
+pub asked-no : (j a b c d : ℕ) → NoneBelow 17 j → Bad ≡ asked j a b c d
+unfolding asked forms
+asked-no j a b c d h = past forms j a b c d (above 17 j h)
+
+pub asked-all : (j : ℕ) (form cmd : List ℕ) (a b x y z w : ℕ) (r : Command) → x ≡ worth form cmd a b 1 → y ≡ worth form cmd a b 2 → z ≡ worth form cmd a b 3 → w ≡ worth form cmd a b 4 → r ≡ asked j x y z w → r ≡ askedBy j form cmd a b
+unfolding askedBy
+asked-all j form cmd a b x y z w r e f g h k = k ∙ rw (e, f, g, h) refl
+
+-- ---- what a line leaves
+module _ (lines cmd b o : List ℕ) (t : Found) (e : t ≡ formOf lines cmd (length b) (length o)) where
+  pub parsed-none : t ≡ Absent → parsed Bad b o ≡ parsedBy lines cmd b o
+  unfolding parsedBy
+  parsed-none h = rw (← e, h) refl
+
+  pub parsed-at : (j : ℕ) (form f g b₂ o₂ : List ℕ) (r : Command) → t ≡ At j → form ≡ piece lines 10 j → f ≡ bytesAt form (letters "*") cmd → b₂ ≡ takeHex f b
+      → g ≡ bytesAt form (letters "+") cmd → o₂ ≡ takeHex g o → r ≡ askedBy j form cmd (length b) (length o) → parsed r b₂ o₂ ≡ parsedBy lines cmd b o
+  unfolding parsedBy
+  parsed-at j form f g b₂ o₂ r h p q x u v y = rw (← e, h, ← p, x, q, v, u, y) refl

@@ -1,190 +1,125 @@
--- The commands: which field means what. Field 0 is the verb; a command has no field beyond those named here.
-use Prim.Native.Nat.{ℕ}
-use mathlib.Core.Bool.{Bool, true, false}
-use mathlib.Core.List.{List, [], _∷_}
-use Rattle.bounded.specs.Search.{pick}
-use Rattle.commands.specs.Fields.{field, noMore}
-use Rattle.commands.specs.Number.{numberOf}
-use Rattle.commands.specs.Hex.{takeHex}
-use Rattle.commands.specs.Words.{isWord, verbOf, placeOf}
-use Rattle.commands.specs.declared.Number.{Number}
-use Rattle.commands.specs.declared.Number.the-variants.{Value, NoNumber}
-use Rattle.commands.specs.declared.Hex.{Hex}
-use Rattle.commands.specs.declared.Hex.the-variants.{Bytes, NotHex}
-use Rattle.commands.specs.declared.Place.{Place}
-use Rattle.commands.specs.declared.Place.the-variants.{Store, Image, Desk, Nowhere}
-use Rattle.commands.specs.declared.Verb.{Verb}
-use Rattle.commands.specs.declared.Verb.the-variants as verb
-use Rattle.commands.specs.declared.Pair.{Pair}
-use Rattle.commands.specs.declared.Pair.the-variants.{Both, NoPair}
+-- What a command line asks for. The command stands before ` => `, or is all of the line, and its fields are parted by single spaces.
+use Prim.Native.Nat.{ℕ, zero, suc}
+use Prim.Native.String.{String}
+use mathlib.Core.Bool.{Bool, true, false, _&&_}
+use mathlib.Core.List.{List, [], _∷_, _++_}
+use lib.Dec.{eqb}
+use lib.ListN.{length, take}
+use Rattle.bounded.specs.Below.{allBelow}
+use Rattle.bounded.specs.Search.{pick, first, onFound}
+use Rattle.bounded.specs.declared.Found.{Found}
+use Rattle.octets.specs.Octets.{part}
+use Rattle.text.specs.Letters.{letters}
+use Rattle.text.specs.Pieces.{placeFrom, piece, pieces, isWord}
+use Rattle.text.specs.Number.{numberOf, onNumber}
+use Rattle.text.specs.Hex.{hexCount, takeHex}
+use Rattle.text.specs.declared.Number.{Number}
+use Rattle.text.specs.declared.Number.the-variants.{Value, NoNumber}
 use Rattle.commands.specs.declared.Command.{Command}
-use Rattle.commands.specs.declared.Command.the-variants.{New, PokeStore, PokeImage, PokeDesk, LayStore, LayDesk, CheckStore, CheckImage, LookUp, CreateFile, CreateDirectory, Read, Write, Shorten, Link, Unlink, Rename, Bad}
+use Rattle.commands.specs.declared.Command.the-variants.{New, PokeStore, PokeImage, PokeDesk, LayStore, LayDesk, CheckStore, CheckImage, Read, File, Bad}
+use Rattle.commands.specs.declared.Call.the-variants.{LookUp, CreateFile, CreateDirectory, Write, Shorten, Link, Unlink, Rename}
 
--- ---- Fields as numbers
-abbrev pub both : Number → Number → Pair
-both (Value a) (Value b) = Both a b
-both (Value a) NoNumber = NoPair
-both NoNumber b = NoPair
+-- ---- The forms: `#` is a number, `*` and `+` are bytes in hex, for the first and the second of two buffers; any other field is itself
+pub record Form : Type 0 where
+  pub text : String
+  -- by what fields 1 to 4 are worth: a number itself, bytes their count
+  pub asks : ℕ → ℕ → ℕ → ℕ → Command
 
-abbrev pub counted : Number → Hex → Pair
-counted (Value a) (Bytes n) = Both a n
-counted (Value a) NotHex = NoPair
-counted NoNumber h = NoPair
+abbrev form : String → (ℕ → ℕ → ℕ → ℕ → Command) → Form
+form t f = record { text = t; asks = f }
 
--- fields k and j as numbers
-abbrev pub numbersAt : List ℕ → ℕ → ℕ → Pair
-numbersAt cmd k j = both (numberOf (field cmd k)) (numberOf (field cmd j))
+unfoldable pub forms : List Form
+forms =
+    form "new # # #" (λ inodes blocks image _. New inodes blocks image)
+    ∷ form "poke store # #" (λ _ offset byte _. PokeStore offset byte)
+    ∷ form "poke image # #" (λ _ offset byte _. PokeImage offset byte)
+    ∷ form "poke desk # #" (λ _ offset byte _. PokeDesk offset byte)
+    ∷ form "lay store # #" (λ _ inodes blocks _. LayStore inodes blocks)
+    ∷ form "lay desk #" (λ _ inodes _ _. LayDesk inodes)
+    ∷ form "chk store" (λ _ _ _ _. CheckStore)
+    ∷ form "chk image" (λ _ _ _ _. CheckImage)
+    ∷ form "lk # *" (λ dir name _ _. File (LookUp dir name))
+    ∷ form "mk # * f" (λ dir name _ _. File (CreateFile dir name))
+    ∷ form "mk # * d" (λ dir name _ _. File (CreateDirectory dir name))
+    ∷ form "rd # # #" (λ inode offset length _. Read inode offset length)
+    ∷ form "wr # # *" (λ inode offset bytes _. File (Write inode offset bytes))
+    ∷ form "sh # #" (λ inode size _ _. File (Shorten inode size))
+    ∷ form "ln # * #" (λ dir name inode _. File (Link dir name inode))
+    ∷ form "rm # *" (λ dir name _ _. File (Unlink dir name))
+    ∷ form "mv # * # +" (λ dir name to new. File (Rename dir name to new))
+    ∷ []
 
--- the number a, and the count of the bytes that h is in hex; b is the buffer for them
-abbrev pub numberAndBytes : List ℕ → List ℕ → List ℕ → Pair
-numberAndBytes a h b = counted (numberOf a) (takeHex h b .answer)
+-- the forms as one text, a form a line
+abbrev pub linesOf : List Form → List ℕ
+linesOf [] = []
+linesOf (f ∷ []) = letters (f .text)
+linesOf (f ∷ (g ∷ fs)) = letters (f .text) ++ (10 ∷ linesOf (g ∷ fs))
 
--- ---- Commands of numbers that are there
-abbrev pub only : Bool → Command → Command
-only fits c = pick fits c Bad
+abbrev pub askedIn : List Form → ℕ → ℕ → ℕ → ℕ → ℕ → Command
+askedIn [] j a b c d = Bad
+askedIn (f ∷ fs) zero a b c d = f .asks a b c d
+askedIn (f ∷ fs) (suc j) a b c d = askedIn fs j a b c d
 
-abbrev pub newOf : Pair → Number → Command
-newOf (Both n b) (Value i) = New n b i
-newOf (Both n b) NoNumber = Bad
-newOf NoPair c = Bad
+-- what form j asks for
+unfoldable pub asked : ℕ → ℕ → ℕ → ℕ → ℕ → Command
+asked j a b c d = askedIn forms j a b c d
 
-abbrev pub pokeOf : Place → Pair → Command
-pokeOf Store (Both o x) = PokeStore o x
-pokeOf Image (Both o x) = PokeImage o x
-pokeOf Desk (Both o x) = PokeDesk o x
-pokeOf Nowhere (Both o x) = Bad
-pokeOf p NoPair = Bad
+-- ---- A line and a form
+unfoldable pub isArrow : List ℕ → ℕ → Bool
+isArrow s k = isWord (part s k 4) (letters " => ")
 
-abbrev pub layStoreOf : Pair → Command
-layStoreOf (Both n b) = LayStore n b
-layStoreOf NoPair = Bad
+unfoldable pub commandIn : List ℕ → List ℕ
+commandIn s = take (placeFrom (isArrow s) 0 (length s)) s
 
-abbrev pub layDeskOf : Number → Command
-layDeskOf (Value n) = LayDesk n
-layDeskOf NoNumber = Bad
+-- what the field s is worth if it is to be p: its number, the count of its bytes, or 0 for a word; a and b are the rooms for bytes
+unfoldable pub fieldValue : List ℕ → List ℕ → ℕ → ℕ → Number
+fieldValue p s a b =
+    pick (isWord p (letters "#")) (numberOf s)
+    (pick (isWord p (letters "*")) (hexCount s a)
+    (pick (isWord p (letters "+")) (hexCount s b) (pick (isWord s p) (Value 0) NoNumber)))
 
-abbrev pub checkOf : Place → Command
-checkOf Store = CheckStore
-checkOf Image = CheckImage
-checkOf Desk = Bad
-checkOf Nowhere = Bad
+unfoldable pub valueAt : List ℕ → List ℕ → ℕ → ℕ → ℕ → Number
+valueAt form cmd a b k = fieldValue (piece form 32 k) (piece cmd 32 k) a b
 
-abbrev pub lookUpOf : Pair → Command
-lookUpOf (Both d n) = LookUp d n
-lookUpOf NoPair = Bad
+unfoldable pub worth : List ℕ → List ℕ → ℕ → ℕ → ℕ → ℕ
+worth form cmd a b k = onNumber (valueAt form cmd a b k) (λ n. n) 0
 
-abbrev pub createOf : Pair → Bool → Bool → Command
-createOf (Both d n) file directory = pick file (CreateFile d n) (pick directory (CreateDirectory d n) Bad)
-createOf NoPair file directory = Bad
+abbrev pub hasValue : Number → Bool
+hasValue (Value n) = true
+hasValue NoNumber = false
 
-abbrev pub readOf : Pair → Number → Command
-readOf (Both i o) (Value k) = Read i o k
-readOf (Both i o) NoNumber = Bad
-readOf NoPair c = Bad
+-- as many fields, each worth something
+unfoldable pub fits : List ℕ → List ℕ → ℕ → ℕ → Bool
+fits form cmd a b = eqb (pieces cmd 32) (pieces form 32) && allBelow (λ k. hasValue (valueAt form cmd a b k)) (pieces form 32)
 
-abbrev pub writeOf : Number → Pair → Command
-writeOf (Value i) (Both o n) = Write i o n
-writeOf (Value i) NoPair = Bad
-writeOf NoNumber p = Bad
+-- the command's field that is to be p
+unfoldable pub bytesAt : List ℕ → List ℕ → List ℕ → List ℕ
+bytesAt form p cmd = onFound (first (λ k. isWord (piece form 32 k) p) (pieces form 32)) (piece cmd 32) []
 
-abbrev pub shortenOf : Pair → Command
-shortenOf (Both i k) = Shorten i k
-shortenOf NoPair = Bad
-
-abbrev pub linkOf : Pair → Number → Command
-linkOf (Both d n) (Value i) = Link d n i
-linkOf (Both d n) NoNumber = Bad
-linkOf NoPair c = Bad
-
-abbrev pub unlinkOf : Pair → Command
-unlinkOf (Both d n) = Unlink d n
-unlinkOf NoPair = Bad
-
-abbrev pub renameOf : Pair → Pair → Command
-renameOf (Both d n) (Both t m) = Rename d n t m
-renameOf (Both d n) NoPair = Bad
-renameOf NoPair q = Bad
-
--- ---- Each command's fields
--- `new INODES BLOCKS IMAGE_BLOCKS`
-abbrev pub newCommand : List ℕ → Command
-newCommand cmd = only (noMore cmd 4) (newOf (numbersAt cmd 1 2) (numberOf (field cmd 3)))
-
--- `poke PLACE OFFSET BYTE`
-abbrev pub pokeCommand : List ℕ → Command
-pokeCommand cmd = only (noMore cmd 4) (pokeOf (placeOf (field cmd 1)) (numbersAt cmd 2 3))
-
--- `lay store INODES BLOCKS`, `lay desk INODES`
-abbrev pub layIn : Place → List ℕ → Command
-layIn Store cmd = only (noMore cmd 4) (layStoreOf (numbersAt cmd 2 3))
-layIn Image cmd = Bad
-layIn Desk cmd = only (noMore cmd 3) (layDeskOf (numberOf (field cmd 2)))
-layIn Nowhere cmd = Bad
-
-abbrev pub layCommand : List ℕ → Command
-layCommand cmd = layIn (placeOf (field cmd 1)) cmd
-
--- `chk PLACE`
-abbrev pub checkCommand : List ℕ → Command
-checkCommand cmd = only (noMore cmd 2) (checkOf (placeOf (field cmd 1)))
-
--- `lk DIR NAME`
-abbrev pub lookUpCommand : List ℕ → List ℕ → Command
-lookUpCommand cmd b = only (noMore cmd 3) (lookUpOf (numberAndBytes (field cmd 1) (field cmd 2) b))
-
--- `mk DIR NAME KIND`, the kind `f` or `d`
-abbrev pub createCommand : List ℕ → List ℕ → Command
-createCommand cmd b =
-    only (noMore cmd 4)
-    (createOf (numberAndBytes (field cmd 1) (field cmd 2) b) (isWord (field cmd 3) (102 ∷ [])) (isWord (field cmd 3) (100 ∷ [])))
-
--- `rd INODE OFFSET LENGTH`
-abbrev pub readCommand : List ℕ → Command
-readCommand cmd = only (noMore cmd 4) (readOf (numbersAt cmd 1 2) (numberOf (field cmd 3)))
-
--- `wr INODE OFFSET BYTES`
-abbrev pub writeCommand : List ℕ → List ℕ → Command
-writeCommand cmd b = only (noMore cmd 4) (writeOf (numberOf (field cmd 1)) (numberAndBytes (field cmd 2) (field cmd 3) b))
-
--- `sh INODE LENGTH`
-abbrev pub shortenCommand : List ℕ → Command
-shortenCommand cmd = only (noMore cmd 3) (shortenOf (numbersAt cmd 1 2))
-
--- `ln DIR NAME INODE`
-abbrev pub linkCommand : List ℕ → List ℕ → Command
-linkCommand cmd b = only (noMore cmd 4) (linkOf (numberAndBytes (field cmd 1) (field cmd 2) b) (numberOf (field cmd 3)))
-
--- `rm DIR NAME`
-abbrev pub unlinkCommand : List ℕ → List ℕ → Command
-unlinkCommand cmd b = only (noMore cmd 3) (unlinkOf (numberAndBytes (field cmd 1) (field cmd 2) b))
-
--- `mv DIR NAME TO_DIR TO_NAME`
-abbrev pub renameCommand : List ℕ → List ℕ → List ℕ → Command
-renameCommand cmd b o = only (noMore cmd 5) (renameOf (numberAndBytes (field cmd 1) (field cmd 2) b) (numberAndBytes (field cmd 3) (field cmd 4) o))
-
--- ---- What a line leaves: the command, and the two buffers' content. Bytes in hex go to their buffer even if another field is wrong.
+-- ---- What a line leaves: the command, and the two buffers' content
 pub record Parsed : Type 0 where
   pub command : Command
   pub name : List ℕ
   pub other : List ℕ
 
 abbrev pub parsed : Command → List ℕ → List ℕ → Parsed
-parsed c b o = record { command = c; name = b; other = o }
+parsed r b o = record { command = r; name = b; other = o }
 
-abbrev pub byVerb : Verb → List ℕ → List ℕ → List ℕ → Parsed
-byVerb verb.New cmd b o = parsed (newCommand cmd) b o
-byVerb verb.Poke cmd b o = parsed (pokeCommand cmd) b o
-byVerb verb.Lay cmd b o = parsed (layCommand cmd) b o
-byVerb verb.Check cmd b o = parsed (checkCommand cmd) b o
-byVerb verb.LookUp cmd b o = parsed (lookUpCommand cmd b) (takeHex (field cmd 2) b .buffer) o
-byVerb verb.Create cmd b o = parsed (createCommand cmd b) (takeHex (field cmd 2) b .buffer) o
-byVerb verb.Read cmd b o = parsed (readCommand cmd) b o
-byVerb verb.Write cmd b o = parsed (writeCommand cmd b) (takeHex (field cmd 3) b .buffer) o
-byVerb verb.Shorten cmd b o = parsed (shortenCommand cmd) b o
-byVerb verb.Link cmd b o = parsed (linkCommand cmd b) (takeHex (field cmd 2) b .buffer) o
-byVerb verb.Unlink cmd b o = parsed (unlinkCommand cmd b) (takeHex (field cmd 2) b .buffer) o
-byVerb verb.Rename cmd b o = parsed (renameCommand cmd b o) (takeHex (field cmd 2) b .buffer) (takeHex (field cmd 4) o .buffer)
-byVerb verb.Unknown cmd b o = parsed Bad b o
+-- the first form that the command fits
+unfoldable pub formOf : List ℕ → List ℕ → ℕ → ℕ → Found
+formOf lines cmd a b = first (λ j. fits (piece lines 10 j) cmd a b) (pieces lines 10)
+
+unfoldable pub askedBy : ℕ → List ℕ → List ℕ → ℕ → ℕ → Command
+askedBy j form cmd a b = asked j (worth form cmd a b 1) (worth form cmd a b 2) (worth form cmd a b 3) (worth form cmd a b 4)
+
+unfoldable pub parsedBy : List ℕ → List ℕ → List ℕ → List ℕ → Parsed
+parsedBy lines cmd b o =
+    onFound (formOf lines cmd (length b) (length o))
+    (λ j.
+    parsed (askedBy j (piece lines 10 j) cmd (length b) (length o))
+    (takeHex (bytesAt (piece lines 10 j) (letters "*") cmd) b)
+    (takeHex (bytesAt (piece lines 10 j) (letters "+") cmd) o))
+    (parsed Bad b o)
 
 unfoldable pub parseCommand : List ℕ → List ℕ → List ℕ → Parsed
-parseCommand cmd b o = byVerb (verbOf (field cmd 0)) cmd b o
+parseCommand cmd b o = parsedBy (linesOf forms) cmd b o

@@ -1,21 +1,21 @@
 // The line that answers a command.
 ghost use mathlib.Core.Path.{_≡_};
-ghost use mathlib.Core.List.{_∷_, _++_};
+ghost use mathlib.Core.List.{_++_};
 ghost use Prim.Native.Nat.{_+_, _*_, _≤_};
 ghost use lib.ListN.{length, take};
 ghost use Rattle.answers.specs.Refusal.{refusalNumber};
 ghost use Rattle.answers.specs.Told.{told};
-ghost use Rattle.commands.specs.Text.{Put, decimalText, bytesText};
-ghost use Rattle.commands.specs.Line.{okText, toldText, replyText, sumsText, isError, ending, lineText};
+ghost use Rattle.text.specs.Put.{Put, decimalText};
+ghost use Rattle.commands.specs.Line.{replyOf, laidText, shownText, replyText, sumText, sumsText, isError, ending, lineText};
 use crate::Reply;
 use crate::Sums;
-use crate::bytes::front;
-use crate::text::put;
-use crate::text::put_bytes;
-use crate::text::put_decimal;
-use crate::text::put_sum;
 use answers::Answer;
 use answers::Refusal;
+use text::pieces::front;
+use text::put::put;
+use text::put::put_bytes;
+use text::put::put_decimal;
+use text::put::put_hex;
 
 pub fn refusal_number(e: Refusal) -> usize
     ensures { λ r. ⌜ r ≡ refusalNumber e ⌝ }
@@ -41,12 +41,22 @@ pub fn refusal_number(e: Refusal) -> usize
 }
 
 // 0, or the refusal's number.
-fn told_number(a: Answer) -> usize
+pub fn told_number(a: Answer) -> usize
     ensures { λ r. ⌜ r ≡ told a .number ⌝ }
 {
     match a {
         Answer::Done(_) => 0,
         Answer::Refused(e) => refusal_number(e),
+    }
+}
+
+// What a call answered.
+pub fn reply(a: Answer) -> Reply
+    ensures { λ r. ⌜ r ≡ replyOf a ⌝ }
+{
+    match a {
+        Answer::Done(n) => Reply::Done(n),
+        Answer::Refused(e) => Reply::Refused(refusal_number(e)),
     }
 }
 
@@ -60,29 +70,18 @@ fn put_numbered(out: &mut [u8], o: usize, word: &[u8], n: usize) -> usize
     put_decimal(out, e, n)
 }
 
-fn put_told(out: &mut [u8], o: usize, a: Answer) -> usize
-    requires { ⌜ o + 23 ≤ length (now out) ⌝ }
-    ensures { λ r. ⌜ Put (now (out .entry)) o (toldText a) r (now (out .exit)) ⌝ }
-    ensures { λ r. ⌜ r ≤ o + 23 ⌝ }
-{
-    match a {
-        Answer::Done(n) => put_numbered(out, o, b"ok ", n),
-        Answer::Refused(e) => put_numbered(out, o, b"no ", refusal_number(e)),
-    }
-}
-
-fn put_laid(out: &mut [u8], o: usize, a: Answer, d: Answer) -> usize
+fn put_laid(out: &mut [u8], o: usize, a: usize, d: usize) -> usize
     requires { ⌜ o + 44 ≤ length (now out) ⌝ }
-    ensures { λ r. ⌜ Put (now (out .entry)) o ((okText ++ decimalText (told a .number)) ++ (32 ∷ decimalText (told d .number))) r (now (out .exit)) ⌝ }
+    ensures { λ r. ⌜ Put (now (out .entry)) o (laidText a d) r (now (out .exit)) ⌝ }
     ensures { λ r. ⌜ r ≤ o + 44 ⌝ }
 {
-    let e = put_numbered(&mut *out, o, b"ok ", told_number(a));
-    put_numbered(out, e, b" ", told_number(d))
+    let e = put_numbered(&mut *out, o, b"ok ", a);
+    put_numbered(out, e, b" ", d)
 }
 
 fn put_shown(out: &mut [u8], o: usize, n: usize, k: usize, page: &[u8]) -> usize
     requires { ⌜ o + 25 + 2 * length (now page) ≤ length (now out) ⌝ }
-    ensures { λ r. ⌜ Put (now (out .entry)) o ((okText ++ decimalText n) ++ (32 ∷ bytesText (take k (now (page .entry))))) r (now (out .exit)) ⌝ }
+    ensures { λ r. ⌜ Put (now (out .entry)) o (shownText n (take k (now (page .entry)))) r (now (out .exit)) ⌝ }
     ensures { λ r. ⌜ r ≤ o + 25 + 2 * length (now (page .entry)) ⌝ }
 {
     let shown = front(page, k);
@@ -101,10 +100,21 @@ fn put_reply(out: &mut [u8], o: usize, reply: Reply, page: &[u8]) -> usize
         Reply::Plain => put(out, o, b"ok"),
         Reply::Yes => put(out, o, b"yes"),
         Reply::No => put(out, o, b"no"),
-        Reply::Told(a) => put_told(out, o, a),
+        Reply::Done(n) => put_numbered(out, o, b"ok ", n),
+        Reply::Refused(n) => put_numbered(out, o, b"no ", n),
         Reply::Laid(a, d) => put_laid(out, o, a, d),
         Reply::Shown(n, k) => put_shown(out, o, n, k, page),
     }
+}
+
+// A space, and the 16 hex digits of a checksum.
+fn put_sum(out: &mut [u8], o: usize, n: u64) -> usize
+    requires { ⌜ o + 17 ≤ length (now out) ⌝ }
+    ensures { λ r. ⌜ Put (now (out .entry)) o (sumText n) r (now (out .exit)) ⌝ }
+    ensures { λ r. ⌜ r ≡ o + 17 ⌝ }
+{
+    let e = put(&mut *out, o, b" ");
+    put_hex(out, e, n, 16)
 }
 
 fn put_sums(out: &mut [u8], o: usize, sums: Sums) -> usize
@@ -127,7 +137,8 @@ fn is_error(reply: Reply) -> bool
         Reply::Plain => false,
         Reply::Yes => false,
         Reply::No => false,
-        Reply::Told(_) => false,
+        Reply::Done(_) => false,
+        Reply::Refused(_) => false,
         Reply::Laid(_, _) => false,
         Reply::Shown(_, _) => false,
     }

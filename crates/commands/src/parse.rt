@@ -1,323 +1,175 @@
-// What a command asks for: which field means what. Names and bytes go into lent buffers; a command holds how many they are.
+// What a command line asks for: the first of the forms that it fits, with what its fields are worth.
 ghost use mathlib.Core.Path.{_≡_};
-ghost use Rattle.commands.specs.Fields.{field};
-ghost use Rattle.commands.specs.Hex.{takeHex};
-ghost use Rattle.commands.specs.Command.{parsed, both, counted, only, newOf, pokeOf, layStoreOf, layDeskOf, checkOf, lookUpOf, createOf, readOf, writeOf, shortenOf, linkOf, unlinkOf, renameOf, numberAndBytes, newCommand, pokeCommand, layCommand, checkCommand, readCommand, shortenCommand, lookUpCommand, createCommand, writeCommand, linkCommand, unlinkCommand, renameCommand, parseCommand};
+ghost use Prim.Native.Nat.{_≤_};
+ghost use lib.ListN.{length};
+ghost use Rattle.text.specs.Pieces.{piece};
+ghost use Rattle.commands.specs.Command.{isArrow, commandIn, fieldValue, valueAt, worth, fits, formOf, bytesAt, asked, askedBy, parsed, parsedBy, parseCommand};
+use crate::Call;
 use crate::Command;
-use crate::Hex;
-use crate::Number;
-use crate::Pair;
-use crate::Place;
-use crate::Verb;
-use crate::bytes::take_hex;
-use crate::fields::field;
-use crate::fields::no_more;
-use crate::numbers::number;
-use crate::words::is_word;
-use crate::words::place;
-use crate::words::verb;
+use bounded::Found;
+use text::Number;
+use text::hex::hex_count;
+use text::hex::take_hex;
+use text::numbers::number;
+use text::pieces::front;
+use text::pieces::is_word;
+use text::pieces::piece;
+use text::pieces::pieces;
 
-fn both(a: Number, b: Number) -> Pair
-    ensures { λ r. ⌜ r ≡ both a b ⌝ }
+const NEWLINE: u8 = 10;
+
+const SPACE: u8 = 32;
+
+// ` => ` stands at k.
+fn is_arrow(s: &[u8], k: usize) -> bool
+    requires { ⌜ k ≤ length (now s) ⌝ }
+    ensures { λ r. ⌜ r ≡ isArrow (now (s .entry)) k ⌝ }
 {
-    let Number::Value(x) = a else {
-        return Pair::NoPair;
-    };
-    let Number::Value(y) = b else {
-        return Pair::NoPair;
-    };
-    Pair::Both(x, y)
+    is_word(front(&s[k..], 4), b" => ")
 }
 
-fn counted(a: Number, h: Hex) -> Pair
-    ensures { λ r. ⌜ r ≡ counted a h ⌝ }
+// The part of a line before ` => `, or all of it.
+pub fn command(s: &[u8]) -> &[u8]
+    ensures { λ r. ⌜ now r ≡ commandIn (now (s .entry)) ⌝ }
 {
-    let Number::Value(x) = a else {
-        return Pair::NoPair;
-    };
-    let Hex::Bytes(n) = h else {
-        return Pair::NoPair;
-    };
-    Pair::Both(x, n)
+    for k in 0..s.len() {
+        if is_arrow(s, k) {
+            return &s[0..k];
+        }
+    }
+    s
 }
 
-// The number a, and how many bytes h has; those go to the front of out.
-fn number_and_bytes(a: &[u8], h: &[u8], out: &mut [u8]) -> Pair
-    ensures { λ r. ⌜ r ≡ numberAndBytes (now (a .entry)) (now (h .entry)) (now (out .entry)) ⌝ }
-    ensures { λ _. ⌜ now (out .exit) ≡ takeHex (now (h .entry)) (now (out .entry)) .buffer ⌝ }
+// What the field s is worth if it is to be p; a and b are the rooms for bytes.
+fn field_value(p: &[u8], s: &[u8], a: usize, b: usize) -> Number
+    ensures { λ r. ⌜ r ≡ fieldValue (now (p .entry)) (now (s .entry)) a b ⌝ }
 {
-    let hex = take_hex(h, out);
-    counted(number(a), hex)
+    if is_word(p, b"#") {
+        return number(s);
+    }
+    if is_word(p, b"*") {
+        return hex_count(s, a);
+    }
+    if is_word(p, b"+") {
+        return hex_count(s, b);
+    }
+    if is_word(s, p) {
+        return Number::Value(0);
+    }
+    Number::NoNumber
 }
 
-// A command with a field too many is none.
-fn only(fits: bool, c: Command) -> Command
-    ensures { λ r. ⌜ r ≡ only fits c ⌝ }
+fn value_at(form: &[u8], cmd: &[u8], a: usize, b: usize, k: usize) -> Number
+    ensures { λ r. ⌜ r ≡ valueAt (now (form .entry)) (now (cmd .entry)) a b k ⌝ }
 {
-    if fits { c } else { Command::Bad }
+    field_value(piece(form, SPACE, k), piece(cmd, SPACE, k), a, b)
 }
 
-fn new_of(p: Pair, c: Number) -> Command
-    ensures { λ r. ⌜ r ≡ newOf p c ⌝ }
+fn worth(form: &[u8], cmd: &[u8], a: usize, b: usize, k: usize) -> usize
+    ensures { λ r. ⌜ r ≡ worth (now (form .entry)) (now (cmd .entry)) a b k ⌝ }
 {
-    let Pair::Both(n, b) = p else {
-        return Command::Bad;
-    };
-    let Number::Value(i) = c else {
-        return Command::Bad;
-    };
-    Command::New(n, b, i)
-}
-
-fn poke_of(place: Place, p: Pair) -> Command
-    ensures { λ r. ⌜ r ≡ pokeOf place p ⌝ }
-{
-    let Pair::Both(o, x) = p else {
-        return Command::Bad;
-    };
-    match place {
-        Place::Store => Command::PokeStore(o, x),
-        Place::Image => Command::PokeImage(o, x),
-        Place::Desk => Command::PokeDesk(o, x),
-        Place::Nowhere => Command::Bad,
+    match value_at(form, cmd, a, b, k) {
+        Number::Value(n) => n,
+        Number::NoNumber => 0,
     }
 }
 
-fn lay_store_of(p: Pair) -> Command
-    ensures { λ r. ⌜ r ≡ layStoreOf p ⌝ }
+// As many fields, each worth something.
+fn fits(form: &[u8], cmd: &[u8], a: usize, b: usize) -> bool
+    ensures { λ r. ⌜ r ≡ fits (now (form .entry)) (now (cmd .entry)) a b ⌝ }
 {
-    match p {
-        Pair::Both(n, b) => Command::LayStore(n, b),
-        Pair::NoPair => Command::Bad,
+    let n = pieces(form, SPACE);
+    if pieces(cmd, SPACE) != n {
+        return false;
+    }
+    for k in 0..n {
+        let Number::Value(_) = value_at(form, cmd, a, b, k) else {
+            return false;
+        };
+    }
+    true
+}
+
+fn form_of(forms: &[u8], cmd: &[u8], a: usize, b: usize) -> Found
+    ensures { λ r. ⌜ r ≡ formOf (now (forms .entry)) (now (cmd .entry)) a b ⌝ }
+{
+    for j in 0..pieces(forms, NEWLINE) {
+        if fits(piece(forms, NEWLINE, j), cmd, a, b) {
+            return Found::At(j);
+        }
+    }
+    Found::Absent
+}
+
+// The command's field that is to be p; empty if there is none.
+fn bytes_at<'a, 'b>(form: &'b [u8], p: &'b [u8], cmd: &'a [u8]) -> &'a [u8]
+    ensures { λ r. ⌜ now r ≡ bytesAt (now (form .entry)) (now (p .entry)) (now (cmd .entry)) ⌝ }
+{
+    for k in 0..pieces(form, SPACE) {
+        if is_word(piece(form, SPACE, k), p) {
+            return piece(cmd, SPACE, k);
+        }
+    }
+    &cmd[0..0]
+}
+
+// What form j asks for, by what its fields 1 to 4 are worth.
+fn asked(j: usize, a: usize, b: usize, c: usize, d: usize) -> Command
+    ensures { λ r. ⌜ r ≡ asked j a b c d ⌝ }
+{
+    match j {
+        0 => Command::New(a, b, c),
+        1 => Command::PokeStore(b, c),
+        2 => Command::PokeImage(b, c),
+        3 => Command::PokeDesk(b, c),
+        4 => Command::LayStore(b, c),
+        5 => Command::LayDesk(b),
+        6 => Command::CheckStore,
+        7 => Command::CheckImage,
+        8 => Command::File(Call::LookUp(a, b)),
+        9 => Command::File(Call::CreateFile(a, b)),
+        10 => Command::File(Call::CreateDirectory(a, b)),
+        11 => Command::Read(a, b, c),
+        12 => Command::File(Call::Write(a, b, c)),
+        13 => Command::File(Call::Shorten(a, b)),
+        14 => Command::File(Call::Link(a, b, c)),
+        15 => Command::File(Call::Unlink(a, b)),
+        16 => Command::File(Call::Rename(a, b, c, d)),
+        _ => Command::Bad,
     }
 }
 
-fn lay_desk_of(a: Number) -> Command
-    ensures { λ r. ⌜ r ≡ layDeskOf a ⌝ }
+fn asked_by(j: usize, form: &[u8], cmd: &[u8], a: usize, b: usize) -> Command
+    ensures { λ r. ⌜ r ≡ askedBy j (now (form .entry)) (now (cmd .entry)) a b ⌝ }
 {
-    match a {
-        Number::Value(n) => Command::LayDesk(n),
-        Number::NoNumber => Command::Bad,
-    }
+    let x = worth(form, cmd, a, b, 1);
+    let y = worth(form, cmd, a, b, 2);
+    let z = worth(form, cmd, a, b, 3);
+    asked(j, x, y, z, worth(form, cmd, a, b, 4))
 }
 
-fn check_of(place: Place) -> Command
-    ensures { λ r. ⌜ r ≡ checkOf place ⌝ }
+fn parse_by(forms: &[u8], cmd: &[u8], name: &mut [u8], other: &mut [u8]) -> Command
+    ensures { λ r. ⌜ parsed r (now (name .exit)) (now (other .exit)) ≡ parsedBy (now (forms .entry)) (now (cmd .entry)) (now (name .entry)) (now (other .entry)) ⌝ }
 {
-    match place {
-        Place::Store => Command::CheckStore,
-        Place::Image => Command::CheckImage,
-        Place::Desk => Command::Bad,
-        Place::Nowhere => Command::Bad,
-    }
-}
-
-fn look_up_of(p: Pair) -> Command
-    ensures { λ r. ⌜ r ≡ lookUpOf p ⌝ }
-{
-    match p {
-        Pair::Both(d, n) => Command::LookUp(d, n),
-        Pair::NoPair => Command::Bad,
-    }
-}
-
-fn create_of(p: Pair, file: bool, directory: bool) -> Command
-    ensures { λ r. ⌜ r ≡ createOf p file directory ⌝ }
-{
-    let Pair::Both(d, n) = p else {
+    let a = name.len();
+    let b = other.len();
+    let Found::At(j) = form_of(forms, cmd, a, b) else {
         return Command::Bad;
     };
-    if file {
-        return Command::CreateFile(d, n);
-    }
-    if directory {
-        return Command::CreateDirectory(d, n);
-    }
-    Command::Bad
-}
-
-fn read_of(p: Pair, c: Number) -> Command
-    ensures { λ r. ⌜ r ≡ readOf p c ⌝ }
-{
-    let Pair::Both(i, o) = p else {
-        return Command::Bad;
-    };
-    let Number::Value(k) = c else {
-        return Command::Bad;
-    };
-    Command::Read(i, o, k)
-}
-
-fn write_of(a: Number, p: Pair) -> Command
-    ensures { λ r. ⌜ r ≡ writeOf a p ⌝ }
-{
-    let Number::Value(i) = a else {
-        return Command::Bad;
-    };
-    let Pair::Both(o, n) = p else {
-        return Command::Bad;
-    };
-    Command::Write(i, o, n)
-}
-
-fn shorten_of(p: Pair) -> Command
-    ensures { λ r. ⌜ r ≡ shortenOf p ⌝ }
-{
-    match p {
-        Pair::Both(i, k) => Command::Shorten(i, k),
-        Pair::NoPair => Command::Bad,
-    }
-}
-
-fn link_of(p: Pair, c: Number) -> Command
-    ensures { λ r. ⌜ r ≡ linkOf p c ⌝ }
-{
-    let Pair::Both(d, n) = p else {
-        return Command::Bad;
-    };
-    let Number::Value(i) = c else {
-        return Command::Bad;
-    };
-    Command::Link(d, n, i)
-}
-
-fn unlink_of(p: Pair) -> Command
-    ensures { λ r. ⌜ r ≡ unlinkOf p ⌝ }
-{
-    match p {
-        Pair::Both(d, n) => Command::Unlink(d, n),
-        Pair::NoPair => Command::Bad,
-    }
-}
-
-fn rename_of(p: Pair, q: Pair) -> Command
-    ensures { λ r. ⌜ r ≡ renameOf p q ⌝ }
-{
-    let Pair::Both(d, n) = p else {
-        return Command::Bad;
-    };
-    let Pair::Both(t, m) = q else {
-        return Command::Bad;
-    };
-    Command::Rename(d, n, t, m)
-}
-
-fn new(cmd: &[u8]) -> Command
-    ensures { λ r. ⌜ r ≡ newCommand (now (cmd .entry)) ⌝ }
-{
-    let p = both(number(field(cmd, 1)), number(field(cmd, 2)));
-    only(no_more(cmd, 4), new_of(p, number(field(cmd, 3))))
-}
-
-fn poke(cmd: &[u8]) -> Command
-    ensures { λ r. ⌜ r ≡ pokeCommand (now (cmd .entry)) ⌝ }
-{
-    let p = both(number(field(cmd, 2)), number(field(cmd, 3)));
-    only(no_more(cmd, 4), poke_of(place(field(cmd, 1)), p))
-}
-
-fn lay(cmd: &[u8]) -> Command
-    ensures { λ r. ⌜ r ≡ layCommand (now (cmd .entry)) ⌝ }
-{
-    let n = number(field(cmd, 2));
-    let p = both(n, number(field(cmd, 3)));
-    match place(field(cmd, 1)) {
-        Place::Store => only(no_more(cmd, 4), lay_store_of(p)),
-        Place::Image => Command::Bad,
-        Place::Desk => only(no_more(cmd, 3), lay_desk_of(n)),
-        Place::Nowhere => Command::Bad,
-    }
-}
-
-fn check(cmd: &[u8]) -> Command
-    ensures { λ r. ⌜ r ≡ checkCommand (now (cmd .entry)) ⌝ }
-{
-    only(no_more(cmd, 2), check_of(place(field(cmd, 1))))
-}
-
-fn read(cmd: &[u8]) -> Command
-    ensures { λ r. ⌜ r ≡ readCommand (now (cmd .entry)) ⌝ }
-{
-    let p = both(number(field(cmd, 1)), number(field(cmd, 2)));
-    only(no_more(cmd, 4), read_of(p, number(field(cmd, 3))))
-}
-
-fn shorten(cmd: &[u8]) -> Command
-    ensures { λ r. ⌜ r ≡ shortenCommand (now (cmd .entry)) ⌝ }
-{
-    let p = both(number(field(cmd, 1)), number(field(cmd, 2)));
-    only(no_more(cmd, 3), shorten_of(p))
-}
-
-fn look_up(cmd: &[u8], name: &mut [u8]) -> Command
-    ensures { λ r. ⌜ r ≡ lookUpCommand (now (cmd .entry)) (now (name .entry)) ⌝ }
-    ensures { λ _. ⌜ now (name .exit) ≡ takeHex (field (now (cmd .entry)) 2) (now (name .entry)) .buffer ⌝ }
-{
-    let p = number_and_bytes(field(cmd, 1), field(cmd, 2), name);
-    only(no_more(cmd, 3), look_up_of(p))
-}
-
-fn create(cmd: &[u8], name: &mut [u8]) -> Command
-    ensures { λ r. ⌜ r ≡ createCommand (now (cmd .entry)) (now (name .entry)) ⌝ }
-    ensures { λ _. ⌜ now (name .exit) ≡ takeHex (field (now (cmd .entry)) 2) (now (name .entry)) .buffer ⌝ }
-{
-    let p = number_and_bytes(field(cmd, 1), field(cmd, 2), name);
-    let kind = field(cmd, 3);
-    only(
-        no_more(cmd, 4),
-        create_of(p, is_word(kind, b"f"), is_word(kind, b"d")),
-    )
-}
-
-fn write(cmd: &[u8], bytes: &mut [u8]) -> Command
-    ensures { λ r. ⌜ r ≡ writeCommand (now (cmd .entry)) (now (bytes .entry)) ⌝ }
-    ensures { λ _. ⌜ now (bytes .exit) ≡ takeHex (field (now (cmd .entry)) 3) (now (bytes .entry)) .buffer ⌝ }
-{
-    let p = number_and_bytes(field(cmd, 2), field(cmd, 3), bytes);
-    only(no_more(cmd, 4), write_of(number(field(cmd, 1)), p))
-}
-
-fn link(cmd: &[u8], name: &mut [u8]) -> Command
-    ensures { λ r. ⌜ r ≡ linkCommand (now (cmd .entry)) (now (name .entry)) ⌝ }
-    ensures { λ _. ⌜ now (name .exit) ≡ takeHex (field (now (cmd .entry)) 2) (now (name .entry)) .buffer ⌝ }
-{
-    let p = number_and_bytes(field(cmd, 1), field(cmd, 2), name);
-    only(no_more(cmd, 4), link_of(p, number(field(cmd, 3))))
-}
-
-fn unlink(cmd: &[u8], name: &mut [u8]) -> Command
-    ensures { λ r. ⌜ r ≡ unlinkCommand (now (cmd .entry)) (now (name .entry)) ⌝ }
-    ensures { λ _. ⌜ now (name .exit) ≡ takeHex (field (now (cmd .entry)) 2) (now (name .entry)) .buffer ⌝ }
-{
-    let p = number_and_bytes(field(cmd, 1), field(cmd, 2), name);
-    only(no_more(cmd, 3), unlink_of(p))
-}
-
-fn rename(cmd: &[u8], name: &mut [u8], other: &mut [u8]) -> Command
-    ensures { λ r. ⌜ (r ≡ renameCommand (now (cmd .entry)) (now (name .entry)) (now (other .entry))) × (now (name .exit) ≡ takeHex (field (now (cmd .entry)) 2) (now (name .entry)) .buffer) × (now (other .exit) ≡ takeHex (field (now (cmd .entry)) 4) (now (other .entry)) .buffer) ⌝ }
-{
-    let p = number_and_bytes(field(cmd, 1), field(cmd, 2), name);
-    let q = number_and_bytes(field(cmd, 3), field(cmd, 4), other);
-    only(no_more(cmd, 5), rename_of(p, q))
+    let form = piece(forms, NEWLINE, j);
+    take_hex(bytes_at(form, b"*", cmd), name);
+    take_hex(bytes_at(form, b"+", cmd), other);
+    asked_by(j, form, cmd, a, b)
 }
 
 // The command of a line, `Bad` if it is none. A name goes to the front of name, a rename's second one to the front of other.
 pub fn parse(cmd: &[u8], name: &mut [u8], other: &mut [u8]) -> Command
     ensures { λ r. ⌜ parsed r (now (name .exit)) (now (other .exit)) ≡ parseCommand (now (cmd .entry)) (now (name .entry)) (now (other .entry)) ⌝ }
 {
-    match verb(field(cmd, 0)) {
-        Verb::New => new(cmd),
-        Verb::Poke => poke(cmd),
-        Verb::Lay => lay(cmd),
-        Verb::Check => check(cmd),
-        Verb::LookUp => look_up(cmd, name),
-        Verb::Create => create(cmd, name),
-        Verb::Read => read(cmd),
-        Verb::Write => write(cmd, name),
-        Verb::Shorten => shorten(cmd),
-        Verb::Link => link(cmd, name),
-        Verb::Unlink => unlink(cmd, name),
-        Verb::Rename => rename(cmd, name, other),
-        Verb::Unknown => Command::Bad,
-    }
+    parse_by(
+        b"new # # #\npoke store # #\npoke image # #\npoke desk # #\nlay store # #\nlay desk #\nchk store\nchk image\nlk # *\nmk # * f\nmk # * d\nrd # # #\nwr # # *\nsh # #\nln # * #\nrm # *\nmv # * # +",
+        cmd,
+        name,
+        other,
+    )
 }

@@ -1,74 +1,23 @@
-// Standard input, line by line.
-ghost use mathlib.Core.Path.{_≡_};
-ghost use mathlib.Core.List.{[]};
-ghost use Prim.Native.Nat.{_+_, _≤_};
-ghost use lib.ListN.{length};
-ghost use Rattle.replay.specs.Fit.{Fit, Room, Ready, Reading, Kept};
+// Lines run on the three buffers, and their answers printed.
+ghost use Rattle.replay.specs.Fit.{Fit, Within};
 use crate::buffers;
 use crate::buffers::Lengths;
 use crate::buffers::Step;
 use crate::calls;
+use crate::input::Input;
+use crate::input::next_line;
+use checksum::checksum;
 use commands::Command;
 use commands::Reply;
 use commands::Sums;
 use commands::answer::put_line;
-use commands::checksum::checksum;
-use commands::fields::command;
+use commands::parse::command;
 use commands::parse::parse;
-use libc::STDIN_FILENO;
 use libc::STDOUT_FILENO;
-use sound::Form;
+use text::pieces::front;
 
-const NEWLINE: u8 = 10;
-
-// Between two bytes of the input: the lengths of the buffers, how much of a line came and whether more than there is room for, how much is to
-// be printed, and whether the input goes on.
-pub struct State {
-    pub lengths: Lengths,
-    pub used: usize,
-    pub long: bool,
-    pub filled: usize,
-    pub open: bool,
-}
-
-impl State {
-    fn new() -> State
-        ensures { λ r. ⌜ Fit (r .lengths) [] [] [] × (r .used ≡ 0) × (r .filled ≡ 0) ⌝ }
-    {
-        State {
-            lengths: Lengths {
-                store: 0,
-                image: 0,
-                desk: 0,
-            },
-            used: 0,
-            long: false,
-            filled: 0,
-            open: true,
-        }
-    }
-
-    fn with_used(mut self, used: usize) -> State
-        ensures { λ r. ⌜ Kept r self × (r .used ≡ used) ⌝ }
-    {
-        self.used = used;
-        self
-    }
-
-    fn too_long(mut self) -> State
-        ensures { λ r. ⌜ Kept r self × (r .used ≡ self .used) ⌝ }
-    {
-        self.long = true;
-        self
-    }
-
-    fn closed(mut self) -> State
-        ensures { λ r. ⌜ Kept r self × (r .used ≡ self .used) ⌝ }
-    {
-        self.open = false;
-        self
-    }
-}
+// What an out-buffer holds before a read.
+const FILLER: u8 = 170;
 
 // Every command but `new`, on the buffers as long as they are.
 fn dispatch(
@@ -81,14 +30,9 @@ fn dispatch(
     other: &[u8],
 ) -> Reply {
     match command {
-        Command::PokeStore(o, x) => buffers::poke(store, o, x),
-        Command::PokeImage(o, x) => buffers::poke(image, o, x),
-        Command::PokeDesk(o, x) => buffers::poke(desk, o, x),
-        Command::LayStore(n, b) => Reply::Told(format::lay_out_store(store, n, b)),
-        Command::LayDesk(n) => Reply::Told(format::lay_out_desk(desk, n)),
-        Command::CheckStore => buffers::verdict(checker::check::check(Form::Store, store)),
-        Command::CheckImage => buffers::verdict(checker::check::check(Form::Image, image)),
-        _ => calls::call(command, store, page, name, other),
+        Command::Read(i, o, k) => calls::read(store, i, o, k, page),
+        Command::File(c) => calls::call(c, store, name, other),
+        _ => buffers::run(command, store, image, desk),
     }
 }
 
@@ -108,18 +52,7 @@ fn step(
     let mut other = [0u8; 32768];
     let command = parse(cmd, &mut name, &mut other);
     if let Command::New(n, b, i) = command {
-        return buffers::renewed(
-            store,
-            image,
-            desk,
-            n,
-            b,
-            i,
-            Step {
-                reply: Reply::Error,
-                lengths,
-            },
-        );
+        return buffers::renewed(store, image, desk, n, b, i, lengths);
     }
     let s = lengths.store;
     let i = lengths.image;
@@ -136,18 +69,6 @@ fn step(
     Step { reply, lengths }
 }
 
-// Where room bytes are free: what stands before it goes out if need be.
-fn with_room(out: &[u8], filled: usize, room: usize) -> usize
-    requires { ⌜ (filled ≤ length (now out)) × (room ≤ length (now out)) ⌝ }
-    ensures { λ r. ⌜ r + room ≤ length (now (out .entry)) ⌝ }
-{
-    if out.len() - filled < room {
-        io::write_all(STDOUT_FILENO, &out[0..filled]);
-        return 0;
-    }
-    filled
-}
-
 fn sums(store: &[u8], image: &[u8], desk: &[u8], lengths: Lengths) -> Sums
     requires { ⌜ Fit lengths (now store) (now image) (now desk) ⌝ }
 {
@@ -161,209 +82,73 @@ fn sums(store: &[u8], image: &[u8], desk: &[u8], lengths: Lengths) -> Sums
     }
 }
 
+// The longest line shows a whole page.
+fn print(reply: Reply, page: &[u8; 4096], sums: Sums) {
+    let mut out = [0u8; 8290];
+    let n = put_line(&mut out, 0, reply, page, sums);
+    io::write_all(STDOUT_FILENO, front(&out, n));
+}
+
 fn answer(
     line: &[u8],
     store: &mut [u8],
     image: &mut [u8],
     desk: &mut [u8],
-    page: &mut [u8],
-    out: &mut [u8],
-    state: State,
-) -> State
-    requires { ⌜ Ready state (now store) (now image) (now desk) (now page) (now out) ⌝ }
-    ensures { λ r. ⌜ Ready r (now (store .entry)) (now (image .entry)) (now (desk .entry)) (now (page .entry)) (now (out .entry)) ⌝ }
-    ensures { λ r. ⌜ r .used ≡ 0 ⌝ }
+    lengths: Lengths,
+) -> Lengths
+    requires { ⌜ Fit lengths (now store) (now image) (now desk) ⌝ }
+    ensures { λ r. ⌜ Fit r (now (store .entry)) (now (image .entry)) (now (desk .entry)) ⌝ }
 {
-    let old = state.lengths;
-    let room = 98 + 2 * page.len();
+    let mut page = [FILLER; 4096];
     let step = step(
         command(line),
         &mut *store,
         &mut *image,
         &mut *desk,
-        &mut *page,
-        old,
-    );
-    let lengths = step.lengths;
-    let reply = step.reply;
-    let sums = sums(&*store, &*image, &*desk, lengths);
-    let at = with_room(&*out, state.filled, room);
-    let filled = put_line(out, at, reply, &*page, sums);
-    State {
+        &mut page,
         lengths,
-        used: 0,
-        long: false,
-        filled,
-        open: true,
-    }
+    );
+    let reply = step.reply;
+    let next = step.lengths;
+    print(reply, &page, sums(&*store, &*image, &*desk, next));
+    next
 }
 
-// A line that there was no room for is answered like an empty one.
+// A line that there was no room for is answered like an empty one; nothing after the last newline is no line.
 fn end_line(
+    line: &[u8; 65536],
+    input: Input,
     store: &mut [u8],
     image: &mut [u8],
     desk: &mut [u8],
-    page: &mut [u8],
-    line: &[u8],
-    out: &mut [u8],
-    state: State,
-) -> State
-    requires { ⌜ Reading state (now store) (now image) (now desk) (now page) (now line) (now out) ⌝ }
-    ensures { λ r. ⌜ Ready r (now (store .entry)) (now (image .entry)) (now (desk .entry)) (now (page .entry)) (now (out .entry)) ⌝ }
-    ensures { λ r. ⌜ r .used ≡ 0 ⌝ }
+    lengths: Lengths,
+) -> Lengths
+    requires { ⌜ Within input × Fit lengths (now store) (now image) (now desk) ⌝ }
+    ensures { λ r. ⌜ Fit r (now (store .entry)) (now (image .entry)) (now (desk .entry)) ⌝ }
 {
-    let used = state.used;
-    if state.long {
-        return answer(&line[0..0], store, image, desk, page, out, state);
+    let used = input.used;
+    if used == 0 && !input.open {
+        return lengths;
     }
-    answer(&line[0..used], store, image, desk, page, out, state)
+    let whole = &line[..];
+    let end = input.taken();
+    answer(&whole[0..end], store, image, desk, lengths)
 }
 
-// One byte of the input.
-fn take_byte(
-    b: u8,
-    store: &mut [u8],
-    image: &mut [u8],
-    desk: &mut [u8],
-    page: &mut [u8],
-    line: &mut [u8],
-    out: &mut [u8],
-    state: State,
-) -> State
-    requires { ⌜ Reading state (now store) (now image) (now desk) (now page) (now line) (now out) ⌝ }
-    ensures { λ r. ⌜ Reading r (now (store .entry)) (now (image .entry)) (now (desk .entry)) (now (page .entry)) (now (line .entry)) (now (out .entry)) ⌝ }
-{
-    if b == NEWLINE {
-        return end_line(store, image, desk, page, &*line, out, state);
-    }
-    let used = state.used;
-    if used < line.len() {
-        line[used] = b;
-        return state.with_used(used + 1);
-    }
-    state.too_long()
-}
-
-fn take_piece(
-    piece: &[u8],
-    store: &mut [u8],
-    image: &mut [u8],
-    desk: &mut [u8],
-    page: &mut [u8],
-    line: &mut [u8],
-    out: &mut [u8],
-    state: State,
-) -> State
-    requires { ⌜ Reading state (now store) (now image) (now desk) (now page) (now line) (now out) ⌝ }
-    ensures { λ r. ⌜ Reading r (now (store .entry)) (now (image .entry)) (now (desk .entry)) (now (page .entry)) (now (line .entry)) (now (out .entry)) ⌝ }
-{
-    let mut s = state;
-    for k in 0..piece.len() {
-        s = take_byte(
-            piece[k],
-            &mut *store,
-            &mut *image,
-            &mut *desk,
-            &mut *page,
-            &mut *line,
-            &mut *out,
-            s,
-        );
-    }
-    s
-}
-
-// What one read gives.
-fn take_some(
-    store: &mut [u8],
-    image: &mut [u8],
-    desk: &mut [u8],
-    page: &mut [u8],
-    line: &mut [u8],
-    out: &mut [u8],
-    state: State,
-) -> State
-    requires { ⌜ Reading state (now store) (now image) (now desk) (now page) (now line) (now out) ⌝ }
-    ensures { λ r. ⌜ Reading r (now (store .entry)) (now (image .entry)) (now (desk .entry)) (now (page .entry)) (now (line .entry)) (now (out .entry)) ⌝ }
-{
+// The whole input; its lines are counted down from a number that no run uses up.
+pub fn replay(store: &mut [u8], image: &mut [u8], desk: &mut [u8]) {
     let mut piece = io::large_buffer();
-    let got = libc::read(STDIN_FILENO, &mut piece);
-    let n = io::count(got, &piece);
-    if n == 0 {
-        return state.closed();
-    }
-    take_piece(&piece[0..n], store, image, desk, page, line, out, state)
-}
-
-// The whole input. Nothing says that an input ends, so the turns are counted down from a number that no run uses up.
-fn take_all(
-    store: &mut [u8],
-    image: &mut [u8],
-    desk: &mut [u8],
-    page: &mut [u8],
-    line: &mut [u8],
-    out: &mut [u8],
-    state: State,
-) -> State
-    requires { ⌜ Reading state (now store) (now image) (now desk) (now page) (now line) (now out) ⌝ }
-    ensures { λ r. ⌜ Reading r (now (store .entry)) (now (image .entry)) (now (desk .entry)) (now (page .entry)) (now (line .entry)) (now (out .entry)) ⌝ }
-{
-    let mut s = state;
+    let mut line = io::large_buffer();
+    let mut input = Input::new();
+    let mut lengths = Lengths {
+        store: 0,
+        image: 0,
+        desk: 0,
+    };
     let mut turns = u64::MAX;
-    while turns > 0 && s.open {
-        s = take_some(
-            &mut *store,
-            &mut *image,
-            &mut *desk,
-            &mut *page,
-            &mut *line,
-            &mut *out,
-            s,
-        );
+    while turns > 0 && input.open {
+        input = next_line(&mut piece, &mut line, input);
+        lengths = end_line(&line, input, &mut *store, &mut *image, &mut *desk, lengths);
         turns -= 1;
     }
-    s
-}
-
-// A last line may lack its newline.
-fn end_input(
-    store: &mut [u8],
-    image: &mut [u8],
-    desk: &mut [u8],
-    page: &mut [u8],
-    line: &[u8],
-    out: &mut [u8],
-    state: State,
-) -> State
-    requires { ⌜ Reading state (now store) (now image) (now desk) (now page) (now line) (now out) ⌝ }
-    ensures { λ r. ⌜ r .filled ≤ length (now (out .entry)) ⌝ }
-{
-    if state.used == 0 {
-        return state;
-    }
-    end_line(store, image, desk, page, line, out, state)
-}
-
-pub fn replay(
-    store: &mut [u8],
-    image: &mut [u8],
-    desk: &mut [u8],
-    page: &mut [u8],
-    line: &mut [u8],
-    out: &mut [u8],
-)
-    requires { ⌜ Room (now page) (now out) ⌝ }
-{
-    let s = take_all(
-        &mut *store,
-        &mut *image,
-        &mut *desk,
-        &mut *page,
-        &mut *line,
-        &mut *out,
-        State::new(),
-    );
-    let s = end_input(store, image, desk, page, &*line, &mut *out, s);
-    let filled = s.filled;
-    io::write_all(STDOUT_FILENO, &out[0..filled]);
 }

@@ -1,6 +1,6 @@
 use native.Mathlib.Omega.{arith}
 use Rattle.commands.proofs.LineLaws.{error-ending, sums-ending}
-use Rattle.commands.proofs.TextLaws.{put-same}
+use Rattle.text.proofs.PutLaws.{put-same}
 use mathlib.Core.Path.{sym, _∙_}
 use borrow.Author.Needs.{needs}
 use Rattle.commands.proofs.answer.put_ending.Statement.{statement}

@@ -1,5 +1,5 @@
 use native.Mathlib.Omega.{arith}
-use Rattle.commands.proofs.TextLaws.{put-on}
+use Rattle.text.proofs.PutLaws.{put-on}
 use Rattle.commands.specs.Line.{lineText}
 use borrow.Author.Needs.{needs}
 use Rattle.commands.proofs.answer.put_line.Statement.{statement}

@@ -1,4 +1,4 @@
-use Rattle.commands.proofs.TextLaws.{put-on}
+use Rattle.text.proofs.PutLaws.{put-on}
 use native.Mathlib.Omega.{arith}
 use borrow.Author.Needs.{needs}
 use Rattle.commands.proofs.answer.put_numbered.Statement.{statement}

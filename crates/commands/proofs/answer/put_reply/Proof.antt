@@ -1,7 +1,7 @@
-use Rattle.commands.proofs.LineLaws.{error-text, plain-text, yes-text, no-text, told-text, laid-text, shown-text}
-use Rattle.commands.proofs.TextLaws.{put-same}
-use native.Mathlib.Omega.{arith}
+use Rattle.commands.proofs.LineLaws.{error-text, plain-text, yes-text, no-text, done-text, refused-text, laid-text, shown-text}
+use Rattle.text.proofs.PutLaws.{put-same}
 use borrow.Author.Needs.{needs}
+use native.Mathlib.Omega.{arith}
 use Rattle.commands.proofs.answer.put_reply.Statement.{statement}
 use Rattle.commands.proofs.answer.put_reply.Tie as tie
 
@@ -44,17 +44,29 @@ put-requires-4 c κs = search needs
 enum-known-reply : tie.Need-enum-known-reply
 enum-known-reply c = search needs
 
-put-told-requires : tie.Need-put-told-requires
-put-told-requires c κs = search needs
+slice-aggregate-put-numbered : tie.Need-slice-aggregate-put-numbered
+slice-aggregate-put-numbered c = search needs
+
+put-numbered-requires : tie.Need-put-numbered-requires
+put-numbered-requires c κs = search needs
 
 enum-known-reply-2 : tie.Need-enum-known-reply-2
 enum-known-reply-2 c = search needs
 
-put-laid-requires : tie.Need-put-laid-requires
-put-laid-requires c κs = search needs
+slice-aggregate-put-numbered-2 : tie.Need-slice-aggregate-put-numbered-2
+slice-aggregate-put-numbered-2 c = search needs
+
+put-numbered-requires-2 : tie.Need-put-numbered-requires-2
+put-numbered-requires-2 c κs = search needs
 
 enum-known-reply-3 : tie.Need-enum-known-reply-3
 enum-known-reply-3 c = search needs
+
+put-laid-requires : tie.Need-put-laid-requires
+put-laid-requires c κs = search needs
+
+enum-known-reply-4 : tie.Need-enum-known-reply-4
+enum-known-reply-4 c = search needs
 
 put-shown-requires : tie.Need-put-shown-requires
 put-shown-requires c κs = search needs
@@ -87,19 +99,25 @@ same-length-5 : tie.Need-same-length-5
 same-length-5 c = search needs
 
 returns-5 : tie.Need-returns-5
-returns-5 c = (put-same _ _ _ _ _ _ (told-text _ _ _ (c .before .before .before .before .before .reply .given .1)) (c .before .before .put-told .ensures .0), omega (arith, c .before .before .put-told .ensures .1))
+returns-5 c = (put-same _ _ _ _ _ _ (done-text _ _ _ (c .before .before .before .before .before .before .reply .given .1)) (c .before .before .put-numbered .ensures .0), omega (arith, c .before .before .put-numbered .ensures .1))
 
 same-length-6 : tie.Need-same-length-6
 same-length-6 c = search needs
 
 returns-6 : tie.Need-returns-6
-returns-6 c = (put-same _ _ _ _ _ _ (laid-text _ _ _ _ (c .before .before .before .before .before .reply2 .given .1)) (c .before .before .put-laid .ensures .0), omega (arith, c .before .before .put-laid .ensures .1))
+returns-6 c = (put-same _ _ _ _ _ _ (refused-text _ _ _ (c .before .before .before .before .before .before .reply2 .given .1)) (c .before .before .put-numbered2 .ensures .0), omega (arith, c .before .before .put-numbered2 .ensures .1))
 
 same-length-7 : tie.Need-same-length-7
 same-length-7 c = search needs
 
 returns-7 : tie.Need-returns-7
-returns-7 c = (put-same _ _ _ _ _ _ (shown-text _ _ _ _ (c .before .before .before .before .before .reply3 .given .1)) (c .before .before .put-shown .ensures .0), omega (arith, c .before .before .put-shown .ensures .1))
+returns-7 c = (put-same _ _ _ _ _ _ (laid-text _ _ _ _ (c .before .before .before .before .before .reply3 .given .1)) (c .before .before .put-laid .ensures .0), omega (arith, c .before .before .put-laid .ensures .1))
+
+same-length-8 : tie.Need-same-length-8
+same-length-8 c = search needs
+
+returns-8 : tie.Need-returns-8
+returns-8 c = (put-same _ _ _ _ _ _ (shown-text _ _ _ _ (c .before .before .before .before .before .reply4 .given .1)) (c .before .before .put-shown .ensures .0), omega (arith, c .before .before .put-shown .ensures .1))
 
 pub put-reply-spec : {M : Type 1} → statement M
 put-reply-spec =
@@ -118,10 +136,14 @@ put-reply-spec =
     slice-aggregate-put-4
     put-requires-4
     enum-known-reply
-    put-told-requires
+    slice-aggregate-put-numbered
+    put-numbered-requires
     enum-known-reply-2
-    put-laid-requires
+    slice-aggregate-put-numbered-2
+    put-numbered-requires-2
     enum-known-reply-3
+    put-laid-requires
+    enum-known-reply-4
     put-shown-requires
     same-length
     returns
@@ -136,4 +158,6 @@ put-reply-spec =
     same-length-6
     returns-6
     same-length-7
-    returns-7)
+    returns-7
+    same-length-8
+    returns-8)

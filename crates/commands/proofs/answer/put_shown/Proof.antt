@@ -1,11 +1,11 @@
-use Rattle.commands.proofs.TextLaws.{put-on, put-same}
-use Rattle.commands.specs.Line.{okText}
-use Rattle.commands.specs.Text.{decimalText, bytesText}
+use Rattle.text.proofs.PutLaws.{put-on, put-same}
+use Rattle.text.specs.Letters.{letters}
+use Rattle.text.specs.Put.{decimalText, bytesText}
 use lib.ListN.{length, length-take}
 use denote.Ref.{now}
 use native.Mathlib.Omega.{arith}
 use Prim.Native.Nat.{ℕ}
-use mathlib.Core.List.{List, _∷_, _++_}
+use mathlib.Core.List.{List, _++_}
 use mathlib.Core.Path.{ap}
 use borrow.Author.Needs.{needs}
 use Rattle.commands.proofs.answer.put_shown.Statement.{statement}
@@ -34,7 +34,7 @@ same-length c = search needs
 
 returns : tie.Need-returns
 returns c = (
-  put-same _ _ _ _ _ _ (ap (λ (l : List ℕ). (okText ++ decimalText (c .before .before .before .before .before .before .before .before .before .before .before .before .before .before .before .before .before .args .n)) ++ (32 ∷ bytesText l)) (c .before .before .before .before .before .before .before .before .before .before .before .before .before .before .front .ensures))
+  put-same _ _ _ _ _ _ (ap (λ (l : List ℕ). (letters "ok " ++ decimalText (c .before .before .before .before .before .before .before .before .before .before .before .before .before .before .before .before .before .args .n)) ++ (letters " " ++ bytesText l)) (c .before .before .before .before .before .before .before .before .before .before .before .before .before .before .front .ensures))
       (put-on _ _ _ _ _ _ _ _ (c .before .before .before .before .before .before .before .before .before .before .before .put-numbered .ensures .0) (put-on _ _ _ _ _ _ _ _ (c .before .before .before .before .before .before .put .ensures) (c .before .before .put-bytes .ensures .0))),
   omega (arith, c .before .before .before .before .before .before .before .before .before .before .before .put-numbered .ensures .1, c .before .before .before .before .before .before .put .ensures .ends, c .before .before .put-bytes .ensures .1, ap length (c .before .before .before .before .before .before .before .before .before .before .before .before .before .before .front .ensures), length-take (c .before .before .before .before .before .before .before .before .before .before .before .before .before .before .before .before .before .args .k) (now (c .before .before .before .before .before .before .before .before .before .before .before .before .before .before .before .before .before .args .page))),
 )

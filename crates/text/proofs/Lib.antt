@@ -1,0 +1,4 @@
+pub mod PieceLaws
+pub mod NumberLaws
+pub mod HexLaws
+pub mod PutLaws

@@ -1,0 +1,76 @@
+-- Laws of a search that answers the end where nothing passes, and of pieces.
+use Prim.Native.Nat.{ℕ, _+_, _-_, _≤_, _<_}
+use mathlib.Core.Path.{_≡_, refl, sym, ap, _∙_}
+use mathlib.Core.Bool.{Bool, true, false}
+use mathlib.Core.List.{List, []}
+use native.Mathlib.Omega.{arith}
+use native.Mathlib.Numerals.{add-one}
+use borrow.Author.Tests.{eq-eqb, ne-eqb}
+use lib.Dec.{eqb}
+use lib.ListN.{length, getD, take, drop}
+use lib.Seq.{take-all}
+use Rattle.bounded.specs.Count.{count}
+use Rattle.bounded.proofs.CountLaws.{count-hit, count-miss}
+use Rattle.bounded.proofs.SearchLaws.{first-turn, first-found, first-end}
+use Rattle.octets.specs.Octets.{part}
+use Rattle.text.specs.Pieces.{placeFrom, placeOf, pieceStart, piece, pieces}
+
+-- ---- a loop's turns
+module _ (f : ℕ → Bool) (c n : ℕ) where
+  pub place-found : c < n → f c ≡ true → placeFrom f c n ≡ c
+  unfolding placeFrom
+  place-found l h = rw (first-found f c n l h) refl
+
+  pub place-turn : c < n → f c ≡ false → placeFrom f c n ≡ placeFrom f (c + 1) n
+  unfolding placeFrom
+  place-turn l h = rw (first-turn f c n l h) refl
+
+  pub place-end : n ≤ c → placeFrom f c n ≡ n
+  unfolding placeFrom
+  place-end l = rw (first-end f c n l) refl
+
+-- ---- pieces
+pub start-none : (s : List ℕ) (x : ℕ) → 0 ≡ pieceStart s x 0
+unfolding pieceStart
+start-none s x = refl
+
+pub start-more : (s : List ℕ) (x k o e : ℕ) → o ≡ pieceStart s x k → e ≡ placeOf s x o → e + 1 ≡ pieceStart s x (k + 1)
+unfolding pieceStart
+start-more s x k o e p q = rw (q, p, add-one k) refl
+
+-- a piece from its start and end
+pub piece-is : (s : List ℕ) (x k a e : ℕ) → a ≡ pieceStart s x k → e ≡ placeOf s x a → take (e - a) (drop a s) ≡ piece s x k
+unfolding piece part
+piece-is s x k a e p q = rw (q, p) refl
+
+-- one that ends where it starts, or before
+pub piece-empty : (s : List ℕ) (x k a e : ℕ) → a ≡ pieceStart s x k → e ≡ placeOf s x a → e ≤ a → [] ≡ piece s x k
+piece-empty s x k a e p q h = let z : e - a ≡ 0 = omega arith in sym (ap (λ (m : ℕ). take m (drop a s)) z) ∙ piece-is s x k a e p q
+
+-- the count of pieces, byte by byte
+unfoldable pub piecesTo : List ℕ → ℕ → ℕ → ℕ
+piecesTo s x k = 1 + count (λ j. eqb (getD s j 0) x) k
+
+module _ (s : List ℕ) (x : ℕ) where
+  pub pieces-none : 1 ≡ piecesTo s x 0
+  unfolding piecesTo count
+  pieces-none = refl
+
+  pub pieces-more : (k n : ℕ) → n ≡ piecesTo s x k → getD s k 0 ≡ x → n + 1 ≡ piecesTo s x (k + 1)
+  unfolding piecesTo
+  pieces-more k n e h = omega (arith, count-hit (λ j. eqb (getD s j 0) x) k (eq-eqb _ x h))
+
+  pub pieces-same : (k n : ℕ) → n ≡ piecesTo s x k → (getD s k 0 ≡ x → ⊥) → n ≡ piecesTo s x (k + 1)
+  unfolding piecesTo
+  pieces-same k n e h = omega (arith, count-miss (λ j. eqb (getD s j 0) x) k (ne-eqb _ x h))
+
+  pub pieces-done : (k n : ℕ) → n ≡ piecesTo s x k → k ≡ length s → n ≡ pieces s x
+  unfolding piecesTo pieces
+  pieces-done k n e h = e ∙ ap (λ (j : ℕ). 1 + count (λ i. eqb (getD s i 0) x) j) h
+
+-- ---- the front of a list
+pub front-all : (s : List ℕ) (k : ℕ) → length s ≤ k → s ≡ take k s
+front-all s k h = sym (take-all k s h)
+
+pub front-part : (s : List ℕ) (k : ℕ) → take (k - 0) s ≡ take k s
+front-part s k = let e : k - 0 ≡ k = omega arith in ap (λ (m : ℕ). take m s) e

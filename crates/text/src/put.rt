@@ -1,0 +1,59 @@
+// Text into a buffer: words, numbers and bytes.
+ghost use mathlib.Core.Path.{_≡_};
+ghost use Prim.Native.Nat.{_+_, _*_, _^_, _<_, _≤_};
+ghost use lib.ListN.{length};
+ghost use Rattle.io.specs.Digits.{digits};
+ghost use Rattle.text.specs.Put.{Put, decimalText, pairs, bytesText};
+
+// The text at o; where it ends.
+pub fn put(out: &mut [u8], o: usize, text: &[u8]) -> usize
+    requires { ⌜ o + length (now text) ≤ length (now out) ⌝ }
+    ensures { λ r. ⌜ Put (now (out .entry)) o (now (text .entry)) r (now (out .exit)) ⌝ }
+{
+    octets::copy_range(&mut *out, o, text, 0, text.len());
+    o + text.len()
+}
+
+pub fn put_decimal(out: &mut [u8], o: usize, n: usize) -> usize
+    requires { ⌜ o + 20 ≤ length (now out) ⌝ }
+    ensures { λ r. ⌜ Put (now (out .entry)) o (decimalText n) r (now (out .exit)) ⌝ }
+    ensures { λ r. ⌜ r ≤ o + 20 ⌝ }
+{
+    let mut digits = [0u8; 20];
+    let k = io::decimal(n as u64, &mut digits);
+    put(out, o, &digits[..k])
+}
+
+// A number in k hex digits.
+pub fn put_hex(out: &mut [u8], o: usize, n: u64, k: usize) -> usize
+    requires { ⌜ (o + k ≤ length (now out)) × (1 ≤ k) × (k ≤ 16) × (n < 16 ^ k) ⌝ }
+    ensures { λ r. ⌜ Put (now (out .entry)) o (digits 16 k n) r (now (out .exit)) ⌝ }
+    ensures { λ r. ⌜ r ≡ o + k ⌝ }
+{
+    let mut digits = [0u8; 16];
+    let m = io::hex(n, k, &mut digits);
+    put(out, o, &digits[..m])
+}
+
+fn put_pairs(out: &mut [u8], o: usize, bytes: &[u8]) -> usize
+    requires { ⌜ o + 2 * length (now bytes) ≤ length (now out) ⌝ }
+    ensures { λ r. ⌜ Put (now (out .entry)) o (pairs (now (bytes .entry))) r (now (out .exit)) ⌝ }
+{
+    let mut e = o;
+    for k in 0..bytes.len() {
+        e = put_hex(&mut *out, e, bytes[k] as u64, 2);
+    }
+    e
+}
+
+// Bytes in hex, `-` for none.
+pub fn put_bytes(out: &mut [u8], o: usize, bytes: &[u8]) -> usize
+    requires { ⌜ o + 1 + 2 * length (now bytes) ≤ length (now out) ⌝ }
+    ensures { λ r. ⌜ Put (now (out .entry)) o (bytesText (now (bytes .entry))) r (now (out .exit)) ⌝ }
+    ensures { λ r. ⌜ r ≤ o + 1 + 2 * length (now (bytes .entry)) ⌝ }
+{
+    if bytes.len() == 0 {
+        return put(out, o, b"-");
+    }
+    put_pairs(out, o, bytes)
+}
