@@ -35,9 +35,9 @@ use Rattle.checkpoint.specs.Live.{liveCreate, liveWrite, liveShorten, liveUnlin
 use Rattle.checkpoint.specs.Notes.{isCopied, noteMade, noteTaken, cutsImage, cutImage}
 use Rattle.desk.specs.Desk as desk
 use Rattle.checkpoint.specs.Live as live
-use Prim.Native.Nat.{_*_}
-use mathlib.Core.Path.{_≡_, refl}
-use mathlib.Core.List.{[], _∷_, _++_}
+use Prim.Native.Nat.{ℕ, _*_}
+use mathlib.Core.Path.{_≡_, refl, ap}
+use mathlib.Core.List.{List, [], _∷_, _++_}
 use lib.ListN.{replicate}
 use Rattle.bounded.specs.Count.{tally}
 use Rattle.directory.specs.Slot.{mostSlots}
@@ -45,7 +45,7 @@ use Rattle.desk.specs.Sizes.{finished}
 use Rattle.answers.specs.declared.Refusal.the-variants.{IntoItself}
 use Rattle.answers.specs.declared.Answer.the-variants.{Done, Refused}
 use Rattle.files.specs.Plain.{rename}
-use Rattle.checkpoint.specs.List.{call, steps, starts, Finish, last, more}
+use Rattle.checkpoint.specs.List.{call, steps, starts, World, Finish, last, more}
 use Rattle.cases.specs.Worlds.{fresh, nameA, reusedBlock, movedDirectory, unlinkedFile, parentAndChild}
 
 pub three-steps : (outcome steps (run (starts ∷ steps ∷ steps ∷ []) (fresh 1 1)) .answer ≡ Done 3)
@@ -58,7 +58,33 @@ pub finish : Finish (steps ∷ steps ∷ steps ∷ []) (next starts (fresh 1 1))
 unfolding fresh live.guarded desk.reservedZero allBelow someBelow leadsB count firstFrom first table part splice numAt toBytes putNum wordBytes digit marked withMark withoutMark entryInode isEmpty sameByte sameName nameLength entryName legalEntry entryFor plainByte isDots legalName blockOf putInBlock zeroBlock blocksUsed kthBlock isFree freeInode named freeBlock headerOf putFree putComplete putHeader reservedZero kindOf spareOf linksOf sizeOf parentOf putLinks attributeEntry putAttributes addressOf putAddress addressesOf putAddresses inodeOf putInode slots slotAt entryOf slotNamed findSlot slotEmpty emptySlot putEntry clearEntry deskOf putDesk copiedOf putCopied marksOf putMarks markOf setMark clearMark clearNotes sameNames namedB newNameB entryB attributesB addressesB zeroTailB inodeB countedB leadB isSlot entryAt filled naming framedB headerB freeCountsB zeroBlockB blanksB bodyB soundB enter created written dropLink unlinked setParent moved putFile addBlock addBlocks putSize zeroRest keepFirst cutTo isKind zeroInode lessFree moreFree guarded createPlan writePlan shortenPlan holdsNone unlinkPlan isBelow renameTo renamePlan roomIn makeRoom freshHeader emptyRoot freshStore freshDesk isLocked startImage startDesk nextInode targetBlock lockedStep freeStep stepOf copiedEntry copiedEntries copiedBlock putCounts finishImage deskFramed imageBlocks imageAllowed isRunning blocksFit deskFits imageFits notesFit hasSlot slotNames isNamed outcome next run liveCreate liveWrite liveShorten liveUnlink liveRename started start step isCopied noteMade noteTaken cutsImage cutImage zeroed
 finish = more refl refl (more refl refl (last refl))
 
--- the image and the desk when the list has run: what is asked of them is read off
+-- what is asked of the desk and the image when the list has run: one record, so that the list is run once
+record Reused : Type 0 where
+  state : ℕ
+  block2 : ℕ
+  bytes2 : List ℕ
+  size2 : ℕ
+  block3 : ℕ
+  bytes3 : List ℕ
+  size3 : ℕ
+
+reusedIn : World → Reused
+reusedIn w =
+    record {
+      state = deskOf (w .desk) .state;
+      block2 = kthBlock (w .image) 3 2 0;
+      bytes2 = blockOf (w .image) 3 2;
+      size2 = sizeOf (w .image) 2;
+      block3 = kthBlock (w .image) 3 3 0;
+      bytes3 = blockOf (w .image) 3 3;
+      size3 = sizeOf (w .image) 3;
+    }
+
+reused : reusedIn (run reusedBlock (fresh 3 3))
+    ≡ record { state = finished; block2 = 2; bytes2 = replicate 64 7; size2 = 64; block3 = 3; bytes3 = replicate 10 5 ++ replicate 54 0; size3 = 10 }
+unfolding reusedIn fresh reusedBlock live.guarded desk.reservedZero allBelow someBelow leadsB count firstFrom first table part splice numAt toBytes putNum wordBytes digit marked withMark withoutMark entryInode isEmpty sameByte sameName nameLength entryName legalEntry entryFor plainByte isDots legalName blockOf putInBlock zeroBlock blocksUsed kthBlock isFree freeInode named freeBlock headerOf putFree putComplete putHeader reservedZero kindOf spareOf linksOf sizeOf parentOf putLinks attributeEntry putAttributes addressOf putAddress addressesOf putAddresses inodeOf putInode slots slotAt entryOf slotNamed findSlot slotEmpty emptySlot putEntry clearEntry deskOf putDesk copiedOf putCopied marksOf putMarks markOf setMark clearMark clearNotes sameNames namedB newNameB entryB attributesB addressesB zeroTailB inodeB countedB leadB isSlot entryAt filled naming framedB headerB freeCountsB zeroBlockB blanksB bodyB soundB enter created written dropLink unlinked setParent moved putFile addBlock addBlocks putSize zeroRest keepFirst cutTo isKind zeroInode lessFree moreFree guarded createPlan writePlan shortenPlan holdsNone unlinkPlan isBelow renameTo renamePlan roomIn makeRoom freshHeader emptyRoot freshStore freshDesk isLocked startImage startDesk nextInode targetBlock lockedStep freeStep stepOf copiedEntry copiedEntries copiedBlock putCounts finishImage deskFramed imageBlocks imageAllowed isRunning blocksFit deskFits imageFits notesFit hasSlot slotNames isNamed outcome next run liveCreate liveWrite liveShorten liveUnlink liveRename started start step isCopied noteMade noteTaken cutsImage cutImage zeroed
+reused = refl
+
 pub reused-block : (deskOf (run reusedBlock (fresh 3 3) .desk) .state ≡ finished)
     × ((kthBlock (run reusedBlock (fresh 3 3) .image) 3 2 0 ≡ 2)
     × ((blockOf (run reusedBlock (fresh 3 3) .image) 3 2 ≡ replicate 64 7)
@@ -66,8 +92,23 @@ pub reused-block : (deskOf (run reusedBlock (fresh 3 3) .desk) .state ≡ finish
     × ((kthBlock (run reusedBlock (fresh 3 3) .image) 3 3 0 ≡ 3)
     × ((blockOf (run reusedBlock (fresh 3 3) .image) 3 3 ≡ replicate 10 5 ++ replicate 54 0)
     × (sizeOf (run reusedBlock (fresh 3 3) .image) 3 ≡ 10))))))
-unfolding fresh reusedBlock live.guarded desk.reservedZero allBelow someBelow leadsB count firstFrom first table part splice numAt toBytes putNum wordBytes digit marked withMark withoutMark entryInode isEmpty sameByte sameName nameLength entryName legalEntry entryFor plainByte isDots legalName blockOf putInBlock zeroBlock blocksUsed kthBlock isFree freeInode named freeBlock headerOf putFree putComplete putHeader reservedZero kindOf spareOf linksOf sizeOf parentOf putLinks attributeEntry putAttributes addressOf putAddress addressesOf putAddresses inodeOf putInode slots slotAt entryOf slotNamed findSlot slotEmpty emptySlot putEntry clearEntry deskOf putDesk copiedOf putCopied marksOf putMarks markOf setMark clearMark clearNotes sameNames namedB newNameB entryB attributesB addressesB zeroTailB inodeB countedB leadB isSlot entryAt filled naming framedB headerB freeCountsB zeroBlockB blanksB bodyB soundB enter created written dropLink unlinked setParent moved putFile addBlock addBlocks putSize zeroRest keepFirst cutTo isKind zeroInode lessFree moreFree guarded createPlan writePlan shortenPlan holdsNone unlinkPlan isBelow renameTo renamePlan roomIn makeRoom freshHeader emptyRoot freshStore freshDesk isLocked startImage startDesk nextInode targetBlock lockedStep freeStep stepOf copiedEntry copiedEntries copiedBlock putCounts finishImage deskFramed imageBlocks imageAllowed isRunning blocksFit deskFits imageFits notesFit hasSlot slotNames isNamed outcome next run liveCreate liveWrite liveShorten liveUnlink liveRename started start step isCopied noteMade noteTaken cutsImage cutImage zeroed
-reused-block = (refl, (refl, (refl, (refl, (refl, (refl, refl))))))
+unfolding reusedIn
+reused-block = (
+  ap (λ (x : Reused). x .state) reused,
+  (
+    ap (λ (x : Reused). x .block2) reused,
+    (
+      ap (λ (x : Reused). x .bytes2) reused,
+      (
+        ap (λ (x : Reused). x .size2) reused,
+        (
+          ap (λ (x : Reused). x .block3) reused,
+          (ap (λ (x : Reused). x .bytes3) reused, ap (λ (x : Reused). x .size3) reused),
+        ),
+      ),
+    ),
+  ),
+)
 
 pub moved-directory : (deskOf (run movedDirectory (fresh 3 3) .desk) .state ≡ finished)
     × ((tally (naming (run movedDirectory (fresh 3 3) .image) 3) (mostSlots * 3) 2 ≡ 1)
