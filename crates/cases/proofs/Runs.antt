@@ -32,12 +32,12 @@ use Rattle.checkpoint.specs.Copier.{startImage, startDesk, nextInode, targetBlo
 use Rattle.checkpoint.specs.Fit.{deskFramed, imageBlocks, imageAllowed, isRunning, blocksFit, deskFits, imageFits, notesFit}
 use Rattle.checkpoint.specs.Image.{hasSlot, slotNames, isNamed}
 use Rattle.checkpoint.specs.List.{outcome, next, run}
-use Rattle.checkpoint.specs.Live.{threeGuards, decision, live, guarded, started, start, step}
+use Rattle.checkpoint.specs.Live.{World, threeGuards, decision, live, guarded, started, start, step}
 use Rattle.checkpoint.specs.Notes.{isCopied, noteMade, noteTaken, cutsImage, cutImage, cutEntries, clearMarks, setMarks}
 use Rattle.desk.specs.Desk as desk
-use Prim.Native.Nat.{_*_}
-use mathlib.Core.Path.{_≡_, refl}
-use mathlib.Core.List.{[], _∷_, _++_}
+use Prim.Native.Nat.{ℕ, _*_}
+use mathlib.Core.Path.{_≡_, refl, ap}
+use mathlib.Core.List.{List, [], _∷_, _++_}
 use lib.ListN.{replicate}
 use Rattle.bounded.specs.Count.{tally}
 use Rattle.directory.specs.Slot.{mostSlots}
@@ -50,15 +50,41 @@ use Rattle.cases.specs.Worlds.{fresh, nameA, reusedBlock, movedDirectory
 
 pub three-steps : (outcome steps (run (starts ∷ steps ∷ steps ∷ []) (fresh 1 1)) .answer ≡ Done 3)
     × (deskOf (run (starts ∷ steps ∷ steps ∷ steps ∷ []) (fresh 1 1) .desk) .state ≡ finished)
-unfolding fresh desk.reservedZero allBelow someBelow leadsB count firstFrom first table part splice numAt toBytes putNum wordBytes digit marked withMark withoutMark entryInode isEmpty sameByte sameName nameLength entryName legalEntry entryFor plainByte isDots legalName blockOf putInBlock zeroBlock blocksUsed kthBlock isFree freeInode named freeBlock headerOf putFree putComplete putHeader reservedZero kindOf spareOf linksOf sizeOf parentOf putLinks attributeEntry putAttributes addressOf putAddress addressesOf putAddresses inodeOf putInode slots slotAt entryOf slotNamed findSlot slotEmpty emptySlot putEntry clearEntry deskOf putDesk copiedOf putCopied marksOf putMarks markOf setMark clearMark clearNotes sameNames namedB newNameB entryB attributesB addressesB zeroTailB inodeB countedB leadB isSlot entryAt filled naming framedB headerB freeCountsB zeroBlockB blanksB bodyB soundB enter created written dropLink unlinked setParent moved putFile addBlock addBlocks putSize zeroRest keepFirst cutTo isKind zeroInode lessFree moreFree guardOf createPlan writePlan shortenPlan holdsNone unlinkPlan isBelow renameTo renamePlan roomIn makeRoom freshHeader emptyRoot freshStore freshDesk isLocked anyLocked startImage startDesk nextInode targetBlock lockedStep freeStep stepOf copiedEntry copiedEntries copiedBlock putCounts finishImage deskFramed imageBlocks imageAllowed isRunning blocksFit deskFits imageFits notesFit hasSlot slotNames isNamed outcome next run threeGuards decision live guarded started start step isCopied noteMade noteTaken cutsImage cutImage cutEntries clearMarks setMarks zeroed
+unfolding fresh desk.reservedZero allBelow someBelow leadsB count firstFrom first table part splice numAt toBytes putNum wordBytes digit marked withMark withoutMark entryInode isEmpty sameByte sameName nameLength entryName legalEntry entryFor plainByte isDots legalName blockOf putInBlock zeroBlock blocksUsed kthBlock isFree freeInode named freeBlock headerOf putFree putComplete putHeader reservedZero kindOf spareOf linksOf sizeOf parentOf putLinks attributeEntry putAttributes addressOf putAddress addressesOf putAddresses inodeOf putInode slots slotAt entryOf slotNamed findSlot slotEmpty emptySlot putEntry clearEntry deskOf putDesk copiedOf putCopied marksOf putMarks markOf setMark clearMark clearNotes sameNames namedB newNameB entryB attributesB addressesB zeroTailB inodeB countedB leadB isSlot entryAt filled naming framedB headerB freeCountsB zeroBlockB blanksB bodyB soundB enter created written dropLink unlinked setParent moved putFile addBlock addBlocks putSize zeroRest keepFirst cutTo isKind zeroInode lessFree moreFree guarded createPlan writePlan shortenPlan holdsNone unlinkPlan isBelow renameTo renamePlan roomIn makeRoom freshHeader emptyRoot freshStore freshDesk isLocked startImage startDesk nextInode targetBlock lockedStep freeStep stepOf copiedEntry copiedEntries copiedBlock putCounts finishImage deskFramed imageBlocks imageAllowed isRunning blocksFit deskFits imageFits notesFit hasSlot slotNames isNamed outcome next run started start step isCopied noteMade noteTaken cutsImage cutImage zeroed guardOf anyLocked threeGuards decision live cutEntries clearMarks setMarks
 three-steps = (refl, refl)
 
 -- the same three steps end in a finish
 pub finish : Finish (steps ∷ steps ∷ steps ∷ []) (next starts (fresh 1 1))
-unfolding fresh desk.reservedZero allBelow someBelow leadsB count firstFrom first table part splice numAt toBytes putNum wordBytes digit marked withMark withoutMark entryInode isEmpty sameByte sameName nameLength entryName legalEntry entryFor plainByte isDots legalName blockOf putInBlock zeroBlock blocksUsed kthBlock isFree freeInode named freeBlock headerOf putFree putComplete putHeader reservedZero kindOf spareOf linksOf sizeOf parentOf putLinks attributeEntry putAttributes addressOf putAddress addressesOf putAddresses inodeOf putInode slots slotAt entryOf slotNamed findSlot slotEmpty emptySlot putEntry clearEntry deskOf putDesk copiedOf putCopied marksOf putMarks markOf setMark clearMark clearNotes sameNames namedB newNameB entryB attributesB addressesB zeroTailB inodeB countedB leadB isSlot entryAt filled naming framedB headerB freeCountsB zeroBlockB blanksB bodyB soundB enter created written dropLink unlinked setParent moved putFile addBlock addBlocks putSize zeroRest keepFirst cutTo isKind zeroInode lessFree moreFree guardOf createPlan writePlan shortenPlan holdsNone unlinkPlan isBelow renameTo renamePlan roomIn makeRoom freshHeader emptyRoot freshStore freshDesk isLocked anyLocked startImage startDesk nextInode targetBlock lockedStep freeStep stepOf copiedEntry copiedEntries copiedBlock putCounts finishImage deskFramed imageBlocks imageAllowed isRunning blocksFit deskFits imageFits notesFit hasSlot slotNames isNamed outcome next run threeGuards decision live guarded started start step isCopied noteMade noteTaken cutsImage cutImage cutEntries clearMarks setMarks zeroed
+unfolding fresh desk.reservedZero allBelow someBelow leadsB count firstFrom first table part splice numAt toBytes putNum wordBytes digit marked withMark withoutMark entryInode isEmpty sameByte sameName nameLength entryName legalEntry entryFor plainByte isDots legalName blockOf putInBlock zeroBlock blocksUsed kthBlock isFree freeInode named freeBlock headerOf putFree putComplete putHeader reservedZero kindOf spareOf linksOf sizeOf parentOf putLinks attributeEntry putAttributes addressOf putAddress addressesOf putAddresses inodeOf putInode slots slotAt entryOf slotNamed findSlot slotEmpty emptySlot putEntry clearEntry deskOf putDesk copiedOf putCopied marksOf putMarks markOf setMark clearMark clearNotes sameNames namedB newNameB entryB attributesB addressesB zeroTailB inodeB countedB leadB isSlot entryAt filled naming framedB headerB freeCountsB zeroBlockB blanksB bodyB soundB enter created written dropLink unlinked setParent moved putFile addBlock addBlocks putSize zeroRest keepFirst cutTo isKind zeroInode lessFree moreFree guarded createPlan writePlan shortenPlan holdsNone unlinkPlan isBelow renameTo renamePlan roomIn makeRoom freshHeader emptyRoot freshStore freshDesk isLocked startImage startDesk nextInode targetBlock lockedStep freeStep stepOf copiedEntry copiedEntries copiedBlock putCounts finishImage deskFramed imageBlocks imageAllowed isRunning blocksFit deskFits imageFits notesFit hasSlot slotNames isNamed outcome next run started start step isCopied noteMade noteTaken cutsImage cutImage zeroed guardOf anyLocked threeGuards decision live cutEntries clearMarks setMarks
 finish = more refl refl (more refl refl (last refl))
 
--- the image and the desk when the list has run: what is asked of them is read off
+-- what is asked of the desk and the image when the list has run: one record, so that the list is run once
+record Reused : Type 0 where
+  state : ℕ
+  block2 : ℕ
+  bytes2 : List ℕ
+  size2 : ℕ
+  block3 : ℕ
+  bytes3 : List ℕ
+  size3 : ℕ
+
+reusedIn : World → Reused
+reusedIn w =
+    record {
+      state = deskOf (w .desk) .state;
+      block2 = kthBlock (w .image) 3 2 0;
+      bytes2 = blockOf (w .image) 3 2;
+      size2 = sizeOf (w .image) 2;
+      block3 = kthBlock (w .image) 3 3 0;
+      bytes3 = blockOf (w .image) 3 3;
+      size3 = sizeOf (w .image) 3;
+    }
+
+reused : reusedIn (run reusedBlock (fresh 3 3))
+    ≡ record { state = finished; block2 = 2; bytes2 = replicate 64 7; size2 = 64; block3 = 3; bytes3 = replicate 10 5 ++ replicate 54 0; size3 = 10 }
+unfolding fresh reusedBlock desk.reservedZero allBelow someBelow leadsB count firstFrom first table part splice numAt toBytes putNum wordBytes digit marked withMark withoutMark entryInode isEmpty sameByte sameName nameLength entryName legalEntry entryFor plainByte isDots legalName blockOf putInBlock zeroBlock blocksUsed kthBlock isFree freeInode named freeBlock headerOf putFree putComplete putHeader reservedZero kindOf spareOf linksOf sizeOf parentOf putLinks attributeEntry putAttributes addressOf putAddress addressesOf putAddresses inodeOf putInode slots slotAt entryOf slotNamed findSlot slotEmpty emptySlot putEntry clearEntry deskOf putDesk copiedOf putCopied marksOf putMarks markOf setMark clearMark clearNotes sameNames namedB newNameB entryB attributesB addressesB zeroTailB inodeB countedB leadB isSlot entryAt filled naming framedB headerB freeCountsB zeroBlockB blanksB bodyB soundB enter created written dropLink unlinked setParent moved putFile addBlock addBlocks putSize zeroRest keepFirst cutTo isKind zeroInode lessFree moreFree guarded createPlan writePlan shortenPlan holdsNone unlinkPlan isBelow renameTo renamePlan roomIn makeRoom freshHeader emptyRoot freshStore freshDesk isLocked startImage startDesk nextInode targetBlock lockedStep freeStep stepOf copiedEntry copiedEntries copiedBlock putCounts finishImage deskFramed imageBlocks imageAllowed isRunning blocksFit deskFits imageFits notesFit hasSlot slotNames isNamed outcome next run started start step isCopied noteMade noteTaken cutsImage cutImage zeroed guardOf anyLocked threeGuards decision live cutEntries clearMarks setMarks reusedIn
+reused = refl
+
 pub reused-block : (deskOf (run reusedBlock (fresh 3 3) .desk) .state ≡ finished)
     × ((kthBlock (run reusedBlock (fresh 3 3) .image) 3 2 0 ≡ 2)
     × ((blockOf (run reusedBlock (fresh 3 3) .image) 3 2 ≡ replicate 64 7)
@@ -66,20 +92,35 @@ pub reused-block : (deskOf (run reusedBlock (fresh 3 3) .desk) .state ≡ finish
     × ((kthBlock (run reusedBlock (fresh 3 3) .image) 3 3 0 ≡ 3)
     × ((blockOf (run reusedBlock (fresh 3 3) .image) 3 3 ≡ replicate 10 5 ++ replicate 54 0)
     × (sizeOf (run reusedBlock (fresh 3 3) .image) 3 ≡ 10))))))
-unfolding fresh reusedBlock desk.reservedZero allBelow someBelow leadsB count firstFrom first table part splice numAt toBytes putNum wordBytes digit marked withMark withoutMark entryInode isEmpty sameByte sameName nameLength entryName legalEntry entryFor plainByte isDots legalName blockOf putInBlock zeroBlock blocksUsed kthBlock isFree freeInode named freeBlock headerOf putFree putComplete putHeader reservedZero kindOf spareOf linksOf sizeOf parentOf putLinks attributeEntry putAttributes addressOf putAddress addressesOf putAddresses inodeOf putInode slots slotAt entryOf slotNamed findSlot slotEmpty emptySlot putEntry clearEntry deskOf putDesk copiedOf putCopied marksOf putMarks markOf setMark clearMark clearNotes sameNames namedB newNameB entryB attributesB addressesB zeroTailB inodeB countedB leadB isSlot entryAt filled naming framedB headerB freeCountsB zeroBlockB blanksB bodyB soundB enter created written dropLink unlinked setParent moved putFile addBlock addBlocks putSize zeroRest keepFirst cutTo isKind zeroInode lessFree moreFree guardOf createPlan writePlan shortenPlan holdsNone unlinkPlan isBelow renameTo renamePlan roomIn makeRoom freshHeader emptyRoot freshStore freshDesk isLocked anyLocked startImage startDesk nextInode targetBlock lockedStep freeStep stepOf copiedEntry copiedEntries copiedBlock putCounts finishImage deskFramed imageBlocks imageAllowed isRunning blocksFit deskFits imageFits notesFit hasSlot slotNames isNamed outcome next run threeGuards decision live guarded started start step isCopied noteMade noteTaken cutsImage cutImage cutEntries clearMarks setMarks zeroed
-reused-block = (refl, (refl, (refl, (refl, (refl, (refl, refl))))))
+unfolding guardOf anyLocked threeGuards decision live cutEntries clearMarks setMarks reusedIn
+reused-block = (
+  ap (λ (x : Reused). x .state) reused,
+  (
+    ap (λ (x : Reused). x .block2) reused,
+    (
+      ap (λ (x : Reused). x .bytes2) reused,
+      (
+        ap (λ (x : Reused). x .size2) reused,
+        (
+          ap (λ (x : Reused). x .block3) reused,
+          (ap (λ (x : Reused). x .bytes3) reused, ap (λ (x : Reused). x .size3) reused),
+        ),
+      ),
+    ),
+  ),
+)
 
 pub moved-directory : (deskOf (run movedDirectory (fresh 3 3) .desk) .state ≡ finished)
     × ((tally (naming (run movedDirectory (fresh 3 3) .image) 3) (mostSlots * 3) 2 ≡ 1)
     × (naming (run movedDirectory (fresh 3 3) .image) 3 0 ≡ 2))
-unfolding fresh movedDirectory desk.reservedZero allBelow someBelow leadsB count firstFrom first table part splice numAt toBytes putNum wordBytes digit marked withMark withoutMark entryInode isEmpty sameByte sameName nameLength entryName legalEntry entryFor plainByte isDots legalName blockOf putInBlock zeroBlock blocksUsed kthBlock isFree freeInode named freeBlock headerOf putFree putComplete putHeader reservedZero kindOf spareOf linksOf sizeOf parentOf putLinks attributeEntry putAttributes addressOf putAddress addressesOf putAddresses inodeOf putInode slots slotAt entryOf slotNamed findSlot slotEmpty emptySlot putEntry clearEntry deskOf putDesk copiedOf putCopied marksOf putMarks markOf setMark clearMark clearNotes sameNames namedB newNameB entryB attributesB addressesB zeroTailB inodeB countedB leadB isSlot entryAt filled naming framedB headerB freeCountsB zeroBlockB blanksB bodyB soundB enter created written dropLink unlinked setParent moved putFile addBlock addBlocks putSize zeroRest keepFirst cutTo isKind zeroInode lessFree moreFree guardOf createPlan writePlan shortenPlan holdsNone unlinkPlan isBelow renameTo renamePlan roomIn makeRoom freshHeader emptyRoot freshStore freshDesk isLocked anyLocked startImage startDesk nextInode targetBlock lockedStep freeStep stepOf copiedEntry copiedEntries copiedBlock putCounts finishImage deskFramed imageBlocks imageAllowed isRunning blocksFit deskFits imageFits notesFit hasSlot slotNames isNamed outcome next run threeGuards decision live guarded started start step isCopied noteMade noteTaken cutsImage cutImage cutEntries clearMarks setMarks zeroed
+unfolding fresh movedDirectory desk.reservedZero allBelow someBelow leadsB count firstFrom first table part splice numAt toBytes putNum wordBytes digit marked withMark withoutMark entryInode isEmpty sameByte sameName nameLength entryName legalEntry entryFor plainByte isDots legalName blockOf putInBlock zeroBlock blocksUsed kthBlock isFree freeInode named freeBlock headerOf putFree putComplete putHeader reservedZero kindOf spareOf linksOf sizeOf parentOf putLinks attributeEntry putAttributes addressOf putAddress addressesOf putAddresses inodeOf putInode slots slotAt entryOf slotNamed findSlot slotEmpty emptySlot putEntry clearEntry deskOf putDesk copiedOf putCopied marksOf putMarks markOf setMark clearMark clearNotes sameNames namedB newNameB entryB attributesB addressesB zeroTailB inodeB countedB leadB isSlot entryAt filled naming framedB headerB freeCountsB zeroBlockB blanksB bodyB soundB enter created written dropLink unlinked setParent moved putFile addBlock addBlocks putSize zeroRest keepFirst cutTo isKind zeroInode lessFree moreFree guarded createPlan writePlan shortenPlan holdsNone unlinkPlan isBelow renameTo renamePlan roomIn makeRoom freshHeader emptyRoot freshStore freshDesk isLocked startImage startDesk nextInode targetBlock lockedStep freeStep stepOf copiedEntry copiedEntries copiedBlock putCounts finishImage deskFramed imageBlocks imageAllowed isRunning blocksFit deskFits imageFits notesFit hasSlot slotNames isNamed outcome next run started start step isCopied noteMade noteTaken cutsImage cutImage zeroed guardOf anyLocked threeGuards decision live cutEntries clearMarks setMarks
 moved-directory = (refl, (refl, refl))
 
 pub unlinked-file : (deskOf (run unlinkedFile (fresh 2 2) .desk) .state ≡ finished)
     × (tally (naming (run unlinkedFile (fresh 2 2) .image) 2) (mostSlots * 2) 2 ≡ 0)
-unfolding fresh unlinkedFile desk.reservedZero allBelow someBelow leadsB count firstFrom first table part splice numAt toBytes putNum wordBytes digit marked withMark withoutMark entryInode isEmpty sameByte sameName nameLength entryName legalEntry entryFor plainByte isDots legalName blockOf putInBlock zeroBlock blocksUsed kthBlock isFree freeInode named freeBlock headerOf putFree putComplete putHeader reservedZero kindOf spareOf linksOf sizeOf parentOf putLinks attributeEntry putAttributes addressOf putAddress addressesOf putAddresses inodeOf putInode slots slotAt entryOf slotNamed findSlot slotEmpty emptySlot putEntry clearEntry deskOf putDesk copiedOf putCopied marksOf putMarks markOf setMark clearMark clearNotes sameNames namedB newNameB entryB attributesB addressesB zeroTailB inodeB countedB leadB isSlot entryAt filled naming framedB headerB freeCountsB zeroBlockB blanksB bodyB soundB enter created written dropLink unlinked setParent moved putFile addBlock addBlocks putSize zeroRest keepFirst cutTo isKind zeroInode lessFree moreFree guardOf createPlan writePlan shortenPlan holdsNone unlinkPlan isBelow renameTo renamePlan roomIn makeRoom freshHeader emptyRoot freshStore freshDesk isLocked anyLocked startImage startDesk nextInode targetBlock lockedStep freeStep stepOf copiedEntry copiedEntries copiedBlock putCounts finishImage deskFramed imageBlocks imageAllowed isRunning blocksFit deskFits imageFits notesFit hasSlot slotNames isNamed outcome next run threeGuards decision live guarded started start step isCopied noteMade noteTaken cutsImage cutImage cutEntries clearMarks setMarks zeroed
+unfolding fresh unlinkedFile desk.reservedZero allBelow someBelow leadsB count firstFrom first table part splice numAt toBytes putNum wordBytes digit marked withMark withoutMark entryInode isEmpty sameByte sameName nameLength entryName legalEntry entryFor plainByte isDots legalName blockOf putInBlock zeroBlock blocksUsed kthBlock isFree freeInode named freeBlock headerOf putFree putComplete putHeader reservedZero kindOf spareOf linksOf sizeOf parentOf putLinks attributeEntry putAttributes addressOf putAddress addressesOf putAddresses inodeOf putInode slots slotAt entryOf slotNamed findSlot slotEmpty emptySlot putEntry clearEntry deskOf putDesk copiedOf putCopied marksOf putMarks markOf setMark clearMark clearNotes sameNames namedB newNameB entryB attributesB addressesB zeroTailB inodeB countedB leadB isSlot entryAt filled naming framedB headerB freeCountsB zeroBlockB blanksB bodyB soundB enter created written dropLink unlinked setParent moved putFile addBlock addBlocks putSize zeroRest keepFirst cutTo isKind zeroInode lessFree moreFree guarded createPlan writePlan shortenPlan holdsNone unlinkPlan isBelow renameTo renamePlan roomIn makeRoom freshHeader emptyRoot freshStore freshDesk isLocked startImage startDesk nextInode targetBlock lockedStep freeStep stepOf copiedEntry copiedEntries copiedBlock putCounts finishImage deskFramed imageBlocks imageAllowed isRunning blocksFit deskFits imageFits notesFit hasSlot slotNames isNamed outcome next run started start step isCopied noteMade noteTaken cutsImage cutImage zeroed guardOf anyLocked threeGuards decision live cutEntries clearMarks setMarks
 unlinked-file = (refl, refl)
 
 pub into-child : outcome (call (rename 1 nameA 3 nameA)) (run parentAndChild (fresh 3 3)) .answer ≡ Refused IntoItself
-unfolding fresh parentAndChild desk.reservedZero allBelow someBelow leadsB count firstFrom first table part splice numAt toBytes putNum wordBytes digit marked withMark withoutMark entryInode isEmpty sameByte sameName nameLength entryName legalEntry entryFor plainByte isDots legalName blockOf putInBlock zeroBlock blocksUsed kthBlock isFree freeInode named freeBlock headerOf putFree putComplete putHeader reservedZero kindOf spareOf linksOf sizeOf parentOf putLinks attributeEntry putAttributes addressOf putAddress addressesOf putAddresses inodeOf putInode slots slotAt entryOf slotNamed findSlot slotEmpty emptySlot putEntry clearEntry deskOf putDesk copiedOf putCopied marksOf putMarks markOf setMark clearMark clearNotes sameNames namedB newNameB entryB attributesB addressesB zeroTailB inodeB countedB leadB isSlot entryAt filled naming framedB headerB freeCountsB zeroBlockB blanksB bodyB soundB enter created written dropLink unlinked setParent moved putFile addBlock addBlocks putSize zeroRest keepFirst cutTo isKind zeroInode lessFree moreFree guardOf createPlan writePlan shortenPlan holdsNone unlinkPlan isBelow renameTo renamePlan roomIn makeRoom freshHeader emptyRoot freshStore freshDesk isLocked anyLocked startImage startDesk nextInode targetBlock lockedStep freeStep stepOf copiedEntry copiedEntries copiedBlock putCounts finishImage deskFramed imageBlocks imageAllowed isRunning blocksFit deskFits imageFits notesFit hasSlot slotNames isNamed outcome next run threeGuards decision live guarded started start step isCopied noteMade noteTaken cutsImage cutImage cutEntries clearMarks setMarks zeroed
+unfolding fresh parentAndChild desk.reservedZero allBelow someBelow leadsB count firstFrom first table part splice numAt toBytes putNum wordBytes digit marked withMark withoutMark entryInode isEmpty sameByte sameName nameLength entryName legalEntry entryFor plainByte isDots legalName blockOf putInBlock zeroBlock blocksUsed kthBlock isFree freeInode named freeBlock headerOf putFree putComplete putHeader reservedZero kindOf spareOf linksOf sizeOf parentOf putLinks attributeEntry putAttributes addressOf putAddress addressesOf putAddresses inodeOf putInode slots slotAt entryOf slotNamed findSlot slotEmpty emptySlot putEntry clearEntry deskOf putDesk copiedOf putCopied marksOf putMarks markOf setMark clearMark clearNotes sameNames namedB newNameB entryB attributesB addressesB zeroTailB inodeB countedB leadB isSlot entryAt filled naming framedB headerB freeCountsB zeroBlockB blanksB bodyB soundB enter created written dropLink unlinked setParent moved putFile addBlock addBlocks putSize zeroRest keepFirst cutTo isKind zeroInode lessFree moreFree guarded createPlan writePlan shortenPlan holdsNone unlinkPlan isBelow renameTo renamePlan roomIn makeRoom freshHeader emptyRoot freshStore freshDesk isLocked startImage startDesk nextInode targetBlock lockedStep freeStep stepOf copiedEntry copiedEntries copiedBlock putCounts finishImage deskFramed imageBlocks imageAllowed isRunning blocksFit deskFits imageFits notesFit hasSlot slotNames isNamed outcome next run started start step isCopied noteMade noteTaken cutsImage cutImage zeroed guardOf anyLocked threeGuards decision live cutEntries clearMarks setMarks
 into-child = refl
