@@ -4,6 +4,7 @@ pub mod Busy
 pub mod Notes
 pub mod Copier
 pub mod Live
+pub mod Shown
 pub mod Table
 pub mod List
 pub mod Finished
