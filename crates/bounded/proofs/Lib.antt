@@ -7,3 +7,4 @@ pub mod ClimbLaws
 pub mod ReflectLaws
 pub mod TableLaws
 pub mod SeenLaws
+pub mod SumLaws

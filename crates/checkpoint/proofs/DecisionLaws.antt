@@ -18,6 +18,7 @@ use Rattle.sound.proofs.SoundLaws.{is-sound}
 use Rattle.answers.specs.declared.Refusal.{Refusal}
 use Rattle.answers.specs.declared.Refusal.the-variants.{BadBuffer, UnsoundStore, BadDesk, IllegalName, WrongInode, NameAbsent, NameTaken, NotEmpty, PastEnd, IntoItself, NoInode, NoBlocks, NoSlot, Busy, WrongState, ImageFull}
 use Rattle.answers.specs.Refusal.{refusalNumber}
+use Rattle.answers.proofs.RefusalLaws.{not-none}
 use Rattle.files.specs.declared.Guard.{Guard}
 use Rattle.files.specs.declared.Guard.the-variants.{Pass, Stop}
 use Rattle.files.specs.Guard.{guardOf, onGuard}
@@ -27,7 +28,8 @@ use Rattle.files.proofs.LawfulCalls.{lawful}
 use Rattle.checkpoint.specs.Fit.{deskFramed, isRunning, notesFit}
 use Rattle.checkpoint.specs.Busy.{isLocked, anyLocked, unlessBusy}
 use Rattle.checkpoint.specs.Live.{World, Outcome, refuse, threeGuards, storeAlone, decision, leavesIn, live, guarded}
-use Rattle.checkpoint.specs.List.{Ready, call, outcome, accepted, refusalOf, takenFrom, anyAt, takes}
+use Rattle.checkpoint.specs.Shown.{numberOf}
+use Rattle.checkpoint.specs.List.{Ready, call, outcome, accepted, takenFrom, anyAt, takes}
 
 -- ---- the guards as a chain of tests
 pub guarded-is : (s m d : List ℕ) (o : Outcome)
@@ -121,7 +123,7 @@ module _ (Q : Effect → Type 0) where
       go false true true true true = last
 
 -- ---- what an accepted call does, by the laws of its effect
-apart-locked : (d is : List ℕ) → isRunning d ≡ true → anyLocked d is ≡ false → Apart (deskOf d .locked) is
+pub apart-locked : (d is : List ℕ) → isRunning d ≡ true → anyLocked d is ≡ false → Apart (deskOf d .locked) is
 unfolding anyLocked isLocked
 apart-locked d [] r e = tt
 apart-locked d (i ∷ is) r e = (
@@ -151,29 +153,11 @@ pub locked-stays : (c : Call) (w : World) (x : Effect) → Ready w → isRunning
 locked-stays c w x r g e l m u = let k = lives c w x r e in k .laws .untouched (deskOf (w .desk) .locked) l m u (k .locked g)
 
 -- ---- accepted
-not-none : (e : Refusal) → eqb (refusalNumber e) 0 ≡ false
-not-none BadBuffer = refl
-not-none UnsoundStore = refl
-not-none BadDesk = refl
-not-none IllegalName = refl
-not-none WrongInode = refl
-not-none NameAbsent = refl
-not-none NameTaken = refl
-not-none NotEmpty = refl
-not-none PastEnd = refl
-not-none IntoItself = refl
-not-none NoInode = refl
-not-none NoBlocks = refl
-not-none NoSlot = refl
-not-none Busy = refl
-not-none WrongState = refl
-not-none ImageFull = refl
-
 no-both : {A : Type 0} (x : Effect) (e : Refusal) → does x ≡ refused e → A
 no-both x e h = let z : _≡_ {A = ℕ} 0 1 = cc in absurd (omega arith)
 
 -- it is accepted, when and only when it is decided to do something
-done-is : (w : World) (q : Planned) → eqb (refusalOf (leavesIn w q .answer)) 0 ≡ onPlanned q (λ x. true) (λ e. false)
+done-is : (w : World) (q : Planned) → eqb (numberOf (leavesIn w q .answer)) 0 ≡ onPlanned q (λ x. true) (λ e. false)
 done-is w (does x) = refl
 done-is w (refused e) = not-none e
 

@@ -1,5 +1,5 @@
 -- The demands are met: for every accepted start on any bytes, and every list of events after it.
-use Prim.Native.Nat.{ℕ, _+_}
+use Prim.Native.Nat.{ℕ, _+_, _*_, _<_}
 use mathlib.Core.Path.{_≡_, refl, sym, ap, _∙_, subst}
 use mathlib.Core.Bool.{Bool, true}
 use mathlib.Core.List.{List}
@@ -9,28 +9,32 @@ use lib.ListN.{length}
 use Rattle.bounded.proofs.BoolLaws.{clash}
 use Rattle.desk.specs.Sizes.{finished, stopped}
 use Rattle.desk.specs.Desk.{deskOf}
-use Rattle.answers.specs.declared.Answer.{Answer}
-use Rattle.answers.specs.declared.Answer.the-variants.{Done, Refused}
+use Rattle.answers.specs.declared.Answer.the-variants.{Done}
 use Rattle.answers.specs.declared.Refusal.the-variants.{ImageFull}
+use Rattle.answers.specs.Refusal.{refusalNumber}
+use Rattle.answers.specs.Told.{Told, told}
+use Rattle.directory.specs.Slot.{mostSlots}
 use Rattle.sound.specs.Sound.{inodesIn}
 use Rattle.checkpoint.specs.Fit.{imageBlocks}
-use Rattle.checkpoint.specs.Live.{World, Outcome}
-use Rattle.checkpoint.specs.List.{Event, steps, starts, outcome, next, accepted, refusalOf, run, Finish, acceptedSteps}
+use Rattle.checkpoint.specs.Live.{World}
+use Rattle.checkpoint.specs.Shown.{Shown}
+use Rattle.checkpoint.specs.List.{Event, steps, starts, outcome, next, refusalOf, accepted, run, Finish}
 use Rattle.checkpoint.specs.Finished.{countOf, Finished}
-use Rattle.checkpoint.specs.Progress.{quiet, Roomy, Stays}
-use Rattle.checkpoint.specs.Demand.{Demand, Demands}
-use Rattle.checkpoint.proofs.PlainLaws.{run-plain}
+use Rattle.checkpoint.specs.Progress.{noRestart, Roomy, Stays, Opens}
+use Rattle.checkpoint.specs.Demand.{Takes, Demand, Demands}
+use Rattle.checkpoint.proofs.PlainLaws.{starts-keep, run-plain}
 use Rattle.checkpoint.proofs.Copy.ChosenLaws.{never-full}
-use Rattle.checkpoint.proofs.Run.Going.{Running, step-is}
+use Rattle.checkpoint.proofs.Run.Going.{Running}
 use Rattle.checkpoint.proofs.Run.Turned.{Stepped, on, ends, halts, stepped, Fills}
 use Rattle.checkpoint.proofs.Run.Starts.{Fresher, opens, opened-runs}
 use Rattle.checkpoint.proofs.Run.Rests.{Resting, step-idle}
 use Rattle.checkpoint.proofs.Run.Ends.{finals, halted}
-use Rattle.checkpoint.proofs.Run.Lists.{Going, runs, rests, fit, going-run, going-at}
+use Rattle.checkpoint.proofs.Run.Lists.{start-accepts, Going, runs, rests, fit, counted, going-run, going-at}
 use Rattle.checkpoint.proofs.Run.Results.{refusals}
 use Rattle.checkpoint.proofs.Run.Counts.{steps-counted, reported}
-use Rattle.checkpoint.proofs.Run.Progresses.{progress, roomy-blocks, still-run, gets-done}
+use Rattle.checkpoint.proofs.Run.Progresses.{progress, timing, roomy-blocks, still-run, gets-done}
 use Rattle.checkpoint.proofs.Run.Busies.{calls}
+use Rattle.checkpoint.proofs.Run.Taking.{taking}
 use Rattle.checkpoint.proofs.Run.Finales.{finale}
 use Rattle.checkpoint.proofs.Run.Honesty as honesty
 
@@ -49,66 +53,84 @@ module _ (b : ℕ) (w : World) (s : Fresher (countOf w) b w) (es : List Event) w
   whole f = honesty.finished b es w (s .runs) (s .fresh) (finale n b es w (s .runs) f)
 
   -- ---- 16
-  stop-there : (v : World) → Going n b v → outcome steps v .answer ≡ Refused ImageFull → (r : Running n b v) × Fills n b v
+  stop-there : (v : World) → Going n b v → refusalOf steps v ≡ refusalNumber ImageFull → (r : Running n b v) × Fills n b v
   stop-there v (runs r) h = go (stepped n b v r)
     where
-      never : {A : Type 0} (x : ℕ) → outcome steps v .answer ≡ Done x → A
-      never x e = let z : _≡_ {A = ℕ} 0 1 = cc in absurd (omega arith)
+      never : {A : Type 0} → refusalOf steps v ≡ 0 → A
+      never e = absurd (omega arith)
 
       go : Stepped n b v → (r : Running n b v) × Fills n b v
-      go (on g c a) = never _ a
-      go (ends f) = never _ (finals n b v r f .answer)
+      go (on g c a) = never (ap (λ (x : Told). x .number) a)
+      go (ends f) = never (ap (λ (x : Told). x .number) (finals n b v r f .answer))
       go (halts f) = (r, f)
-  stop-there v (rests r) h = let k : _≡_ {A = ℕ} 15 16 = ap refusalOf (sym (ap (λ (o : Outcome). o .answer) (step-idle n b v r)) ∙ h) in absurd (omega arith)
+  stop-there v (rests r) h = let k : refusalOf steps v ≡ 15 = ap (λ (o : Shown). o .answer .number) (step-idle n b v r) in absurd (omega arith)
 
-  full-never : Roomy w → outcome steps (run es w) .answer ≡ Refused ImageFull → ⊥
+  full-never : Roomy w → refusalOf steps (run es w) ≡ refusalNumber ImageFull → ⊥
   full-never m h =
       let k = stop-there (run es w) later h in
       never-full (k .0 .laid) (k .0 .sound) (k .0 .count) (roomy-blocks (s .runs) m) (k .1 .is)
 
   -- ---- it stays
-  finish-stays : Finish es w → (fs : List Event) → quiet fs (run es w) ≡ true → (run fs (run es w) .image ≡ run es w .image) × (deskOf (run fs (run es w) .desk) .state ≡ finished)
+  finish-stays : Finish es w → (fs : List Event) → noRestart fs (run es w) ≡ true → (run fs (run es w) .image ≡ run es w .image) × (run fs (run es w) .desk ≡ run es w .desk)
   finish-stays f fs q =
       let k = finale n b es w (s .runs) f in
       let r = finals n b (k .before) (k .runs) (k .finishes) in
       let l = still-run n b fs (run es w) (subst (Resting n b) (sym (k .is)) (r .rest)) q in
-      (l .image, ap (λ (d : List ℕ). deskOf d .state) (l .desk) ∙ ap (λ (v : World). deskOf (v .desk) .state) (k .is) ∙ r .state)
+      (l .image, l .desk)
 
-  stop-stays : outcome steps (run es w) .answer ≡ Refused ImageFull → (fs : List Event) → quiet fs (next steps (run es w)) ≡ true
-      → (run fs (next steps (run es w)) .image ≡ run es w .image) × (deskOf (run fs (next steps (run es w)) .desk) .state ≡ stopped)
+  stop-stays : refusalOf steps (run es w) ≡ refusalNumber ImageFull → (fs : List Event) → noRestart fs (next steps (run es w)) ≡ true
+      → (run fs (next steps (run es w)) .image ≡ run es w .image) × (run fs (next steps (run es w)) .desk ≡ next steps (run es w) .desk)
   stop-stays h fs q =
       let k = stop-there (run es w) later h in
       let r = halted n b (run es w) (k .0) (k .1) in
       let l = still-run n b fs (next steps (run es w)) (r .rest) q in
-      (l .image ∙ ap (λ (v : World). v .image) (r .is), ap (λ (d : List ℕ). deskOf d .state) (l .desk) ∙ r .state)
+      (l .image ∙ ap (λ (v : World). v .image) (r .is), l .desk)
 
   -- ---- a step's answer
-  answer-is : (v : World) → Going n b v → accepted steps v ≡ true → outcome steps v .answer ≡ Done (deskOf (v .desk) .steps + 1)
+  answer-is : (v : World) → Going n b v → accepted steps v ≡ true → outcome steps v .answer ≡ told (Done (deskOf (v .desk) .steps + 1))
   answer-is v (runs r) a = go (stepped n b v r)
     where
-      go : Stepped n b v → outcome steps v .answer ≡ Done (deskOf (v .desk) .steps + 1)
+      go : Stepped n b v → outcome steps v .answer ≡ told (Done (deskOf (v .desk) .steps + 1))
       go (on g c h) = h
       go (ends f) = finals n b v r f .answer
-      go (halts f) = absurd (clash (accepted steps v) a (ap (λ (x : Answer). eqb (refusalOf x) 0) (halted n b v r f .answer)))
-  answer-is v (rests r) a = absurd (clash (accepted steps v) a (ap (λ (o : Outcome). eqb (refusalOf (o .answer)) 0) (step-idle n b v r)))
+      go (halts f) = absurd (clash (accepted steps v) a (ap (λ (x : Told). eqb (x .number) 0) (halted n b v r f .answer)))
+  answer-is v (rests r) a = absurd (clash (accepted steps v) a (ap (λ (o : Shown). eqb (o .answer .number) 0) (step-idle n b v r)))
+
+  taking-later : (e : Event) (p : ℕ) → p < mostSlots * n → Takes e (run es w) p
+  taking-later e p l =
+      let c = counted later in
+      taking (run es w) p b (subst (λ (i : ℕ). Going i b (run es w)) c later) (subst (λ (i : ℕ). p < mostSlots * i) c l) e
 
   demand : Demand es w
   demand = record {
     finished = whole;
     refusals = λ e. refusals n b (run es w) e later;
-    reported = reported n b es w going (s .steps);
+    takes = λ e p l. taking-later e p l;
+    reported = reported n b es w going (s .steps) (s .runs .laid .desk .state);
     as-plain = run-plain es w (λ v m. fit (going-at n b es w v going m));
     calls = calls (run es w) (fit later);
+    timing = timing n b (run es w) later;
     progress = progress n b (run es w) later;
     done = gets-done n b es w (s .runs) (s .steps);
     stays = record { copy = finish-stays; stop = stop-stays };
     never-full = full-never;
-    step-answer = λ a. answer-is (run es w) later a ∙ ap (λ (c : ℕ). Done (c + 1)) (steps-counted n b es w 0 going (s .steps));
+    step-answer = λ a. answer-is (run es w) later a ∙ ap (λ (c : ℕ). told (Done (c + 1))) (steps-counted n b es w 0 going (s .steps));
   }
 
-pub demands : Demands
-demands v a es =
+-- ---- the opening start
+open-start : (v : World) → Opens v
+unfolding next
+open-start v = record {
+  accepts = λ r i a. ap (λ (x : Told). eqb (x .number) 0) (start-accepts v r i a);
+  store = starts-keep v;
+}
+
+lists : (v : World) → accepted starts v ≡ true → (es : List Event) → Demand es (next starts v)
+lists v a es =
     let o = opens v a in
     let n = countOf (next starts v) in
     let b = imageBlocks n (length (v .image)) in
     demand b (next starts v) (opened-runs n b v o (ap countOf (o .is)) refl) es
+
+pub demands : Demands
+demands = record { opens = open-start; lists = lists }

@@ -5,6 +5,8 @@ pub mod PlainLaws
 pub mod RefusedLaws
 pub mod RowLaws
 pub mod TableLaws
+pub mod Call
 pub mod Copy
+pub mod Step
 pub mod Run
 pub mod Demands

@@ -42,7 +42,7 @@ use Rattle.files.specs.Plain.{leaves, plain}
 use Rattle.files.specs.Plain as files
 use Rattle.files.proofs.PlainLaws.{on-guard}
 use Rattle.checkpoint.specs.Live.{Outcome}
-use Rattle.checkpoint.specs.List.{refusalOf}
+use Rattle.checkpoint.specs.Shown.{numberOf}
 
 -- ---- by cases
 pub by-pick : {A : Type 0} (P : A → Type 0) (b : Bool) {x y : A} → P x → P y → P (pick b x y)
@@ -158,10 +158,10 @@ ordinary-planned (rename d name e other) s n b = rename-ordinary s n b d name e 
 -- ---- the plain store's answers
 -- no answer of a desk or a copy
 pub record Deskless (a : Answer) : Type 0 where
-  pub third : refusalOf a ≡ 3 → ⊥
-  pub fourteenth : refusalOf a ≡ 14 → ⊥
-  pub fifteenth : refusalOf a ≡ 15 → ⊥
-  pub sixteenth : refusalOf a ≡ 16 → ⊥
+  pub third : numberOf a ≡ 3 → ⊥
+  pub fourteenth : numberOf a ≡ 14 → ⊥
+  pub fifteenth : numberOf a ≡ 15 → ⊥
+  pub sixteenth : numberOf a ≡ 16 → ⊥
 
 -- the plain store is framed and sound
 pub record StoreFits (s : List ℕ) : Type 0 where
@@ -171,10 +171,10 @@ pub record StoreFits (s : List ℕ) : Type 0 where
 -- what a plain call answers
 pub record Plainly (s : List ℕ) (o : files.Outcome) : Type 0 where
   pub never : Deskless (o .answer)
-  pub first : StoreFits s → refusalOf (o .answer) ≡ 1 → ⊥
-  pub second : StoreFits s → refusalOf (o .answer) ≡ 2 → ⊥
+  pub first : StoreFits s → numberOf (o .answer) ≡ 1 → ⊥
+  pub second : StoreFits s → numberOf (o .answer) ≡ 2 → ⊥
 
-low : (a : Answer) → refusalOf a ≤ 2 → Deskless a
+low : (a : Answer) → numberOf a ≤ 2 → Deskless a
 low a h = record { third = λ e. omega arith; fourteenth = λ e. omega arith; fifteenth = λ e. omega arith; sixteenth = λ e. omega arith }
 
 planned-plainly : (s out : List ℕ) (p : Planned) → Ordinary p → Plainly s (leaves s out p)

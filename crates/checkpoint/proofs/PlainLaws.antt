@@ -18,7 +18,8 @@ use Rattle.files.specs.Plain.{leaves, plain}
 use Rattle.checkpoint.specs.Fit.{deskFramed, imageAllowed, isRunning, notesFit}
 use Rattle.checkpoint.specs.Copier.{Step, lock, copy, close, finish, full, stepOf}
 use Rattle.checkpoint.specs.Live.{World, Outcome, refuse, decision, leavesIn, live, outOf, guarded, ask, doStep, started, start, step}
-use Rattle.checkpoint.specs.List.{Event, Ready, call, steps, asks, starts, outcome, next, refusalOf, run, Moment, here, after, isBusy, replies, heard, plainRun, plainReplies}
+use Rattle.checkpoint.specs.Shown.{numberOf}
+use Rattle.checkpoint.specs.List.{Event, Ready, call, steps, asks, starts, outcome, next, run, Moment, here, after, isBusy, replies, heard, plainRun, plainReplies}
 use Rattle.checkpoint.specs.Demand.{AsPlain}
 use Rattle.checkpoint.proofs.DecisionLaws.{same, busy, unfit, beside, guarded-is}
 use Rattle.checkpoint.proofs.PlainAnswers.{by-pick, StoreFits, plainly, plain-never}
@@ -33,7 +34,7 @@ record Alike (c : Call) (w : World) : Type 0 where
 data Between (c : Call) (w : World) : Type 0 where
   agree : Alike c w → Between c w
   locked : isRunning (w .desk) ≡ true → live c w ≡ refuse Busy (w .store) (w .image) (w .desk) → Between c w
-  stopped : 1 ≤ refusalOf (live c w .answer) → refusalOf (live c w .answer) ≤ 3 → (Ready w → ⊥) → Between c w
+  stopped : 1 ≤ numberOf (live c w .answer) → numberOf (live c w .answer) ≤ 3 → (Ready w → ⊥) → Between c w
 
 -- what is shown of one decision
 same-answer : (w : World) (out : List ℕ) (p : Planned) → leavesIn w p .answer ≡ leaves (w .store) out p .answer
@@ -57,19 +58,19 @@ between c w = elim (beside c w) [
     out = ap (λ p. onPlanned p (λ x. x .out) (λ e. given c)) e ∙ same-out (w .store) (given c) (plainDecision c (w .store));
   }
   | busy r e ↦ locked r (ap (leavesIn w) e)
-  | unfit f l m n e ↦ let k : refusalOf (leavesIn w (decision c w) .answer) ≡ refusalNumber f = ap (λ p. refusalOf (leavesIn w p .answer)) e in stopped (omega arith) (omega arith) n
+  | unfit f l m n e ↦ let k : numberOf (leavesIn w (decision c w) .answer) ≡ refusalNumber f = ap (λ p. numberOf (leavesIn w p .answer)) e in stopped (omega arith) (omega arith) n
 ]
 
 -- ---- the laws of one call
 -- no guard of the buffers refused, and the copy was not in the way
 pub record Passed (a : Answer) : Type 0 where
-  pub first : refusalOf a ≡ 1 → ⊥
-  pub second : refusalOf a ≡ 2 → ⊥
-  pub third : refusalOf a ≡ 3 → ⊥
-  pub fourteenth : refusalOf a ≡ 14 → ⊥
+  pub first : numberOf a ≡ 1 → ⊥
+  pub second : numberOf a ≡ 2 → ⊥
+  pub third : numberOf a ≡ 3 → ⊥
+  pub fourteenth : numberOf a ≡ 14 → ⊥
 
-busy-number : (w : World) (o : Outcome) → o ≡ refuse Busy (w .store) (w .image) (w .desk) → refusalOf (o .answer) ≡ 14
-busy-number w o e = ap (λ (x : Outcome). refusalOf (x .answer)) e
+busy-number : (w : World) (o : Outcome) → o ≡ refuse Busy (w .store) (w .image) (w .desk) → numberOf (o .answer) ≡ 14
+busy-number w o e = ap (λ (x : Outcome). numberOf (x .answer)) e
 
 -- a live call that passed is the plain store's
 pub as-plain : (c : Call) (w : World) → Passed (live c w .answer)
@@ -85,11 +86,11 @@ pub record Agrees (c : Call) (w : World) : Type 0 where
   pub answer : live c w .answer ≡ plain c (w .store) .answer
   pub store : live c w .store ≡ plain c (w .store) .store
   pub out : outOf c w ≡ plain c (w .store) .out
-  pub first : refusalOf (live c w .answer) ≡ 1 → ⊥
-  pub second : refusalOf (live c w .answer) ≡ 2 → ⊥
-  pub third : refusalOf (live c w .answer) ≡ 3 → ⊥
+  pub first : numberOf (live c w .answer) ≡ 1 → ⊥
+  pub second : numberOf (live c w .answer) ≡ 2 → ⊥
+  pub third : numberOf (live c w .answer) ≡ 3 → ⊥
 
-pub guards-pass : (c : Call) (w : World) → Ready w → (refusalOf (live c w .answer) ≡ 14 → ⊥) → Agrees c w
+pub guards-pass : (c : Call) (w : World) → Ready w → (numberOf (live c w .answer) ≡ 14 → ⊥) → Agrees c w
 guards-pass c w f h =
     let g : StoreFits (w .store) = record { framed = f .framed; sound = f .sound } in
     let q = plainly c (w .store) in
@@ -98,9 +99,9 @@ guards-pass c w f h =
         answer = x .answer;
         store = x .store;
         out = x .out;
-        first = λ e. q .first g (ap refusalOf (sym (x .answer)) ∙ e);
-        second = λ e. q .second g (ap refusalOf (sym (x .answer)) ∙ e);
-        third = λ e. q .never .third (ap refusalOf (sym (x .answer)) ∙ e);
+        first = λ e. q .first g (ap numberOf (sym (x .answer)) ∙ e);
+        second = λ e. q .second g (ap numberOf (sym (x .answer)) ∙ e);
+        third = λ e. q .never .third (ap numberOf (sym (x .answer)) ∙ e);
       }
       | locked r e ↦ absurd (h (busy-number w (live c w) e))
       | stopped l m n ↦ absurd (n f)
@@ -112,17 +113,17 @@ pub record Keeps (c : Call) (w : World) : Type 0 where
   pub image : live c w .image ≡ w .image
   pub desk : live c w .desk ≡ w .desk
 
-pub busy-keeps : (c : Call) (w : World) → refusalOf (live c w .answer) ≡ 14 → Keeps c w
+pub busy-keeps : (c : Call) (w : World) → numberOf (live c w .answer) ≡ 14 → Keeps c w
 busy-keeps c w h = elim (between c w) [
-  | agree x ↦ absurd (plain-never c (w .store) .fourteenth (ap refusalOf (sym (x .answer)) ∙ h))
+  | agree x ↦ absurd (plain-never c (w .store) .fourteenth (ap numberOf (sym (x .answer)) ∙ h))
   | locked r e ↦ record { store = ap (λ (o : Outcome). o .store) e; image = ap (λ (o : Outcome). o .image) e; desk = ap (λ (o : Outcome). o .desk) e }
   | stopped l m n ↦ absurd (omega arith)
 ]
 
 -- a call is busy only while a copy runs
-pub busy-running : (c : Call) (w : World) → isRunning (w .desk) ≡ false → refusalOf (live c w .answer) ≡ 14 → ⊥
+pub busy-running : (c : Call) (w : World) → isRunning (w .desk) ≡ false → numberOf (live c w .answer) ≡ 14 → ⊥
 busy-running c w r h = elim (between c w) [
-  | agree x ↦ plain-never c (w .store) .fourteenth (ap refusalOf (sym (x .answer)) ∙ h)
+  | agree x ↦ plain-never c (w .store) .fourteenth (ap numberOf (sym (x .answer)) ∙ h)
   | locked t e ↦ clash (isRunning (w .desk)) t r
   | stopped l m n ↦ omega arith
 ]
@@ -154,8 +155,8 @@ steps-keep w = guarded-store (w .store) (w .image) (w .desk) _
     P x = x .store ≡ w .store
 
 pub asks-keep : (w : World) → outcome asks w .store ≡ w .store
-unfolding outcome ask
-asks-keep w = guarded-store (w .store) (w .image) (w .desk) _ refl
+unfolding outcome
+asks-keep w = refl
 
 pub starts-keep : (w : World) → outcome starts w .store ≡ w .store
 unfolding outcome start started
@@ -179,14 +180,14 @@ from-same es w s h e = (h .store ∙ ap (plainRun (heard es w)) e, h .answers �
 busy-first : (c : Call) (es : List Event) (w : World) → isBusy c w ≡ true → AsPlain es (next (call c) w) → AsPlain (call c ∷ es) w
 unfolding run heard replies next outcome
 busy-first c es w b h =
-    let k : next (call c) w .store ≡ w .store = busy-keeps c w (eqb-true (refusalOf (live c w .answer)) 14 b) .store in
+    let k : next (call c) w .store ≡ w .store = busy-keeps c w (eqb-true (numberOf (live c w .answer)) 14 b) .store in
     let r = from-same es (next (call c) w) (w .store) h k in
     record { store = rw b (r .0); answers = rw b (r .1) }
 
 heard-first : (c : Call) (es : List Event) (w : World) → isBusy c w ≡ false → Ready w → AsPlain es (next (call c) w) → AsPlain (call c ∷ es) w
 unfolding run heard replies next outcome plainRun plainReplies
 heard-first c es w b f h =
-    let g = guards-pass c w f (λ e. clash (isBusy c w) (eq-eqb (refusalOf (live c w .answer)) 14 e) b) in
+    let g = guards-pass c w f (λ e. clash (isBusy c w) (eq-eqb (numberOf (live c w .answer)) 14 e) b) in
     let r = from-same es (next (call c) w) (plain c (w .store) .store) h (g .store) in
     record {
       store = rw b (r .0);

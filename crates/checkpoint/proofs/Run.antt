@@ -10,7 +10,9 @@ pub mod Lists
 pub mod Results
 pub mod Counts
 pub mod Progresses
+pub mod Hinders
 pub mod Busies
 pub mod Finales
 pub mod Stood
+pub mod Taking
 pub mod Honesty

@@ -14,7 +14,7 @@ use Rattle.checkpoint.specs.Fit.{isRunning}
 unfoldable pub isLocked : List ℕ → ℕ → Bool
 isLocked d i = isRunning d && eqb (deskOf d .locked) i
 
--- one of them is
+-- one of the inodes is
 unfoldable pub anyLocked : List ℕ → List ℕ → Bool
 anyLocked d [] = false
 anyLocked d (i ∷ is) = isLocked d i || anyLocked d is

@@ -1,31 +1,49 @@
 -- The demands (their quotes are the customer's) as one claim about lists: what a theorem is to inhabit.
-use Prim.Native.Nat.{ℕ, _+_, _*_, _≤_}
+use Prim.Native.Nat.{ℕ, _+_, _*_, _≤_, _<_}
 use mathlib.Core.Path.{_≡_}
-use mathlib.Core.Bool.{true}
+use mathlib.Core.Bool.{true, false}
 use mathlib.Core.List.{List}
+use lib.Dec.{eqb}
+use Rattle.bounded.specs.Search.{pick}
+use Rattle.layout.specs.Sizes.{isComplete, notComplete}
+use Rattle.layout.specs.Header.{headerOf}
+use Rattle.directory.specs.Slot.{mostSlots}
+use Rattle.desk.specs.Sizes.{running, finished}
 use Rattle.desk.specs.Desk.{deskOf}
 use Rattle.answers.specs.declared.Refusal.the-variants.{BadBuffer, UnsoundStore, BadDesk, ImageFull}
 use Rattle.answers.specs.Refusal.{refusalNumber}
-use Rattle.answers.specs.declared.Answer.the-variants.{Done, Refused}
+use Rattle.answers.specs.declared.Answer.the-variants.{Done}
+use Rattle.answers.specs.Told.{told}
+use Rattle.sound.specs.Place.{filled, naming}
 use Rattle.checkpoint.specs.declared.Status.the-variants.{Is}
 use Rattle.checkpoint.specs.Fit.{stepsAnInode}
-use Rattle.checkpoint.specs.Live.{World, status}
-use Rattle.checkpoint.specs.List.{Event, starts, steps, outcome, next, refusalOf, accepted, run, Finish, acceptedSteps, replies, heard, plainRun, plainReplies}
+use Rattle.checkpoint.specs.Live.{World}
+use Rattle.checkpoint.specs.Shown.{toldStatus}
+use Rattle.checkpoint.specs.List.{Event, asks, starts, steps, outcome, next, refusalOf, accepted, run, Finish, takes, acceptedSteps, stateAfter, replies, heard, plainRun, plainReplies}
 use Rattle.checkpoint.specs.Finished.{countOf, Finished}
-use Rattle.checkpoint.specs.Progress.{Progress, Roomy, GetsDone, Calls, Stopped, Stays}
+use Rattle.checkpoint.specs.Progress.{Progress, Roomy, GetsDone, Timing, Calls, Stopped, Stays, Opens}
 
 -- demand 1: "A refusal changes no lent buffer, save that 16 marks the copy stopped and unlocks what was being copied"; 1 to 3 never come. e is the next event
 pub record Refusals (e : Event) (w : World) : Type 0 where
-  pub buffers : refusalOf (outcome e w .answer) ≡ refusalNumber BadBuffer → ⊥
-  pub store : refusalOf (outcome e w .answer) ≡ refusalNumber UnsoundStore → ⊥
-  pub desk : refusalOf (outcome e w .answer) ≡ refusalNumber BadDesk → ⊥
-  pub keeps : (refusalOf (outcome e w .answer) ≡ 0 → ⊥) → (refusalOf (outcome e w .answer) ≡ refusalNumber ImageFull → ⊥) → next e w ≡ w
-  pub stops : refusalOf (outcome e w .answer) ≡ refusalNumber ImageFull → Stopped w (next e w)
+  pub buffers : refusalOf e w ≡ refusalNumber BadBuffer → ⊥
+  pub store : refusalOf e w ≡ refusalNumber UnsoundStore → ⊥
+  pub desk : refusalOf e w ≡ refusalNumber BadDesk → ⊥
+  pub keeps : (refusalOf e w ≡ 0 → ⊥) → (refusalOf e w ≡ refusalNumber ImageFull → ⊥) → next e w ≡ w
+  pub stops : refusalOf e w ≡ refusalNumber ImageFull → Stopped w (next e w)
 
--- "the copy's accepted steps are the number that the state question reports, and at most 14 times the inode count, plus 1"
+-- an entry is taken, when and only when the event empties its slot; all others stand for the same inode. p is a place
+pub record Takes (e : Event) (w : World) (p : ℕ) : Type 0 where
+  pub taken : takes e w p ≡ true → (filled (w .store) (countOf w) p ≡ true) × (filled (next e w .store) (countOf w) p ≡ false)
+  pub stands : takes e w p ≡ false → filled (w .store) (countOf w) p ≡ true
+      → (filled (next e w .store) (countOf w) p ≡ true) × (naming (next e w .store) (countOf w) p ≡ naming (w .store) (countOf w) p)
+
+-- "the copy's accepted steps are the number that the state question reports, and at most 14 times the inode count, plus 1"; the state that it reports is the one that the answers tell, and so is byte 8
 pub record Reported (es : List Event) (w : World) : Type 0 where
-  pub reports : status (run es w .store) (run es w .image) (run es w .desk) ≡ Is (deskOf (run es w .desk) .state) (deskOf (run es w .desk) .locked) (acceptedSteps es w 0)
+  pub reports : outcome asks (run es w) .answer ≡ toldStatus (Is (stateAfter es w running) (deskOf (run es w .desk) .locked) (acceptedSteps es w 0))
   pub bound : acceptedSteps es w 0 ≤ stepsAnInode * countOf w + 1
+  pub byte : headerOf (run es w .image) .complete ≡ pick (eqb (stateAfter es w running) finished) isComplete notComplete
+  -- no event changes the inode count
+  pub count : countOf (run es w) ≡ countOf w
 
 -- "The store's bytes and every file call's answer are exactly those of a plain store"
 pub record AsPlain (es : List Event) (w : World) : Type 0 where
@@ -38,16 +56,19 @@ pub record Demand (es : List Event) (w : World) : Type 0 where
   pub finished : Finish es w → Finished es w
   -- "Finished or not"
   pub refusals : (e : Event) → Refusals e (run es w)
+  pub takes : (e : Event) (p : ℕ) → p < mostSlots * countOf w → Takes e (run es w) p
   pub reported : Reported es w
   pub as-plain : AsPlain es w
   pub calls : Calls (run es w)
+  pub timing : Timing (run es w)
   pub progress : Progress (run es w)
   pub done : GetsDone es w
   pub stays : Stays es w
   -- "With 12 × N image blocks or more, 16 never comes in a run."
-  pub never-full : Roomy w → outcome steps (run es w) .answer ≡ Refused ImageFull → ⊥
+  pub never-full : Roomy w → refusalOf steps (run es w) ≡ refusalNumber ImageFull → ⊥
   -- "step the steps so far"
-  pub step-answer : accepted steps (run es w) ≡ true → outcome steps (run es w) .answer ≡ Done (acceptedSteps es w 0 + 1)
+  pub step-answer : accepted steps (run es w) ≡ true → outcome steps (run es w) .answer ≡ told (Done (acceptedSteps es w 0 + 1))
 
-abbrev pub Demands : Type 0
-Demands = (v : World) → accepted starts v ≡ true → (es : List Event) → Demand es (next starts v)
+pub record Demands : Type 0 where
+  pub opens : (v : World) → Opens v
+  pub lists : (v : World) → accepted starts v ≡ true → (es : List Event) → Demand es (next starts v)

@@ -1,10 +1,10 @@
--- What a finished copy is, told by the moments of its list. w is the world just after the opening start, es the events up to the finish, f the finished copy, p a place.
-use Prim.Native.Nat.{ℕ, _*_, _<_}
+-- What a finished copy is, told by the moments of its list. es are the events from the world w on, f is the finished copy, p a place.
+use Prim.Native.Nat.{ℕ, _*_, _≤_, _<_}
 use mathlib.Core.Path.{_≡_}
 use mathlib.Core.Bool.{true}
 use mathlib.Core.List.{List, [], _∷_, _++_}
 use Rattle.layout.specs.Sizes.{mostImageBlocks}
-use Rattle.layout.specs.Inode.{kindOf, sizeOf, fileKind}
+use Rattle.layout.specs.Inode.{kindOf, sizeOf, freeKind, fileKind}
 use Rattle.names.specs.Entry.{entryName}
 use Rattle.directory.specs.Slot.{mostSlots}
 use Rattle.desk.specs.Sizes.{finished}
@@ -27,13 +27,17 @@ pub record HadName (es : List Event) (w : World) (f : List ℕ) (p : ℕ) : Type
   pub held : filled (moment .store) (countOf moment) p ≡ true
   pub name : entryName (entryAt f (countOf w) p) ≡ entryName (entryAt (moment .store) (countOf moment) p)
 
+-- file i of f, of n inodes, has the size and the bytes that it has in s, of m
+pub record SameContent (f : List ℕ) (n : ℕ) (s : List ℕ) (m i : ℕ) : Type 0 where
+  pub size : sizeOf f i ≡ sizeOf s i
+  pub bytes : fileBytes f n i 0 (sizeOf f i) ≡ fileBytes s m i 0 (sizeOf f i)
+
 -- "size and bytes are of one moment"
 pub record HadBytes (es : List Event) (w : World) (f : List ℕ) (i : ℕ) : Type 0 where
   pub moment : World
   pub in-time : Moment es w moment
   pub kind : kindOf (moment .store) i ≡ fileKind
-  pub size : sizeOf f i ≡ sizeOf (moment .store) i
-  pub bytes : fileBytes f (countOf w) i 0 (sizeOf f i) ≡ fileBytes (moment .store) (countOf moment) i 0 (sizeOf f i)
+  pub content : SameContent f (countOf w) (moment .store) (countOf moment) i
 
 -- i had the copy's kind at a moment
 pub record HadKind (es : List Event) (w : World) (f : List ℕ) (i : ℕ) : Type 0 where
@@ -61,7 +65,7 @@ Throughout [] w p i = Names w p i
 Throughout (e ∷ es) w p i = Names w p i × Throughout es (next e w) p i
 
 -- an entry of the copy belongs to a time in which the store's slot named its inode without a break: in that time the slot held its name, and the inode had its kind and, a file, its size and bytes.
--- So no file has another's bytes, and no reused number poses as a hard link.
+-- So no file has bytes that were not its own.
 pub record Honest (es : List Event) (w : World) (f : List ℕ) (p : ℕ) : Type 0 where
   pub before : List Event
   pub during : List Event
@@ -72,10 +76,19 @@ pub record Honest (es : List Event) (w : World) (f : List ℕ) (p : ℕ) : Type 
   pub kind : HadKind during (run before w) f (naming f (countOf w) p)
   pub file : kindOf f (naming f (countOf w) p) ≡ fileKind → HadBytes during (run before w) f (naming f (countOf w) p)
 
--- ---- "A copy finished as under 3 is sound", has every kept entry, and nothing false; the desk says that it is finished
+-- one moment for each inode of the copy: then it had the copy's kind and, a file, its size and bytes, and every entry of the copy that names it named it in the store. So no reused number poses as a hard link.
+pub record OneMoment (es : List Event) (w : World) (f : List ℕ) (i : ℕ) : Type 0 where
+  pub moment : World
+  pub in-time : Moment es w moment
+  pub kind : kindOf f i ≡ kindOf (moment .store) i
+  pub file : kindOf f i ≡ fileKind → SameContent f (countOf w) (moment .store) (countOf moment) i
+  pub links : (p : ℕ) → p < mostSlots * countOf w → filled f (countOf w) p ≡ true → naming f (countOf w) p ≡ i → Names moment p i
+
+-- ---- "A copy finished as under 3 is sound", has every kept entry, and nothing false; the desk says that it is finished. w is the world just after the opening start, es the events up to the finish
 pub record Finished (es : List Event) (w : World) : Type 0 where
   pub count : inodesIn (run es w .image) ≡ countOf w
   pub sound : Sound mostImageBlocks true (run es w .image)
   pub entries : (p : ℕ) → Kept es w p → Copied es w (run es w .image) p
   pub honest : (p : ℕ) → p < mostSlots * countOf w → filled (run es w .image) (countOf w) p ≡ true → Honest es w (run es w .image) p
+  pub moments : (i : ℕ) → 1 ≤ i → i ≤ countOf w → (kindOf (run es w .image) i ≡ freeKind → ⊥) → OneMoment es w (run es w .image) i
   pub state : deskOf (run es w .desk) .state ≡ finished

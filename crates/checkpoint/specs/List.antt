@@ -5,20 +5,20 @@ use mathlib.Core.Bool.{Bool, true, false, _&&_, _||_}
 use mathlib.Core.List.{List, [], _∷_}
 use lib.Dec.{eqb}
 use Rattle.bounded.specs.Search.{pick}
-use Rattle.layout.specs.Sizes.{rootInode, isComplete}
+use Rattle.layout.specs.Sizes.{mostStoreBlocks, rootInode, isComplete}
 use Rattle.layout.specs.Header.{headerOf}
+use Rattle.desk.specs.Sizes.{running, finished, stopped}
 use Rattle.answers.specs.declared.Answer.{Answer}
-use Rattle.answers.specs.declared.Refusal.the-variants.{Busy}
+use Rattle.answers.specs.declared.Refusal.the-variants.{Busy, ImageFull}
 use Rattle.answers.specs.Refusal.{refusalNumber}
-use Rattle.answers.specs.Told.{told}
-use Rattle.layout.specs.Sizes.{mostStoreBlocks}
 use Rattle.sound.specs.Sound.{inodesIn, framedB, isSound}
 use Rattle.sound.specs.declared.Form.the-variants.{Store}
-use Rattle.checkpoint.specs.Fit.{deskFramed, notesFit}
 use Rattle.sound.specs.Place.{dirOf, filled, naming}
 use Rattle.files.specs.Effect.{Call, Entry, placeIn, onPlanned, plainDecision}
 use Rattle.files.specs.Plain.{plain}
-use Rattle.checkpoint.specs.Live.{World, Outcome, live, outOf, start, step, ask}
+use Rattle.checkpoint.specs.Fit.{deskFramed, notesFit}
+use Rattle.checkpoint.specs.Live.{World, live, outOf, start, step, status}
+use Rattle.checkpoint.specs.Shown.{numberOf, Shown, shown, toldStatus}
 
 -- refusals 1, 2 and 3 do not come
 pub record Ready (w : World) : Type 0 where
@@ -34,22 +34,22 @@ pub data Event : Type 0 where
   asks : Event
   starts : Event
 
--- ---- one event
-unfoldable pub outcome : Event → World → Outcome
-outcome (call c) w = live c w
-outcome steps w = step (w .store) (w .image) (w .desk)
-outcome asks w = ask (w .store) (w .image) (w .desk)
-outcome starts w = start (w .store) (w .image) (w .desk)
+-- ---- one event: what its caller is told, by the paper's numbers, and the content of each buffer
+unfoldable pub outcome : Event → World → Shown
+outcome (call c) w = shown (live c w)
+outcome steps w = shown (step (w .store) (w .image) (w .desk))
+outcome asks w = record { answer = toldStatus (status (w .store) (w .image) (w .desk)); store = w .store; image = w .image; desk = w .desk }
+outcome starts w = shown (start (w .store) (w .image) (w .desk))
 
 unfoldable pub next : Event → World → World
 next e w = record { store = outcome e w .store; image = outcome e w .image; desk = outcome e w .desk }
 
--- the number of a refusal, 0 for none
-abbrev pub refusalOf : Answer → ℕ
-refusalOf a = told a .number
+-- the number of its refusal, 0 for none
+abbrev pub refusalOf : Event → World → ℕ
+refusalOf e w = outcome e w .answer .number
 
 abbrev pub accepted : Event → World → Bool
-accepted e w = eqb (refusalOf (outcome e w .answer)) 0
+accepted e w = eqb (refusalOf e w) 0
 
 -- ---- a list of events
 unfoldable pub run : List Event → World → World
@@ -68,7 +68,7 @@ restarts (call c) w = false
 restarts steps w = false
 restarts asks w = false
 
--- the step "sets image byte 8"
+-- "The step that sets image byte 8": it is 1 after it
 abbrev pub completes : Event → World → Bool
 completes steps w = accepted steps w && eqb (headerOf (next steps w .image) .complete) isComplete
 completes (call c) w = false
@@ -97,6 +97,7 @@ takes steps w p = false
 takes asks w p = false
 takes starts w p = false
 
+-- no event takes it
 unfoldable pub Untouched : List Event → World → ℕ → Type 0
 Untouched [] w p = Unit {0}
 Untouched (e ∷ es) w p = (takes e w p ≡ false) × Untouched es (next e w) p
@@ -114,9 +115,17 @@ acceptedSteps (steps ∷ es) w c = acceptedSteps es (next steps w) (pick (accept
 acceptedSteps (call x ∷ es) w c = acceptedSteps es (next (call x) w) c
 acceptedSteps (asks ∷ es) w c = acceptedSteps es (next asks w) c
 
+-- ---- the state that the answers tell: running from an accepted start on, finished by the step that sets image byte 8, stopped by 16. c is the state before
+unfoldable pub stateAfter : List Event → World → ℕ → ℕ
+stateAfter [] w c = c
+stateAfter (starts ∷ es) w c = stateAfter es (next starts w) (pick (accepted starts w) running c)
+stateAfter (steps ∷ es) w c = stateAfter es (next steps w) (pick (completes steps w) finished (pick (eqb (refusalOf steps w) (refusalNumber ImageFull)) stopped c))
+stateAfter (call x ∷ es) w c = stateAfter es (next (call x) w) c
+stateAfter (asks ∷ es) w c = stateAfter es (next asks w) c
+
 -- ---- the plain store: "fed the list's file calls and their arguments in order, less those answered 14"
 abbrev pub isBusy : Call → World → Bool
-isBusy c w = eqb (refusalOf (live c w .answer)) (refusalNumber Busy)
+isBusy c w = eqb (numberOf (live c w .answer)) (refusalNumber Busy)
 
 -- what a file call answers: its answer, and a read's out-buffer
 pub record Reply : Type 0 where

@@ -13,32 +13,46 @@ use Rattle.layout.specs.Block.{storeLength, blocksUsed}
 use Rattle.layout.specs.Free.{named}
 use Rattle.desk.specs.Sizes.{finished, stopped}
 use Rattle.desk.specs.Desk.{deskOf}
-use Rattle.answers.specs.declared.Refusal.the-variants.{Busy, ImageFull}
-use Rattle.answers.specs.declared.Answer.the-variants.{Refused}
-use Rattle.sound.specs.Sound.{inodesIn, blocksIn}
-use Rattle.files.specs.Effect.{Call, Effect, does, planned, given}
-use Rattle.checkpoint.specs.Fit.{isRunning, stepsAnInode}
-use Rattle.checkpoint.specs.Busy.{anyLocked}
-use Rattle.checkpoint.specs.Live.{World, live, outOf}
-use Rattle.checkpoint.specs.List.{Event, call, steps, asks, starts, outcome, next, accepted, restarts, run, Finish}
+use Rattle.answers.specs.declared.Refusal.the-variants.{Busy, WrongState, ImageFull}
+use Rattle.answers.specs.declared.Answer.the-variants.{Done, Refused}
+use Rattle.answers.specs.Refusal.{refusalNumber}
+use Rattle.answers.specs.Told.{told}
+use Rattle.sound.specs.Sound.{inodesIn}
+use Rattle.content.specs.declared.NumberPlan.the-variants.{To}
+use Rattle.entries.specs.declared.Kind.{Kind}
+use Rattle.entries.specs.Plan.{lookUpPlan}
+use Rattle.files.specs.Effect.{Call, create, write, shorten, link, unlink, rename, given}
+use Rattle.files.specs.Plain.{plain}
+use Rattle.checkpoint.specs.Fit.{isRunning, imageAllowed, stepsAnInode}
+use Rattle.checkpoint.specs.Live.{World, outOf}
+use Rattle.checkpoint.specs.Shown.{numberOf}
+use Rattle.checkpoint.specs.List.{Ready, Event, call, steps, asks, starts, outcome, next, refusalOf, accepted, restarts, completes, run, Finish}
 use Rattle.checkpoint.specs.Finished.{countOf}
 
 -- ---- it gets done
--- the locked inode has a block left, and every image block is named
-pub record NoRoom (w : World) : Type 0 where
+-- "a block step with every image block named": the locked inode has a block left, and no image block is left
+pub record ImageTaken (w : World) : Type 0 where
   pub locked : 1 ≤ deskOf (w .desk) .locked
-  pub left : deskOf (w .desk) .copied < blocksUsed (sizeOf (w .store) (deskOf (w .desk) .locked))
-  pub full : (c : ℕ) → 1 ≤ c → c ≤ deskOf (w .desk) .blocks → named (w .image) (countOf w) c ≡ true
+  pub more : deskOf (w .desk) .copied < blocksUsed (sizeOf (w .store) (deskOf (w .desk) .locked))
+  pub taken : (c : ℕ) → 1 ≤ c → storeLength (countOf w) c ≤ length (w .image) → named (w .image) (countOf w) c ≡ true
 
--- while the copy runs a step is accepted, or refused with 16, and that only where there is no room
+-- what a finish leaves: "state finished", and one step more in bytes 12 to 15; byte 4 has the state. v is the world after it, and a desk is bytes
+pub record Ended (w v : World) : Type 0 where
+  pub store : v .store ≡ w .store
+  pub state : deskOf (v .desk) .state ≡ finished
+  pub long : length (v .desk) ≡ length (w .desk)
+  pub rest : Octets (w .desk) → (x : ℕ) → (x ≡ 4 → ⊥) → (12 ≤ x → x ≤ 15 → ⊥) → getD (v .desk) x 0 ≡ getD (w .desk) x 0
+
+-- while the copy runs a step is accepted, or refused with 16, and that only where no image block is left
 pub record Progress (w : World) : Type 0 where
-  pub moves : isRunning (w .desk) ≡ true → (outcome steps w .answer ≡ Refused ImageFull → ⊥) → accepted steps w ≡ true
-  pub stops : outcome steps w .answer ≡ Refused ImageFull → NoRoom w
+  pub moves : isRunning (w .desk) ≡ true → (refusalOf steps w ≡ refusalNumber ImageFull → ⊥) → accepted steps w ≡ true
+  pub fills : refusalOf steps w ≡ refusalNumber ImageFull → ImageTaken w
+  pub ends : completes steps w ≡ true → Ended w (next steps w)
 
 -- no start is accepted
-unfoldable pub quiet : List Event → World → Bool
-quiet [] w = true
-quiet (e ∷ es) w = not (restarts e w) && quiet es (next e w)
+unfoldable pub noRestart : List Event → World → Bool
+noRestart [] w = true
+noRestart (e ∷ es) w = not (restarts e w) && noRestart es (next e w)
 
 -- the steps that the list tries
 unfoldable pub tried : List Event → ℕ
@@ -55,20 +69,45 @@ blocksAnInode = addressCount
 abbrev pub Roomy : World → Type 0
 Roomy w = storeLength (countOf w) (blocksAnInode * countOf w) ≤ length (w .image)
 
--- after as many steps as a copy can take, whatever calls fall between, it is finished or stopped; with that many blocks finished. w is the world just after the start
+-- after as many steps as a copy can take, whatever calls fall between, it is finished or stopped; with 12 × N image blocks it is finished. w is the world just after the start
 pub record GetsDone (es : List Event) (w : World) : Type 0 where
-  pub ended : quiet es w ≡ true → stepsAnInode * countOf w + 1 ≤ tried es → (deskOf (run es w .desk) .state ≡ finished) ⊎ (deskOf (run es w .desk) .state ≡ stopped)
-  pub complete : Roomy w → quiet es w ≡ true → stepsAnInode * countOf w + 1 ≤ tried es → (deskOf (run es w .desk) .state ≡ finished) × (headerOf (run es w .image) .complete ≡ isComplete)
+  pub ended : noRestart es w ≡ true → stepsAnInode * countOf w + 1 ≤ tried es → (deskOf (run es w .desk) .state ≡ finished) ⊎ (deskOf (run es w .desk) .state ≡ stopped)
+  pub complete : Roomy w → noRestart es w ≡ true → stepsAnInode * countOf w + 1 ≤ tried es → (deskOf (run es w .desk) .state ≡ finished) × (headerOf (run es w .image) .complete ≡ isComplete)
 
--- ---- it is out of the way: 14 comes only to a call that the plain store would accept, and that touches the locked inode
+-- "15 start while running, step while not", and else a start is accepted, inside a list; a question changes nothing
+pub record Timing (w : World) : Type 0 where
+  pub early : isRunning (w .desk) ≡ true → outcome starts w .answer ≡ told (Refused WrongState)
+  pub again : isRunning (w .desk) ≡ false → outcome starts w .answer ≡ told (Done 0)
+  pub late : isRunning (w .desk) ≡ false → outcome steps w .answer ≡ told (Refused WrongState)
+  pub question : next asks w ≡ w
+
+-- ---- it is out of the way
+-- the calls that 14 may answer, as the paper lists them; l is the locked inode, s the store
+pub data Hinders (s : List ℕ) (l : ℕ) : Call → Type 0 where
+  -- "a write or shortening of the locked inode"
+  writes : {o : ℕ} {xs : List ℕ} → Hinders s l (write l o xs)
+  shortens : {z : ℕ} → Hinders s l (shorten l z)
+  -- "a create, link, unlink or rename in a locked directory"
+  creates : {name : List ℕ} {k : Kind} → Hinders s l (create l name k)
+  links : {name : List ℕ} {i : ℕ} → Hinders s l (link l name i)
+  unlinks : {name : List ℕ} → Hinders s l (unlink l name)
+  renames : {name other : List ℕ} {e : ℕ} → Hinders s l (rename l name e other)
+  renames-to : {name other : List ℕ} {d : ℕ} → Hinders s l (rename d name l other)
+  -- "a link to, unlink or move of the locked inode"
+  links-it : {d : ℕ} {name : List ℕ} → Hinders s l (link d name l)
+  unlinks-it : {d : ℕ} {name : List ℕ} → lookUpPlan s (inodesIn s) d name ≡ To l → Hinders s l (unlink d name)
+  moves-it : {d e : ℕ} {name other : List ℕ} → (d ≡ e → ⊥) → lookUpPlan s (inodesIn s) d name ≡ To l → Hinders s l (rename d name e other)
+
+-- 14 comes only while an inode is locked, to such a call that the plain store would accept
 pub record OnlyBusy (c : Call) (w : World) : Type 0 where
-  pub effect : Effect
-  pub would : planned c (w .store) (inodesIn (w .store)) (blocksIn (w .store)) ≡ does effect
-  pub locked : anyLocked (w .desk) (effect .touches) ≡ true
+  pub runs : isRunning (w .desk) ≡ true
+  pub locked : 1 ≤ deskOf (w .desk) .locked
+  pub hinders : Hinders (w .store) (deskOf (w .desk) .locked) c
+  pub would : numberOf (plain c (w .store) .answer) ≡ 0
 
 -- a refused call leaves a read's out-buffer as it was, too
 pub record Calls (w : World) : Type 0 where
-  pub busy : (c : Call) → live c w .answer ≡ Refused Busy → OnlyBusy c w
+  pub busy : (c : Call) → refusalOf (call c) w ≡ refusalNumber Busy → OnlyBusy c w
   pub out : (c : Call) → (accepted (call c) w ≡ true → ⊥) → outOf c w ≡ given c
 
 -- ---- what 16 does: "it sets state 3 and fields 6-9 to zero and changes nothing more". v is the world after it; byte 4 has the state, 6 to 9 the locked inode and its count, and a desk is bytes
@@ -81,8 +120,13 @@ pub record Stopped (w v : World) : Type 0 where
   pub long : length (v .desk) ≡ length (w .desk)
   pub rest : Octets (w .desk) → (x : ℕ) → (x ≡ 4 → ⊥) → (6 ≤ x → x ≤ 9 → ⊥) → getD (v .desk) x 0 ≡ getD (w .desk) x 0
 
--- ---- it stays: from the finish until a start is accepted the copy is byte for byte the finished one and the state is finished; after 16 it is stopped, likewise
+-- ---- it stays: from the finish, or from 16, until a start is accepted, image and desk are byte for byte as they were left. w is the world just after the start
 pub record Stays (es : List Event) (w : World) : Type 0 where
-  pub copy : Finish es w → (fs : List Event) → quiet fs (run es w) ≡ true → (run fs (run es w) .image ≡ run es w .image) × (deskOf (run fs (run es w) .desk) .state ≡ finished)
-  pub stop : outcome steps (run es w) .answer ≡ Refused ImageFull → (fs : List Event) → quiet fs (next steps (run es w)) ≡ true
-      → (run fs (next steps (run es w)) .image ≡ run es w .image) × (deskOf (run fs (next steps (run es w)) .desk) .state ≡ stopped)
+  pub copy : Finish es w → (fs : List Event) → noRestart fs (run es w) ≡ true → (run fs (run es w) .image ≡ run es w .image) × (run fs (run es w) .desk ≡ run es w .desk)
+  pub stop : refusalOf steps (run es w) ≡ refusalNumber ImageFull → (fs : List Event) → noRestart fs (next steps (run es w)) ≡ true
+      → (run fs (next steps (run es w)) .image ≡ run es w .image) × (run fs (next steps (run es w)) .desk ≡ next steps (run es w) .desk)
+
+-- ---- the opening start: accepted whenever the buffers fit and no copy runs; it leaves the store as it was
+pub record Opens (v : World) : Type 0 where
+  pub accepts : Ready v → isRunning (v .desk) ≡ false → imageAllowed (countOf v) (length (v .image)) ≡ true → accepted starts v ≡ true
+  pub store : next starts v .store ≡ v .store

@@ -8,7 +8,7 @@ use Rattle.bounded.specs.Climb.{climb}
 use Rattle.layout.specs.Sizes.{rootInode}
 use Rattle.sound.specs.Place.{dirOf}
 use Rattle.copying.specs.View.{View, Tidy}
-use Rattle.copying.specs.History.{Stood, Chain, top, below, Told}
+use Rattle.copying.specs.History.{Stood, Chain, top, below, Recorded}
 
 module _ (t : ℕ → View) (n k : ℕ) (same : (m : ℕ) → m ≤ k → (p : ℕ) → t m .store .names p ≡ t 0 .store .names p) (tidy : Tidy n (t 0 .store)) where
   stood : (p : ℕ) → t 0 .store .names p ≢ 0 → Stood t k p
@@ -28,7 +28,7 @@ module _ (t : ℕ → View) (n k : ℕ) (same : (m : ℕ) → m ≤ k → (p : �
         below (stood p z) (r .1) (climbs s (r .0) y (sym (ap (climb (t 0 .store .parent) s) a) ∙ c))
   ]
 
-pub tidy-chain : (t : ℕ → View) (n k : ℕ) → ((m : ℕ) → m ≤ k → (p : ℕ) → t m .store .names p ≡ t 0 .store .names p) → Told t n k
+pub tidy-chain : (t : ℕ → View) (n k : ℕ) → ((m : ℕ) → m ≤ k → (p : ℕ) → t m .store .names p ≡ t 0 .store .names p) → Recorded t n k
     → (p : ℕ) → t 0 .store .names p ≢ 0 → Chain t k p
 tidy-chain t n k same told p z =
     let tidy = told .tidy 0 (omega arith) in

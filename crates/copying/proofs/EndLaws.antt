@@ -12,7 +12,7 @@ use Rattle.sound.specs.Place.{dirOf}
 use Rattle.copying.specs.View.{View, Tidy}
 use Rattle.copying.specs.Deed.{Alike}
 use Rattle.copying.specs.Holds.{Led, root, up, Holds, Ended}
-use Rattle.copying.specs.History.{Told, Spell, Since, Stood, Chain, top, below}
+use Rattle.copying.specs.History.{Recorded, Spell, Since, Stood, Chain, top, below}
 use Rattle.copying.proofs.HistoryLaws.{told-holds, kind-held, keeps}
 
 led-leads : {c : ℕ → Bool} {f : ℕ → ℕ} {x : ℕ} → Led c f x → Leads f rootInode x
@@ -37,7 +37,7 @@ tidy-image {v = v} h e = record {
 pub all-honest : (t : ℕ → View) (k : ℕ) → Since t k → Ended (t k) → (p : ℕ) → t k .image .names p ≢ 0 → Spell t k p
 all-honest t k s e p z = s .spells p z (e .last p z)
 
-module _ (t : ℕ → View) (n k : ℕ) (told : Told t n k) (e : Ended (t k)) where
+module _ (t : ℕ → View) (n k : ℕ) (told : Recorded t n k) (e : Ended (t k)) where
   chain-stood : {p : ℕ} → Chain t k p → Stood t k p
   chain-stood (top s r) = s
   chain-stood (below s r c) = s
@@ -54,7 +54,8 @@ module _ (t : ℕ → View) (n k : ℕ) (told : Told t n k) (e : Ended (t k)) wh
   pub kept-body : (p : ℕ) → Chain t k p → (m : ℕ) × (m ≤ k) × Alike (t m .store) (t k .image) (t 0 .store .names p)
   kept-body p h =
       let r = kept-there p h .1 in
-      told-holds t n k told k (omega arith) .1 .seen (t 0 .store .names p) (rw r at (e .last p (λ z. chain-stood h 0 (omega arith) (sym r ∙ z))))
+      let m = told-holds t n k told k (omega arith) .1 .seen (t 0 .store .names p) (rw r at (e .last p (λ z. chain-stood h 0 (omega arith) (sym r ∙ z)))) in
+      (m .0, m .1, m .2)
 
   pub kept-kind : (p : ℕ) → Chain t k p → t k .image .kind (t 0 .store .names p) ≡ t 0 .store .kind (t 0 .store .names p)
   kept-kind p h =

@@ -10,7 +10,7 @@ use Rattle.sound.specs.Place.{dirOf}
 use Rattle.copying.specs.View.{View}
 use Rattle.copying.specs.Deed.{stays, goes, comes, elsewhere, skipped, taken, Deed}
 use Rattle.copying.specs.Holds.{Holds}
-use Rattle.copying.specs.History.{Names, Told, Spell, Since, Stood, Keeps}
+use Rattle.copying.specs.History.{Names, Recorded, Spell, Since, Stood, Keeps}
 use Rattle.copying.proofs.LightLaws.{light-or-closed}
 use Rattle.copying.proofs.HoldsLight.{holds-fresh}
 use Rattle.copying.proofs.HoldsClosed.{copied-before}
@@ -21,7 +21,7 @@ use Rattle.copying.proofs.SinceLaws.{since-fresh, since-does}
 kinds : {n : ℕ} {v w : View} → Deed n v w → (i : ℕ) → v .store .kind i ≢ freeKind → (w .store .kind i ≡ v .store .kind i) ⊎ (w .store .kind i ≡ freeKind)
 kinds {v = v} {w = w} d i z = elim (light-or-closed d) [ inl e ↦ e .kinds i z | inr r ↦ inl (ap (λ x. x .kind i) (r .1 .store)) ]
 
-module _ (t : ℕ → View) (n k : ℕ) (told : Told t n k) where
+module _ (t : ℕ → View) (n k : ℕ) (told : Recorded t n k) where
   pub told-holds : (j : ℕ) → j ≤ k → Holds n (t j) × Since t j
   told-holds zero l = (holds-fresh n (t 0) (told .tidy 0 l) (told .fresh), since-fresh t (told .fresh))
   told-holds (suc j) l =

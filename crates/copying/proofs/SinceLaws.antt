@@ -59,10 +59,16 @@ module _ (t : ℕ → View) where
   }
 
   module _ (n j : ℕ) (h₀ : Holds n (t j)) (h : Holds n (t (suc j))) (s : Since t j) where
+    -- 0 is never copied
+    not-zero : (i : ℕ) → t (suc j) .copied i ≡ true → i ≢ 0
+    not-zero i k z = clash (t (suc j) .copied i) k (ap (t (suc j) .copied) z ∙ h .zero-not)
+
     since-light : Light (t j) (t (suc j)) → Since t (suc j)
     since-light e = record {
       old = λ p m z. let r = old-was e p z m in names-more (rw (r .0) (s .old p (r .1) (λ u. z (r .0 ∙ u)))) refl;
-      seen = λ i k. let r = s .seen i (copied-was e i k) in (r .0, omega (arith, r .1), alike-on (r .2) (e .inodes i));
+      seen = λ i k.
+          let r = s .seen i (copied-was e i k) in
+          (r .0, omega (arith, r .1), alike-on (r .2) (e .inodes i), λ p q. r .3 p (sym (name-was e p (λ u. not-zero i k (sym q ∙ u))) ∙ q));
       waits = λ p z k.
           let a = name-was e p z in
           waits-on a (e .entries p z) (h .stands p z k) (s .waits p (λ u. z (a ∙ u)) (cc (e .copied (t (suc j) .image .names p))));
@@ -110,14 +116,38 @@ module _ (t : ℕ → View) where
             inode = alike-on (r .2) (e .others (t (suc j) .image .names p) g);
           }
 
+      -- wherever the image names l once it is closed, the store names it
+      names-closed : (i : ℕ) → t (suc j) .copied i ≡ true → i ≡ l → (p : ℕ) → t (suc j) .image .names p ≡ i → t j .store .names p ≡ i
+      names-closed i k g p q =
+          let z : t (suc j) .image .names p ≢ 0 = λ u. not-zero i k (sym q ∙ u) in
+          elim (ℕ-discrete (dirOf p) l) [
+            | yes d ↦ sym (new-name e p d z) ∙ q
+            | no d ↦
+                let a = same-name e p d in
+                h₀ .stands p (λ u. z (a ∙ u)) (ap (t j .copied) (sym a ∙ q ∙ g) ∙ uncopied-l n (t j) (t (suc j)) l h₀ e) ∙ sym a ∙ q
+          ]
+
+      -- and wherever it names an inode that was copied before, the store named it at that inode's moment
+      names-before : (i : ℕ) → t (suc j) .copied i ≡ true → i ≢ l → (r : (m : ℕ) × (m ≤ j) × Alike (t m .store) (t j .image) i × ((p : ℕ) → t j .image .names p ≡ i → t m .store .names p ≡ i))
+          → (p : ℕ) → t (suc j) .image .names p ≡ i → t (r .0) .store .names p ≡ i
+      names-before i k g r p q =
+          let z : t (suc j) .image .names p ≢ 0 = λ u. not-zero i k (sym q ∙ u) in
+          elim (ℕ-discrete (dirOf p) l) [
+            | yes d ↦
+                let a = new-name e p d z in
+                let c : t j .copied (t j .store .names p) ≡ true = ap (t j .copied) (sym a ∙ q) ∙ sym (copied-before e i g) ∙ k in
+                s .old p (new-unmarked e p d z c) (λ u. z (a ∙ u)) (r .0) (omega arith) (r .1) ∙ sym a ∙ q
+            | no d ↦ r .3 p (sym (same-name e p d) ∙ q)
+          ]
+
       since-closed : Since t (suc j)
       since-closed = record {
         old = λ p m z.
             let a : t (suc j) .store .names p ≡ t j .store .names p = cc (e .store) in
             names-more (rw a (s .old p (sym (e .marked p) ∙ m) (λ u. z (a ∙ u)))) refl;
         seen = λ i k. elim (ℕ-discrete i l) [
-          | yes g ↦ (j, omega arith, rw g (e .whole))
-          | no g ↦ let r = s .seen i (sym (copied-before e i g) ∙ k) in (r .0, omega (arith, r .1), alike-on (r .2) (e .others i g))
+          | yes g ↦ (j, omega arith, rw g (e .whole), λ p q. names-closed i k g p q)
+          | no g ↦ let r = s .seen i (sym (copied-before e i g) ∙ k) in (r .0, omega (arith, r .1), alike-on (r .2) (e .others i g), λ p q. names-before i k g r p q)
         ];
         waits = λ p z k. elim (ℕ-discrete (dirOf p) l) [
           | yes d ↦ record {

@@ -2,7 +2,7 @@
 use Prim.Native.Nat.{ℕ, _≤_}
 use mathlib.Core.Path.{_≡_}
 use mathlib.Core.Logic.{_≢_, _⊎_}
-use mathlib.Core.Bool.{Bool, true, false}
+use mathlib.Core.Bool.{true, false}
 use Rattle.bounded.specs.Update.{Changed}
 use Rattle.layout.specs.Sizes.{rootInode}
 use Rattle.layout.specs.Inode.{freeKind, fileKind}

@@ -15,7 +15,7 @@ module _ (t : ℕ → View) where
   Names a b p i = (m : ℕ) → a ≤ m → m ≤ b → t m .store .names p ≡ i
 
   -- a copy's history up to moment k
-  pub record Told (n k : ℕ) : Type 0 where
+  pub record Recorded (n k : ℕ) : Type 0 where
     pub fresh : Fresh (t 0)
     pub tidy : (j : ℕ) → j ≤ k → Tidy n (t j .store)
     pub deeds : (j : ℕ) → j < k → Deed n (t j) (t (suc j))
@@ -46,8 +46,8 @@ module _ (t : ℕ → View) where
   pub record Since (j : ℕ) : Type 0 where
     -- an unmarked entry has stood since the start
     pub old : (p : ℕ) → t j .marked p ≡ false → t j .store .names p ≢ 0 → Names 0 j p (t j .store .names p)
-    -- a copied inode is that of one moment
-    pub seen : (i : ℕ) → t j .copied i ≡ true → (m : ℕ) × (m ≤ j) × Alike (t m .store) (t j .image) i
+    -- a copied inode is that of one moment, at which the store named it wherever the image does
+    pub seen : (i : ℕ) → t j .copied i ≡ true → (m : ℕ) × (m ≤ j) × Alike (t m .store) (t j .image) i × ((p : ℕ) → t j .image .names p ≡ i → t m .store .names p ≡ i)
     pub waits : (p : ℕ) → t j .image .names p ≢ 0 → t j .copied (t j .image .names p) ≡ false → Waits j p
     pub spells : (p : ℕ) → t j .image .names p ≢ 0 → t j .copied (t j .image .names p) ≡ true → Spell j p
 

@@ -29,7 +29,7 @@ use Rattle.checkpoint.specs.Notes.{isCopied}
 use Rattle.checkpoint.specs.Copier.{Step, lock, copy, close, finish, full, nextInode, targetBlock, lockedStep, freeStep, stepOf}
 use Rattle.checkpoint.proofs.Copy.Seen.{shelfOf, seen}
 use Rattle.checkpoint.proofs.Copy.Laid.{Laid}
-use Rattle.checkpoint.proofs.Copy.LockLaws.{seen-naming}
+use Rattle.checkpoint.proofs.Step.LockLaws.{seen-naming}
 use Rattle.checkpoint.proofs.Copy.TargetLaws.{target-at, target-absent}
 use Rattle.checkpoint.proofs.Copy.RoomLaws.{laid-room}
 

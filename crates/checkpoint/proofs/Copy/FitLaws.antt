@@ -27,8 +27,8 @@ use Rattle.checkpoint.specs.Fit.{deskFramed, isRunning, stepsAnInode, mo
 use Rattle.checkpoint.specs.Notes.{isCopied}
 use Rattle.checkpoint.specs.List.{Ready}
 use Rattle.checkpoint.proofs.Copy.Laid.{Laid, cost}
-use Rattle.checkpoint.proofs.Copy.SumLaws.{sum-most, sum-spare}
-use Rattle.checkpoint.proofs.Copy.LockLaws.{free-cost, locked-cost}
+use Rattle.bounded.proofs.SumLaws.{sum-most, sum-spare}
+use Rattle.checkpoint.proofs.Step.LockLaws.{free-cost, locked-cost}
 
 -- ---- the tests and what they say
 pub desk-framed-is : (d : List ℕ) → Reflects (deskFramed d) ((1 ≤ deskOf d .inodes) × ((deskOf d .inodes ≤ mostInodes) × (length d ≡ deskLength (deskOf d .inodes))))

@@ -24,7 +24,7 @@ use Rattle.checkpoint.specs.Notes.{isCopied}
 use Rattle.checkpoint.specs.Copier.{copiedEntry, copiedEntries, copiedBlock}
 use Rattle.checkpoint.proofs.Copy.Seen.{markedAt}
 use Rattle.checkpoint.proofs.Copy.Laid.{cost}
-use Rattle.checkpoint.proofs.Copy.SumLaws.{sum-ext}
+use Rattle.bounded.proofs.SumLaws.{sum-ext}
 
 -- ---- desks with the same copied inodes and the same marks
 pub record SameNotes (d e : List ℕ) (n : ℕ) : Type 0 where

@@ -23,13 +23,14 @@ use Rattle.checkpoint.specs.Fit.{imageAllowed, imageBlocks}
 use Rattle.checkpoint.specs.Notes.{cutEntries, clearMarks, setMarks}
 use Rattle.checkpoint.specs.Busy.{anyLocked}
 use Rattle.checkpoint.specs.Live.{World, Outcome, left, refuse, decision, leavesIn, live, started, start, ask}
+use Rattle.checkpoint.specs.Shown.{shown}
 use Rattle.checkpoint.specs.List.{Ready, Event, call, asks, starts, outcome, next}
 use Rattle.checkpoint.proofs.DecisionLaws.{Allowed, each-decided}
 use Rattle.checkpoint.proofs.Copy.Seen.{seen}
-use Rattle.checkpoint.proofs.Copy.PartedLaws.{Parted, taken-made-apart}
+use Rattle.checkpoint.proofs.Call.PartedLaws.{Parted, taken-made-apart}
 use Rattle.checkpoint.proofs.Copy.TidyLaws.{store-tidy}
-use Rattle.checkpoint.proofs.Copy.CallLaid.{call-laid}
-use Rattle.checkpoint.proofs.Copy.CallSeen.{call-called}
+use Rattle.checkpoint.proofs.Call.CallLaid.{call-laid}
+use Rattle.checkpoint.proofs.Call.CallSeen.{call-called}
 use Rattle.checkpoint.proofs.Run.Going.{seenIn, Running, ready, runs, locked-used, guards-pass, leftIn, next-is}
 use Rattle.checkpoint.proofs.Run.Turned.{Goes}
 
@@ -47,6 +48,11 @@ image-allowed n b k l m e =
 each-both : (P Q : Effect → Type 0) (q : Planned) → Each P q → Each Q q → Each (λ x. P x × Q x) q
 each-both P Q (refused e) a b = tt
 each-both P Q (does x) a b = (a, b)
+
+-- the state question changes nothing
+pub asks-same : (w : World) → next asks w ≡ w
+unfolding next outcome
+asks-same w = refl
 
 alike-self : (x : Shelf) (i : ℕ) → Alike x x i
 alike-self x i = record { kind = refl; parent = refl; size = refl; bytes = λ e. refl }
@@ -96,15 +102,14 @@ module _ (n b : ℕ) (w : World) (r : Running n b w) where
       decided c (decision c w) refl (each-decided (λ x. Lawful (w .store) n x × Parted x) c w (each-both _ _ (planned c (w .store) (inodesIn (w .store)) (blocksIn (w .store))) k p))
 
   pub asks-goes : Goes n b w (next asks w)
-  unfolding outcome ask
-  asks-goes = same-goes (next asks w) (next-is asks w (left (Done 0) (w .store) (w .image) (w .desk)) (guards-pass w (ready r) _))
+  asks-goes = same-goes (next asks w) (asks-same w)
 
-  pub start-busy : outcome starts w ≡ refuse WrongState (w .store) (w .image) (w .desk)
+  pub start-busy : outcome starts w ≡ shown (refuse WrongState (w .store) (w .image) (w .desk))
   unfolding outcome start started
   start-busy =
       let a : imageAllowed (inodesIn (w .store)) (length (w .image)) ≡ true = rw (sym (r .count)) (image-allowed n b (length (w .image)) (r .laid .frame .some-blocks) (r .laid .frame .most-blocks) (r .laid .frame .long)) in
       let g = ready r in
-      rw (a, g .framed, g .desk) (guards-pass w g _ ∙ rw (runs r) refl)
+      rw (a, g .framed, g .desk) (ap shown (guards-pass w g _) ∙ rw (runs r) refl)
 
   pub starts-goes : Goes n b w (next starts w)
   starts-goes = same-goes (next starts w) (next-is starts w _ start-busy)

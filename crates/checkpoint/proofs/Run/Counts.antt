@@ -7,30 +7,34 @@ use native.Mathlib.Omega.{arith}
 use borrow.Author.Tests.{leb-true, eqb-true}
 use lib.Dec.{eqb, leb}
 use Rattle.bounded.specs.Search.{pick}
-use Rattle.bounded.proofs.BoolLaws.{clash, fails}
+use Rattle.bounded.proofs.BoolLaws.{and-false-l, and-false-r}
 use Rattle.desk.specs.declared.Desk.{Desk}
 use Rattle.desk.specs.Desk.{deskOf, setMark, clearMark}
 use Rattle.desk.proofs.DeskLaws.{desk-setMark, desk-clearMark}
-use Rattle.answers.specs.declared.Answer.{Answer}
-use Rattle.answers.specs.declared.Answer.the-variants.{Done, Refused}
 use Rattle.answers.specs.declared.Refusal.the-variants.{ImageFull}
+use Rattle.answers.specs.Refusal.{refusalNumber}
+use Rattle.answers.specs.Told.{Told}
+use Rattle.layout.specs.Sizes.{isComplete, notComplete}
+use Rattle.layout.specs.Header.{headerOf}
+use Rattle.desk.specs.Sizes.{running, finished, stopped}
 use Rattle.sound.specs.Sound.{inodesIn}
 use Rattle.files.specs.Effect.{Call, Entry, Planned, does, refused}
 use Rattle.checkpoint.specs.declared.Status.{Status}
 use Rattle.checkpoint.specs.declared.Status.the-variants.{Is}
 use Rattle.checkpoint.specs.Fit.{isRunning, stepsAnInode, deskFits, mostSteps}
 use Rattle.checkpoint.specs.Notes.{noteMade, noteTaken, clearMarks, setMarks}
-use Rattle.checkpoint.specs.Live.{World, Outcome, decision, leavesIn, live, asStatus, status, ask}
-use Rattle.checkpoint.specs.List.{Ready, Event, call, steps, asks, starts, outcome, next, accepted, refusalOf, run, acceptedSteps}
+use Rattle.checkpoint.specs.Live.{World, Outcome, decision, leavesIn, live}
+use Rattle.checkpoint.specs.Shown.{numberOf, Shown, shown, toldStatus}
+use Rattle.checkpoint.specs.List.{Ready, Event, call, steps, asks, starts, outcome, next, accepted, run, acceptedSteps, refusalOf, completes, stateAfter}
 use Rattle.checkpoint.specs.Finished.{countOf}
 use Rattle.checkpoint.specs.Demand.{Reported}
 use Rattle.checkpoint.proofs.Copy.FitLaws.{laid-steps, notes-fit-is, desk-fits-is}
-use Rattle.checkpoint.proofs.Run.Going as going
-use Rattle.checkpoint.proofs.Run.Going.{Running, next-is, leftIn}
+use Rattle.checkpoint.proofs.Run.Going.{Running, next-is, incomplete}
 use Rattle.checkpoint.proofs.Run.Turned.{Stepped, on, ends, halts, stepped}
-use Rattle.checkpoint.proofs.Run.Calls.{start-busy}
-use Rattle.checkpoint.proofs.Run.Rests.{Resting, idle, step-idle, steps-kept, asks-kept}
-use Rattle.checkpoint.proofs.Run.Ends.{finals, halted}
+use Rattle.checkpoint.proofs.Run.Calls.{asks-same, start-busy}
+use Rattle.checkpoint.proofs.Run.Rests.{Resting, idle, step-idle}
+use Rattle.checkpoint.proofs.Run.Ends.{finals, halted, completed}
+use Rattle.checkpoint.proofs.Run.Results.{asked}
 use Rattle.checkpoint.proofs.Run.Lists.{Going, runs, rests, fit, counted, start-anew, start-taken, going-next, going-run}
 
 -- ---- a call writes marks alone
@@ -70,22 +74,22 @@ unfolding next outcome live
 call-head c w = leaves-head w (decision c w)
 
 -- ---- one event
-not-accepted : (e : Event) (w : World) (o : Outcome) → outcome e w ≡ o → eqb (refusalOf (o .answer)) 0 ≡ false → accepted e w ≡ false
-not-accepted e w o h f = ap (λ (x : Outcome). eqb (refusalOf (x .answer)) 0) h ∙ f
+not-accepted : (e : Event) (w : World) (x : Shown) → outcome e w ≡ x → eqb (x .answer .number) 0 ≡ false → accepted e w ≡ false
+not-accepted e w x h f = ap (λ (x : Shown). eqb (x .answer .number) 0) h ∙ f
 
 abbrev pub stepsIn : World → ℕ
 stepsIn w = deskOf (w .desk) .steps
 
 module _ (n b : ℕ) (w : World) where
   step-count : Running n b w → Stepped n b w → (c : ℕ) → stepsIn w ≡ c → stepsIn (next steps w) ≡ pick (accepted steps w) (suc c) c
-  step-count r (on g k a) c h = rw (ap (λ (x : Answer). eqb (refusalOf x) 0) a) (let e = k in omega arith)
+  step-count r (on g k a) c h = rw (ap (λ (x : Told). eqb (x .number) 0) a) (let e = k in omega arith)
   step-count r (ends f) c h =
       let k = finals n b w r f in
-      let a : accepted steps w ≡ true = ap (λ (x : Answer). eqb (refusalOf x) 0) (k .answer) in
+      let a : accepted steps w ≡ true = ap (λ (x : Told). eqb (x .number) 0) (k .answer) in
       rw a (let e = k .counts in omega arith)
   step-count r (halts f) c h =
       let k = halted n b w r f in
-      let a : accepted steps w ≡ false = ap (λ (x : Answer). eqb (refusalOf x) 0) (k .answer) in
+      let a : accepted steps w ≡ false = ap (λ (x : Told). eqb (x .number) 0) (k .answer) in
       rw a (k .counts ∙ h)
 
   same-count : (e : Event) → next e w ≡ w → (c : ℕ) → stepsIn w ≡ c → stepsIn (next e w) ≡ c
@@ -99,24 +103,16 @@ module _ (n b : ℕ) (w : World) where
   count-starts (runs r) c h = rw (not-accepted starts w _ (start-busy n b w r) refl) (same-count starts (next-is starts w _ (start-busy n b w r)) c h)
   count-starts (rests r) c h = rw (start-taken n b w r) (start-anew n b w r .steps)
 
-  pub asks-same : Going n b w → next asks w ≡ w
-  unfolding outcome ask
-  asks-same g = next-is asks w _ (going.guards-pass w (fit g) _)
-
 -- ---- the list
 pub steps-counted : (n b : ℕ) (es : List Event) (w : World) (c : ℕ) → Going n b w → stepsIn w ≡ c → stepsIn (run es w) ≡ acceptedSteps es w c
 unfolding run acceptedSteps
 steps-counted n b [] w c g h = h
 steps-counted n b (call x ∷ es) w c g h = steps-counted n b es (next (call x) w) c (going-next n b w (call x) g) (ap (λ (y : Desk). y .steps) (call-head x w) ∙ h)
 steps-counted n b (steps ∷ es) w c g h = steps-counted n b es (next steps w) (pick (accepted steps w) (suc c) c) (going-next n b w steps g) (count-steps n b w g c h)
-steps-counted n b (asks ∷ es) w c g h = steps-counted n b es (next asks w) c (going-next n b w asks g) (same-count n b w asks (asks-same n b w g) c h)
+steps-counted n b (asks ∷ es) w c g h = steps-counted n b es (next asks w) c (going-next n b w asks g) (same-count n b w asks (asks-same w) c h)
 steps-counted n b (starts ∷ es) w c g h = steps-counted n b es (next starts w) (pick (accepted starts w) 0 c) (going-next n b w starts g) (count-starts n b w g c h)
 
 -- ---- what the state question reports, and the bound
-asked : (n b : ℕ) (w : World) → Going n b w → status (w .store) (w .image) (w .desk) ≡ Is (deskOf (w .desk) .state) (deskOf (w .desk) .locked) (deskOf (w .desk) .steps)
-unfolding status ask
-asked n b w g = ap (λ (o : Outcome). asStatus (o .answer) (w .desk)) (going.guards-pass w (fit g) _)
-
 bounded-steps : (n b : ℕ) (w : World) → Going n b w → deskOf (w .desk) .steps ≤ stepsAnInode * n + 1
 bounded-steps n b w (runs r) = let l = laid-steps (r .laid) (r .sound) (r .count) in omega arith
 bounded-steps n b w (rests r) =
@@ -127,11 +123,58 @@ bounded-steps n b w (rests r) =
     let c = r .count in
     omega arith
 
-pub reported : (n b : ℕ) (es : List Event) (w : World) → Going n b w → deskOf (w .desk) .steps ≡ 0 → Reported es w
-reported n b es w g z =
+-- ---- the state that the answers tell
+abbrev pub stateIn : World → ℕ
+stateIn w = deskOf (w .desk) .state
+
+module _ (n b : ℕ) (w : World) where
+  step-state : Running n b w → Stepped n b w → (c : ℕ) → stateIn w ≡ c
+      → stateIn (next steps w) ≡ pick (completes steps w) finished (pick (eqb (refusalOf steps w) (refusalNumber ImageFull)) stopped c)
+  step-state r (on g k a) c h =
+      let x : completes steps w ≡ false = and-false-r (accepted steps w) (eqb (headerOf (next steps w .image) .complete) isComplete) (incomplete (g .still)) in
+      let y : eqb (refusalOf steps w) (refusalNumber ImageFull) ≡ false = ap (λ (z : Told). eqb (z .number) (refusalNumber ImageFull)) a in
+      rw (x, y) (g .still .laid .desk .state ∙ sym (r .laid .desk .state) ∙ h)
+  step-state r (ends f) c h = rw (completed n b w r f) (finals n b w r f .state)
+  step-state r (halts f) c h =
+      let k = halted n b w r f in
+      let a : accepted steps w ≡ false = ap (λ (x : Told). eqb (x .number) 0) (k .answer) in
+      let x : completes steps w ≡ false = and-false-l (accepted steps w) (eqb (headerOf (next steps w .image) .complete) isComplete) a in
+      let y : eqb (refusalOf steps w) (refusalNumber ImageFull) ≡ true = ap (λ (z : Told). eqb (z .number) (refusalNumber ImageFull)) (k .answer) in
+      rw (x, y) (k .state)
+
+  state-steps : Going n b w → (c : ℕ) → stateIn w ≡ c → stateIn (next steps w) ≡ pick (completes steps w) finished (pick (eqb (refusalOf steps w) (refusalNumber ImageFull)) stopped c)
+  state-steps (runs r) c h = step-state r (stepped n b w r) c h
+  state-steps (rests r) c h =
+      let e = step-idle n b w r in
+      let x : completes steps w ≡ false = and-false-l (accepted steps w) (eqb (headerOf (next steps w .image) .complete) isComplete) (not-accepted steps w _ e refl) in
+      let y : eqb (refusalOf steps w) (refusalNumber ImageFull) ≡ false = ap (λ (z : Shown). eqb (z .answer .number) (refusalNumber ImageFull)) e in
+      rw (x, y) (ap stateIn (next-is steps w _ e) ∙ h)
+
+  state-starts : Going n b w → (c : ℕ) → stateIn w ≡ c → stateIn (next starts w) ≡ pick (accepted starts w) running c
+  state-starts (runs r) c h = rw (not-accepted starts w _ (start-busy n b w r) refl) (ap stateIn (next-is starts w _ (start-busy n b w r)) ∙ h)
+  state-starts (rests r) c h = rw (start-taken n b w r) (start-anew n b w r .runs .laid .desk .state)
+
+pub state-told : (n b : ℕ) (es : List Event) (w : World) (c : ℕ) → Going n b w → stateIn w ≡ c → stateIn (run es w) ≡ stateAfter es w c
+unfolding run stateAfter
+state-told n b [] w c g h = h
+state-told n b (call x ∷ es) w c g h = state-told n b es (next (call x) w) c (going-next n b w (call x) g) (ap (λ (y : Desk). y .state) (call-head x w) ∙ h)
+state-told n b (steps ∷ es) w c g h = state-told n b es (next steps w) _ (going-next n b w steps g) (state-steps n b w g c h)
+state-told n b (asks ∷ es) w c g h = state-told n b es (next asks w) c (going-next n b w asks g) (ap stateIn (asks-same w) ∙ h)
+state-told n b (starts ∷ es) w c g h = state-told n b es (next starts w) (pick (accepted starts w) running c) (going-next n b w starts g) (state-starts n b w g c h)
+
+-- byte 8
+byte-is : (n b : ℕ) (w : World) → Going n b w → headerOf (w .image) .complete ≡ pick (eqb (stateIn w) finished) isComplete notComplete
+byte-is n b w (runs r) = r .laid .frame .complete ∙ ap (λ (x : ℕ). pick (eqb x finished) isComplete notComplete) (sym (r .laid .desk .state))
+byte-is n b w (rests r) = r .byte
+
+pub reported : (n b : ℕ) (es : List Event) (w : World) → Going n b w → deskOf (w .desk) .steps ≡ 0 → stateIn w ≡ running → Reported es w
+reported n b es w g z q =
     let h = going-run n b es w g in
     let e = steps-counted n b es w 0 g z in
+    let f = state-told n b es w running g q in
     record {
-      reports = asked n b (run es w) h ∙ ap (Is (deskOf (run es w .desk) .state) (deskOf (run es w .desk) .locked)) e;
+      reports = asked n b (run es w) h ∙ ap (λ (x : ℕ). toldStatus (Is x (deskOf (run es w .desk) .locked) (deskOf (run es w .desk) .steps))) f ∙ ap (λ (x : ℕ). toldStatus (Is (stateAfter es w running) (deskOf (run es w .desk) .locked) x)) e;
       bound = let l = bounded-steps n b (run es w) h in let c = counted g in omega arith;
+      byte = byte-is n b (run es w) h ∙ ap (λ (x : ℕ). pick (eqb x finished) isComplete notComplete) f;
+      count = sym (counted h) ∙ counted g;
     }

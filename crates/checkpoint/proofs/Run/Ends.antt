@@ -12,7 +12,7 @@ use Rattle.bounded.specs.Search.{pick}
 use Rattle.bounded.specs.Below.{allBelow}
 use Rattle.bounded.proofs.BoolLaws.{and-true, or-l, or-r}
 use Rattle.bounded.proofs.BelowLaws.{all-of}
-use Rattle.layout.specs.Sizes.{mostInodes, mostImageBlocks, isComplete}
+use Rattle.layout.specs.Sizes.{mostInodes, mostImageBlocks, isComplete, notComplete}
 use Rattle.layout.specs.Header.{headerOf}
 use Rattle.desk.specs.Sizes.{deskHeaderBytes, deskLength, idle, running, finished, stopped}
 use Rattle.desk.specs.declared.Desk.{Desk}
@@ -24,14 +24,16 @@ use Rattle.copying.specs.Deed.{Quiet}
 use Rattle.copying.proofs.EndLaws.{tidy-image}
 use Rattle.answers.specs.declared.Refusal.the-variants.{ImageFull}
 use Rattle.answers.specs.declared.Answer.the-variants.{Done, Refused}
+use Rattle.answers.specs.Told.{Told, told}
 use Rattle.checkpoint.specs.Fit.{deskFramed, deskFits, blocksFit, isRunning, mostSteps, mostCopied, stepsAnInode, notesFit, imageFits}
 use Rattle.checkpoint.specs.Copier.{Step, finish, full, stepOf, finishImage}
 use Rattle.checkpoint.specs.Live.{World, Outcome, left, doStep}
-use Rattle.checkpoint.specs.List.{Ready, steps, outcome, next, accepted, completes, refusalOf}
+use Rattle.checkpoint.specs.Shown.{Shown, shown}
+use Rattle.checkpoint.specs.List.{Ready, steps, outcome, next, accepted, completes}
 use Rattle.checkpoint.proofs.Copy.Laid.{DeskLaid, Laid}
 use Rattle.checkpoint.proofs.Copy.FitLaws.{laid-steps}
-use Rattle.checkpoint.proofs.Copy.FinishFacts as facts
-use Rattle.checkpoint.proofs.Copy.FinishSeen.{finish-sound, finish-quiet}
+use Rattle.checkpoint.proofs.Step.FinishFacts as facts
+use Rattle.checkpoint.proofs.Step.FinishSeen.{finish-sound, finish-quiet}
 use Rattle.checkpoint.proofs.Run.Going.{seenIn, Running, ready, step-is, leftIn, next-is}
 use Rattle.checkpoint.proofs.Run.Turned.{Finishes, Fills}
 use Rattle.checkpoint.proofs.Run.Rests.{Resting}
@@ -126,9 +128,9 @@ module _ (n b : ℕ) (d : List ℕ) (k : DeskLaid n b d) (h : Desk) (r : AtRest 
 
 module _ (n b : ℕ) (w : World) (r : Running n b w) where
   -- the world at rest, with image m
-  comes-to-rest : (m : List ℕ) (h : Desk) → length m ≡ length (w .image) → AtRest n b h → Resting n b (record { store = w .store; image = m; desk = putDesk (w .desk) h })
+  comes-to-rest : (m : List ℕ) (h : Desk) → length m ≡ length (w .image) → headerOf m .complete ≡ pick (eqb (h .state) finished) isComplete notComplete → AtRest n b h → Resting n b (record { store = w .store; image = m; desk = putDesk (w .desk) h })
   unfolding notesFit
-  comes-to-rest m h e a =
+  comes-to-rest m h e q a =
       let k = r .laid .desk in
       let f = r .laid .frame in
       record {
@@ -146,13 +148,14 @@ module _ (n b : ℕ) (w : World) (r : Running n b w) where
         some-blocks = f .some-blocks;
         most-blocks = f .most-blocks;
         state = rest-state n b (w .desk) k h a;
+        byte = q ∙ ap (λ (x : ℕ). pick (eqb x finished) isComplete notComplete) (sym (state-is n b (w .desk) k h a));
       }
 
   few-steps : deskOf (w .desk) .steps ≤ stepsAnInode * n
   few-steps = laid-steps (r .laid) (r .sound) (r .count)
 
-  outcome-is : (p : Step) → stepOf (w .store) (w .image) (w .desk) n ≡ p → outcome steps w ≡ doStep (w .store) (w .image) (w .desk) n p
-  outcome-is p e = step-is r ∙ ap (doStep (w .store) (w .image) (w .desk) n) e
+  outcome-is : (p : Step) → stepOf (w .store) (w .image) (w .desk) n ≡ p → outcome steps w ≡ shown (doStep (w .store) (w .image) (w .desk) n p)
+  outcome-is p e = step-is r ∙ ap (λ (q : Step). shown (doStep (w .store) (w .image) (w .desk) n q)) e
 
   header : (h : Desk) → deskOf (putDesk (w .desk) h) ≡ h
   header h = let e = r .laid .desk .long in desk-putDesk (w .desk) h (omega arith)
@@ -161,11 +164,12 @@ module _ (n b : ℕ) (w : World) (r : Running n b w) where
   pub record Finals : Type 0 where
     pub image : next steps w .image ≡ finishImage (w .image) n b
     pub store : next steps w .store ≡ w .store
+    pub desk : next steps w .desk ≡ putDesk (w .desk) (finishing (deskOf (w .desk)))
     pub rest : Resting n b (next steps w)
     pub state : deskOf (next steps w .desk) .state ≡ finished
     pub locked : deskOf (next steps w .desk) .locked ≡ deskOf (w .desk) .locked
     pub counts : deskOf (next steps w .desk) .steps ≡ deskOf (w .desk) .steps + 1
-    pub answer : outcome steps w .answer ≡ Done (deskOf (w .desk) .steps + 1)
+    pub answer : outcome steps w .answer ≡ told (Done (deskOf (w .desk) .steps + 1))
     pub sound : Sound mostImageBlocks true (finishImage (w .image) n b)
     pub quiet : Quiet (seenIn n w) (seenIn n (next steps w))
 
@@ -183,7 +187,7 @@ module _ (n b : ℕ) (w : World) (r : Running n b w) where
       let few = few-steps in
       let f1 = r .laid .frame in
       let finished-is = facts.finished (w .image) n b (f1 .most-inodes) (omega arith) in
-      comes-to-rest (finishImage (w .image) n b) (finishing (deskOf (w .desk))) (finished-is .long) record {
+      comes-to-rest (finishImage (w .image) n b) (finishing (deskOf (w .desk))) (finished-is .long) (finished-is .complete) record {
         inodes = r .laid .desk .inodes;
         blocks = r .laid .desk .blocks;
         state = inl refl;
@@ -199,11 +203,12 @@ module _ (n b : ℕ) (w : World) (r : Running n b w) where
       record {
         image = ap (λ (x : World). x .image) v;
         store = ap (λ (x : World). x .store) v;
+        desk = ap (λ (x : World). x .desk) v;
         rest = rw v (done-rest f);
         state = ap (λ (x : World). deskOf (x .desk) .state) v ∙ ap (λ (x : Desk). x .state) h;
         locked = ap (λ (x : World). deskOf (x .desk) .locked) v ∙ ap (λ (x : Desk). x .locked) h;
         counts = ap (λ (x : World). deskOf (x .desk) .steps) v ∙ ap (λ (x : Desk). x .steps) h;
-        answer = ap (λ (o : Outcome). o .answer) (outcome-is finish (f .is));
+        answer = ap (λ (o : Shown). o .answer) (outcome-is finish (f .is));
         sound = finish-sound (r .laid) (f .none) (tidy-image (r .holds) (f .ended));
         quiet = rw v (finish-quiet (r .laid) (f .none));
       }
@@ -214,7 +219,7 @@ module _ (n b : ℕ) (w : World) (r : Running n b w) where
     pub rest : Resting n b (next steps w)
     pub state : deskOf (next steps w .desk) .state ≡ stopped
     pub counts : deskOf (next steps w .desk) .steps ≡ deskOf (w .desk) .steps
-    pub answer : outcome steps w .answer ≡ Refused ImageFull
+    pub answer : outcome steps w .answer ≡ told (Refused ImageFull)
 
   pub halted : Fills n b w → Halted
   halted f =
@@ -224,8 +229,13 @@ module _ (n b : ℕ) (w : World) (r : Running n b w) where
       let few = few-steps in
       record {
         is = v;
-        rest = rw v (comes-to-rest (w .image) (stopping (deskOf (w .desk))) refl record { inodes = r .laid .desk .inodes; blocks = r .laid .desk .blocks; state = inr refl; locked = refl; copied = refl; steps = omega arith });
+        rest = rw v (comes-to-rest (w .image) (stopping (deskOf (w .desk))) refl (r .laid .frame .complete) record { inodes = r .laid .desk .inodes; blocks = r .laid .desk .blocks; state = inr refl; locked = refl; copied = refl; steps = omega arith });
         state = ap (λ (x : World). deskOf (x .desk) .state) v ∙ ap (λ (x : Desk). x .state) h;
         counts = ap (λ (x : World). deskOf (x .desk) .steps) v ∙ ap (λ (x : Desk). x .steps) h;
-        answer = ap (λ (o : Outcome). o .answer) o;
+        answer = ap (λ (o : Shown). o .answer) o;
       }
+
+  pub completed : Finishes n b w → completes steps w ≡ true
+  completed f =
+      let k = finals f in
+      and-true (accepted steps w) _ (ap (λ (a : Told). eqb (a .number) 0) (k .answer)) (ap (λ (m : List ℕ). eqb (headerOf m .complete) isComplete) (k .image) ∙ ap (λ (x : ℕ). eqb x isComplete) (k .sound .complete))

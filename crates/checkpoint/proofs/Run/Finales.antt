@@ -10,13 +10,14 @@ use Rattle.bounded.proofs.BoolLaws.{clash, and-left, and-right, and-true}
 use Rattle.layout.specs.Sizes.{isComplete}
 use Rattle.layout.specs.Header.{headerOf}
 use Rattle.desk.specs.Desk.{deskOf}
-use Rattle.answers.specs.declared.Answer.{Answer}
+use Rattle.answers.specs.Told.{Told}
 use Rattle.copying.specs.View.{View, Tidy}
 use Rattle.copying.specs.Deed.{Deed, Quiet, rests}
 use Rattle.copying.specs.Holds.{Fresh, Ended}
-use Rattle.copying.specs.History.{Told}
+use Rattle.copying.specs.History.{Recorded}
 use Rattle.checkpoint.specs.Live.{World, Outcome}
-use Rattle.checkpoint.specs.List.{Event, call, steps, asks, starts, outcome, next, accepted, refusalOf, restarts, completes, run, Finish, last, more}
+use Rattle.checkpoint.specs.Shown.{Shown}
+use Rattle.checkpoint.specs.List.{Event, call, steps, asks, starts, outcome, next, accepted, restarts, completes, run, Finish, last, more}
 use Rattle.checkpoint.proofs.Copy.Seen.{seen}
 use Rattle.checkpoint.proofs.Copy.TidyLaws.{store-tidy}
 use Rattle.checkpoint.proofs.Run.Moments.{at, at-end}
@@ -24,7 +25,7 @@ use Rattle.checkpoint.proofs.Run.Going.{seenIn, Running, incomplete}
 use Rattle.checkpoint.proofs.Run.Turned.{Goes, Finishes, Stepped, on, ends, halts, stepped}
 use Rattle.checkpoint.proofs.Run.Calls.{call-goes, asks-goes, starts-goes}
 use Rattle.checkpoint.proofs.Run.Rests.{Resting, step-idle}
-use Rattle.checkpoint.proofs.Run.Ends.{Finals, finals, halted}
+use Rattle.checkpoint.proofs.Run.Ends.{Finals, finals, halted, completed}
 use Rattle.checkpoint.proofs.Run.Progresses.{still-next}
 
 -- the view at each moment
@@ -34,7 +35,7 @@ views n es w j = seenIn n (at es w j)
 module _ (n b : ℕ) where
   -- what rests never finishes
   rest-never : (es : List Event) (w : World) → Resting n b w → Finish es w → ⊥
-  rest-never es w r (last c) = clash (accepted steps w) (and-left (accepted steps w) _ c) (ap (λ (o : Outcome). eqb (refusalOf (o .answer)) 0) (step-idle n b w r))
+  rest-never es w r (last c) = clash (accepted steps w) (and-left (accepted steps w) _ c) (ap (λ (o : Shown). eqb (o .answer .number) 0) (step-idle n b w r))
   rest-never (e ∷ es) w r (more q c f) = rest-never es (next e w) (still-next n b e w r q .rest) f
 
   pub record Finale (es : List Event) (w : World) : Type 0 where
@@ -106,19 +107,14 @@ module _ (n b : ℕ) where
   not-halts : (w : World) → accepted steps w ≡ false → completes steps w ≡ true → ⊥
   not-halts w a c = clash (accepted steps w) (and-left (accepted steps w) _ c) a
 
-  completed : (w : World) (r : Running n b w) → Finishes n b w → completes steps w ≡ true
-  completed w r f =
-      let k = finals n b w r f in
-      and-true (accepted steps w) _ (ap (λ (a : Answer). eqb (refusalOf a) 0) (k .answer)) (ap (λ (m : List ℕ). eqb (headerOf m .complete) isComplete) (k .image) ∙ ap (λ (x : ℕ). eqb x isComplete) (k .sound .complete))
-
   last-step : (w : World) → Running n b w → Stepped n b w → completes steps w ≡ true → Finale (steps ∷ []) w
   last-step w r (on g c a) q = absurd (not-on w g q)
   last-step w r (ends f) q = final w r f
-  last-step w r (halts f) q = absurd (not-halts w (ap (λ (a : Answer). eqb (refusalOf a) 0) (halted n b w r f .answer)) q)
+  last-step w r (halts f) q = absurd (not-halts w (ap (λ (a : Told). eqb (a .number) 0) (halted n b w r f .answer)) q)
 
   one-step : (es : List Event) (w : World) → Running n b w → Stepped n b w → completes steps w ≡ false → Finish es (next steps w) → (Running n b (next steps w) → Finale es (next steps w)) → Finale (steps ∷ es) w
   one-step es w r (on g c a) q f rec = front steps es w r (g .deed) (rec (g .still))
-  one-step es w r (ends k) q f rec = absurd (clash (completes steps w) (completed w r k) q)
+  one-step es w r (ends k) q f rec = absurd (clash (completes steps w) (completed n b w r k) q)
   one-step es w r (halts k) q f rec = absurd (rest-never es (next steps w) (halted n b w r k .rest) f)
 
   pub finale : (es : List Event) (w : World) → Running n b w → Finish es w → Finale es w
@@ -129,6 +125,6 @@ module _ (n b : ℕ) where
   finale (starts ∷ es) w r (more p q f) = let g = starts-goes n b w r in front starts es w r (g .deed) (finale es (next starts w) (g .still) f)
 
   -- ---- as the theory has it
-  pub told : (es : List Event) (w : World) → Fresh (seenIn n w) → Finale es w → Told (views n es w) n (length es)
+  pub told : (es : List Event) (w : World) → Fresh (seenIn n w) → Finale es w → Recorded (views n es w) n (length es)
   unfolding at
   told es w fr f = record { fresh = fr; tidy = f .tidy; deeds = f .deeds }

@@ -28,6 +28,7 @@ use Rattle.copying.proofs.HoldsLaws.{holds-does}
 use Rattle.checkpoint.specs.Fit.{deskFramed, isRunning, notesFit}
 use Rattle.checkpoint.specs.Copier.{Step, lock, copy, close, finish, full, stepOf, stepImage, stepDesk, finishImage}
 use Rattle.checkpoint.specs.Live.{World, Outcome, left, guarded, doStep, step}
+use Rattle.checkpoint.specs.Shown.{Shown, shown}
 use Rattle.checkpoint.specs.List.{Ready, Event, steps, outcome, next, accepted, completes}
 use Rattle.checkpoint.proofs.DecisionLaws.{guarded-is}
 use Rattle.checkpoint.proofs.Copy.Seen.{shelfOf, seen}
@@ -67,16 +68,20 @@ locked-used {n} {b} {w} r z f =
 pub guards-pass : (w : World) → Ready w → (o : Outcome) → guarded (w .store) (w .image) (w .desk) o ≡ o
 guards-pass w r o = guarded-is (w .store) (w .image) (w .desk) o ∙ rw (r .framed, r .desk, r .sound, r .notes) refl
 
-pub step-is : {n b : ℕ} {w : World} → Running n b w → outcome steps w ≡ doStep (w .store) (w .image) (w .desk) n (stepOf (w .store) (w .image) (w .desk) n)
+pub step-is : {n b : ℕ} {w : World} → Running n b w → outcome steps w ≡ shown (doStep (w .store) (w .image) (w .desk) n (stepOf (w .store) (w .image) (w .desk) n))
 unfolding outcome step
 step-is {n} {b} {w} r =
-    guards-pass w (ready r) _
-    ∙ rw (runs r) (ap (λ (k : ℕ). doStep (w .store) (w .image) (w .desk) k (stepOf (w .store) (w .image) (w .desk) k)) (sym (r .count)))
+    ap shown (guards-pass w (ready r) _)
+    ∙ rw (runs r) (ap (λ (k : ℕ). shown (doStep (w .store) (w .image) (w .desk) k (stepOf (w .store) (w .image) (w .desk) k))) (sym (r .count)))
 
 -- a world after an outcome
 abbrev pub leftIn : Outcome → World
 leftIn o = record { store = o .store; image = o .image; desk = o .desk }
 
-pub next-is : (e : Event) (w : World) (o : Outcome) → outcome e w ≡ o → next e w ≡ leftIn o
+-- the same of what is shown
+abbrev pub bufferOf : Shown → World
+bufferOf x = record { store = x .store; image = x .image; desk = x .desk }
+
+pub next-is : (e : Event) (w : World) (x : Shown) → outcome e w ≡ x → next e w ≡ bufferOf x
 unfolding next
-next-is e w o h = ap leftIn h
+next-is e w x h = ap bufferOf h

@@ -7,7 +7,8 @@ use mathlib.Core.List.{List, [], _∷_, _++_}
 use native.Mathlib.Omega.{arith}
 use lib.ListN.{length}
 use Rattle.layout.specs.Sizes.{mostStoreBlocks, mostImageBlocks}
-use Rattle.layout.specs.Inode.{kindOf, sizeOf, fileKind}
+use Rattle.bounded.proofs.BoolLaws.{holds}
+use Rattle.layout.specs.Inode.{kindOf, sizeOf, freeKind, fileKind}
 use Rattle.layout.proofs.ViewLaws.{within-in, below-in}
 use Rattle.names.specs.Entry.{entryName}
 use Rattle.directory.specs.Slot.{mostSlots}
@@ -20,16 +21,16 @@ use Rattle.content.specs.Content.{fileBytes}
 use Rattle.copying.specs.View.{View}
 use Rattle.copying.specs.Deed.{Alike, Quiet}
 use Rattle.copying.specs.Holds.{Fresh, Ended}
-use Rattle.copying.specs.History.{Told, Spell, Chain}
+use Rattle.copying.specs.History.{Recorded, Spell, Chain}
 use Rattle.copying.specs.History as history
 use Rattle.copying.proofs.HistoryLaws.{told-holds}
 use Rattle.copying.proofs.EndLaws.{all-honest, kept-there, kept-body, kept-kind}
 use Rattle.checkpoint.specs.Copier.{finishImage}
 use Rattle.checkpoint.specs.Live.{World}
 use Rattle.checkpoint.specs.List.{Event, steps, next, run, Moment, Finish, Kept}
-use Rattle.checkpoint.specs.Finished.{countOf, HadName, HadBytes, HadKind, Copied, Names, Throughout, Honest, Finished}
+use Rattle.checkpoint.specs.Finished.{countOf, SameContent, HadName, HadBytes, HadKind, Copied, Names, Throughout, Honest, OneMoment, Finished}
 use Rattle.checkpoint.proofs.Copy.Seen.{seen, shelfOf}
-use Rattle.checkpoint.proofs.Copy.FinishSeen.{finish-inodes}
+use Rattle.checkpoint.proofs.Step.FinishSeen.{finish-inodes}
 use Rattle.checkpoint.proofs.Run.Moments.{at, at-end, moment-at, Parts, parts}
 use Rattle.checkpoint.proofs.Run.Going.{seenIn, Running}
 use Rattle.checkpoint.proofs.Run.Ends.{finals}
@@ -80,17 +81,18 @@ module _ (n : ℕ) (es : List Event) (w v : World) (p : ℕ) where
     name = ap (λ (m : ℕ). entryName (entryAt (v .image) m p)) (sym e) ∙ ap entryName k ∙ ap (λ (m : ℕ). entryName (entryAt (u .store) m p)) f;
   }
 
+-- size and bytes, by whatever names the counts have
+same-content : (n a c : ℕ) (v u : World) (i : ℕ) → n ≡ a → n ≡ c → AlikeIn n (u .store) (v .image) i → kindOf (u .store) i ≡ fileKind → SameContent (v .image) a (u .store) c i
+same-content n a c v u i e f h k = record {
+  size = h .size;
+  bytes =
+      ap (λ (m : ℕ). fileBytes (v .image) m i 0 (sizeOf (v .image) i)) (sym e) ∙ h .bytes k
+      ∙ ap (fileBytes (u .store) n i 0) (sym (h .size)) ∙ ap (λ (m : ℕ). fileBytes (u .store) m i 0 (sizeOf (v .image) i)) f;
+}
+
 module _ (n : ℕ) (es : List Event) (w v : World) (i : ℕ) where
   had-bytes : (u : World) → Moment es w u → n ≡ countOf w → n ≡ countOf u → AlikeIn n (u .store) (v .image) i → kindOf (u .store) i ≡ fileKind → HadBytes es w (v .image) i
-  had-bytes u h e f a k = record {
-    moment = u;
-    in-time = h;
-    kind = k;
-    size = a .size;
-    bytes =
-        ap (λ (m : ℕ). fileBytes (v .image) m i 0 (sizeOf (v .image) i)) (sym e) ∙ a .bytes k
-        ∙ ap (fileBytes (u .store) n i 0) (sym (a .size)) ∙ ap (λ (m : ℕ). fileBytes (u .store) m i 0 (sizeOf (v .image) i)) f;
-  }
+  had-bytes u h e f a k = record { moment = u; in-time = h; kind = k; content = same-content n (countOf w) (countOf u) v u i e f a k }
 
 -- a slot that names i at every moment
 each-moment : (es : List Event) (w : World) (p i : ℕ) → ((j : ℕ) → j ≤ length es → Names (at es w j) p i) → Throughout es w p i
@@ -112,7 +114,7 @@ module _ (b : ℕ) (es : List Event) (w : World) (r : Running (countOf w) b w) (
   abbrev v : World
   v = run es w
 
-  tells : Told t n k
+  tells : Recorded t n k
   tells = told n b es w fr f
 
   last-view : t k ≡ seenIn n v
@@ -298,11 +300,36 @@ module _ (b : ℕ) (es : List Event) (w : World) (r : Running (countOf w) b w) (
           file = λ h. had-bytes n (cuts .during) start v (naming (v .image) n p) (at es w i) m start-count (count-at i) inode-like (sym (inode-like .kind) ∙ h);
         }
 
+  -- ---- one moment for each inode
+  module _ (i : ℕ) (lo : 1 ≤ i) (hi : i ≤ n) (used : kindOf (v .image) i ≢ freeKind) where
+    copied-then : t k .copied i ≡ true
+    copied-then = holds (t k .copied i) (λ c. used (
+        sym (image-kind n v i lo hi) ∙ ap (λ (x : View). x .image .kind i) (sym last-view) ∙ told-holds t n k tells k (omega arith) .0 .blank i c))
+
+    moment-of : OneMoment es w (v .image) i
+    moment-of =
+        let m = told-holds t n k tells k (omega arith) .1 .seen i copied-then in
+        let j = m .0 in
+        let a = alike-last j i lo hi (m .2) in
+        record {
+          moment = at es w j;
+          in-time = moment-at es w j;
+          kind = a .kind;
+          file = λ e. same-content n n (countOf (at es w j)) v (at es w j) i refl (count-at j) a (sym (a .kind) ∙ e);
+          links = λ p l f e.
+              let h : naming (at es w j .store) n p ≡ i = sym (store-names n (at es w j) p l) ∙ m .3 p (names-last p l ∙ e) in
+              record {
+                stands = subst (λ (c : ℕ). filled (at es w j .store) c p ≡ true) (count-at j) (naming-filled (at es w j .store) n p (omega arith));
+                inode = ap (λ (c : ℕ). naming (at es w j .store) c p) (sym (count-at j)) ∙ h;
+              };
+        }
+
   pub finished : Finished es w
   finished = record {
     count = final-count;
     sound = final-sound;
     entries = copied;
     honest = honest;
+    moments = moment-of;
     state = ap (λ (x : World). deskOf (x .desk) .state) (f .is) ∙ finals n b (f .before) (f .runs) (f .finishes) .state;
   }

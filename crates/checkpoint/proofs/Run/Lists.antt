@@ -10,9 +10,10 @@ use Rattle.layout.specs.Block.{storeLength}
 use Rattle.desk.specs.Desk.{deskOf}
 use Rattle.sound.specs.Sound.{inodesIn}
 use Rattle.answers.specs.declared.Answer.the-variants.{Done}
-use Rattle.checkpoint.specs.Fit.{imageAllowed, imageBlocks}
+use Rattle.answers.specs.Told.{Told, told}
+use Rattle.checkpoint.specs.Fit.{imageAllowed, isRunning}
 use Rattle.checkpoint.specs.Live.{World, Outcome, started, start}
-use Rattle.checkpoint.specs.List.{Ready, Event, call, steps, asks, starts, outcome, next, accepted, run, Moment, here, after, refusalOf}
+use Rattle.checkpoint.specs.List.{Ready, Event, call, steps, asks, starts, outcome, next, accepted, run, Moment, here, after}
 use Rattle.checkpoint.proofs.Run.Going.{Running, ready, guards-pass}
 use Rattle.checkpoint.proofs.Run.Turned.{Goes, Stepped, on, ends, halts, stepped}
 use Rattle.checkpoint.proofs.Run.Calls.{blocks-told, image-allowed, call-goes, asks-goes, starts-goes}
@@ -32,15 +33,16 @@ pub counted : {n b : ℕ} {w : World} → Going n b w → n ≡ inodesIn (w .sto
 counted (runs r) = r .count
 counted (rests r) = r .count
 
--- at rest a start is accepted
-pub start-done : (n b : ℕ) (w : World) → Resting n b w → outcome starts w .answer ≡ Done 0
+-- a start is accepted where the buffers fit and no copy runs
+pub start-accepts : (w : World) → Ready w → isRunning (w .desk) ≡ false → imageAllowed (inodesIn (w .store)) (length (w .image)) ≡ true → outcome starts w .answer ≡ told (Done 0)
 unfolding outcome start started
-start-done n b w r =
-    let a : imageAllowed (inodesIn (w .store)) (length (w .image)) ≡ true = rw (sym (r .count)) (image-allowed n b (length (w .image)) (r .some-blocks) (r .most-blocks) (r .long)) in
-    rw (a, r .fit .framed, r .fit .desk) (ap (λ (o : Outcome). o .answer) (guards-pass w (r .fit) _) ∙ rw (idle r) refl)
+start-accepts w r i a = rw (a, r .framed, r .desk) (ap (λ (o : Outcome). told (o .answer)) (guards-pass w r _) ∙ rw i refl)
+
+pub start-done : (n b : ℕ) (w : World) → Resting n b w → outcome starts w .answer ≡ told (Done 0)
+start-done n b w r = start-accepts w (r .fit) (idle r) (rw (sym (r .count)) (image-allowed n b (length (w .image)) (r .some-blocks) (r .most-blocks) (r .long)))
 
 pub start-taken : (n b : ℕ) (w : World) → Resting n b w → accepted starts w ≡ true
-start-taken n b w r = ap (λ a. eqb (refusalOf a) 0) (start-done n b w r)
+start-taken n b w r = ap (λ (a : Told). eqb (a .number) 0) (start-done n b w r)
 
 pub start-anew : (n b : ℕ) (w : World) → Resting n b w → Fresher n b (next starts w)
 start-anew n b w r = opened-runs n b w (opens w (start-taken n b w r)) (r .count) (blocks-told n b (length (w .image)) (r .long))

@@ -10,7 +10,8 @@ use lib.Dec.{eqb}
 use lib.ListN.{length}
 use Rattle.bounded.specs.Search.{pick}
 use Rattle.bounded.proofs.BoolLaws.{clash, and-left, and-right}
-use Rattle.layout.specs.Sizes.{mostStoreBlocks, mostImageBlocks}
+use Rattle.layout.specs.Sizes.{mostStoreBlocks, mostImageBlocks, isComplete, notComplete}
+use Rattle.layout.specs.Header.{headerOf}
 use Rattle.layout.specs.Block.{storeLength}
 use Rattle.desk.specs.Sizes.{running, finished, stopped}
 use Rattle.desk.specs.Desk.{deskOf}
@@ -25,8 +26,10 @@ use Rattle.files.proofs.LawfulCalls.{lawful}
 use Rattle.checkpoint.specs.Fit.{deskFits, isRunning, notesFit, imageFits}
 use Rattle.checkpoint.specs.Notes.{noteMade, noteTaken, cutsImage, cutImage, cutEntries, clearMarks, setMarks}
 use Rattle.checkpoint.specs.Live.{World, Outcome, left, refuse, decision, leavesIn, live, doStep, step, ask}
+use Rattle.checkpoint.specs.Shown.{shown}
 use Rattle.checkpoint.specs.List.{Ready, Event, call, steps, asks, starts, outcome, next}
 use Rattle.checkpoint.proofs.DecisionLaws.{Allowed, each-decided}
+use Rattle.checkpoint.proofs.Run.Calls.{asks-same}
 use Rattle.checkpoint.proofs.Run.Going.{guards-pass, leftIn, next-is}
 
 pub record Resting (n b : ℕ) (w : World) : Type 0 where
@@ -36,6 +39,7 @@ pub record Resting (n b : ℕ) (w : World) : Type 0 where
   pub some-blocks : 1 ≤ b
   pub most-blocks : b ≤ mostImageBlocks
   pub state : (deskOf (w .desk) .state ≡ finished) ⊎ (deskOf (w .desk) .state ≡ stopped)
+  pub byte : headerOf (w .image) .complete ≡ pick (eqb (deskOf (w .desk) .state) finished) isComplete notComplete
 
 pub idle : {n b : ℕ} {w : World} → Resting n b w → isRunning (w .desk) ≡ false
 unfolding isRunning
@@ -82,7 +86,7 @@ module _ (n b : ℕ) (w : World) (r : Resting n b w) where
 
   stays : (s : List ℕ) → Sound mostStoreBlocks false s → inodesIn s ≡ inodesIn (w .store) → Kept (record { store = s; image = w .image; desk = w .desk })
   stays s h e = record {
-    rest = record { count = r .count ∙ sym e; fit = refit w s (r .fit) h e; long = r .long; some-blocks = r .some-blocks; most-blocks = r .most-blocks; state = r .state };
+    rest = record { count = r .count ∙ sym e; fit = refit w s (r .fit) h e; long = r .long; some-blocks = r .some-blocks; most-blocks = r .most-blocks; state = r .state; byte = r .byte };
     image = refl;
     desk = refl;
   }
@@ -108,12 +112,11 @@ module _ (n b : ℕ) (w : World) (r : Resting n b w) where
       decided (decision c w) (drop-allowed (decision c w) (each-decided (Lawful (w .store) (inodesIn (w .store))) c w h))
 
   pub asks-kept : Kept (next asks w)
-  unfolding outcome ask
-  asks-kept = same-kept (next asks w) (next-is asks w (left (Done 0) (w .store) (w .image) (w .desk)) (guards-pass w (r .fit) _))
+  asks-kept = same-kept (next asks w) (asks-same w)
 
-  pub step-idle : outcome steps w ≡ refuse WrongState (w .store) (w .image) (w .desk)
+  pub step-idle : outcome steps w ≡ shown (refuse WrongState (w .store) (w .image) (w .desk))
   unfolding outcome step
-  step-idle = guards-pass w (r .fit) _ ∙ rw (idle r) refl
+  step-idle = ap shown (guards-pass w (r .fit) _) ∙ rw (idle r) refl
 
   pub steps-kept : Kept (next steps w)
   steps-kept = same-kept (next steps w) (next-is steps w _ step-idle)

@@ -21,7 +21,7 @@ use Rattle.checkpoint.specs.List.{Event, call, steps, asks, starts, next
 use Rattle.checkpoint.specs.List as list
 use Rattle.checkpoint.proofs.PlainLaws.{steps-keep, asks-keep, starts-keep}
 use Rattle.checkpoint.proofs.Copy.Seen.{seen, shelfOf}
-use Rattle.checkpoint.proofs.Copy.LiveLaws.{ready-sound, Does, live-accepted, live-refused, taken-none, untaken-stays}
+use Rattle.checkpoint.proofs.Call.LiveLaws.{ready-sound, Does, live-accepted, live-refused, taken-none, untaken-stays}
 use Rattle.checkpoint.proofs.Run.Moments.{at}
 use Rattle.checkpoint.proofs.Run.Going.{seenIn}
 use Rattle.checkpoint.proofs.Run.Lists.{Going, fit, counted, going-next}
@@ -39,7 +39,7 @@ module _ (n b : ℕ) (w : World) (g : Going n b w) (p : ℕ) (l : p < mostSlots 
     | inr a ↦ ap (λ (v : World). naming (v .store) n p) (live-refused c w a)
   ]
 
-  event-names : (e : Event) → takes e w p ≡ false → naming (next e w .store) n p ≡ naming (w .store) n p
+  pub event-names : (e : Event) → takes e w p ≡ false → naming (next e w .store) n p ≡ naming (w .store) n p
   unfolding next
   event-names (call c) t = call-names c t
   event-names steps t = ap (λ (s : List ℕ). naming s n p) (steps-keep w)

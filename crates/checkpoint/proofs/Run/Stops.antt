@@ -1,4 +1,4 @@
--- What 16 leaves in the desk, byte by byte.
+-- What 16 and a finish leave in the desk, byte by byte.
 use Prim.Native.Nat.{ℕ, zero, suc, _+_, _-_, _*_, _/_, _%_, _≤_, _<_}
 use mathlib.Core.Path.{_≡_, refl, sym, ap, _∙_}
 use mathlib.Core.List.{List, [], _∷_}
@@ -8,10 +8,10 @@ use lib.ListN.{length, getD}
 use Rattle.octets.specs.Octets.{Octets, Apart, part, splice, numAt, toBytes, putNum}
 use Rattle.octets.proofs.PartLaws.{splice-out, splice-in, length-splice}
 use Rattle.octets.proofs.NumLaws.{num-suc, length-toBytes, length-num}
-use Rattle.desk.specs.Sizes.{stopped, deskHeaderBytes}
+use Rattle.desk.specs.Sizes.{finished, stopped, deskHeaderBytes}
 use Rattle.desk.specs.declared.Desk.{Desk}
 use Rattle.desk.specs.Desk.{deskOf, putDesk}
-use Rattle.desk.specs.Next.{stopping}
+use Rattle.desk.specs.Next.{finishing, stopping}
 
 -- a number's bytes are those that it was read from
 byte-back : (k : ℕ) (d : List ℕ) (o j : ℕ) → Octets d → j < k → getD (toBytes k (numAt k d o)) j 0 ≡ getD d (o + j) 0
@@ -80,3 +80,25 @@ stop-bytes d h l x a b =
   where
     outside : (o : ℕ) → 6 ≤ o → o ≤ 8 → Apart x 1 o 2
     outside o l m = elim (decLt x 6) [ yes c ↦ omega arith | no c ↦ elim (decLt 9 x) [ yes f ↦ omega arith | no f ↦ absurd (b (omega arith) (omega arith)) ] ]
+
+pub finish-bytes : (d : List ℕ) → Octets d → deskHeaderBytes ≤ length d → (x : ℕ) → (x ≡ 4 → ⊥) → (12 ≤ x → x ≤ 15 → ⊥) → getD (putDesk d (finishing (deskOf d))) x 0 ≡ getD d x 0
+unfolding putDesk deskOf
+finish-bytes d h l x a b =
+    let s1 = putNum 2 d 0 (numAt 2 d 0) in
+    let l1 = length-num 2 d 0 (numAt 2 d 0) in
+    let s2 = putNum 2 s1 2 (numAt 2 d 2) in
+    let l2 = length-num 2 s1 2 (numAt 2 d 2) in
+    let s3 = putNum 1 s2 4 finished in
+    let l3 = length-num 1 s2 4 finished in
+    let s4 = putNum 2 s3 6 (numAt 2 d 6) in
+    let l4 = length-num 2 s3 6 (numAt 2 d 6) in
+    let s5 = putNum 2 s4 8 (numAt 2 d 8) in
+    let e1 = keep-byte 2 d d 0 x h (omega arith) refl in
+    let e2 = keep-byte 2 s1 d 2 x h (omega arith) e1 in
+    let e3 = put-byte 1 s2 4 finished x (omega arith) ∙ e2 in
+    let e4 = keep-byte 2 s3 d 6 x h (omega arith) e3 in
+    let e5 = keep-byte 2 s4 d 8 x h (omega arith) e4 in
+    put-byte 4 s5 12 (numAt 4 d 12 + 1) x outside ∙ e5
+  where
+    outside : Apart x 1 12 4
+    outside = elim (decLt x 12) [ yes c ↦ omega arith | no c ↦ elim (decLt 15 x) [ yes f ↦ omega arith | no f ↦ absurd (b (omega arith) (omega arith)) ] ]

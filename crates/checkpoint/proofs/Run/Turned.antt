@@ -28,20 +28,22 @@ use Rattle.copying.specs.Deed.{Deed, Quiet, locks, closes, called, rests}
 use Rattle.copying.specs.Holds.{Holds, Ended}
 use Rattle.copying.proofs.HoldsLaws.{holds-does}
 use Rattle.answers.specs.declared.Answer.the-variants.{Done}
+use Rattle.answers.specs.Told.{told}
 use Rattle.checkpoint.specs.Image.{imageNaming}
 use Rattle.checkpoint.specs.Notes.{isCopied}
 use Rattle.checkpoint.specs.Copier.{Step, lock, copy, close, finish, full, stepOf, stepImage, stepDesk, finishImage, targetBlock}
 use Rattle.checkpoint.specs.Live.{World, Outcome, doStep}
-use Rattle.checkpoint.specs.List.{Event, steps, outcome, next, accepted, completes, refusalOf}
+use Rattle.checkpoint.specs.Shown.{Shown, shown}
+use Rattle.checkpoint.specs.List.{Event, steps, outcome, next, accepted, completes}
 use Rattle.bounded.specs.declared.Found.the-variants.{At, Absent}
 use Rattle.checkpoint.proofs.Copy.Seen.{shelfOf, seen}
 use Rattle.checkpoint.proofs.Copy.Laid.{Laid}
 use Rattle.checkpoint.proofs.Copy.TidyLaws.{store-tidy}
-use Rattle.checkpoint.proofs.Copy.LockLaws.{lock-laid, lock-locked}
-use Rattle.checkpoint.proofs.Copy.CopyLaws.{copy-laid, copy-quiet, copy-now}
-use Rattle.checkpoint.proofs.Copy.CloseFacts.{Closing}
-use Rattle.checkpoint.proofs.Copy.CloseLaws.{close-laid}
-use Rattle.checkpoint.proofs.Copy.CloseSeen.{close-closed}
+use Rattle.checkpoint.proofs.Step.LockLaws.{lock-laid, lock-locked}
+use Rattle.checkpoint.proofs.Step.CopyLaws.{copy-laid, copy-quiet, copy-now}
+use Rattle.checkpoint.proofs.Step.CloseFacts.{Closing}
+use Rattle.checkpoint.proofs.Step.CloseLaws.{close-laid}
+use Rattle.checkpoint.proofs.Step.CloseSeen.{close-closed}
 use Rattle.checkpoint.proofs.Copy.ChosenLaws.{Chosen, will-lock, will-copy, will-close, will-finish, no-room, chosen, chosen-ended}
 use Rattle.checkpoint.proofs.Run.Going.{seenIn, Running, incomplete, locked-used, step-is, leftIn, next-is}
 
@@ -65,7 +67,7 @@ pub record Goes (n b : ℕ) (w v : World) : Type 0 where
 
 -- a step: it goes on with one accepted, or it finishes, or 16
 pub data Stepped (n b : ℕ) (w : World) : Type 0 where
-  on : Goes n b w (next steps w) → deskOf (next steps w .desk) .steps ≡ deskOf (w .desk) .steps + 1 → outcome steps w .answer ≡ Done (deskOf (w .desk) .steps + 1) → Stepped n b w
+  on : Goes n b w (next steps w) → deskOf (next steps w .desk) .steps ≡ deskOf (w .desk) .steps + 1 → outcome steps w .answer ≡ told (Done (deskOf (w .desk) .steps + 1)) → Stepped n b w
   ends : Finishes n b w → Stepped n b w
   halts : Fills n b w → Stepped n b w
 
@@ -90,14 +92,14 @@ module _ (n b : ℕ) (w : World) (r : Running n b w) where
   }
 
   -- the outcome, once it is known what the step does
-  does-is : (p : Step) → stepOf (w .store) (w .image) (w .desk) n ≡ p → outcome steps w ≡ doStep (w .store) (w .image) (w .desk) n p
-  does-is p e = step-is r ∙ ap (doStep (w .store) (w .image) (w .desk) n) e
+  does-is : (p : Step) → stepOf (w .store) (w .image) (w .desk) n ≡ p → outcome steps w ≡ shown (doStep (w .store) (w .image) (w .desk) n p)
+  does-is p e = step-is r ∙ ap (λ (q : Step). shown (doStep (w .store) (w .image) (w .desk) n q)) e
 
   step-on : (p : Step) → stepOf (w .store) (w .image) (w .desk) n ≡ p → Goes n b w (after p) → deskOf (after p .desk) .steps ≡ deskOf (w .desk) .steps + 1
       → doStep (w .store) (w .image) (w .desk) n p .answer ≡ Done (deskOf (w .desk) .steps + 1) → Stepped n b w
   step-on p e g c a =
       let h : next steps w ≡ after p = next-is steps w _ (does-is p e) in
-      on (rw h g) (ap (λ (v : World). deskOf (v .desk) .steps) h ∙ c) (ap (λ (o : Outcome). o .answer) (does-is p e) ∙ a)
+      on (rw h g) (ap (λ (v : World). deskOf (v .desk) .steps) h ∙ c) (ap (λ (o : Shown). o .answer) (does-is p e) ∙ ap told a)
 
   long : deskHeaderBytes ≤ length (w .desk)
   long = let e = r .laid .desk .long in omega arith

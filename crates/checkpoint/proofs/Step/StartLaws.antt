@@ -29,11 +29,11 @@ use Rattle.checkpoint.specs.Notes.{isCopied}
 use Rattle.checkpoint.specs.Copier.{startImage, startDesk}
 use Rattle.checkpoint.proofs.Copy.Seen.{shelfOf, markedAt, seen}
 use Rattle.checkpoint.proofs.Copy.Laid.{Laid, DeskLaid, Frame, cost}
-use Rattle.checkpoint.proofs.Copy.SumLaws.{sum-none}
+use Rattle.bounded.proofs.SumLaws.{sum-none}
 use Rattle.checkpoint.proofs.Copy.NoteLaws.{copied-is}
-use Rattle.checkpoint.proofs.Copy.LockLaws.{free-cost}
+use Rattle.checkpoint.proofs.Step.LockLaws.{free-cost}
 use Rattle.checkpoint.proofs.Copy.FitLaws.{desk-framed-is, desk-fits-is, idle-free}
-use Rattle.checkpoint.proofs.Copy.StartImageLaws.{length-start, start-header, start-kind, start-address, start-byte, start-reserved, start-inode, start-slot, start-naming}
+use Rattle.checkpoint.proofs.Step.StartImageLaws.{length-start, start-header, start-kind, start-address, start-byte, start-reserved, start-inode, start-slot, start-naming}
 
 pub image-allowed-is : (n k : ℕ) → Reflects (imageAllowed n k) ((1 ≤ imageBlocks n k) × ((imageBlocks n k ≤ mostImageBlocks) × (k ≡ storeLength n (imageBlocks n k))))
 unfolding imageAllowed

@@ -8,6 +8,7 @@ use native.Mathlib.Omega.{arith}
 use borrow.Author.Tests.{eq-eqb}
 use lib.Dec.{eqb}
 use lib.ListN.{length, replicate}
+use Rattle.bounded.proofs.SumLaws.{sum-ext}
 use Rattle.bounded.specs.Search.{pick}
 use Rattle.octets.specs.Octets.{part, splice}
 use Rattle.layout.specs.Sizes.{addressCount, mostStoreBlocks}
@@ -30,9 +31,9 @@ use Rattle.checkpoint.specs.Busy.{anyLocked}
 use Rattle.checkpoint.specs.Notes.{isCopied, cutEntries, clearMarks, setMarks}
 use Rattle.checkpoint.specs.Copier.{copiedEntry, copiedEntries, copiedBlock}
 use Rattle.checkpoint.proofs.Copy.Laid.{DeskLaid, Laid, Open, cost, costSoFar}
-use Rattle.checkpoint.proofs.Copy.CallNotes.{MarksAlone, same-copied, Ranged, call-notes, mark-away, apart-locked}
-use Rattle.checkpoint.proofs.Copy.CutLaid.{sum-same}
-use Rattle.checkpoint.proofs.Copy.CutEntries.{Whole, entries-laid}
+use Rattle.checkpoint.proofs.DecisionLaws.{apart-locked}
+use Rattle.checkpoint.proofs.Call.CallNotes.{MarksAlone, same-copied, Ranged, call-notes, mark-away}
+use Rattle.checkpoint.proofs.Call.CutEntries.{Whole, entries-laid}
 
 -- ---- a block that is copied by the same marks is the same
 module _ (d e : List ℕ) (n i k : ℕ) (l : k < addressCount) (marks : (t : ℕ) → t < mostSlots → markOf e n i t ≡ markOf d n i t) (copied : (j : ℕ) → isCopied e n j ≡ isCopied d n j) where
@@ -121,7 +122,7 @@ module _ {n b : ℕ} {s m d : List ℕ} (k : Sound mostStoreBlocks false s) (x :
     once = h .once;
     blanks = h .blanks;
     fair = h .fair;
-    steps = ap (λ (z : Desk). z .steps) (a .head) ∙ h .steps ∙ ap₂ _+_ (sum-same (cost m d n) (cost m e n) n costs) so-far;
+    steps = ap (λ (z : Desk). z .steps) (a .head) ∙ h .steps ∙ ap₂ _+_ (sum-ext (cost m d n) (cost m e n) n costs) so-far;
   }
 
 -- ---- a call

@@ -34,9 +34,9 @@ use Rattle.checkpoint.proofs.Copy.Seen.{seen}
 use Rattle.checkpoint.proofs.Copy.Laid.{Laid, Open, Fair}
 use Rattle.checkpoint.proofs.Copy.NamingLaws.{used-other, used-sound}
 use Rattle.checkpoint.proofs.Copy.NoteLaws.{SameNotes, put-desk, copied-block, length-copied-block, same-marked, same-costs}
-use Rattle.checkpoint.proofs.Copy.LockLaws.{put-read, desk-laid, locked-cost}
+use Rattle.checkpoint.proofs.Step.LockLaws.{put-read, desk-laid, locked-cost}
 use Rattle.checkpoint.proofs.Copy.WholeLaws.{Whole, whole-sound, whole-bytes, whole-entry, SameImage, image-names, image-entries, image-alike}
-use Rattle.checkpoint.proofs.Copy.BlockLaws.{OneBlock, one-block, one-frame}
+use Rattle.checkpoint.proofs.Step.BlockLaws.{OneBlock, one-block, one-frame}
 use Rattle.checkpoint.proofs.Copy.TargetLaws.{target-at}
 
 module _ {n b : ℕ} {s m d : List ℕ} (h : Laid n b s m d) (sound : Sound mostStoreBlocks false s) (e : n ≡ inodesIn s)

@@ -27,9 +27,9 @@ use Rattle.checkpoint.specs.Image.{slotNames}
 use Rattle.checkpoint.specs.Notes.{isCopied, cutsImage, cutImage, cutEntries}
 use Rattle.checkpoint.proofs.Copy.Laid.{Laid}
 use Rattle.checkpoint.proofs.Copy.NamingLaws.{same-naming}
-use Rattle.checkpoint.proofs.Copy.CallNotes.{Ranged}
-use Rattle.checkpoint.proofs.Copy.CutLaws.{cut-inode, cut-file, cut-place, cut-gone}
-use Rattle.checkpoint.proofs.Copy.CutLaid.{cut-laid}
+use Rattle.checkpoint.proofs.Call.CallNotes.{Ranged}
+use Rattle.checkpoint.proofs.Call.CutLaws.{cut-inode, cut-file, cut-place, cut-gone}
+use Rattle.checkpoint.proofs.Call.CutLaid.{cut-laid}
 
 -- an entry of the store: its slot is in range, and it names an inode
 pub record Whole (n : ℕ) (y : Entry) : Type 0 where

@@ -24,7 +24,7 @@ use Rattle.checkpoint.specs.Copier.{finish, finishImage, stepDesk}
 use Rattle.checkpoint.proofs.Copy.Seen.{shelfOf, seen}
 use Rattle.checkpoint.proofs.Copy.SeenLaws.{names-in, names-out, names-below, names-low, entry-in, alike, marked-same, copied-like}
 use Rattle.checkpoint.proofs.Copy.Laid.{Laid}
-use Rattle.checkpoint.proofs.Copy.FinishLaws.{done, finish-place, finish-body, finish-blanks}
+use Rattle.checkpoint.proofs.Step.FinishLaws.{done, finish-place, finish-body, finish-blanks}
 
 -- a sound image, by counts that its header tells
 record Whole (t : List ℕ) (n b : ℕ) : Type 0 where

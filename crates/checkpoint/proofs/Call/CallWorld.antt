@@ -13,10 +13,10 @@ use Rattle.checkpoint.specs.Live.{World}
 use Rattle.checkpoint.specs.List.{Ready, call, next}
 use Rattle.checkpoint.proofs.Copy.Seen.{seen}
 use Rattle.checkpoint.proofs.Copy.Laid.{Laid}
-use Rattle.checkpoint.proofs.Copy.LiveLaws.{Does, ready-sound}
-use Rattle.checkpoint.proofs.Copy.CallNotes.{idle-call}
-use Rattle.checkpoint.proofs.Copy.CallLaid.{call-laid}
-use Rattle.checkpoint.proofs.Copy.CallSeen.{call-called}
+use Rattle.checkpoint.proofs.Call.LiveLaws.{Does, ready-sound}
+use Rattle.checkpoint.proofs.Call.CallNotes.{idle-call}
+use Rattle.checkpoint.proofs.Call.CallLaid.{call-laid}
+use Rattle.checkpoint.proofs.Call.CallSeen.{call-called}
 
 module _ (c : Call) (w : World) (x : Effect) (k : Does c w x) where
   pub next-count : inodesIn (next (call c) w .store) ≡ inodesIn (w .store)

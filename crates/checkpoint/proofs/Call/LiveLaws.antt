@@ -19,6 +19,7 @@ use Rattle.sound.proofs.SoundLaws.{is-sound}
 use Rattle.answers.specs.declared.Refusal.{Refusal}
 use Rattle.answers.specs.declared.Refusal.the-variants.{BadBuffer, UnsoundStore, BadDesk, IllegalName, WrongInode, NameAbsent, NameTaken, NotEmpty, PastEnd, IntoItself, NoInode, NoBlocks, NoSlot, Busy, WrongState, ImageFull}
 use Rattle.answers.specs.Refusal.{refusalNumber}
+use Rattle.answers.proofs.RefusalLaws.{not-none}
 use Rattle.files.specs.declared.Guard.the-variants.{Pass}
 use Rattle.files.specs.Guard.{guardOf, onGuard}
 use Rattle.files.specs.Effect.{Call, Entry, placeIn, Effect, Planned, refused, does, onPlanned, planned, plainDecision}
@@ -28,8 +29,9 @@ use Rattle.files.proofs.EffectFacts.{away-or, some-none}
 use Rattle.checkpoint.specs.Busy.{anyLocked, unlessBusy}
 use Rattle.checkpoint.specs.Notes.{cutEntries, clearMarks, setMarks}
 use Rattle.checkpoint.specs.Live.{World, Outcome, threeGuards, storeAlone, decision, leavesIn, live}
-use Rattle.checkpoint.specs.List.{Ready, call, outcome, next, refusalOf, accepted, takenFrom, anyAt, takes}
-use Rattle.checkpoint.proofs.Copy.PartedLaws.{Parted, taken-made-apart}
+use Rattle.checkpoint.specs.Shown.{numberOf}
+use Rattle.checkpoint.specs.List.{Ready, call, outcome, next, accepted, takenFrom, anyAt, takes}
+use Rattle.checkpoint.proofs.Call.PartedLaws.{Parted, taken-made-apart}
 
 pub ready-sound : (w : World) → Ready w → Sound mostStoreBlocks false (w .store)
 ready-sound w r = is-sound Store (w .store) .to (r .sound)
@@ -60,24 +62,6 @@ module _ (c : Call) (w : World) (r : Ready w) where
       go false = rw passes-three refl
 
 -- ---- accepted
-not-none : (e : Refusal) → eqb (refusalNumber e) 0 ≡ false
-not-none BadBuffer = refl
-not-none UnsoundStore = refl
-not-none BadDesk = refl
-not-none IllegalName = refl
-not-none WrongInode = refl
-not-none NameAbsent = refl
-not-none NameTaken = refl
-not-none NotEmpty = refl
-not-none PastEnd = refl
-not-none IntoItself = refl
-not-none NoInode = refl
-not-none NoBlocks = refl
-not-none NoSlot = refl
-not-none Busy = refl
-not-none WrongState = refl
-not-none ImageFull = refl
-
 -- the buffers that an effect leaves
 abbrev pub afterIn : World → Effect → World
 afterIn w x =
@@ -88,7 +72,7 @@ abbrev buffers : Outcome → World
 buffers o = record { store = o .store; image = o .image; desk = o .desk }
 
 abbrev done : World → Planned → Bool
-done w p = eqb (refusalOf (leavesIn w p .answer)) 0
+done w p = eqb (numberOf (leavesIn w p .answer)) 0
 
 accepted-is : (c : Call) (w : World) → accepted (call c) w ≡ done w (decision c w)
 unfolding outcome live

@@ -205,16 +205,3 @@ module _ (d : List ℕ) (n : ℕ) (ys zs : List Entry) (f : deskLength n ≤ len
 
     pub mark-made : isRunning d ≡ true → Some (λ y. placeOf i t ≡ placeIn y) zs → markOf (setMarks (clearMarks d n ys) n zs) n i t ≡ true
     mark-made g x = set-some n i t l m u (clearMarks d n ys) zs long b (same-running (cleared-notes d n ys) ∙ g) x
-
--- ---- an inode that is not touched is not the locked one
-pub apart-locked : (d is : List ℕ) → isRunning d ≡ true → anyLocked d is ≡ false → Apart (deskOf d .locked) is
-unfolding anyLocked isLocked
-apart-locked d [] r e = tt
-apart-locked d (i ∷ is) r e = (
-  λ z. clash (isLocked d i || anyLocked d is) (or-l (isLocked d i) (anyLocked d is) (rw (r, eq-eqb (deskOf d .locked) i z) refl)) e,
-  apart-locked d is r (or-no (isLocked d i) (anyLocked d is) e),
-)
-  where
-    or-no : (a b : Bool) → (a || b) ≡ false → b ≡ false
-    or-no true b e = absurd (clash true refl e)
-    or-no false b e = e

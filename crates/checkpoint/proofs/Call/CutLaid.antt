@@ -10,6 +10,7 @@ use borrow.Author.Tests.{not-true}
 use lib.ListN.{getD}
 use Rattle.bounded.specs.Search.{pick}
 use Rattle.bounded.specs.Sum.{sum}
+use Rattle.bounded.proofs.SumLaws.{sum-ext}
 use Rattle.layout.specs.Sizes.{addressCount, blockBytes, mostStoreBlocks}
 use Rattle.layout.specs.Inode.{sizeOf, place}
 use Rattle.layout.specs.Block.{blockOf, blocksUsed, kthBlock}
@@ -27,13 +28,7 @@ use Rattle.changes.proofs.EntryWriteLaws.{SlotIn}
 use Rattle.checkpoint.specs.Notes.{isCopied}
 use Rattle.checkpoint.proofs.Copy.Laid.{Laid, Open, Frame, Fair, cost, costSoFar}
 use Rattle.checkpoint.proofs.Copy.NamingLaws.{used-other}
-use Rattle.checkpoint.proofs.Copy.CutLaws.{inside, in-use, slot-same, cut-inode, cut-block, cut-file, cut-empty, cut-other}
-
--- sums of what is equal
-pub sum-same : (f g : ℕ → ℕ) (n : ℕ) → ((k : ℕ) → k < n → f k ≡ g k) → sum f n ≡ sum g n
-unfolding sum
-sum-same f g zero h = refl
-sum-same f g (suc n) h = ap₂ _+_ (sum-same f g n (λ k l. h k (omega arith))) (h n (omega arith))
+use Rattle.checkpoint.proofs.Call.CutLaws.{inside, in-use, slot-same, cut-inode, cut-block, cut-file, cut-empty, cut-other}
 
 -- no more than twelve blocks are copied
 pub copied-few : {n b : ℕ} {s m d : List ℕ} → Sound mostStoreBlocks false s → n ≡ inodesIn s → Laid n b s m d → deskOf d .locked ≢ 0 → deskOf d .copied ≤ addressCount
@@ -134,5 +129,5 @@ module _ {n b : ℕ} {s m d : List ℕ} (k : Sound mostStoreBlocks false s) (x :
     once = same-differ m cut n addresses (h .once);
     blanks = blanks;
     fair = fair;
-    steps = h .steps ∙ ap (λ (z : ℕ). z + costSoFar d) (sum-same (cost m d n) (cost cut d n) n costs);
+    steps = h .steps ∙ ap (λ (z : ℕ). z + costSoFar d) (sum-ext (cost m d n) (cost cut d n) n costs);
   }

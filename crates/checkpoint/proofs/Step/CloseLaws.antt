@@ -27,9 +27,9 @@ use Rattle.changes.proofs.SoundTreeLaws.{body-at}
 use Rattle.checkpoint.specs.Notes.{isCopied}
 use Rattle.checkpoint.specs.Copier.{close, stepImage, stepDesk}
 use Rattle.checkpoint.proofs.Copy.Laid.{Frame, Fair, Laid, cost, costSoFar}
-use Rattle.checkpoint.proofs.Copy.SumLaws2.{sum-but}
-use Rattle.checkpoint.proofs.Copy.PasteLaws.{pasted, pasted-either}
-use Rattle.checkpoint.proofs.Copy.CloseFacts.{Closing, lock, low, high, full, desk-closed, copied-closed, desk-laid, in-inode, new-kind, new-size, same-blocks, entry-new, inodes-sound}
+use Rattle.bounded.proofs.SumLaws.{sum-but}
+use Rattle.checkpoint.proofs.Step.PasteLaws.{pasted, pasted-either}
+use Rattle.checkpoint.proofs.Step.CloseFacts.{Closing, lock, low, high, full, desk-closed, copied-closed, desk-laid, in-inode, new-kind, new-size, same-blocks, entry-new, inodes-sound}
 
 module _ {n b : ℕ} {s m d : List ℕ} (c : Closing n b s m d) where
   abbrev l : ℕ

@@ -37,7 +37,7 @@ use Rattle.checkpoint.proofs.Copy.Seen.{shelfOf}
 use Rattle.checkpoint.proofs.Copy.SeenLaws.{names-in, names-below, entry-in, kind-some, kind-in, parent-in}
 use Rattle.checkpoint.proofs.Copy.Laid.{Laid}
 use Rattle.checkpoint.proofs.Copy.NamingLaws.{same-naming}
-use Rattle.checkpoint.proofs.Copy.FinishFacts.{Finished, finished}
+use Rattle.checkpoint.proofs.Step.FinishFacts.{Finished, finished}
 
 -- a value that one number alone has is met once
 pub met-one : (f : ℕ → ℕ) (m p v : ℕ) → 1 ≤ v → p < m → f p ≡ v → ((q : ℕ) → q < m → f q ≡ v → q ≡ p) → tally f m v ≡ 1

@@ -21,9 +21,9 @@ use Rattle.checkpoint.specs.Notes.{isCopied}
 use Rattle.checkpoint.specs.Copier.{close, stepImage, stepDesk}
 use Rattle.checkpoint.proofs.Copy.Seen.{shelfOf, seen}
 use Rattle.checkpoint.proofs.Copy.SeenLaws.{names-in, names-out, names-below, names-low, entry-in, bytes-in, kind-in, parent-in, size-in, bytes-same, alike, marked-in, marked-same, zero-new}
-use Rattle.checkpoint.proofs.Copy.PasteLaws.{pasted, pasted-either}
-use Rattle.checkpoint.proofs.Copy.CloseFacts.{Closing, low, high, desk-closed, copied-closed, marks-closed, in-inode, new-kind, new-size, new-parent, file-same}
-use Rattle.checkpoint.proofs.Copy.CloseLaws.{place-else, slot-here, entry-here}
+use Rattle.checkpoint.proofs.Step.PasteLaws.{pasted, pasted-either}
+use Rattle.checkpoint.proofs.Step.CloseFacts.{Closing, low, high, desk-closed, copied-closed, marks-closed, in-inode, new-kind, new-size, new-parent, file-same}
+use Rattle.checkpoint.proofs.Step.CloseLaws.{place-else, slot-here, entry-here}
 
 module _ {n b : ℕ} {s m d : List ℕ} (c : Closing n b s m d) where
   abbrev l : ℕ

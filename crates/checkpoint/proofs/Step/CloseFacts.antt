@@ -27,7 +27,7 @@ use Rattle.checkpoint.specs.Notes.{isCopied}
 use Rattle.checkpoint.specs.Copier.{close, copiedBlock, unlinkedInode, stepImage, stepDesk}
 use Rattle.checkpoint.proofs.Copy.Laid.{DeskLaid, Open, Laid}
 use Rattle.checkpoint.proofs.Copy.SeenLaws.{copied-is, copied-like}
-use Rattle.checkpoint.proofs.Copy.PasteLaws.{pasted, file-block, slot-pasted}
+use Rattle.checkpoint.proofs.Step.PasteLaws.{pasted, file-block, slot-pasted}
 
 -- the locked inode, in use in a sound store, has all its blocks copied
 pub record Closing (n b : ℕ) (s m d : List ℕ) : Type 0 where

@@ -31,10 +31,11 @@ use Rattle.checkpoint.specs.Notes.{isCopied, cutEntries, clearMarks, set
 use Rattle.checkpoint.proofs.Copy.Seen.{shelfOf, markedAt, seen}
 use Rattle.checkpoint.proofs.Copy.Laid.{Laid}
 use Rattle.checkpoint.proofs.Copy.NamingLaws.{used-sound}
-use Rattle.checkpoint.proofs.Copy.PartedLaws.{Parted}
-use Rattle.checkpoint.proofs.Copy.CallNotes.{same-copied, call-notes, mark-away, mark-made, apart-locked}
-use Rattle.checkpoint.proofs.Copy.CutEntries.{CutAt, gone, left, Cuts, cut-by}
-use Rattle.checkpoint.proofs.Copy.CallLaid.{runs, desk-long, taken-whole, taken-ranged, made-ranged}
+use Rattle.checkpoint.proofs.Call.PartedLaws.{Parted}
+use Rattle.checkpoint.proofs.DecisionLaws.{apart-locked}
+use Rattle.checkpoint.proofs.Call.CallNotes.{same-copied, call-notes, mark-away, mark-made}
+use Rattle.checkpoint.proofs.Call.CutEntries.{CutAt, gone, left, Cuts, cut-by}
+use Rattle.checkpoint.proofs.Call.CallLaid.{runs, desk-long, taken-whole, taken-ranged, made-ranged}
 
 -- one of a list
 some-get : {A : Type 0} (P : A → Type 0) (xs : List A) → Some P xs → (x : A) × P x

@@ -1,0 +1,9 @@
+pub mod CallLaid
+pub mod CallNotes
+pub mod CallSeen
+pub mod CallWorld
+pub mod CutEntries
+pub mod CutLaid
+pub mod CutLaws
+pub mod LiveLaws
+pub mod PartedLaws

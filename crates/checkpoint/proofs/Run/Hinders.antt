@@ -1,0 +1,153 @@
+-- Whom 14 meets: a call that touches the locked inode is one of those that the paper lists. s is the store, b its count of blocks.
+use Prim.Native.Nat.{ℕ, _≤_}
+use mathlib.Core.Path.{_≡_, refl, sym, ap, _∙_, subst}
+use mathlib.Core.Logic.{_⊎_, inl, inr}
+use mathlib.Core.Bool.{Bool, true, false, _&&_, _||_}
+use mathlib.Core.List.{List, [], _∷_}
+use native.Mathlib.Omega.{arith}
+use borrow.Author.Tests.{eqb-true}
+use lib.Dec.{eqb}
+use lib.ListN.{length}
+use Rattle.bounded.proofs.SearchLaws.{pick-not}
+use Rattle.bounded.proofs.BoolLaws.{clash, and-left, and-right, or-cases}
+use Rattle.desk.specs.Desk.{deskOf}
+use Rattle.layout.specs.Sizes.{mostStoreBlocks}
+use Rattle.layout.specs.Inode.{fileKind, directoryKind, isKind, isDirectory}
+use Rattle.names.specs.Name.{legalName}
+use Rattle.sound.specs.Sound.{Sound, inodesIn}
+use Rattle.answers.specs.declared.Refusal.{Refusal}
+use Rattle.answers.specs.declared.Refusal.the-variants.{IllegalName, WrongInode}
+use Rattle.changes.proofs.StoreLaws.{kind-some}
+use Rattle.changes.proofs.SlotPlaceLaws.{found-here}
+use Rattle.content.specs.declared.NumberPlan.{NumberPlan}
+use Rattle.content.specs.declared.NumberPlan.the-variants.{To, NoNumber}
+use Rattle.content.specs.Plan.{readPlan, writePlan, shortenPlan}
+use Rattle.entries.specs.declared.Kind.{Kind}
+use Rattle.entries.specs.declared.CreatePlan.{CreatePlan}
+use Rattle.entries.specs.declared.CreatePlan.the-variants.{Make, NoCreate}
+use Rattle.entries.specs.declared.LinkPlan.{LinkPlan}
+use Rattle.entries.specs.declared.LinkPlan.the-variants.{Add, NoLink}
+use Rattle.entries.specs.declared.UnlinkPlan.{UnlinkPlan}
+use Rattle.entries.specs.declared.UnlinkPlan.the-variants.{Take, NoUnlink}
+use Rattle.entries.specs.declared.RenamePlan.{RenamePlan}
+use Rattle.entries.specs.declared.RenamePlan.the-variants.{Same, Rename, Move, NoRename}
+use Rattle.entries.specs.Plan.{lookUpPlan, createPlan, linkPlan, unlinkPlan, renamePlan}
+use Rattle.content.proofs.PlanFacts.{shortens, writes}
+use Rattle.entries.proofs.PlanFacts.{FoundIn, creates, links, unlinks, renames, moves}
+use Rattle.files.specs.Effect.{Call, lookUp, read, create, write, shorten, link, unlink, rename, Effect, planned, doLookUp, doRead, doCreate, doWrite, doShorten, doLink, doUnlink, doRename}
+use Rattle.files.proofs.Lawful.{Some, Each}
+use Rattle.checkpoint.specs.Fit.{isRunning}
+use Rattle.checkpoint.specs.Busy.{isLocked, anyLocked}
+use Rattle.checkpoint.specs.Progress.{Hinders}
+use Rattle.checkpoint.specs.Progress as paper
+
+-- 14 by one of the inodes
+pub locked-one : (d is : List ℕ) → anyLocked d is ≡ true → (isRunning d ≡ true) × Some (λ i. deskOf d .locked ≡ i) is
+unfolding anyLocked isLocked
+locked-one d [] e = absurd (clash false e refl)
+locked-one d (i ∷ is) e = elim (or-cases (isLocked d i) (anyLocked d is) e) [
+  | inl h ↦ (and-left (isRunning d) _ h, inl (eqb-true (deskOf d .locked) i (and-right (isRunning d) _ h)))
+  | inr h ↦ let k = locked-one d is h in (k .0, inr (k .1))
+]
+
+-- what an unlink or a move takes is what a look-up finds
+looks-up : (s : List ℕ) (n d : ℕ) (name : List ℕ) (t i : ℕ) → FoundIn s n d name t i → lookUpPlan s n d name ≡ To i
+unfolding lookUpPlan
+looks-up s n d name t i f = rw (f .legal, f .directory, f .found) (ap To (sym (f .inode)))
+
+-- a rename to the same name: its directory is one
+same-directory : (s : List ℕ) (n b d : ℕ) (name : List ℕ) (e : ℕ) (other : List ℕ) → renamePlan s n b d name e other ≡ Same → isDirectory s n d ≡ true
+unfolding renamePlan
+same-directory s n b d name e other h =
+    let a = pick-not (legalName name && legalName other) (NoRename IllegalName) _ Same h (never IllegalName) in
+    let c = pick-not (isDirectory s n d && isDirectory s n e) (NoRename WrongInode) _ Same (a .1) (never WrongInode) in
+    and-left (isDirectory s n d) (isDirectory s n e) (c .0)
+  where
+    never : (f : Refusal) → NoRename f ≡ Same → ⊥
+    never f q = let z : _≡_ {A = ℕ} 0 1 = cc in omega arith
+
+module _ (s : List ℕ) (b : ℕ) (h : Sound mostStoreBlocks false s) where
+  abbrev n : ℕ
+  n = inodesIn s
+
+  -- a call whose effect touches l hinders the copy of l, an inode
+  abbrev Touches : Call → Effect → Type 0
+  Touches c x = (l : ℕ) → Some (λ i. l ≡ i) (x .touches) → (1 ≤ l) × Hinders s l c
+
+  one-of : (k i l : ℕ) → isKind s n k i ≡ true → l ≡ i → 1 ≤ l
+  one-of k i l t e = let m = kind-some s n k i t in omega arith
+
+  found-one : (d t i l : ℕ) (name : List ℕ) → FoundIn s n d name t i → l ≡ i → 1 ≤ l
+  found-one d t i l name f e = let m = found-here s n h refl d t name (f .directory) (f .legal) (f .found) .low in let q = f .inode in omega arith
+
+  look : (d : ℕ) (name : List ℕ) (p : NumberPlan) → Each (Touches (lookUp d name)) (doLookUp s p)
+  look d name (To i) = λ l z. absurd z
+  look d name (NoNumber e) = tt
+
+  reads : (i o : ℕ) (out : List ℕ) (p : NumberPlan) → Each (Touches (read i o out)) (doRead s n i o out p)
+  reads i o out (To k) = λ l z. absurd z
+  reads i o out (NoNumber e) = tt
+
+  makes : (d : ℕ) (name : List ℕ) (k : Kind) (p : CreatePlan) → createPlan s n b d name ≡ p → Each (Touches (create d name k)) (doCreate s n d name k p)
+  makes d name k (NoCreate e) q = tt
+  makes d name k (Make i r) q = go
+    where
+      go : (l : ℕ) → Some (λ j. l ≡ j) (d ∷ []) → (1 ≤ l) × Hinders s l (create d name k)
+      go l (inl e) = (one-of directoryKind d l (creates s n b d name i r q .new .directory) e, subst (λ (y : ℕ). Hinders s l (create y name k)) e paper.creates)
+
+  puts : (i o : ℕ) (xs : List ℕ) (p : NumberPlan) → writePlan s n i o (length xs) ≡ p → Each (Touches (write i o xs)) (doWrite s n b i o xs p)
+  puts i o xs (NoNumber e) q = tt
+  puts i o xs (To z) q = go
+    where
+      go : (l : ℕ) → Some (λ j. l ≡ j) (i ∷ []) → (1 ≤ l) × Hinders s l (write i o xs)
+      go l (inl e) = (one-of fileKind i l (writes s n i o (length xs) z q .file) e, subst (λ (y : ℕ). Hinders s l (write y o xs)) e paper.writes)
+
+  cuts : (i z : ℕ) (p : NumberPlan) → shortenPlan s n i z ≡ p → Each (Touches (shorten i z)) (doShorten s n i p)
+  cuts i z (NoNumber e) q = tt
+  cuts i z (To y) q = go
+    where
+      go : (l : ℕ) → Some (λ j. l ≡ j) (i ∷ []) → (1 ≤ l) × Hinders s l (shorten i z)
+      go l (inl e) = (one-of fileKind i l (shortens s n i z y q .file) e, subst (λ (y : ℕ). Hinders s l (shorten y z)) e paper.shortens)
+
+  adds : (d : ℕ) (name : List ℕ) (i : ℕ) (p : LinkPlan) → linkPlan s n b d name i ≡ p → Each (Touches (link d name i)) (doLink s n d name i p)
+  adds d name i (NoLink e) q = tt
+  adds d name i (Add r) q = go
+    where
+      go : (l : ℕ) → Some (λ j. l ≡ j) (d ∷ i ∷ []) → (1 ≤ l) × Hinders s l (link d name i)
+      go l (inl e) = (one-of directoryKind d l (links s n b d name i r q .new .directory) e, subst (λ (y : ℕ). Hinders s l (link y name i)) e paper.links)
+      go l (inr (inl e)) = (one-of fileKind i l (links s n b d name i r q .file) e, subst (λ (y : ℕ). Hinders s l (link d name y)) e paper.links-it)
+
+  takes : (d : ℕ) (name : List ℕ) (p : UnlinkPlan) → unlinkPlan s n d name ≡ p → Each (Touches (unlink d name)) (doUnlink s n d p)
+  takes d name (NoUnlink e) q = tt
+  takes d name (Take t i) q = go
+    where
+      go : (l : ℕ) → Some (λ j. l ≡ j) (d ∷ i ∷ []) → (1 ≤ l) × Hinders s l (unlink d name)
+      go l (inl e) = (one-of directoryKind d l (unlinks s n d name t i q .entry .directory) e, subst (λ (y : ℕ). Hinders s l (unlink y name)) e paper.unlinks)
+      go l (inr (inl e)) = let f = unlinks s n d name t i q .entry in (found-one d t i l name f e, paper.unlinks-it (looks-up s n d name t i f ∙ ap To (sym e)))
+
+  -- a rename within a directory
+  within : (d : ℕ) (name : List ℕ) (e : ℕ) (other : List ℕ) → isDirectory s n d ≡ true → (l : ℕ) → Some (λ j. l ≡ j) (d ∷ []) → (1 ≤ l) × Hinders s l (rename d name e other)
+  within d name e other k l (inl q) = (one-of directoryKind d l k q, subst (λ (y : ℕ). Hinders s l (rename y name e other)) q paper.renames)
+
+  moved : (d : ℕ) (name : List ℕ) (e : ℕ) (other : List ℕ) (p : RenamePlan) → renamePlan s n b d name e other ≡ p → Each (Touches (rename d name e other)) (doRename s n d e other p)
+  moved d name e other (NoRename f) q = tt
+  moved d name e other Same q = within d name e other (same-directory s n b d name e other q)
+  moved d name e other (Rename t i) q = within d name e other (renames s n b d name e other t i q .0 .entry .directory)
+  moved d name e other (Move t i r) q = go
+    where
+      go : (l : ℕ) → Some (λ j. l ≡ j) (d ∷ e ∷ i ∷ []) → (1 ≤ l) × Hinders s l (rename d name e other)
+      go l (inl g) = (one-of directoryKind d l (moves s n b d name e other t i r q .0 .entry .directory) g, subst (λ (y : ℕ). Hinders s l (rename y name e other)) g paper.renames)
+      go l (inr (inl g)) = (one-of directoryKind e l (moves s n b d name e other t i r q .0 .new .directory) g, subst (λ (y : ℕ). Hinders s l (rename d name y other)) g paper.renames-to)
+      go l (inr (inr (inl g))) =
+          let m = moves s n b d name e other t i r q in
+          (found-one d t i l name (m .0 .entry) g, paper.moves-it (m .1 .other) (looks-up s n d name t i (m .0 .entry) ∙ ap To (sym g)))
+
+  pub hinders : (c : Call) → Each (Touches c) (planned c s n b)
+  hinders (lookUp d name) = look d name (lookUpPlan s n d name)
+  hinders (read i o out) = reads i o out (readPlan s n i o (length out))
+  hinders (create d name k) = makes d name k (createPlan s n b d name) refl
+  hinders (write i o xs) = puts i o xs (writePlan s n i o (length xs)) refl
+  hinders (shorten i z) = cuts i z (shortenPlan s n i z) refl
+  hinders (link d name i) = adds d name i (linkPlan s n b d name i) refl
+  hinders (unlink d name) = takes d name (unlinkPlan s n d name) refl
+  hinders (rename d name e other) = moved d name e other (renamePlan s n b d name e other) refl

@@ -1,0 +1,12 @@
+pub mod BlockLaws
+pub mod CloseFacts
+pub mod CloseLaws
+pub mod CloseSeen
+pub mod CopyLaws
+pub mod FinishFacts
+pub mod FinishLaws
+pub mod FinishSeen
+pub mod LockLaws
+pub mod PasteLaws
+pub mod StartImageLaws
+pub mod StartLaws
