@@ -43,12 +43,13 @@ use Rattle.bounded.specs.Count.{tally}
 use Rattle.directory.specs.Slot.{mostSlots}
 use Rattle.desk.specs.Sizes.{finished}
 use Rattle.answers.specs.declared.Refusal.the-variants.{IntoItself}
+use Rattle.answers.specs.Told.{told}
 use Rattle.answers.specs.declared.Answer.the-variants.{Done, Refused}
 use Rattle.files.specs.Effect.{rename}
 use Rattle.checkpoint.specs.List.{call, steps, starts, Finish, last, more}
 use Rattle.cases.specs.Worlds.{fresh, nameA, reusedBlock, movedDirectory, unlinkedFile, parentAndChild}
 
-pub three-steps : (outcome steps (run (starts ∷ steps ∷ steps ∷ []) (fresh 1 1)) .answer ≡ Done 3)
+pub three-steps : (outcome steps (run (starts ∷ steps ∷ steps ∷ []) (fresh 1 1)) .answer ≡ told (Done 3))
     × (deskOf (run (starts ∷ steps ∷ steps ∷ steps ∷ []) (fresh 1 1) .desk) .state ≡ finished)
 unfolding fresh desk.reservedZero allBelow someBelow leadsB count firstFrom first table part splice numAt toBytes putNum wordBytes digit marked withMark withoutMark entryInode isEmpty sameByte sameName nameLength entryName legalEntry entryFor plainByte isDots legalName blockOf putInBlock zeroBlock blocksUsed kthBlock isFree freeInode named freeBlock headerOf putFree putComplete putHeader reservedZero kindOf spareOf linksOf sizeOf parentOf putLinks attributeEntry putAttributes addressOf putAddress addressesOf putAddresses inodeOf putInode slots slotAt entryOf slotNamed findSlot slotEmpty emptySlot putEntry clearEntry deskOf putDesk copiedOf putCopied marksOf putMarks markOf setMark clearMark clearNotes sameNames namedB newNameB entryB attributesB addressesB zeroTailB inodeB countedB leadB isSlot entryAt filled naming framedB headerB freeCountsB zeroBlockB blanksB bodyB soundB enter created written dropLink unlinked setParent moved putFile addBlock addBlocks putSize zeroRest keepFirst cutTo isKind zeroInode lessFree moreFree guarded createPlan writePlan shortenPlan holdsNone unlinkPlan isBelow renameTo renamePlan roomIn makeRoom freshHeader emptyRoot freshStore freshDesk isLocked startImage startDesk nextInode targetBlock lockedStep freeStep stepOf copiedEntry copiedEntries copiedBlock putCounts finishImage deskFramed imageBlocks imageAllowed isRunning blocksFit deskFits imageFits notesFit hasSlot slotNames isNamed outcome next run started start step isCopied noteMade noteTaken cutsImage cutImage zeroed guardOf anyLocked threeGuards decision live cutEntries clearMarks setMarks
 three-steps = (refl, refl)
@@ -121,6 +122,6 @@ pub unlinked-file : (deskOf (run unlinkedFile (fresh 2 2) .desk) .state ≡ fini
 unfolding fresh unlinkedFile desk.reservedZero allBelow someBelow leadsB count firstFrom first table part splice numAt toBytes putNum wordBytes digit marked withMark withoutMark entryInode isEmpty sameByte sameName nameLength entryName legalEntry entryFor plainByte isDots legalName blockOf putInBlock zeroBlock blocksUsed kthBlock isFree freeInode named freeBlock headerOf putFree putComplete putHeader reservedZero kindOf spareOf linksOf sizeOf parentOf putLinks attributeEntry putAttributes addressOf putAddress addressesOf putAddresses inodeOf putInode slots slotAt entryOf slotNamed findSlot slotEmpty emptySlot putEntry clearEntry deskOf putDesk copiedOf putCopied marksOf putMarks markOf setMark clearMark clearNotes sameNames namedB newNameB entryB attributesB addressesB zeroTailB inodeB countedB leadB isSlot entryAt filled naming framedB headerB freeCountsB zeroBlockB blanksB bodyB soundB enter created written dropLink unlinked setParent moved putFile addBlock addBlocks putSize zeroRest keepFirst cutTo isKind zeroInode lessFree moreFree guarded createPlan writePlan shortenPlan holdsNone unlinkPlan isBelow renameTo renamePlan roomIn makeRoom freshHeader emptyRoot freshStore freshDesk isLocked startImage startDesk nextInode targetBlock lockedStep freeStep stepOf copiedEntry copiedEntries copiedBlock putCounts finishImage deskFramed imageBlocks imageAllowed isRunning blocksFit deskFits imageFits notesFit hasSlot slotNames isNamed outcome next run started start step isCopied noteMade noteTaken cutsImage cutImage zeroed guardOf anyLocked threeGuards decision live cutEntries clearMarks setMarks
 unlinked-file = (refl, refl)
 
-pub into-child : outcome (call (rename 1 nameA 3 nameA)) (run parentAndChild (fresh 3 3)) .answer ≡ Refused IntoItself
+pub into-child : outcome (call (rename 1 nameA 3 nameA)) (run parentAndChild (fresh 3 3)) .answer ≡ told (Refused IntoItself)
 unfolding fresh parentAndChild desk.reservedZero allBelow someBelow leadsB count firstFrom first table part splice numAt toBytes putNum wordBytes digit marked withMark withoutMark entryInode isEmpty sameByte sameName nameLength entryName legalEntry entryFor plainByte isDots legalName blockOf putInBlock zeroBlock blocksUsed kthBlock isFree freeInode named freeBlock headerOf putFree putComplete putHeader reservedZero kindOf spareOf linksOf sizeOf parentOf putLinks attributeEntry putAttributes addressOf putAddress addressesOf putAddresses inodeOf putInode slots slotAt entryOf slotNamed findSlot slotEmpty emptySlot putEntry clearEntry deskOf putDesk copiedOf putCopied marksOf putMarks markOf setMark clearMark clearNotes sameNames namedB newNameB entryB attributesB addressesB zeroTailB inodeB countedB leadB isSlot entryAt filled naming framedB headerB freeCountsB zeroBlockB blanksB bodyB soundB enter created written dropLink unlinked setParent moved putFile addBlock addBlocks putSize zeroRest keepFirst cutTo isKind zeroInode lessFree moreFree guarded createPlan writePlan shortenPlan holdsNone unlinkPlan isBelow renameTo renamePlan roomIn makeRoom freshHeader emptyRoot freshStore freshDesk isLocked startImage startDesk nextInode targetBlock lockedStep freeStep stepOf copiedEntry copiedEntries copiedBlock putCounts finishImage deskFramed imageBlocks imageAllowed isRunning blocksFit deskFits imageFits notesFit hasSlot slotNames isNamed outcome next run started start step isCopied noteMade noteTaken cutsImage cutImage zeroed guardOf anyLocked threeGuards decision live cutEntries clearMarks setMarks
 into-child = refl

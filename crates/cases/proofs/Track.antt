@@ -19,6 +19,7 @@ use Rattle.names.specs.Name.{slash, legalName}
 use Rattle.names.proofs.NameLaws.{legal, legal-bounds}
 use Rattle.directory.specs.Slot.{slots, slotEmpty, emptySlot}
 use Rattle.answers.specs.declared.Refusal.the-variants.{IllegalName, PastEnd, NoSlot, WrongState}
+use Rattle.answers.specs.Told.{told}
 use Rattle.answers.specs.declared.Answer.the-variants.{Done, Refused}
 use Rattle.desk.specs.Desk.{deskOf}
 use Rattle.sound.specs.declared.Form.the-variants.{Store}
@@ -28,7 +29,7 @@ use Rattle.files.specs.Effect.{create, write}
 use Rattle.checkpoint.specs.Fit.{isRunning, imageAllowed, imageBlocks, blocksFit, deskFits, imageFits, notesFit}
 use Rattle.checkpoint.specs.Table.{createTable, writeTable, startTable}
 use Rattle.checkpoint.specs.Busy.{anyLocked}
-use Rattle.checkpoint.specs.Live.{World}
+use Rattle.checkpoint.specs.Live.{World, live, start}
 use Rattle.checkpoint.specs.List.{Ready, call, starts, outcome}
 use Rattle.checkpoint.proofs.TableLaws.{create-table, write-table, start-table}
 use Rattle.cases.specs.Cases.{TrackCases, Writes, Creates, inodes}
@@ -36,8 +37,8 @@ use Rattle.cases.proofs.Runs.{three-steps, finish, reused-block, moved-
 
 -- a create of a legal name in an empty slot
 created : (w : World) (d : ℕ) (name : List ℕ) (k : Kind) (c : Creates w d name) (t : ℕ) → legalName name ≡ true → emptySlot (w .store) (inodes w) d ≡ At t
-    → outcome (call (create d name k)) w .answer ≡ Done (c .inode)
-unfolding outcome createTable anyLocked
+    → live (create d name k) w .answer ≡ Done (c .inode)
+unfolding createTable anyLocked
 created w d name k c t l u =
     let r = c .ready in
     create-table w d name k
@@ -57,15 +58,15 @@ fourteen-legal name e h =
 fifteen-illegal : (name : List ℕ) → length name ≡ 15 → legalName name ≡ false
 fifteen-illegal name e = fails (legalName name) (λ t. let b = legal-bounds name t in let c = b .1 in omega arith)
 
-fifteen : (w : World) (d : ℕ) (name : List ℕ) (k : Kind) → Ready w → length name ≡ 15 → outcome (call (create d name k)) w .answer ≡ Refused IllegalName
-unfolding outcome createTable anyLocked
+fifteen : (w : World) (d : ℕ) (name : List ℕ) (k : Kind) → Ready w → length name ≡ 15 → live (create d name k) w .answer ≡ Refused IllegalName
+unfolding createTable anyLocked
 fifteen w d name k r e =
     create-table w d name k
     ∙ rw (r .framed, r .desk, r .sound, r .notes, fifteen-illegal name e)
 
 fourteen : (w : World) (d t : ℕ) (name : List ℕ) (k : Kind) (c : Creates w d name) → length name ≡ 14
     → ((j : ℕ) → j < 14 → (getD name j 0 ≡ 0 → ⊥) × (getD name j 0 ≡ slash → ⊥)) → emptySlot (w .store) (inodes w) d ≡ At t
-    → outcome (call (create d name k)) w .answer ≡ Done (c .inode)
+    → live (create d name k) w .answer ≡ Done (c .inode)
 fourteen w d t name k c e h u = created w d name k c t (fourteen-legal name e h) u
 
 -- ---- writes
@@ -80,8 +81,8 @@ file-size w i r f =
     is-sound Store s .to (r .sound) .inodes i (leb-true 1 i a) (leb-true i n b) .size
 
 module _ (w : World) (i o : ℕ) (xs : List ℕ) (h : Writes w i o xs) where
-  write-done : o ≤ sizeOf (w .store) i → o + length xs ≤ 768 → outcome (call (write i o xs)) w .answer ≡ Done (max (sizeOf (w .store) i) (o + length xs))
-  unfolding outcome writeTable anyLocked
+  write-done : o ≤ sizeOf (w .store) i → o + length xs ≤ 768 → live (write i o xs) w .answer ≡ Done (max (sizeOf (w .store) i) (o + length xs))
+  unfolding writeTable anyLocked
   write-done a b =
       let r = h .ready in
       let z : sizeOf (w .store) i ≤ 768 = file-size w i r (h .file) in
@@ -99,25 +100,25 @@ module _ (w : World) (i o : ℕ) (xs : List ℕ) (h : Writes w i o xs) where
         h .idle,
       )
 
-  write-refused : ltb (sizeOf (w .store) i) o || ltb mostFileBytes (o + length xs) ≡ true → outcome (call (write i o xs)) w .answer ≡ Refused PastEnd
-  unfolding outcome writeTable anyLocked
+  write-refused : ltb (sizeOf (w .store) i) o || ltb mostFileBytes (o + length xs) ≡ true → live (write i o xs) w .answer ≡ Refused PastEnd
+  unfolding writeTable anyLocked
   write-refused q =
       let r = h .ready in
       write-table w i o xs
       ∙ rw (r .framed, r .desk, r .sound, r .notes, h .file, q)
 
-  to-768 : o ≤ sizeOf (w .store) i → o + length xs ≡ 768 → outcome (call (write i o xs)) w .answer ≡ Done 768
+  to-768 : o ≤ sizeOf (w .store) i → o + length xs ≡ 768 → live (write i o xs) w .answer ≡ Done 768
   to-768 a b =
       let z : sizeOf (w .store) i ≤ 768 = file-size w i (h .ready) (h .file) in
       write-done a (omega arith) ∙ ap Done (omega arith)
 
-  to-769 : o + length xs ≡ 769 → outcome (call (write i o xs)) w .answer ≡ Refused PastEnd
+  to-769 : o + length xs ≡ 769 → live (write i o xs) w .answer ≡ Refused PastEnd
   to-769 b = write-refused (or-r (ltb (sizeOf (w .store) i) o) (ltb mostFileBytes (o + length xs)) (lt-ltb mostFileBytes (o + length xs) (omega arith)))
 
-  at-size : o ≡ sizeOf (w .store) i → o + length xs ≤ 768 → outcome (call (write i o xs)) w .answer ≡ Done (o + length xs)
+  at-size : o ≡ sizeOf (w .store) i → o + length xs ≤ 768 → live (write i o xs) w .answer ≡ Done (o + length xs)
   at-size a b = write-done (omega arith) b ∙ ap Done (omega arith)
 
-  past-size : o ≡ sizeOf (w .store) i + 1 → outcome (call (write i o xs)) w .answer ≡ Refused PastEnd
+  past-size : o ≡ sizeOf (w .store) i + 1 → live (write i o xs) w .answer ≡ Refused PastEnd
   past-size a = write-refused (or-l (ltb (sizeOf (w .store) i) o) (ltb mostFileBytes (o + length xs)) (lt-ltb (sizeOf (w .store) i) o (omega arith)))
 
 -- ---- slots
@@ -132,15 +133,15 @@ module _ (w : World) (d : ℕ) (name : List ℕ) (k : Kind) (c : Creates w d nam
   unfolding emptySlot first
   none h = absent-of (slotEmpty (w .store) (inodes w) d) 0 (slots (w .store) d) (λ j a b. h j (omega arith))
 
-  last-slot : (t : ℕ) → t < 48 → slotEmpty (w .store) (inodes w) d t ≡ true → outcome (call (create d name k)) w .answer ≡ Done (c .inode)
+  last-slot : (t : ℕ) → t < 48 → slotEmpty (w .store) (inodes w) d t ≡ true → live (create d name k) w .answer ≡ Done (c .inode)
   last-slot t l e = let u = some-slot t l e in created w d name k c (u .0) legal-name (u .1)
 
   twelve : blocksUsed (sizeOf (w .store) d) ≡ 12
   unfolding slots
   twelve = omega arith
 
-  no-slot : ((t : ℕ) → t < 48 → slotEmpty (w .store) (inodes w) d t ≡ false) → outcome (call (create d name k)) w .answer ≡ Refused NoSlot
-  unfolding outcome createTable anyLocked
+  no-slot : ((t : ℕ) → t < 48 → slotEmpty (w .store) (inodes w) d t ≡ false) → live (create d name k) w .answer ≡ Refused NoSlot
+  unfolding createTable anyLocked
   no-slot h =
       let r = c .ready in
       create-table w d name k
@@ -175,29 +176,30 @@ allowed w r h =
     let k = blocks-allowed d h g in
     length-allowed (inodes w) (deskOf d .blocks) (length (w .image)) (k .0) (k .1) (omega arith)
 
-second-start : (w : World) → Ready w → isRunning (w .desk) ≡ true → outcome starts w .answer ≡ Refused WrongState
-unfolding outcome startTable
+second-start : (w : World) → Ready w → isRunning (w .desk) ≡ true → start (w .store) (w .image) (w .desk) .answer ≡ Refused WrongState
+unfolding startTable
 second-start w r h = start-table (w .store) (w .image) (w .desk) ∙ rw (r .framed, r .desk, allowed w r h, r .sound, r .notes, h)
 
 -- ---- the table
 pub track-cases : TrackCases
+unfolding outcome
 track-cases = record {
   three-steps = three-steps;
   finish = finish;
-  fourteen = fourteen;
-  fifteen = fifteen;
-  to-768 = to-768;
-  to-769 = to-769;
-  at-size = at-size;
-  past-size = past-size;
-  last-slot = λ w d t name k c l a. last-slot w d name k c l a t;
-  no-slot = no-slot;
+  fourteen = λ w d t name k c l h u. ap told (fourteen w d t name k c l h u);
+  fifteen = λ w d name k r e. ap told (fifteen w d name k r e);
+  to-768 = λ w i o xs h l e. ap told (to-768 w i o xs h l e);
+  to-769 = λ w i o xs h e. ap told (to-769 w i o xs h e);
+  at-size = λ w i o xs h e l. ap told (at-size w i o xs h e l);
+  past-size = λ w i o xs h e. ap told (past-size w i o xs h e);
+  last-slot = λ w d t name k c l a b e. ap told (last-slot w d name k c l a t b e);
+  no-slot = λ w d name k c l a h. ap told (no-slot w d name k c l a h);
   reused-block = reused-block .1;
   reused-block-done = reused-block .0;
   moved-directory = moved-directory .1;
   moved-directory-done = moved-directory .0;
   unlinked-file = unlinked-file .1;
   unlinked-file-done = unlinked-file .0;
-  second-start = second-start;
+  second-start = λ w r h. ap told (second-start w r h);
   into-child = into-child;
 }

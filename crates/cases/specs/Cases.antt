@@ -16,6 +16,7 @@ use Rattle.directory.specs.Slot.{mostSlots, slots, findSlot, emptySlot, slotEmp
 use Rattle.desk.specs.Sizes.{finished}
 use Rattle.desk.specs.Desk.{deskOf}
 use Rattle.answers.specs.declared.Refusal.the-variants.{IllegalName, PastEnd, NoSlot, WrongState, IntoItself}
+use Rattle.answers.specs.Told.{told}
 use Rattle.answers.specs.declared.Answer.the-variants.{Done, Refused}
 use Rattle.sound.specs.Sound.{inodesIn, blocksIn}
 use Rattle.sound.specs.Place.{naming}
@@ -52,7 +53,7 @@ pub record Creates (w : World) (d : ℕ) (name : List ℕ) : Type 0 where
 
 pub record TrackCases : Type 0 where
   -- "N 1, empty root: three steps finish."
-  pub three-steps : (outcome steps (run (starts ∷ steps ∷ steps ∷ []) (fresh 1 1)) .answer ≡ Done 3)
+  pub three-steps : (outcome steps (run (starts ∷ steps ∷ steps ∷ []) (fresh 1 1)) .answer ≡ told (Done 3))
       × (deskOf (run (starts ∷ steps ∷ steps ∷ steps ∷ []) (fresh 1 1) .desk) .state ≡ finished)
   -- so a finish is reached
   pub finish : Finish (steps ∷ steps ∷ steps ∷ []) (next starts (fresh 1 1))
@@ -60,26 +61,26 @@ pub record TrackCases : Type 0 where
   pub fourteen : (w : World) (d t : ℕ) (name : List ℕ) (k : Kind) (c : Creates w d name) → length name ≡ nameBytes
       → ((j : ℕ) → j < nameBytes → (getD name j 0 ≡ 0 → ⊥) × (getD name j 0 ≡ slash → ⊥))
       → emptySlot (w .store) (inodes w) d ≡ At t
-      → outcome (call (create d name k)) w .answer ≡ Done (c .inode)
+      → outcome (call (create d name k)) w .answer ≡ told (Done (c .inode))
   pub fifteen : (w : World) (d : ℕ) (name : List ℕ) (k : Kind) → Ready w → length name ≡ nameBytes + 1
-      → outcome (call (create d name k)) w .answer ≡ Refused IllegalName
+      → outcome (call (create d name k)) w .answer ≡ told (Refused IllegalName)
   -- "Write ending at 768 passes, 769 gives 9."
   pub to-768 : (w : World) (i o : ℕ) (xs : List ℕ) → Writes w i o xs → o ≤ sizeOf (w .store) i → o + length xs ≡ mostFileBytes
-      → outcome (call (write i o xs)) w .answer ≡ Done mostFileBytes
+      → outcome (call (write i o xs)) w .answer ≡ told (Done mostFileBytes)
   pub to-769 : (w : World) (i o : ℕ) (xs : List ℕ) → Writes w i o xs → o + length xs ≡ mostFileBytes + 1
-      → outcome (call (write i o xs)) w .answer ≡ Refused PastEnd
+      → outcome (call (write i o xs)) w .answer ≡ told (Refused PastEnd)
   -- "Write at the size passes, one past gives 9."
   pub at-size : (w : World) (i o : ℕ) (xs : List ℕ) → Writes w i o xs → o ≡ sizeOf (w .store) i → o + length xs ≤ mostFileBytes
-      → outcome (call (write i o xs)) w .answer ≡ Done (o + length xs)
+      → outcome (call (write i o xs)) w .answer ≡ told (Done (o + length xs))
   pub past-size : (w : World) (i o : ℕ) (xs : List ℕ) → Writes w i o xs → o ≡ sizeOf (w .store) i + 1
-      → outcome (call (write i o xs)) w .answer ≡ Refused PastEnd
+      → outcome (call (write i o xs)) w .answer ≡ told (Refused PastEnd)
   -- "48 entries fit, the next gives 13.": an empty slot of 48 is taken; with none left, 13
   pub last-slot : (w : World) (d t : ℕ) (name : List ℕ) (k : Kind) (c : Creates w d name) → legalName name ≡ true → slots (w .store) d ≡ mostSlots
       → t < mostSlots → slotEmpty (w .store) (inodes w) d t ≡ true
-      → outcome (call (create d name k)) w .answer ≡ Done (c .inode)
+      → outcome (call (create d name k)) w .answer ≡ told (Done (c .inode))
   pub no-slot : (w : World) (d : ℕ) (name : List ℕ) (k : Kind) → Creates w d name → legalName name ≡ true → slots (w .store) d ≡ mostSlots
       → ((t : ℕ) → t < mostSlots → slotEmpty (w .store) (inodes w) d t ≡ false)
-      → outcome (call (create d name k)) w .answer ≡ Refused NoSlot
+      → outcome (call (create d name k)) w .answer ≡ told (Refused NoSlot)
   -- "the image keeps all of 2 in block 2, and 3 in block 3 with 54 zeros."
   pub reused-block : (kthBlock (run reusedBlock (fresh 3 3) .image) 3 2 0 ≡ 2)
       × ((blockOf (run reusedBlock (fresh 3 3) .image) 3 2 ≡ replicate 64 7)
@@ -97,6 +98,6 @@ pub record TrackCases : Type 0 where
   pub unlinked-file-done : deskOf (run unlinkedFile (fresh 2 2) .desk) .state ≡ finished
   -- "Second start while running: 15."
   pub second-start : (w : World) → Ready w → isRunning (w .desk) ≡ true
-      → outcome starts w .answer ≡ Refused WrongState
+      → outcome starts w .answer ≡ told (Refused WrongState)
   -- "Directory moved into its child: 10."
-  pub into-child : outcome (call (rename 1 nameA 3 nameA)) (run parentAndChild (fresh 3 3)) .answer ≡ Refused IntoItself
+  pub into-child : outcome (call (rename 1 nameA 3 nameA)) (run parentAndChild (fresh 3 3)) .answer ≡ told (Refused IntoItself)
