@@ -8,3 +8,4 @@ pub mod TableLaws
 pub mod Copy
 pub mod Run
 pub mod Demands
+pub mod School

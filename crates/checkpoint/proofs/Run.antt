@@ -14,3 +14,5 @@ pub mod Busies
 pub mod Finales
 pub mod Stood
 pub mod Honesty
+pub mod Unwritten
+pub mod Still

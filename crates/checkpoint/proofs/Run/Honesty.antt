@@ -7,7 +7,7 @@ use mathlib.Core.List.{List, [], _∷_, _++_}
 use native.Mathlib.Omega.{arith}
 use lib.ListN.{length}
 use Rattle.layout.specs.Sizes.{mostStoreBlocks, mostImageBlocks}
-use Rattle.layout.specs.Inode.{kindOf, sizeOf, fileKind}
+use Rattle.layout.specs.Inode.{kindOf, sizeOf, parentOf, fileKind}
 use Rattle.layout.proofs.ViewLaws.{within-in, below-in}
 use Rattle.names.specs.Entry.{entryName}
 use Rattle.directory.specs.Slot.{mostSlots}
@@ -39,7 +39,7 @@ use Rattle.checkpoint.proofs.Run.Stood.{entry-of, InRange, kept-range, 
 
 -- ---- what the view says of the bytes
 module _ (n : ℕ) (w : World) where
-  store-names : (p : ℕ) → p < mostSlots * n → seenIn n w .store .names p ≡ naming (w .store) n p
+  pub store-names : (p : ℕ) → p < mostSlots * n → seenIn n w .store .names p ≡ naming (w .store) n p
   unfolding seen shelfOf
   store-names p l = below-in (mostSlots * n) (naming (w .store) n) p l
 
@@ -51,7 +51,7 @@ module _ (n : ℕ) (w : World) where
   unfolding seen shelfOf
   store-kind i l m = within-in n (kindOf (w .store)) i l m
 
-  image-kind : (i : ℕ) → 1 ≤ i → i ≤ n → seenIn n w .image .kind i ≡ kindOf (w .image) i
+  pub image-kind : (i : ℕ) → 1 ≤ i → i ≤ n → seenIn n w .image .kind i ≡ kindOf (w .image) i
   unfolding seen shelfOf
   image-kind i l m = within-in n (kindOf (w .image)) i l m
 
@@ -59,6 +59,7 @@ module _ (n : ℕ) (w : World) where
 pub record AlikeIn (n : ℕ) (s m : List ℕ) (i : ℕ) : Type 0 where
   pub kind : kindOf m i ≡ kindOf s i
   pub size : sizeOf m i ≡ sizeOf s i
+  pub parent : parentOf m i ≡ parentOf s i
   pub bytes : kindOf s i ≡ fileKind → fileBytes m n i 0 (sizeOf m i) ≡ fileBytes s n i 0 (sizeOf s i)
 
 alike-in : (n : ℕ) (v w : World) (i : ℕ) → 1 ≤ i → i ≤ n → Alike (seenIn n v .store) (seenIn n w .image) i → AlikeIn n (v .store) (w .image) i
@@ -66,6 +67,7 @@ unfolding seen shelfOf
 alike-in n v w i l m a = record {
   kind = sym (within-in n (kindOf (w .image)) i l m) ∙ a .kind ∙ within-in n (kindOf (v .store)) i l m;
   size = sym (within-in n (sizeOf (w .image)) i l m) ∙ a .size ∙ within-in n (sizeOf (v .store)) i l m;
+  parent = sym (within-in n (parentOf (w .image)) i l m) ∙ a .parent ∙ within-in n (parentOf (v .store)) i l m;
   bytes = λ e. a .bytes (within-in n (kindOf (v .store)) i l m ∙ e);
 }
 
@@ -112,10 +114,10 @@ module _ (b : ℕ) (es : List Event) (w : World) (r : Running (countOf w) b w) (
   abbrev v : World
   v = run es w
 
-  tells : Told t n k
+  pub tells : Told t n k
   tells = told n b es w fr f
 
-  last-view : t k ≡ seenIn n v
+  pub last-view : t k ≡ seenIn n v
   last-view = ap (seenIn n) (at-end es w)
 
   ended-last : Ended (seenIn n (next steps (f .before)))
@@ -127,7 +129,7 @@ module _ (b : ℕ) (es : List Event) (w : World) (r : Running (countOf w) b w) (
         last = λ p z. let h = q .names p in rw h (q .copied (seenIn n (f .before) .image .names p) ∙ e .last p (λ y. z (h ∙ y)));
       }
 
-  ended : Ended (t k)
+  pub ended : Ended (t k)
   ended = subst Ended (sym (last-view ∙ ap (seenIn n) (f .is))) ended-last
 
   -- at every moment as many inodes
@@ -137,14 +139,14 @@ module _ (b : ℕ) (es : List Event) (w : World) (r : Running (countOf w) b w) (
   range : (p : ℕ) → t k .image .names p ≢ 0 → (1 ≤ t k .image .names p) × (t k .image .names p ≤ n)
   range p z = (omega arith, told-holds t n k tells k (omega arith) .0 .high p)
 
-  names-last : (p : ℕ) → p < mostSlots * n → t k .image .names p ≡ naming (v .image) n p
+  pub names-last : (p : ℕ) → p < mostSlots * n → t k .image .names p ≡ naming (v .image) n p
   names-last p l = ap (λ (x : View). x .image .names p) last-view ∙ image-names n v p l
 
-  entry-last : (j p : ℕ) → t k .image .entry p ≡ t j .store .entry p → entryAt (v .image) n p ≡ entryAt (at es w j .store) n p
+  pub entry-last : (j p : ℕ) → t k .image .entry p ≡ t j .store .entry p → entryAt (v .image) n p ≡ entryAt (at es w j .store) n p
   unfolding seen shelfOf
   entry-last j p e = ap (λ (x : World). entryAt (x .image) n p) (sym (at-end es w)) ∙ e
 
-  alike-last : (j i : ℕ) → 1 ≤ i → i ≤ n → Alike (t j .store) (t k .image) i → AlikeIn n (at es w j .store) (v .image) i
+  pub alike-last : (j i : ℕ) → 1 ≤ i → i ≤ n → Alike (t j .store) (t k .image) i → AlikeIn n (at es w j .store) (v .image) i
   alike-last j i l m a = alike-in n (at es w j) v i l m (subst (λ (x : View). Alike (t j .store) (x .image) i) last-view a)
 
   -- ---- a kept entry
@@ -219,10 +221,10 @@ module _ (b : ℕ) (es : List Event) (w : World) (r : Running (countOf w) b w) (
   final-image : v .image ≡ finishImage (f .before .image) n b
   final-image = ap (λ (x : World). x .image) (f .is) ∙ finals n b (f .before) (f .runs) (f .finishes) .image
 
-  final-sound : Sound mostImageBlocks true (v .image)
+  pub final-sound : Sound mostImageBlocks true (v .image)
   final-sound = rw final-image (finals n b (f .before) (f .runs) (f .finishes) .sound)
 
-  final-count : inodesIn (v .image) ≡ n
+  pub final-count : inodesIn (v .image) ≡ n
   final-count = ap inodesIn final-image ∙ finish-inodes (f .runs .laid)
 
   module _ (p : ℕ) (l : p < mostSlots * n) (full : filled (v .image) n p ≡ true) where

@@ -39,7 +39,7 @@ module _ (n b : ℕ) (w : World) (g : Going n b w) (p : ℕ) (l : p < mostSlots 
     | inr a ↦ ap (λ (v : World). naming (v .store) n p) (live-refused c w a)
   ]
 
-  event-names : (e : Event) → takes e w p ≡ false → naming (next e w .store) n p ≡ naming (w .store) n p
+  pub event-names : (e : Event) → takes e w p ≡ false → naming (next e w .store) n p ≡ naming (w .store) n p
   unfolding next
   event-names (call c) t = call-names c t
   event-names steps t = ap (λ (s : List ℕ). naming s n p) (steps-keep w)
