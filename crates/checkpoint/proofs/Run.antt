@@ -13,6 +13,7 @@ pub mod Progresses
 pub mod Busies
 pub mod Finales
 pub mod Stood
+pub mod Lasts
 pub mod Honesty
 pub mod Unwritten
 pub mod Still

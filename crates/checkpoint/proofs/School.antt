@@ -16,6 +16,7 @@ use Rattle.checkpoint.proofs.Run.Starts.{Fresher, opens, opened-runs}
 use Rattle.checkpoint.proofs.Run.Lists.{Going, runs, counted, going-at}
 use Rattle.checkpoint.proofs.Run.Stood.{entry-of, kept-range}
 use Rattle.checkpoint.proofs.Run.Finales.{finale}
+use Rattle.checkpoint.proofs.Run.Lasts.{last-of}
 use Rattle.checkpoint.proofs.Run.Unwritten.{moment-file, kept-untouched}
 use Rattle.checkpoint.proofs.Run.Still.{store-copied}
 use Rattle.checkpoint.proofs.Demands.{demands}
@@ -62,4 +63,4 @@ pub still-stores : StillStores
 still-stores v a es f still =
     let s = begins v a in
     let w = next starts v in
-    store-copied (blocks v) es w (s .runs) (s .fresh) (finale (countOf w) (blocks v) es w (s .runs) f) still
+    store-copied (blocks v) es w (s .runs) (last-of (countOf w) (blocks v) es w (s .fresh) (finale (countOf w) (blocks v) es w (s .runs) f)) still

@@ -22,8 +22,7 @@ use Rattle.sound.specs.Sound.{Sound, inodesIn, blocksIn}
 use Rattle.sound.proofs.PlaceLaws.{naming-filled}
 use Rattle.copying.specs.View.{View, Shelf}
 use Rattle.copying.specs.Deed.{Alike}
-use Rattle.copying.specs.Holds.{Fresh, Ended}
-use Rattle.copying.specs.History.{Told, Spell}
+use Rattle.copying.specs.History.{Spell}
 use Rattle.copying.proofs.HistoryLaws.{told-holds}
 use Rattle.copying.proofs.EndLaws.{all-honest, kept-there}
 use Rattle.copying.proofs.ChainLaws.{tidy-chain}
@@ -33,10 +32,9 @@ use Rattle.checkpoint.specs.Finished.{countOf}
 use Rattle.checkpoint.specs.School.{Still, PlaceCopied, InodeCopied, StoreCopied}
 use Rattle.checkpoint.proofs.Copy.Seen.{seen, shelfOf}
 use Rattle.checkpoint.proofs.Run.Moments.{at, moment-at}
-use Rattle.checkpoint.proofs.Run.Going.{seenIn, Running}
-use Rattle.checkpoint.proofs.Run.Finales.{views, Finale}
-use Rattle.checkpoint.proofs.Run.Honesty.{AlikeIn, store-names, image-kind}
-use Rattle.checkpoint.proofs.Run.Honesty as honesty
+use Rattle.checkpoint.proofs.Run.Going.{Running}
+use Rattle.checkpoint.proofs.Run.Finales.{views}
+use Rattle.checkpoint.proofs.Run.Lasts.{AlikeIn, store-names, Last}
 
 -- ---- what soundness says of n inodes, of a store or of an image
 pub record Parts (s : List ℕ) (n : ℕ) : Type 0 where
@@ -52,7 +50,7 @@ parts-of limit blank s n h e = subst (Parts s) e (record { blocks = blocksIn s; 
 filled-same : (s t : List ℕ) (n p : ℕ) → Parts s n → p < mostSlots * n → naming t n p ≡ naming s n p → filled s n p ≡ true → filled t n p ≡ true
 filled-same s t n p h l e f = let o = h .entries p l f .low in naming-filled t n p (omega arith)
 
-module _ (b : ℕ) (es : List Event) (w : World) (r : Running (countOf w) b w) (fr : Fresh (seenIn (countOf w) w)) (f : Finale (countOf w) b es w) (still : Still es w) where
+module _ (b : ℕ) (es : List Event) (w : World) (r : Running (countOf w) b w) (fin : Last (countOf w) es w) (still : Still es w) where
   abbrev n : ℕ
   n = countOf w
 
@@ -68,17 +66,11 @@ module _ (b : ℕ) (es : List Event) (w : World) (r : Running (countOf w) b w) (
   abbrev m : List ℕ
   m = run es w .image
 
-  tells : Told t n k
-  tells = honesty.tells b es w r fr f
-
-  ended : Ended (t k)
-  ended = honesty.ended b es w r fr f
-
   in-store : Parts s n
   in-store = parts-of _ _ s n (r .sound) refl
 
   in-copy : Parts m n
-  in-copy = parts-of _ _ m n (honesty.final-sound b es w r fr f) (honesty.final-count b es w r fr f)
+  in-copy = parts-of _ _ m n (fin .sound) (fin .count)
 
   -- the store's view at every moment is the first
   store-at : (j : ℕ) → at es w j .store ≡ s
@@ -93,7 +85,7 @@ module _ (b : ℕ) (es : List Event) (w : World) (r : Running (countOf w) b w) (
 
   -- ---- places
   spell : (p : ℕ) → t k .image .names p ≢ 0 → Spell t k p
-  spell p z = all-honest t k (told-holds t n k tells k (omega arith) .1) ended p z
+  spell p z = all-honest t k (told-holds t n k (fin .tells) k (omega arith) .1) (fin .ended) p z
 
   spell-names : (p : ℕ) → t k .image .names p ≢ 0 → t k .image .names p ≡ t 0 .store .names p
   spell-names p z = let x = spell p z in sym (x .names (x .entry-at) (x .from-entry) (x .entry-to)) ∙ names-at (x .entry-at) p
@@ -103,13 +95,13 @@ module _ (b : ℕ) (es : List Event) (w : World) (r : Running (countOf w) b w) (
     | no z ↦ spell-names p z
     | yes z ↦ elim (ℕ-discrete (t 0 .store .names p) 0) [
       | yes y ↦ z ∙ sym y
-      | no y ↦ kept-there t n k tells ended p (tidy-chain t n k (λ j _ q. names-at j q) tells p y) .1
+      | no y ↦ kept-there t n k (fin .tells) (fin .ended) p (tidy-chain t n k (λ j _ q. names-at j q) (fin .tells) p y) .1
     ]
   ]
 
   names-same : (p : ℕ) → p < mostSlots * n → naming m n p ≡ naming s n p
   unfolding at
-  names-same p l = sym (honesty.names-last b es w r fr f p l) ∙ seen-names p ∙ store-names n w p l
+  names-same p l = sym (fin .names p l) ∙ seen-names p ∙ store-names n w p l
 
   place : (p : ℕ) → p < mostSlots * n → PlaceCopied s m n p
   place p l =
@@ -119,9 +111,9 @@ module _ (b : ℕ) (es : List Event) (w : World) (r : Running (countOf w) b w) (
         inode = e;
         entry = λ h.
             let o = in-store .entries p l h .low in
-            let a = honesty.names-last b es w r fr f p l in
+            let a = fin .names p l in
             let x = spell p (λ z. omega arith) in
-            honesty.entry-last b es w r fr f (x .entry-at) p (x .entry) ∙ ap (λ (q : List ℕ). entryAt q n p) (store-at (x .entry-at));
+            fin .entry (x .entry-at) p (x .entry) ∙ ap (λ (q : List ℕ). entryAt q n p) (store-at (x .entry-at));
       }
 
   -- ---- inodes
@@ -135,24 +127,22 @@ module _ (b : ℕ) (es : List Event) (w : World) (r : Running (countOf w) b w) (
   used-copied : (i : ℕ) → 1 ≤ i → i ≤ n → kindOf s i ≢ freeKind → t k .copied i ≡ true
   unfolding seen shelfOf at
   used-copied i l h u = elim (ℕ-discrete i rootInode) [
-    | yes e ↦ rw e (ended .root)
+    | yes e ↦ rw e (fin .ended .root)
     | no e ↦
-        let q = tells .tidy 0 (omega arith) .named i (λ z. u (sym (within-in n (kindOf s) i l h) ∙ z)) e in
+        let q = fin .tells .tidy 0 (omega arith) .named i (λ z. u (sym (within-in n (kindOf s) i l h) ∙ z)) e in
         let a = seen-names (q .0) ∙ q .1 in
-        subst (λ (x : ℕ). t k .copied x ≡ true) a (ended .last (q .0) (λ z. omega arith))
+        subst (λ (x : ℕ). t k .copied x ≡ true) a (fin .ended .last (q .0) (λ z. omega arith))
   ]
 
   -- a copied inode is as it was, and one that is not is free
   copied-same : (i : ℕ) → 1 ≤ i → i ≤ n → t k .copied i ≡ true → AlikeIn n s m i
   unfolding at
   copied-same i l h c =
-      let x = told-holds t n k tells k (omega arith) .1 .seen i c in
-      honesty.alike-last b es w r fr f 0 i l h (subst (λ (y : Shelf). Alike y (t k .image) i) (shelf-at (x .0)) (x .2))
+      let x = told-holds t n k (fin .tells) k (omega arith) .1 .seen i c in
+      fin .alike 0 i l h (subst (λ (y : Shelf). Alike y (t k .image) i) (shelf-at (x .0)) (x .2))
 
   free-copy : (i : ℕ) → 1 ≤ i → i ≤ n → t k .copied i ≡ false → kindOf m i ≡ freeKind
-  free-copy i l h c =
-      sym (image-kind n (run es w) i l h) ∙ ap (λ (x : View). x .image .kind i) (sym (honesty.last-view b es w r fr f))
-      ∙ told-holds t n k tells k (omega arith) .0 .blank i c
+  free-copy i l h c = sym (fin .kind i l h) ∙ told-holds t n k (fin .tells) k (omega arith) .0 .blank i c
 
   free-store : (i : ℕ) → 1 ≤ i → i ≤ n → t k .copied i ≡ false → kindOf s i ≡ freeKind
   free-store i l h c = elim (ℕ-discrete (kindOf s i) freeKind) [ yes e ↦ e | no e ↦ absurd (clash (t k .copied i) (used-copied i l h e) c) ]
@@ -171,4 +161,4 @@ module _ (b : ℕ) (es : List Event) (w : World) (r : Running (countOf w) b w) (
   ]
 
   pub store-copied : StoreCopied s m
-  store-copied = record { count = honesty.final-count b es w r fr f; places = place; inodes = inode }
+  store-copied = record { count = fin .count; places = place; inodes = inode }
