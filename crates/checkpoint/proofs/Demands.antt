@@ -36,6 +36,7 @@ use Rattle.checkpoint.proofs.Run.Progresses.{progress, timing, roomy-bl
 use Rattle.checkpoint.proofs.Run.Busies.{calls}
 use Rattle.checkpoint.proofs.Run.Taking.{taking}
 use Rattle.checkpoint.proofs.Run.Finales.{finale}
+use Rattle.checkpoint.proofs.Run.Lasts.{last-of}
 use Rattle.checkpoint.proofs.Run.Honesty as honesty
 
 -- w is the world just after the start
@@ -50,7 +51,7 @@ module _ (b : ℕ) (w : World) (s : Fresher (countOf w) b w) (es : List Event) w
   later = going-run n b es w going
 
   whole : Finish es w → Finished es w
-  whole f = honesty.finished b es w (s .runs) (s .fresh) (finale n b es w (s .runs) f)
+  whole f = honesty.finished b es w (s .runs) (last-of n b es w (s .fresh) (finale n b es w (s .runs) f))
 
   -- ---- 16
   stop-there : (v : World) → Going n b v → refusalOf steps v ≡ refusalNumber ImageFull → (r : Running n b v) × Fills n b v

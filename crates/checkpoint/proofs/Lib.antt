@@ -10,3 +10,4 @@ pub mod Copy
 pub mod Step
 pub mod Run
 pub mod Demands
+pub mod School

@@ -15,4 +15,7 @@ pub mod Busies
 pub mod Finales
 pub mod Stood
 pub mod Taking
+pub mod Lasts
 pub mod Honesty
+pub mod Unwritten
+pub mod Still

@@ -10,3 +10,4 @@ pub mod List
 pub mod Finished
 pub mod Progress
 pub mod Demand
+pub mod School

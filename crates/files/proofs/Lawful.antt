@@ -6,12 +6,12 @@ use mathlib.Core.Bool.{true, false}
 use mathlib.Core.List.{List, [], _∷_}
 use lib.ListN.{length}
 use Rattle.layout.specs.Sizes.{mostStoreBlocks}
-use Rattle.layout.specs.Inode.{kindOf, sizeOf, freeKind}
+use Rattle.layout.specs.Inode.{kindOf, sizeOf, freeKind, fileKind}
 use Rattle.layout.specs.Block.{blocksUsed, kthBlock}
 use Rattle.directory.specs.Slot.{mostSlots}
 use Rattle.sound.specs.Place.{filled, naming}
 use Rattle.sound.specs.Sound.{Sound}
-use Rattle.changes.proofs.SameLaws.{SameFrame, SameInode, SameBlock}
+use Rattle.changes.proofs.SameLaws.{SameFrame, SameInode, SameBody, same-body, SameBlock}
 use Rattle.files.specs.Effect.{Entry, placeIn, Effect, Planned, refused, does}
 
 -- P holds of every one of the list
@@ -49,6 +49,14 @@ pub record Stays (s t : List ℕ) (n j : ℕ) : Type 0 where
   pub inode : SameInode s t n j
   pub bytes : (k : ℕ) → k < blocksUsed (sizeOf s j) → SameBlock s t n (kthBlock s n j k)
 
+-- file j's size, and the numbers and bytes of its blocks
+pub record Keeps (s t : List ℕ) (n j : ℕ) : Type 0 where
+  pub body : SameBody s t n j
+  pub bytes : (k : ℕ) → k < blocksUsed (sizeOf s j) → SameBlock s t n (kthBlock s n j k)
+
+pub stays-keeps : {s t : List ℕ} {n j : ℕ} → Stays s t n j → Keeps s t n j
+stays-keeps a = record { body = same-body (a .inode); bytes = a .bytes }
+
 pub record Lawful (s : List ℕ) (n : ℕ) (x : Effect) : Type 0 where
   pub sound : Sound mostStoreBlocks false (x .store)
   pub frame : SameFrame s (x .store)
@@ -67,6 +75,8 @@ pub record Lawful (s : List ℕ) (n : ℕ) (x : Effect) : Type 0 where
   pub kinds : (j : ℕ) → 1 ≤ j → j ≤ n → kindOf s j ≢ freeKind → (kindOf (x .store) j ≡ kindOf s j) ⊎ (kindOf (x .store) j ≡ freeKind)
   -- one that is not touched stays, with its bytes, and no entry in it is made or taken, nor any that names it taken
   pub untouched : (j : ℕ) → 1 ≤ j → j ≤ n → kindOf s j ≢ freeKind → Apart j (x .touches) → Stays s (x .store) n j
+  -- a file that is not written, and still in use, keeps its size and its bytes
+  pub contents : (j : ℕ) → 1 ≤ j → j ≤ n → kindOf s j ≡ fileKind → kindOf (x .store) j ≢ freeKind → Apart j (x .writes) → Keeps s (x .store) n j
   pub apart : (j : ℕ) → Apart j (x .touches) → All (λ y. (j ≢ y .directory) × (j ≢ y .inode)) (x .taken) × All (λ y. j ≢ y .directory) (x .made)
 
 -- Q holds of the effect, if there is one

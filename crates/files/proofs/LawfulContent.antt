@@ -13,7 +13,7 @@ use Rattle.layout.specs.Sizes.{mostStoreBlocks, blockBytes, addressCount}
 use Rattle.layout.specs.Inode.{kindOf, linksOf, sizeOf, parentOf, fileKind}
 use Rattle.layout.specs.Block.{blocksUsed, blockOf, putInBlock, kthBlock}
 use Rattle.sound.specs.Sound.{Sound, inodesIn, blocksIn}
-use Rattle.changes.proofs.SameLaws.{OtherInodes, SameFrame, SameBlock, InBlock, frame-then, frame-stays, inode-then, inode-stays, put-in-block}
+use Rattle.changes.proofs.SameLaws.{OtherInodes, SameFrame, SameBlock, InBlock, frame-then, frame-stays, inode-then, inode-stays, same-body, put-in-block}
 use Rattle.changes.proofs.StoreLaws.{kind-some, kind-most, kind-is, kind-size}
 use Rattle.changes.proofs.KeepLaws.{SameTree, file-tree}
 use Rattle.content.specs.declared.NumberPlan.the-variants.{To, NoNumber}
@@ -25,7 +25,7 @@ use Rattle.content.proofs.FileLaws.{Holds, holds-less, Resized}
 use Rattle.content.proofs.PlanFacts.{Writes, writes, shortens}
 use Rattle.content.proofs.WriteLaws.{Widened, spare-of, add-blocks, put-size, sized-holds, put-byte, put-byte-sound, write-sound}
 use Rattle.content.proofs.ShortenLaws.{cut-to, shorten-sound}
-use Rattle.files.specs.Effect.{changes, doWrite, doShorten, planned, write, shorten}
+use Rattle.files.specs.Effect.{rewrites, doWrite, doShorten, planned, write, shorten}
 use Rattle.files.proofs.Lawful.{Lawful, Each}
 use Rattle.files.proofs.LawfulSteady.{Blocks, blocks-of}
 
@@ -103,7 +103,7 @@ within-put (v ∷ xs) s n b i o h =
     }))
 
 -- ---- the laws of such an effect
-within-lawful : (s t : List ℕ) (n i a : ℕ) → Sound mostStoreBlocks false t → kindOf s i ≡ fileKind → 1 ≤ i → i ≤ n → Within s t n i → Lawful s n (changes a t (i ∷ []) [] [])
+within-lawful : (s t : List ℕ) (n i a : ℕ) → Sound mostStoreBlocks false t → kindOf s i ≡ fileKind → 1 ≤ i → i ≤ n → Within s t n i → Lawful s n (rewrites a t i)
 within-lawful s t n i a h f p q g =
     let tree : SameTree s t n = file-tree s t n i (g .others) (g .kind) (g .links) (g .parent) (λ z. omega arith)
     (λ d k l m z u. g .bytes d k l m (λ y. let w = sym (ap (kindOf s) y) ∙ z in omega arith) u) in
@@ -120,6 +120,7 @@ within-lawful s t n i a h f p q g =
       others = λ q l _ _. let p = tree .places q l in record { stands = p .stands; names = p .names };
       kinds = λ j l m _. inl (tree .kinds j l m);
       untouched = λ j l m _ z. record { inode = g .others j l m (z .0); bytes = λ k u. g .bytes j k l m (z .0) u };
+      contents = λ j l m _ _ z. record { body = same-body (g .others j l m (z .0)); bytes = λ k u. g .bytes j k l m (z .0) u };
       apart = λ j _. (tt, tt);
     }
 

@@ -102,6 +102,7 @@ module _ (s : List ℕ) (n b d : ℕ) (name : List ℕ) (r : Room) (h : Sound mo
         others = λ q l _ z. made-others _ i o q l (z .0);
         kinds = λ j l k z. inl (a .kinds j l k z);
         untouched = a .stays;
+        contents = λ j l m z _ _. a .files j l m z;
         apart = λ j z. (tt, (z .0, tt));
       }
 
@@ -127,6 +128,7 @@ module _ (s : List ℕ) (n b d : ℕ) (name : List ℕ) (r : Room) (h : Sound mo
         others = λ q l _ z. made-others _ i o q l (z .0);
         kinds = λ j l k z. inl (a .kinds j l k z);
         untouched = a .stays;
+        contents = λ j l m z _ _. a .files j l m z;
         apart = λ j z. (tt, (z .0, tt));
       }
 

@@ -18,10 +18,10 @@ use Rattle.names.specs.Name.{legalName}
 use Rattle.names.specs.Entry.{isEmpty, entryInode}
 use Rattle.sound.specs.Place.{placeOf}
 use Rattle.sound.specs.Sound.{Sound, inodesIn, blocksIn}
-use Rattle.changes.proofs.SameLaws.{SameInode, frame-stays, inode-stays, each-inode, put-entry, clear-entry}
+use Rattle.changes.proofs.SameLaws.{SameInode, frame-stays, inode-stays, same-body, each-inode, put-entry, clear-entry}
 use Rattle.changes.proofs.StoreLaws.{fits}
 use Rattle.changes.proofs.EntryWriteLaws.{SlotIn, slot-in, place-below}
-use Rattle.changes.proofs.InodeWriteLaws.{parent-relinked}
+use Rattle.changes.proofs.InodeWriteLaws.{parent-relinked, body-all}
 use Rattle.changes.proofs.SlotPlaceLaws.{entry-here, found-full, place-filled}
 use Rattle.changes.proofs.SoundTreeLaws.{body-at}
 use Rattle.changes.proofs.KeepLaws.{same-slots}
@@ -67,6 +67,7 @@ module _ (s : List ℕ) (n d t i : ℕ) (other : List ℕ) (h : Sound mostStoreB
             (λ z. let p = o .others q l z in record { stands = p .stands; names = p .names });
         kinds = λ j l m z. inl (a .kinds j l m z);
         untouched = a .stays;
+        contents = λ j l m z _ _. a .files j l m z;
         apart = λ j _. (tt, tt);
       }
 
@@ -82,8 +83,14 @@ parent-steady s n i e f z = go (eqb (kindOf s i) directoryKind)
           frame = r .inode .frame;
           kinds = λ j l m _. each-inode (λ a. kindOf (putAttributes s i (withParent (inodeOf s n i) e)) a ≡ kindOf s a) i j (r .body .kind) (λ y. r .inode .others j l m y .kind);
           stays = λ j l m _ y. record { inode = r .inode .others j l m (y .0); bytes = λ k _. r .inode .bytes (kthBlock s n j k) };
+          files = λ j l m _. record { body = body-all r j l m; bytes = λ k _. r .inode .bytes (kthBlock s n j k) };
         }
-    go false = record { frame = frame-stays s; kinds = λ j l m _. refl; stays = λ j l m _ _. record { inode = inode-stays s n j; bytes = λ k _. refl } }
+    go false = record {
+      frame = frame-stays s;
+      kinds = λ j l m _. refl;
+      stays = λ j l m _ _. record { inode = inode-stays s n j; bytes = λ k _. refl };
+      files = λ j l m _. record { body = same-body (inode-stays s n j); bytes = λ k _. refl };
+    }
 
 slot-same : (s t : List ℕ) (n d u : ℕ) → SameInode s t n d → SlotIn s n d u → SlotIn t n d u
 slot-same s t n d u a y = record { low = y .low; high = y .high; dir = a .kind ∙ y .dir; inside = subst (λ (z : ℕ). u < z) (sym (same-slots a)) (y .inside); small = y .small }
@@ -146,6 +153,7 @@ module _ (s : List ℕ) (n b d : ℕ) (name : List ℕ) (e : ℕ) (other : List 
             record { stands = j .stands ∙ j′ .stands ∙ j″ .stands; names = j .names ∙ j′ .names ∙ j″ .names };
         kinds = λ j l k z. inl (p .kinds j l k z);
         untouched = p .stays;
+        contents = λ j l m z _ _. p .files j l m z;
         apart = λ j z. (((z .0, z .1 .1 .0), tt), (z .1 .0, tt));
       }
 

@@ -8,7 +8,7 @@ use native.Mathlib.Omega.{arith}
 use lib.ListN.{length}
 use Rattle.layout.specs.Sizes.{mostStoreBlocks}
 use Rattle.sound.specs.Sound.{Sound}
-use Rattle.changes.proofs.SameLaws.{frame-stays, inode-stays}
+use Rattle.changes.proofs.SameLaws.{frame-stays, inode-stays, same-body}
 use Rattle.content.specs.Plan.{readPlan}
 use Rattle.content.specs.declared.NumberPlan.{NumberPlan}
 use Rattle.content.specs.declared.NumberPlan.the-variants.{To, NoNumber}
@@ -22,7 +22,7 @@ naming-stays : (s : List ℕ) (n q : ℕ) → SameNaming s s n q
 naming-stays s n q = record { stands = refl; names = refl }
 
 pub same-store : (s : List ℕ) (n a : ℕ) (out is : List ℕ) → Sound mostStoreBlocks false s
-    → Lawful s n (record { answer = a; store = s; out = out; touches = is; taken = []; made = [] })
+    → Lawful s n (record { answer = a; store = s; out = out; touches = is; writes = []; taken = []; made = [] })
 same-store s n a out is h = record {
   sound = h;
   frame = frame-stays s;
@@ -36,6 +36,7 @@ same-store s n a out is h = record {
   others = λ q l _ _. naming-stays s n q;
   kinds = λ j _ _ _. inl refl;
   untouched = λ j _ _ _ _. record { inode = inode-stays s n j; bytes = λ k l. refl };
+  contents = λ j _ _ _ _ _. record { body = same-body (inode-stays s n j); bytes = λ k l. refl };
   apart = λ j _. (tt, tt);
 }
 

@@ -1,4 +1,4 @@
--- Changes that keep all kinds, and all of every inode in use but some. n and b are the counts of inodes and blocks.
+-- Changes that keep all kinds, all of every inode in use but some, and the bytes of every file. n and b are the counts of inodes and blocks.
 use Prim.Native.Nat.{ℕ, _-_, _/_, _≤_, _<_}
 use mathlib.Core.Path.{_≡_, refl, sym, ap, _∙_, subst}
 use mathlib.Core.Logic.{_≢_}
@@ -10,17 +10,17 @@ use lib.Dec.{eqb}
 use lib.ListN.{replicate}
 use Rattle.layout.specs.Sizes.{mostStoreBlocks, addressCount}
 use Rattle.layout.specs.declared.inode.Inode.{Inode}
-use Rattle.layout.specs.Inode.{InodeFits, kindOf, sizeOf, putInode, putLinks, freeKind, directoryKind, isDirectory}
+use Rattle.layout.specs.Inode.{InodeFits, kindOf, sizeOf, putInode, putLinks, freeKind, fileKind, directoryKind, isDirectory}
 use Rattle.layout.specs.Block.{blocksUsed, blockOf, kthBlock}
 use Rattle.layout.specs.Header.{lessFree}
 use Rattle.layout.proofs.FrameLaws.{length-inode}
 use Rattle.directory.specs.Slot.{putEntry, clearEntry}
 use Rattle.sound.specs.Sound.{Sound, inodesIn, blocksIn}
-use Rattle.changes.proofs.SameLaws.{SameFrame, SameInode, SameBlock, InBlock, frame-then, inode-then, each-inode, put-entry, clear-entry, less-free}
+use Rattle.changes.proofs.SameLaws.{SameFrame, SameInode, SameBlock, InBlock, same-body, body-then, frame-then, inode-then, each-inode, put-entry, clear-entry, less-free}
 use Rattle.changes.proofs.StoreLaws.{dir-of, one-at, kind-some, kind-most, kind-is}
 use Rattle.changes.proofs.FreeLaws.{free-block}
 use Rattle.changes.proofs.EntryWriteLaws.{SlotIn, slot-in, slot-block}
-use Rattle.changes.proofs.InodeWriteLaws.{links-relinked}
+use Rattle.changes.proofs.InodeWriteLaws.{links-relinked, body-all}
 use Rattle.changes.proofs.BaredLaws.{put-bared}
 use Rattle.content.specs.Content.{addBlock}
 use Rattle.content.proofs.GrowLaws.{grown-bytes, block-added}
@@ -28,7 +28,7 @@ use Rattle.entries.specs.declared.Room.{Room}
 use Rattle.entries.specs.declared.RoomPlan.the-variants.{Has}
 use Rattle.entries.specs.Room.{roomIn, makeRoom}
 use Rattle.entries.proofs.RoomLaws.{IsRoom, slot, block, is-room, Roomed, make-room, same-kind}
-use Rattle.files.proofs.Lawful.{Apart, Stays}
+use Rattle.files.proofs.Lawful.{Apart, Stays, Keeps, stays-keeps}
 
 -- ---- the blocks of a store: few of an inode, and none twice
 pub record Blocks (s : List ℕ) (n : ℕ) : Type 0 where
@@ -67,19 +67,27 @@ module _ (s w : List ℕ) (n d t : ℕ) (c : Blocks s n) (y : SlotIn s n d t) wh
   others-bytes g j l m z k u =
       g .others (kthBlock s n j k) (c .low j k l m u) (λ e. z (c .once j k d (t / 4) l m (y .low) (y .high) u (slot-block s d t (y .inside)) e))
 
--- ---- changes that keep all kinds, and all of every inode in use but some
+-- ---- such changes
 pub record Steady (s t : List ℕ) (n : ℕ) (is : List ℕ) : Type 0 where
   pub frame : SameFrame s t
   pub kinds : (j : ℕ) → 1 ≤ j → j ≤ n → kindOf s j ≢ freeKind → kindOf t j ≡ kindOf s j
   pub stays : (j : ℕ) → 1 ≤ j → j ≤ n → kindOf s j ≢ freeKind → Apart j is → Stays s t n j
+  pub files : (j : ℕ) → 1 ≤ j → j ≤ n → kindOf s j ≡ fileKind → Keeps s t n j
+
+-- what is no directory is not d
+no-directory : (s : List ℕ) (j d : ℕ) → kindOf s d ≡ directoryKind → kindOf s j ≡ fileKind → j ≢ d
+no-directory s j d e f z = let a = sym (ap (kindOf s) z) ∙ f in omega arith
+
+keeps-then : {s t u : List ℕ} {n j : ℕ} → blocksUsed (sizeOf s j) ≤ 12 → Keeps s t n j → Keeps t u n j → Keeps s u n j
+keeps-then {s} {t} {u} {n} {j} few a b = record {
+  body = body-then (a .body) (b .body);
+  bytes = λ k l.
+      let e : kthBlock t n j k ≡ kthBlock s n j k = a .body .blocks k (omega arith) in
+      ap (blockOf u n) (sym e) ∙ b .bytes k (subst (λ (z : ℕ). k < blocksUsed z) (sym (a .body .size)) l) ∙ ap (blockOf t n) e ∙ a .bytes k l;
+}
 
 stays-then : {s t u : List ℕ} {n j : ℕ} → blocksUsed (sizeOf s j) ≤ 12 → Stays s t n j → Stays t u n j → Stays s u n j
-stays-then {s} {t} {u} {n} {j} few a b = record {
-  inode = inode-then (a .inode) (b .inode);
-  bytes = λ k l.
-      let e : kthBlock t n j k ≡ kthBlock s n j k = a .inode .blocks k (omega arith) in
-      ap (blockOf u n) (sym e) ∙ b .bytes k (subst (λ (z : ℕ). k < blocksUsed z) (sym (a .inode .size)) l) ∙ ap (blockOf t n) e ∙ a .bytes k l;
-}
+stays-then few a b = record { inode = inode-then (a .inode) (b .inode); bytes = keeps-then few (stays-keeps a) (stays-keeps b) .bytes }
 
 module _ {s t u : List ℕ} {n : ℕ} {is js ks : List ℕ} (c : Blocks s n)
     (a : Steady s t n is) (b : Steady t u n js) (f : (j : ℕ) → Apart j ks → Apart j is × Apart j js) where
@@ -90,6 +98,7 @@ module _ {s t u : List ℕ} {n : ℕ} {is js ks : List ℕ} (c : Blocks s n)
     stays = λ j l m z y.
         let e = a .kinds j l m z in
         stays-then (c .few j l m) (a .stays j l m z (f j y .0)) (b .stays j l m (λ w. z (sym e ∙ w)) (f j y .1));
+    files = λ j l m z. let p = a .files j l m z in keeps-then (c .few j l m) p (b .files j l m (p .body .kind ∙ z));
   }
 
 -- a write in slot t of d
@@ -98,6 +107,7 @@ slot-steady s w n d t c y g = record {
   frame = g .frame;
   kinds = λ j l m _. g .inodes j l m .kind;
   stays = λ j l m _ z. record { inode = g .inodes j l m; bytes = others-bytes s w n d t c y g j l m (z .0) };
+  files = λ j l m z. record { body = same-body (g .inodes j l m); bytes = others-bytes s w n d t c y g j l m (no-directory s j d (y .dir) z) };
 }
 
 pub put-steady : (s : List ℕ) (n d t i : ℕ) (name : List ℕ) → Blocks s n → SlotIn s n d t → Steady s (putEntry s n d t i name) n (d ∷ [])
@@ -114,6 +124,7 @@ links-steady s n i v f =
       frame = r .inode .frame;
       kinds = λ j l m _. each-inode (λ a. kindOf (putLinks s i v) a ≡ kindOf s a) i j (r .body .kind) (λ z. r .inode .others j l m z .kind);
       stays = λ j l m _ z. record { inode = r .inode .others j l m (z .0); bytes = λ k _. r .inode .bytes (kthBlock s n j k) };
+      files = λ j l m _. record { body = body-all r j l m; bytes = λ k _. r .inode .bytes (kthBlock s n j k) };
     }
 
 -- a new inode where one was free
@@ -128,6 +139,7 @@ new-steady s n i v f e a =
       frame = r .frame;
       kinds = λ j l m z. r .others j l m (other j z) .kind;
       stays = λ j l m z _. record { inode = r .others j l m (other j z); bytes = λ k _. r .bytes (kthBlock s n j k) };
+      files = λ j l m z. record { body = same-body (r .others j l m (other j (λ y. omega arith))); bytes = λ k _. r .bytes (kthBlock s n j k) };
     }
 
 -- room in d
@@ -156,6 +168,7 @@ module _ (s : List ℕ) (n b d : ℕ) (r : Room) (h : Sound mostStoreBlocks fals
     frame = roomed .frame;
     kinds = λ j l m _. roomed .tree .kinds j l m;
     stays = λ j l m _ z. record { inode = roomed .others j l m (z .0); bytes = λ a u. room-bytes j a l m u };
+    files = λ j l m z. record { body = same-body (roomed .others j l m (no-directory s j d (kind-is s n directoryKind d k) z)); bytes = λ a u. room-bytes j a l m u };
   }
 
   pub room-count : n ≡ inodesIn (makeRoom s n d r)

@@ -1,7 +1,7 @@
 -- The laws of unlink's effect. n and b are the counts of inodes and blocks.
 use Prim.Native.Nat.{ℕ, _-_, _<_}
 use mathlib.Core.Path.{_≡_, refl, sym, _∙_, subst}
-use mathlib.Core.Logic.{_⊎_, inl, inr}
+use mathlib.Core.Logic.{_≢_, _⊎_, inl, inr}
 use mathlib.Core.Bool.{Bool, true, false}
 use mathlib.Core.List.{List, [], _∷_}
 use native.Mathlib.Decide.{ℕ-discrete}
@@ -18,7 +18,7 @@ use Rattle.layout.proofs.ViewLaws.{inode-fits}
 use Rattle.directory.specs.Slot.{slots, slotEmpty, clearEntry, inodeAt}
 use Rattle.directory.proofs.SlotLaws.{find-below}
 use Rattle.sound.specs.Sound.{Sound, inodesIn}
-use Rattle.changes.proofs.SameLaws.{SameFrame, SameBlock, frame-then, more-free}
+use Rattle.changes.proofs.SameLaws.{SameFrame, SameBody, SameBlock, same-body, each-inode, frame-then, more-free}
 use Rattle.changes.proofs.StoreLaws.{fits}
 use Rattle.changes.proofs.EntryWriteLaws.{EntriesAlone, entries-stay, clear-alone}
 use Rattle.changes.proofs.InodeWriteLaws.{links-relinked}
@@ -75,6 +75,15 @@ module _ (s : List ℕ) (n d t i : ℕ) (h : Sound mostStoreBlocks false s) (x :
       go true e = inr (unlink-last s n d t i h x dir inside full is holds (leb-true (linksOf s i) 1 e) .kind)
       go false e = inl (unlink-less s n d t i h x dir inside full is holds (leb-false (linksOf s i) 1 e) .0 .kind)
 
+  -- an inode with links left keeps its body
+  body-after : kindOf (unlinked s n d t i) i ≢ freeKind → SameBody s (unlinked s n d t i) n i
+  unfolding zeroInode
+  body-after u = go (leb (linksOf s i) 1) refl
+    where
+      go : (b : Bool) → leb (linksOf s i) 1 ≡ b → SameBody s (unlinked s n d t i) n i
+      go true e = absurd (u (unlink-last s n d t i h x dir inside full is holds (leb-true (linksOf s i) 1 e) .kind))
+      go false e = unlink-less s n d t i h x dir inside full is holds (leb-false (linksOf s i) 1 e) .0
+
   unlink-lawful : Lawful s n (changes 0 (unlinked s n d t i) (d ∷ i ∷ []) (entry d t i ∷ []) [])
   unlink-lawful =
       let o = unlink-emptied s n d t i h x dir inside full is holds in
@@ -98,6 +107,10 @@ module _ (s : List ℕ) (n d t i : ℕ) (h : Sound mostStoreBlocks false s) (x :
         untouched = λ j l k u z. record {
           inode = r j l k (z .1 .0);
           bytes = λ a v. drop .1 (kthBlock s n j a) ∙ clear-steady s n d t (blocks-of s n h x) y .stays j l k u (z .0, tt) .bytes a v;
+        };
+        contents = λ j l k f u _. record {
+          body = each-inode (λ a. kindOf (unlinked s n d t i) a ≢ freeKind → SameBody s (unlinked s n d t i) n a) i j body-after (λ z _. same-body (r j l k z)) u;
+          bytes = λ a v. drop .1 (kthBlock s n j a) ∙ clear-steady s n d t (blocks-of s n h x) y .files j l k f .bytes a v;
         };
         apart = λ j z. (((z .0, z .1 .0), tt), tt);
       }

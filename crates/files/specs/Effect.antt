@@ -46,21 +46,27 @@ entry d t i = record { directory = d; slot = t; inode = i }
 abbrev pub placeIn : Entry → ℕ
 placeIn x = placeOf (x .directory) (x .slot)
 
--- the answer; store and out-buffer after it; the inodes that refusal 14 looks at; the entries taken out and those made
+-- the answer; store and out-buffer after it; the inodes that refusal 14 looks at; the files whose size and bytes are written; the entries taken out and those made
 pub record Effect : Type 0 where
   pub answer : ℕ
   pub store : List ℕ
   pub out : List ℕ
   pub touches : List ℕ
+  pub writes : List ℕ
   pub taken : List Entry
   pub made : List Entry
 
 -- it looks, and changes nothing
 abbrev pub looks : ℕ → List ℕ → List ℕ → Effect
-looks a s out = record { answer = a; store = s; out = out; touches = []; taken = []; made = [] }
+looks a s out = record { answer = a; store = s; out = out; touches = []; writes = []; taken = []; made = [] }
 
+-- it changes entries, and writes no file
 abbrev pub changes : ℕ → List ℕ → List ℕ → List Entry → List Entry → Effect
-changes a s touches taken made = record { answer = a; store = s; out = []; touches = touches; taken = taken; made = made }
+changes a s touches taken made = record { answer = a; store = s; out = []; touches = touches; writes = []; taken = taken; made = made }
+
+-- it writes or shortens file i
+abbrev pub rewrites : ℕ → List ℕ → ℕ → Effect
+rewrites a s i = record { answer = a; store = s; out = []; touches = i ∷ []; writes = i ∷ []; taken = []; made = [] }
 
 pub data Planned : Type 0 where
   refused : Refusal → Planned
@@ -85,11 +91,11 @@ doCreate s n d name k (Make i r) = does (changes i (created s n d name k i r) (d
 doCreate s n d name k (NoCreate e) = refused e
 
 abbrev pub doWrite : List ℕ → ℕ → ℕ → ℕ → ℕ → List ℕ → NumberPlan → Planned
-doWrite s n b i o xs (To z) = does (changes z (written s n b i o xs z) (i ∷ []) [] [])
+doWrite s n b i o xs (To z) = does (rewrites z (written s n b i o xs z) i)
 doWrite s n b i o xs (NoNumber e) = refused e
 
 abbrev pub doShorten : List ℕ → ℕ → ℕ → NumberPlan → Planned
-doShorten s n i (To z) = does (changes z (shortened s n i z) (i ∷ []) [] [])
+doShorten s n i (To z) = does (rewrites z (shortened s n i z) i)
 doShorten s n i (NoNumber e) = refused e
 
 abbrev pub doLink : List ℕ → ℕ → ℕ → List ℕ → ℕ → LinkPlan → Planned

@@ -1,74 +1,34 @@
 -- A finished copy: sound, with every kept entry, and nothing false. n and b are the counts of inodes and image blocks.
-use Prim.Native.Nat.{ℕ, zero, suc, _+_, _-_, _*_, _≤_, _<_}
+use Prim.Native.Nat.{ℕ, suc, _+_, _-_, _*_, _≤_, _<_}
 use mathlib.Core.Path.{_≡_, refl, sym, ap, _∙_, subst}
 use mathlib.Core.Logic.{_≢_}
-use mathlib.Core.Bool.{Bool, true, false}
-use mathlib.Core.List.{List, [], _∷_, _++_}
+use mathlib.Core.Bool.{true}
+use mathlib.Core.List.{List, [], _∷_}
 use native.Mathlib.Omega.{arith}
 use lib.ListN.{length}
-use Rattle.layout.specs.Sizes.{mostStoreBlocks, mostImageBlocks}
 use Rattle.bounded.proofs.BoolLaws.{holds}
 use Rattle.layout.specs.Inode.{kindOf, sizeOf, freeKind, fileKind}
-use Rattle.layout.proofs.ViewLaws.{within-in, below-in}
 use Rattle.names.specs.Entry.{entryName}
 use Rattle.directory.specs.Slot.{mostSlots}
-use Rattle.desk.specs.Desk.{deskOf}
 use Rattle.sound.specs.Entry.{EntrySound}
 use Rattle.sound.specs.Place.{entryAt, filled, naming}
-use Rattle.sound.specs.Sound.{Sound, inodesIn}
 use Rattle.sound.proofs.PlaceLaws.{naming-filled}
 use Rattle.content.specs.Content.{fileBytes}
 use Rattle.copying.specs.View.{View}
-use Rattle.copying.specs.Deed.{Alike, Quiet}
-use Rattle.copying.specs.Holds.{Fresh, Ended}
-use Rattle.copying.specs.History.{Recorded, Spell, Chain}
+use Rattle.copying.specs.Deed.{Alike}
+use Rattle.copying.specs.History.{Spell, Chain}
 use Rattle.copying.specs.History as history
 use Rattle.copying.proofs.HistoryLaws.{told-holds}
 use Rattle.copying.proofs.EndLaws.{all-honest, kept-there, kept-body, kept-kind}
-use Rattle.checkpoint.specs.Copier.{finishImage}
 use Rattle.checkpoint.specs.Live.{World}
-use Rattle.checkpoint.specs.List.{Event, steps, next, run, Moment, Finish, Kept}
+use Rattle.checkpoint.specs.List.{Event, next, run, Moment, Kept}
 use Rattle.checkpoint.specs.Finished.{countOf, SameContent, HadName, HadBytes, HadKind, Copied, Names, Throughout, Honest, OneMoment, Finished}
-use Rattle.checkpoint.proofs.Copy.Seen.{seen, shelfOf}
-use Rattle.checkpoint.proofs.Step.FinishSeen.{finish-inodes}
-use Rattle.checkpoint.proofs.Run.Moments.{at, at-end, moment-at, Parts, parts}
-use Rattle.checkpoint.proofs.Run.Going.{seenIn, Running}
-use Rattle.checkpoint.proofs.Run.Ends.{finals}
+use Rattle.checkpoint.proofs.Run.Moments.{at, moment-at, Parts, parts}
+use Rattle.checkpoint.proofs.Run.Going.{Running}
 use Rattle.checkpoint.proofs.Run.Lists.{Going, runs, counted, going-at}
-use Rattle.checkpoint.proofs.Run.Finales.{views, Finale, finale, told}
+use Rattle.checkpoint.proofs.Run.Finales.{views}
+use Rattle.checkpoint.proofs.Run.Lasts.{store-names, store-kind, AlikeIn, Last}
 use Rattle.checkpoint.proofs.Run.Stood.{entry-of, InRange, kept-range, chain}
-
--- ---- what the view says of the bytes
-module _ (n : ℕ) (w : World) where
-  store-names : (p : ℕ) → p < mostSlots * n → seenIn n w .store .names p ≡ naming (w .store) n p
-  unfolding seen shelfOf
-  store-names p l = below-in (mostSlots * n) (naming (w .store) n) p l
-
-  image-names : (p : ℕ) → p < mostSlots * n → seenIn n w .image .names p ≡ naming (w .image) n p
-  unfolding seen shelfOf
-  image-names p l = below-in (mostSlots * n) (naming (w .image) n) p l
-
-  store-kind : (i : ℕ) → 1 ≤ i → i ≤ n → seenIn n w .store .kind i ≡ kindOf (w .store) i
-  unfolding seen shelfOf
-  store-kind i l m = within-in n (kindOf (w .store)) i l m
-
-  image-kind : (i : ℕ) → 1 ≤ i → i ≤ n → seenIn n w .image .kind i ≡ kindOf (w .image) i
-  unfolding seen shelfOf
-  image-kind i l m = within-in n (kindOf (w .image)) i l m
-
--- an inode of the image is alike one of a store: in bytes
-pub record AlikeIn (n : ℕ) (s m : List ℕ) (i : ℕ) : Type 0 where
-  pub kind : kindOf m i ≡ kindOf s i
-  pub size : sizeOf m i ≡ sizeOf s i
-  pub bytes : kindOf s i ≡ fileKind → fileBytes m n i 0 (sizeOf m i) ≡ fileBytes s n i 0 (sizeOf s i)
-
-alike-in : (n : ℕ) (v w : World) (i : ℕ) → 1 ≤ i → i ≤ n → Alike (seenIn n v .store) (seenIn n w .image) i → AlikeIn n (v .store) (w .image) i
-unfolding seen shelfOf
-alike-in n v w i l m a = record {
-  kind = sym (within-in n (kindOf (w .image)) i l m) ∙ a .kind ∙ within-in n (kindOf (v .store)) i l m;
-  size = sym (within-in n (sizeOf (w .image)) i l m) ∙ a .size ∙ within-in n (sizeOf (v .store)) i l m;
-  bytes = λ e. a .bytes (within-in n (kindOf (v .store)) i l m ∙ e);
-}
 
 -- ---- moments
 module _ (n : ℕ) (es : List Event) (w v : World) (p : ℕ) where
@@ -101,7 +61,7 @@ each-moment [] w p i h = h 0 (omega arith)
 each-moment (e ∷ es) w p i h = (h 0 (omega arith), each-moment es (next e w) p i (λ j l. h (suc j) (omega arith)))
 
 -- ---- a list that ends in its finish
-module _ (b : ℕ) (es : List Event) (w : World) (r : Running (countOf w) b w) (fr : Fresh (seenIn (countOf w) w)) (f : Finale (countOf w) b es w) where
+module _ (b : ℕ) (es : List Event) (w : World) (r : Running (countOf w) b w) (fin : Last (countOf w) es w) where
   abbrev n : ℕ
   n = countOf w
 
@@ -114,40 +74,9 @@ module _ (b : ℕ) (es : List Event) (w : World) (r : Running (countOf w) b w) (
   abbrev v : World
   v = run es w
 
-  tells : Recorded t n k
-  tells = told n b es w fr f
-
-  last-view : t k ≡ seenIn n v
-  last-view = ap (seenIn n) (at-end es w)
-
-  ended-last : Ended (seenIn n (next steps (f .before)))
-  ended-last =
-      let q = finals n b (f .before) (f .runs) (f .finishes) .quiet in
-      let e = f .finishes .ended in
-      record {
-        root = q .copied _ ∙ e .root;
-        last = λ p z. let h = q .names p in rw h (q .copied (seenIn n (f .before) .image .names p) ∙ e .last p (λ y. z (h ∙ y)));
-      }
-
-  ended : Ended (t k)
-  ended = subst Ended (sym (last-view ∙ ap (seenIn n) (f .is))) ended-last
-
   -- at every moment as many inodes
   count-at : (j : ℕ) → n ≡ countOf (at es w j)
   count-at j = counted (going-at n b es w (at es w j) (runs r) (moment-at es w j))
-
-  range : (p : ℕ) → t k .image .names p ≢ 0 → (1 ≤ t k .image .names p) × (t k .image .names p ≤ n)
-  range p z = (omega arith, told-holds t n k tells k (omega arith) .0 .high p)
-
-  names-last : (p : ℕ) → p < mostSlots * n → t k .image .names p ≡ naming (v .image) n p
-  names-last p l = ap (λ (x : View). x .image .names p) last-view ∙ image-names n v p l
-
-  entry-last : (j p : ℕ) → t k .image .entry p ≡ t j .store .entry p → entryAt (v .image) n p ≡ entryAt (at es w j .store) n p
-  unfolding seen shelfOf
-  entry-last j p e = ap (λ (x : World). entryAt (x .image) n p) (sym (at-end es w)) ∙ e
-
-  alike-last : (j i : ℕ) → 1 ≤ i → i ≤ n → Alike (t j .store) (t k .image) i → AlikeIn n (at es w j .store) (v .image) i
-  alike-last j i l m a = alike-in n (at es w j) v i l m (subst (λ (x : View). Alike (t j .store) (x .image) i) last-view a)
 
   -- ---- a kept entry
   module _ (p : ℕ) (kept : Kept es w p) where
@@ -164,7 +93,7 @@ module _ (b : ℕ) (es : List Event) (w : World) (r : Running (countOf w) b w) (
     held = chain n b es w going some p k kept
 
     there : t k .image .names p ≡ t 0 .store .names p
-    there = kept-there t n k tells ended p held .1
+    there = kept-there t n k (fin .tells) (fin .ended) p held .1
 
     first-names : t 0 .store .names p ≡ naming (w .store) n p
     unfolding at
@@ -177,7 +106,7 @@ module _ (b : ℕ) (es : List Event) (w : World) (r : Running (countOf w) b w) (
     first-high = entry-of n b w going p (inside .below) (inside .stands) .high
 
     same-inode : naming (v .image) n p ≡ naming (w .store) n p
-    same-inode = sym (names-last p (inside .below)) ∙ there ∙ first-names
+    same-inode = sym (fin .names p (inside .below)) ∙ there ∙ first-names
 
     shown : t k .image .names p ≢ 0
     shown z = let a = there in let c = first-names in let l = first-low in omega arith
@@ -186,26 +115,25 @@ module _ (b : ℕ) (es : List Event) (w : World) (r : Running (countOf w) b w) (
     unfolding at
     same-kind =
         ap (kindOf (v .image)) same-inode
-        ∙ sym (image-kind n v (naming (w .store) n p) first-low first-high)
-        ∙ ap (λ (x : View). x .image .kind (naming (w .store) n p)) (sym last-view)
+        ∙ sym (fin .kind (naming (w .store) n p) first-low first-high)
         ∙ ap (t k .image .kind) (sym first-names)
-        ∙ kept-kind t n k tells ended p held
+        ∙ kept-kind t n k (fin .tells) (fin .ended) p held
         ∙ ap (t 0 .store .kind) first-names
         ∙ store-kind n w (naming (w .store) n p) first-low first-high
 
     name-had : HadName es w (v .image) p
     name-had =
-        let s = all-honest t k (told-holds t n k tells k (omega arith) .1) ended p shown in
+        let s = all-honest t k (told-holds t n k (fin .tells) k (omega arith) .1) (fin .ended) p shown in
         let j = s .entry-at in
         let a = s .names j (s .from-entry) (s .entry-to) in
         let c = store-names n (at es w j) p (inside .below) in
-        had-name n es w v p (at es w j) (moment-at es w j) refl (count-at j) (omega (arith, shown)) (entry-last j p (s .entry))
+        had-name n es w v p (at es w j) (moment-at es w j) refl (count-at j) (omega (arith, shown)) (fin .entry j p (s .entry))
 
     bytes-had : kindOf (w .store) (naming (w .store) n p) ≡ fileKind → HadBytes es w (v .image) (naming (w .store) n p)
     bytes-had e =
-        let h = kept-body t n k tells ended p held in
+        let h = kept-body t n k (fin .tells) (fin .ended) p held in
         let j = h .0 in
-        let a = alike-last j (naming (w .store) n p) first-low first-high (subst (λ (i : ℕ). Alike (t j .store) (t k .image) i) first-names (h .2)) in
+        let a = fin .alike j (naming (w .store) n p) first-low first-high (subst (λ (i : ℕ). Alike (t j .store) (t k .image) i) first-names (h .2)) in
         had-bytes n es w v (naming (w .store) n p) (at es w j) (moment-at es w j) refl (count-at j) a (sym (a .kind) ∙ ap (kindOf (v .image)) (sym same-inode) ∙ same-kind ∙ e)
 
     copied : Copied es w (v .image) p
@@ -218,24 +146,15 @@ module _ (b : ℕ) (es : List Event) (w : World) (r : Running (countOf w) b w) (
     }
 
   -- ---- nothing false
-  final-image : v .image ≡ finishImage (f .before .image) n b
-  final-image = ap (λ (x : World). x .image) (f .is) ∙ finals n b (f .before) (f .runs) (f .finishes) .image
-
-  final-sound : Sound mostImageBlocks true (v .image)
-  final-sound = rw final-image (finals n b (f .before) (f .runs) (f .finishes) .sound)
-
-  final-count : inodesIn (v .image) ≡ n
-  final-count = ap inodesIn final-image ∙ finish-inodes (f .runs .laid)
-
   module _ (p : ℕ) (l : p < mostSlots * n) (full : filled (v .image) n p ≡ true) where
     low : 1 ≤ naming (v .image) n p
-    low = subst (λ (m : ℕ). (q : ℕ) → q < mostSlots * m → filled (v .image) m q ≡ true → EntrySound (v .image) m q) final-count (final-sound .entries) p l full .low
+    low = subst (λ (m : ℕ). (q : ℕ) → q < mostSlots * m → filled (v .image) m q ≡ true → EntrySound (v .image) m q) (fin .count) (fin .sound .entries) p l full .low
 
     seen-there : t k .image .names p ≢ 0
-    seen-there z = let a = names-last p l in let c = low in omega arith
+    seen-there z = let a = fin .names p l in let c = low in omega arith
 
     spell : Spell t k p
-    spell = all-honest t k (told-holds t n k tells k (omega arith) .1) ended p seen-there
+    spell = all-honest t k (told-holds t n k (fin .tells) k (omega arith) .1) (fin .ended) p seen-there
 
     in-order : spell .from ≤ spell .to
     in-order = let a = spell .from-entry in let c = spell .entry-to in omega arith
@@ -261,7 +180,7 @@ module _ (b : ℕ) (es : List Event) (w : World) (r : Running (countOf w) b w) (
 
     -- the store's slot names the inode
     names-then : (j : ℕ) → spell .from ≤ j → j ≤ spell .to → naming (at es w j .store) n p ≡ naming (v .image) n p
-    names-then j a c = sym (store-names n (at es w j) p l) ∙ spell .names j a c ∙ names-last p l
+    names-then j a c = sym (store-names n (at es w j) p l) ∙ spell .names j a c ∙ fin .names p l
 
     then-names : (j : ℕ) → spell .from ≤ j → j ≤ spell .to → Names (at es w j) p (naming (v .image) n p)
     then-names j a c =
@@ -277,10 +196,10 @@ module _ (b : ℕ) (es : List Event) (w : World) (r : Running (countOf w) b w) (
         subst (λ (x : World). Names x p (naming (v .image) n p)) (sym (cuts .each j (omega arith))) (then-names (j + spell .from) (omega arith) (omega arith)))
 
     inode-range : naming (v .image) n p ≤ n
-    inode-range = let a = names-last p l in let c = range p seen-there .1 in omega arith
+    inode-range = let a = fin .names p l in let c = told-holds t n k (fin .tells) k (omega arith) .0 .high p in omega arith
 
     inode-like : AlikeIn n (at es w (spell .inode-at) .store) (v .image) (naming (v .image) n p)
-    inode-like = alike-last (spell .inode-at) (naming (v .image) n p) low inode-range (subst (λ (i : ℕ). Alike (t (spell .inode-at) .store) (t k .image) i) (names-last p l) (spell .inode))
+    inode-like = fin .alike (spell .inode-at) (naming (v .image) n p) low inode-range (subst (λ (i : ℕ). Alike (t (spell .inode-at) .store) (t k .image) i) (fin .names p l) (spell .inode))
 
     honest : Honest es w (v .image) p
     honest =
@@ -295,7 +214,7 @@ module _ (b : ℕ) (es : List Event) (w : World) (r : Running (countOf w) b w) (
           after = cuts .rest;
           parts = cuts .whole;
           named = throughout;
-          name = had-name n (cuts .during) start v p (at es w x) (in-spell x (spell .from-entry) (spell .entry-to)) start-count (count-at x) (omega arith) (entry-last x p (spell .entry));
+          name = had-name n (cuts .during) start v p (at es w x) (in-spell x (spell .from-entry) (spell .entry-to)) start-count (count-at x) (omega arith) (fin .entry x p (spell .entry));
           kind = record { moment = at es w i; in-time = m; kind = inode-like .kind };
           file = λ h. had-bytes n (cuts .during) start v (naming (v .image) n p) (at es w i) m start-count (count-at i) inode-like (sym (inode-like .kind) ∙ h);
         }
@@ -303,21 +222,20 @@ module _ (b : ℕ) (es : List Event) (w : World) (r : Running (countOf w) b w) (
   -- ---- one moment for each inode
   module _ (i : ℕ) (lo : 1 ≤ i) (hi : i ≤ n) (used : kindOf (v .image) i ≢ freeKind) where
     copied-then : t k .copied i ≡ true
-    copied-then = holds (t k .copied i) (λ c. used (
-        sym (image-kind n v i lo hi) ∙ ap (λ (x : View). x .image .kind i) (sym last-view) ∙ told-holds t n k tells k (omega arith) .0 .blank i c))
+    copied-then = holds (t k .copied i) (λ c. used (sym (fin .kind i lo hi) ∙ told-holds t n k (fin .tells) k (omega arith) .0 .blank i c))
 
     moment-of : OneMoment es w (v .image) i
     moment-of =
-        let m = told-holds t n k tells k (omega arith) .1 .seen i copied-then in
+        let m = told-holds t n k (fin .tells) k (omega arith) .1 .seen i copied-then in
         let j = m .0 in
-        let a = alike-last j i lo hi (m .2) in
+        let a = fin .alike j i lo hi (m .2) in
         record {
           moment = at es w j;
           in-time = moment-at es w j;
           kind = a .kind;
           file = λ e. same-content n n (countOf (at es w j)) v (at es w j) i refl (count-at j) a (sym (a .kind) ∙ e);
           links = λ p l f e.
-              let h : naming (at es w j .store) n p ≡ i = sym (store-names n (at es w j) p l) ∙ m .3 p (names-last p l ∙ e) in
+              let h : naming (at es w j .store) n p ≡ i = sym (store-names n (at es w j) p l) ∙ m .3 p (fin .names p l ∙ e) in
               record {
                 stands = subst (λ (c : ℕ). filled (at es w j .store) c p ≡ true) (count-at j) (naming-filled (at es w j .store) n p (omega arith));
                 inode = ap (λ (c : ℕ). naming (at es w j .store) c p) (sym (count-at j)) ∙ h;
@@ -326,10 +244,10 @@ module _ (b : ℕ) (es : List Event) (w : World) (r : Running (countOf w) b w) (
 
   pub finished : Finished es w
   finished = record {
-    count = final-count;
-    sound = final-sound;
+    count = fin .count;
+    sound = fin .sound;
     entries = copied;
     honest = honest;
     moments = moment-of;
-    state = ap (λ (x : World). deskOf (x .desk) .state) (f .is) ∙ finals n b (f .before) (f .runs) (f .finishes) .state;
+    state = fin .state;
   }
