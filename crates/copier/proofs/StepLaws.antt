@@ -1,0 +1,131 @@
+-- Which of the five things a step does, by what the code has tested. s is the store, m the image, d the desk, n the inode count.
+use Prim.Native.Nat.{ℕ, _+_, _≤_, _<_}
+use mathlib.Core.Path.{_≡_, sym, ap, ap₂, _∙_}
+use mathlib.Core.Bool.{Bool, true, false, not, _&&_}
+use mathlib.Core.List.{List}
+use native.Mathlib.Omega.{arith}
+use borrow.Author.Tests.{lt-ltb, le-ltb, eq-eqb, ne-eqb, not-true, not-false}
+use lib.ListN.{length}
+use Rattle.bounded.specs.Search.{pick, onFound}
+use Rattle.bounded.specs.declared.Found.{Found}
+use Rattle.bounded.specs.declared.Found.the-variants.{At, Absent}
+use Rattle.bounded.proofs.SearchLaws.{found-lowest}
+use Rattle.layout.specs.Sizes.{rootInode, mostImageBlocks, blockBytes}
+use Rattle.layout.specs.Inode.{sizeOf, inodeOf, putAttributes}
+use Rattle.layout.specs.Block.{Sized, blockAt, blocksUsed, kthBlock}
+use Rattle.layout.specs.declared.inode.Inode.{Inode}
+use Rattle.desk.specs.Desk.{deskOf, putDesk, putCopied}
+use Rattle.desk.specs.Next.{locking, copyingOne, unlocking, finishing, stopping}
+use Rattle.desk.specs.declared.Desk.{Desk}
+use Rattle.answers.specs.declared.Answer.{Answer}
+use Rattle.answers.specs.declared.Answer.the-variants.{Done, Refused}
+use Rattle.answers.specs.declared.Refusal.the-variants.{ImageFull}
+use Rattle.checkpoint.specs.Image.{isNamed}
+use Rattle.checkpoint.specs.Notes.{isCopied}
+use Rattle.checkpoint.specs.Copier.{Step, lock, copy, close, finish, full, nextInode, targetBlock, unlinkedInode, finishImage, freeStep, lockedStep, stepOf, stepImage, stepDesk}
+use Rattle.checkpoint.specs.Live.{Outcome, left, doStep}
+use Rattle.checkpoint.proofs.Copy.TargetLaws.{target-at}
+
+-- ---- nothing is locked
+module _ (m d : List ℕ) (n : ℕ) (r : Bool) (e : r ≡ isCopied d n rootInode) where
+  pub free-root : not r ≡ true → freeStep m d n ≡ lock rootInode
+  unfolding freeStep
+  free-root q = ap (λ (t : Bool). pick t (onFound (nextInode m d n) lock finish) (lock rootInode)) (sym e ∙ not-true r q)
+
+  module _ (q : not r ≡ false) (f : Found) (g : f ≡ nextInode m d n) where
+    free-next : freeStep m d n ≡ onFound f lock finish
+    unfolding freeStep
+    free-next =
+        ap (λ (t : Bool). pick t (onFound (nextInode m d n) lock finish) (lock rootInode)) (sym e ∙ not-false r q)
+        ∙ ap (λ (y : Found). onFound y lock finish) (sym g)
+
+    pub free-lock : (i : ℕ) → f ≡ At i → freeStep m d n ≡ lock i
+    free-lock i h = free-next ∙ ap (λ (y : Found). onFound y lock finish) h
+
+    pub free-finish : f ≡ Absent → freeStep m d n ≡ finish
+    free-finish h = free-next ∙ ap (λ (y : Found). onFound y lock finish) h
+
+-- ---- inode i is locked
+module _ (s m : List ℕ) (n b i k u : ℕ) (e : u ≡ blocksUsed (sizeOf s i)) where
+  abbrev copyOr : Step
+  copyOr = onFound (targetBlock m n b (kthBlock s n i k)) (λ c. copy i k c) full
+
+  pub locked-close : u ≤ k → lockedStep s m n b i k ≡ close i
+  unfolding lockedStep
+  locked-close h = ap (λ (t : Bool). pick t copyOr (close i)) (le-ltb k (blocksUsed (sizeOf s i)) (omega arith))
+
+  module _ (h : k < u) (a : ℕ) (p : a ≡ kthBlock s n i k) (f : Found) (g : f ≡ targetBlock m n b a) where
+    locked-block : lockedStep s m n b i k ≡ onFound f (λ c. copy i k c) full
+    unfolding lockedStep
+    locked-block =
+        ap (λ (t : Bool). pick t copyOr (close i)) (lt-ltb k (blocksUsed (sizeOf s i)) (omega arith))
+        ∙ ap (λ (y : Found). onFound y (λ c. copy i k c) full) (sym (g ∙ ap (targetBlock m n b) p))
+
+    pub locked-copy : (c : ℕ) → f ≡ At c → lockedStep s m n b i k ≡ copy i k c
+    locked-copy c q = locked-block ∙ ap (λ (y : Found). onFound y (λ c. copy i k c) full) q
+
+    pub locked-full : f ≡ Absent → lockedStep s m n b i k ≡ full
+    locked-full q = locked-block ∙ ap (λ (y : Found). onFound y (λ c. copy i k c) full) q
+
+-- ---- both
+module _ (s m d : List ℕ) (n : ℕ) (h : Desk) (e : h ≡ deskOf d) where
+  pub step-free : h .locked ≡ 0 → stepOf s m d n ≡ freeStep m d n
+  unfolding stepOf
+  step-free q = ap (λ (t : Bool). pick t (freeStep m d n) (lockedStep s m n (deskOf d .blocks) (deskOf d .locked) (deskOf d .copied)))
+      (eq-eqb (deskOf d .locked) 0 (ap (λ (v : Desk). v .locked) (sym e) ∙ q))
+
+  pub step-locked : (h .locked ≡ 0 → ⊥) → stepOf s m d n ≡ lockedStep s m n (h .blocks) (h .locked) (h .copied)
+  unfolding stepOf
+  step-locked q = ap (λ (t : Bool). pick t (freeStep m d n) (lockedStep s m n (deskOf d .blocks) (deskOf d .locked) (deskOf d .copied)))
+      (ne-eqb (deskOf d .locked) 0 (λ z. q (ap (λ (v : Desk). v .locked) e ∙ z)))
+      ∙ ap (λ (v : Desk). lockedStep s m n (v .blocks) (v .locked) (v .copied)) (sym e)
+
+-- ---- what is left then
+pub same-left : (s : List ℕ) {r q : Answer} {m t d e : List ℕ} → r ≡ q → m ≡ t → d ≡ e → left r s m d ≡ left q s t e
+same-left s a b c = rw (a, b, c)
+
+module _ (s m d : List ℕ) (n : ℕ) (x : Step) where
+  pub does-lock : (i : ℕ) → x ≡ lock i → (r : Answer) (e : List ℕ) → r ≡ Done (deskOf d .steps + 1) → e ≡ stepDesk d (lock i) → left r s m e ≡ doStep s m d n x
+  does-lock i q r e a b = rw (a, b, q)
+
+  pub does-full : x ≡ full → (r : Answer) (e : List ℕ) → r ≡ Refused ImageFull → e ≡ stepDesk d full → left r s m e ≡ doStep s m d n x
+  does-full q r e a b = rw (a, b, q)
+
+  pub does-same : (y : Step) → x ≡ y → (o : Outcome) → o ≡ doStep s m d n y → o ≡ doStep s m d n x
+  does-same y q o a = a ∙ ap (doStep s m d n) (sym q)
+
+-- ---- the five things: the desk's header is h, and next is what its method hands back
+module _ (d : List ℕ) (h next : Desk) (e : h ≡ deskOf d) where
+  pub lock-done : (i : ℕ) → next ≡ locking h i → (t : List ℕ) → t ≡ putDesk d next → (_≡_ {A = Answer} (Done (next .steps)) (Done (deskOf d .steps + 1))) × (t ≡ stepDesk d (lock i))
+  lock-done i q t w = (rw (q, e), w ∙ ap (putDesk d) (q ∙ ap (λ (v : Desk). locking v i) e))
+
+  pub stop-done : next ≡ stopping h → (t : List ℕ) → t ≡ putDesk d next → t ≡ stepDesk d full
+  stop-done q t w = w ∙ ap (putDesk d) (q ∙ ap stopping e)
+
+  module _ (m : List ℕ) (n : ℕ) (t : List ℕ) where
+    pub copy-done : (s a : List ℕ) (c : ℕ) → a ≡ stepImage s m d n (copy (h .locked) (h .copied) c) → next ≡ copyingOne h → t ≡ putDesk d next
+        → left (Done (next .steps)) s a t ≡ doStep s m d n (copy (h .locked) (h .copied) c)
+    copy-done s a c p q w = same-left s (rw (q, e)) p (w ∙ ap (putDesk d) (q ∙ ap copyingOne e))
+
+    pub close-done : (s a u : List ℕ) (v : Inode) → v ≡ inodeOf s n (h .locked) → a ≡ putAttributes m (h .locked) (unlinkedInode v) → u ≡ putCopied d (h .locked) 1 → next ≡ unlocking h → t ≡ putDesk u next
+        → left (Done (next .steps)) s a t ≡ doStep s m d n (close (h .locked))
+    close-done s a u v f p g q w =
+        same-left s (rw (q, e)) (p ∙ ap (λ (y : Inode). putAttributes m (h .locked) (unlinkedInode y)) f) (w ∙ ap₂ putDesk g (q ∙ ap unlocking e))
+
+    pub finish-done : (a : List ℕ) → a ≡ finishImage m n (h .blocks) → next ≡ finishing h → t ≡ putDesk d next
+        → (s : List ℕ) → left (Done (next .steps)) s a t ≡ doStep s m d n finish
+    finish-done a p q w s = same-left s (rw (q, e)) (p ∙ ap (λ (y : Desk). finishImage m n (y .blocks)) e) (w ∙ ap (putDesk d) (q ∙ ap finishing e))
+
+-- ---- the numbers that a search finds
+pub next-few : (m d : List ℕ) (n i : ℕ) (f : Found) → f ≡ nextInode m d n → f ≡ At i → i ≤ n
+unfolding nextInode
+next-few m d n i f g h = let l = found-lowest (λ i. not (isCopied d n i) && isNamed m n i) 1 n i (sym g ∙ h) .below in omega arith
+
+pub target-inside : (m : List ℕ) (n b x c : ℕ) (f : Found) → Sized m n b → f ≡ targetBlock m n b x → f ≡ At c → (1 ≤ c) × (c ≤ mostImageBlocks) × (blockAt n c + blockBytes ≤ length m)
+target-inside m n b x c f z g h =
+    let t = target-at m n b x c (sym g ∙ h) in
+    let l = t .low in
+    let u = t .high in
+    let k = z .blocks in
+    let w = z .long in
+    (l, omega arith, omega arith)

@@ -1,0 +1,14 @@
+-- What the five things that a step does need of the desk. n is the inode count.
+use Prim.Native.Nat.{ℕ, _+_, _≤_, _<_}
+use mathlib.Core.Path.{_≡_}
+use mathlib.Core.List.{List}
+use lib.ListN.{length}
+use Rattle.desk.specs.Sizes.{deskLength}
+use Rattle.desk.specs.Desk.{deskOf}
+use Rattle.desk.specs.declared.Desk.{Desk}
+
+-- h is the header of the desk d, and a step more can be counted
+pub record Held (d : List ℕ) (n : ℕ) (h : Desk) : Type 0 where
+  pub read : h ≡ deskOf d
+  pub long : deskLength n ≤ length d
+  pub steps : h .steps + 1 < 4294967296
