@@ -1,4 +1,4 @@
-use mathlib.Core.Path.{_≡_, sym, ap, _∙_}
+use mathlib.Core.Path.{ap, _∙_}
 use native.Mathlib.Omega.{arith}
 use Rattle.bounded.proofs.BoolLaws.{chain-on, chain-off}
 use Rattle.desk.specs.declared.Desk.{Desk}

@@ -1,4 +1,4 @@
-use mathlib.Core.Path.{_≡_, sym, ap, _∙_}
+use mathlib.Core.Path.{ap, _∙_}
 use native.Mathlib.Omega.{arith}
 use Rattle.desk.specs.declared.Desk.{Desk}
 use Rattle.guards.proofs.FitLaws.{framed, fits-few, image-long, image-inodes, image-blocks, image-root, image-complete, image-addresses}
