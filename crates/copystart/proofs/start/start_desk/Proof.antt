@@ -27,7 +27,7 @@ same-length c = search needs
 
 returns : tie.Need-returns
 unfolding startDesk
-returns c = 
+returns c =
     c .before .before .write .ensures
     ∙ ap₂ putDesk (c .before .before .before .before .before .before .before .clear-notes .ensures) (c .before .before .before .before .start .ensures ∙ ap (λ (h : Desk). starting h (c .before .before .before .before .before .before .before .before .before .before .before .before .args .b)) (c .before .before .before .before .before .before .before .before .before .read .ensures))
 
