@@ -20,7 +20,7 @@ use Rattle.changes.proofs.StoreLaws.{dir-of}
 use Rattle.checkpoint.specs.Fit.{isRunning, mostSteps, blocksFit, stepsAnInode, deskFits, imageFits}
 use Rattle.checkpoint.specs.Shown.{world}
 use Rattle.checkpoint.specs.List.{Ready}
-use Rattle.checkpoint.proofs.Copy.LiveLaws.{ready-sound}
+use Rattle.checkpoint.proofs.Call.LiveLaws.{ready-sound}
 use Rattle.checkpoint.proofs.Copy.FitLaws.{desk-framed-is, desk-fits-is, image-fits-is, notes-fit-is}
 use Rattle.tallies.specs.Addressed.{Addressed}
 use Rattle.copier.specs.Held.{Held}

@@ -1,0 +1,2 @@
+// Start, the call that opens a copy.
+pub mod start;

@@ -1,0 +1,87 @@
+// Start: a fresh image, and a desk with no notes that says running. Any bytes may be lent; a refused call changes nothing.
+ghost use mathlib.Core.Path.{_≡_};
+ghost use mathlib.Core.Bool.{true};
+ghost use mathlib.Core.List.{List};
+ghost use Prim.Native.Nat.{ℕ, _≤_};
+ghost use lib.ListN.{length};
+ghost use Rattle.layout.specs.Sizes.{mostInodes, mostImageBlocks};
+ghost use Rattle.desk.specs.Sizes.{deskLength};
+ghost use Rattle.sound.specs.Sound.{inodesIn};
+ghost use Rattle.checkpoint.specs.Fit.{imageBlocks, imageAllowed};
+ghost use Rattle.checkpoint.specs.Copier.{startImage, startDesk};
+ghost use Rattle.checkpoint.specs.Live.{left, started, start};
+ghost use Rattle.checkpoint.specs.Shown.{shown};
+use answers::Answer;
+use answers::Refusal;
+use checker::check;
+use desk::Desk;
+use desk::RUNNING;
+use files::Guard;
+use guards::fit;
+use guards::fit::NOT_COMPLETE;
+use guards::three;
+use layout::header::Header;
+use layout::sizes::MOST_STORE_BLOCKS;
+use layout::sizes::ROOT;
+
+// The header of an empty image of n inodes and b blocks, and zeros.
+fn start_image(m: &mut [u8], n: usize, b: usize)
+    requires { ⌜ (n ≤ mostInodes) × (imageAllowed n (length (now m)) ≡ true) × (b ≡ imageBlocks n (length (now m))) ⌝ }
+    ensures { λ _. ⌜ now (m .exit) ≡ startImage n (length (now (m .entry))) ⌝ }
+{
+    let length = m.len();
+    octets::zero_range(&mut *m, 0, length);
+    let fresh = Header {
+        inodes: n as u16,
+        blocks: b as u16,
+        free_inodes: 0,
+        free_blocks: 0,
+        complete: NOT_COMPLETE,
+        root: ROOT as u16,
+    };
+    fresh.write(&mut *m);
+}
+
+// No inode copied, no entry marked, no steps; the copy runs.
+fn start_desk(d: &mut [u8], n: usize, b: usize)
+    requires { ⌜ (deskLength n ≤ length (now d)) × (b ≤ mostImageBlocks) ⌝ }
+    ensures { λ _. ⌜ now (d .exit) ≡ startDesk (now (d .entry)) n b ⌝ }
+{
+    let h = Desk::read(&*d);
+    desk::clear_notes(&mut *d, n);
+    h.start(b as u16).write(&mut *d);
+}
+
+// 15, or the start itself, beside whatever store of n inodes.
+fn begin(n: usize, m: &mut [u8], d: &mut [u8]) -> Answer
+    requires { ⌜ (n ≤ mostInodes) × (imageAllowed n (length (now m)) ≡ true) × (deskLength n ≤ length (now d)) ⌝ }
+    ensures { λ r. ⌜ ((s : List ℕ) → n ≡ inodesIn s → left r s (now (m .exit)) (now (d .exit)) ≡ started s (now (m .entry)) (now (d .entry))) ⌝ }
+{
+    let h = Desk::read(&*d);
+    if h.state == RUNNING {
+        return Answer::Refused(Refusal::WrongState);
+    }
+    let b = fit::image_blocks(n, m.len());
+    start_image(&mut *m, n, b);
+    start_desk(&mut *d, n, b);
+    Answer::Done(0)
+}
+
+pub fn start(store: &[u8], image: &mut [u8], desk: &mut [u8]) -> Answer
+    ensures { λ r. ⌜ shown (left r (now (store .entry)) (now (image .exit)) (now (desk .exit))) ≡ shown (start (now (store .entry)) (now (image .entry)) (now (desk .entry))) ⌝ }
+{
+    if !check::framed(store, MOST_STORE_BLOCKS) {
+        return Answer::Refused(Refusal::BadBuffer);
+    }
+    if !fit::desk_framed(&*desk) {
+        return Answer::Refused(Refusal::BadBuffer);
+    }
+    let n = octets::get_16(store, 0) as usize;
+    if !fit::image_allowed(n, image.len()) {
+        return Answer::Refused(Refusal::BadBuffer);
+    }
+    match three::after_lengths(store, &*image, &*desk) {
+        Guard::Pass(_, _) => begin(n, &mut *image, &mut *desk),
+        Guard::Stop(why) => Answer::Refused(why),
+    }
+}

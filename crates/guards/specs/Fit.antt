@@ -1,0 +1,37 @@
+-- Parts of the paper's tests of desk and image, as the code goes through them: what is told by the desk's header alone, and what is a loop. n is the inode count, m the image, d the desk.
+use Prim.Native.Nat.{ℕ, _+_, _*_}
+use mathlib.Core.Bool.{Bool, not, _&&_, _||_}
+use mathlib.Core.List.{List}
+use lib.Dec.{eqb, leb}
+use Rattle.bounded.specs.Below.{allBelow}
+use Rattle.bounded.specs.Search.{pick}
+use Rattle.layout.specs.Sizes.{mostImageBlocks, addressCount}
+use Rattle.layout.specs.Inode.{addressOf}
+use Rattle.desk.specs.Sizes.{idle, running}
+use Rattle.desk.specs.declared.Desk.{Desk}
+use Rattle.desk.specs.Desk.{deskOf, copiedOf}
+use Rattle.checkpoint.specs.Fit.{stepsAnInode, mostCopied, isRunning, deskFits, imageFits}
+
+-- "image block count (0 when idle, else 1 to 4,096)"
+abbrev pub blocksRight : Desk → Bool
+blocksRight h = pick (eqb (h .state) idle) (eqb (h .blocks) 0) (leb 1 (h .blocks) && leb (h .blocks) mostImageBlocks)
+
+-- "copied bytes (0 or 1)"
+abbrev pub copiedRight : List ℕ → ℕ → Bool
+copiedRight d n = allBelow (λ k. leb (copiedOf d (k + 1)) 1) n
+
+-- the opposite of "locked inode above N, more than 12 blocks copied, fields 6-9 not zero unless running, steps above 14 × N + 1, or above 14 × N if running"
+abbrev pub countsRight : Desk → Bool
+countsRight h =
+    leb (h .locked) (h .inodes)
+    && (leb (h .copied) mostCopied
+    && ((eqb (h .state) running || (eqb (h .locked) 0 && eqb (h .copied) 0))
+    && leb (h .steps) (pick (eqb (h .state) running) (stepsAnInode * h .inodes) (stepsAnInode * h .inodes + 1))))
+
+-- the opposite of "an address exceeds its block count", of b blocks
+abbrev pub addressesRight : List ℕ → ℕ → ℕ → Bool
+addressesRight m n b = allBelow (λ x. leb (addressOf m n x) b) (addressCount * n)
+
+-- no refusal 3, beside a store of n inodes
+abbrev pub notesRight : ℕ → List ℕ → List ℕ → Bool
+notesRight n m d = deskFits d && (eqb (deskOf d .inodes) n && (not (isRunning d) || imageFits m d))

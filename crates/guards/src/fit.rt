@@ -1,0 +1,207 @@
+// Whether desk and image fit: refusals 1 and 3. Any bytes may be lent.
+ghost use mathlib.Core.Path.{_≡_};
+ghost use mathlib.Core.Bool.{true};
+ghost use Prim.Native.Nat.{_+_, _*_, _≤_};
+ghost use lib.ListN.{length};
+ghost use Rattle.layout.specs.Sizes.{headerBytes, inodeBytes, mostInodes};
+ghost use Rattle.desk.specs.Sizes.{deskHeaderBytes};
+ghost use Rattle.checkpoint.specs.Fit.{deskFramed, deskFits, imageBlocks, imageAllowed, imageFits};
+ghost use Rattle.guards.specs.Fit.{blocksRight, copiedRight, countsRight, addressesRight, notesRight};
+use desk::DESK_HEADER_BYTES;
+use desk::DESK_INODE_BYTES;
+use desk::Desk;
+use desk::IDLE;
+use desk::RUNNING;
+use desk::STOPPED;
+use layout::block::store_length;
+use layout::header::Header;
+use layout::inode;
+use layout::sizes::ADDRESS_COUNT;
+use layout::sizes::BLOCK_BYTES;
+use layout::sizes::HEADER_BYTES;
+use layout::sizes::INODE_BYTES;
+use layout::sizes::MOST_IMAGE_BLOCKS;
+use layout::sizes::MOST_INODES;
+use layout::sizes::ROOT;
+
+// Byte 8 of an image whose copy runs.
+pub const NOT_COMPLETE: u8 = 0;
+
+// A finished copy has at most so many steps for each inode, and one more.
+const STEPS_AN_INODE: u32 = 14;
+
+// ---- the desk
+// Its count of inodes is allowed, and the length is theirs.
+pub fn desk_framed(d: &[u8]) -> bool
+    ensures { λ r. ⌜ r ≡ deskFramed (now (d .entry)) ⌝ }
+{
+    if d.len() < DESK_HEADER_BYTES {
+        return false;
+    }
+    let n = octets::get_16(d, 0) as usize;
+    if n < 1 {
+        return false;
+    }
+    if MOST_INODES < n {
+        return false;
+    }
+    d.len() == DESK_HEADER_BYTES + DESK_INODE_BYTES * n
+}
+
+// The image's count of blocks is one that the state allows.
+fn blocks_fit(h: Desk) -> bool
+    ensures { λ r. ⌜ r ≡ blocksRight h ⌝ }
+{
+    if h.state == IDLE {
+        return h.blocks == 0;
+    }
+    if h.blocks < 1 {
+        return false;
+    }
+    h.blocks as usize <= MOST_IMAGE_BLOCKS
+}
+
+// Copied bytes are 0 or 1.
+fn copied_fit(d: &[u8], n: usize) -> bool
+    requires { ⌜ deskHeaderBytes + n ≤ length (now d) ⌝ }
+    ensures { λ r. ⌜ r ≡ copiedRight (now (d .entry)) n ⌝ }
+{
+    for k in 0..n {
+        if 1 < desk::copied_byte(d, k + 1) {
+            return false;
+        }
+    }
+    true
+}
+
+// The locked inode, its blocks copied so far, and the steps.
+fn counts_fit(h: Desk) -> bool
+    requires { ⌜ h .inodes ≤ mostInodes ⌝ }
+    ensures { λ r. ⌜ r ≡ countsRight h ⌝ }
+{
+    if h.inodes < h.locked {
+        return false;
+    }
+    if ADDRESS_COUNT < h.copied as usize {
+        return false;
+    }
+    let most = STEPS_AN_INODE * (h.inodes as u32);
+    if h.state == RUNNING {
+        return h.steps <= most;
+    }
+    if h.locked != 0 {
+        return false;
+    }
+    if h.copied != 0 {
+        return false;
+    }
+    h.steps <= most + 1
+}
+
+// A desk whose length is right is laid out as it must be.
+pub fn desk_fits(d: &[u8]) -> bool
+    requires { ⌜ deskFramed (now d) ≡ true ⌝ }
+    ensures { λ r. ⌜ r ≡ deskFits (now (d .entry)) ⌝ }
+{
+    let h = Desk::read(d);
+    if STOPPED < h.state {
+        return false;
+    }
+    if !blocks_fit(h) {
+        return false;
+    }
+    if !desk::reserved_zero(d) {
+        return false;
+    }
+    if !copied_fit(d, h.inodes as usize) {
+        return false;
+    }
+    counts_fit(h)
+}
+
+// ---- the image
+// How many blocks an image of k bytes has beside n inodes.
+pub fn image_blocks(n: usize, k: usize) -> usize
+    requires { ⌜ n ≤ mostInodes ⌝ }
+    ensures { λ r. ⌜ r ≡ imageBlocks n k ⌝ }
+{
+    let before = HEADER_BYTES + INODE_BYTES * n;
+    if k < before {
+        return 0;
+    }
+    (k - before) / BLOCK_BYTES
+}
+
+// An image for n inodes may be k bytes long.
+pub fn image_allowed(n: usize, k: usize) -> bool
+    requires { ⌜ n ≤ mostInodes ⌝ }
+    ensures { λ r. ⌜ r ≡ imageAllowed n k ⌝ }
+{
+    let b = image_blocks(n, k);
+    if b < 1 {
+        return false;
+    }
+    if MOST_IMAGE_BLOCKS < b {
+        return false;
+    }
+    k == store_length(n, b)
+}
+
+// No address is above b.
+fn addresses_fit(m: &[u8], n: usize, b: usize) -> bool
+    requires { ⌜ (n ≤ mostInodes) × (headerBytes + inodeBytes * n ≤ length (now m)) ⌝ }
+    ensures { λ r. ⌜ r ≡ addressesRight (now (m .entry)) n b ⌝ }
+{
+    for x in 0..ADDRESS_COUNT * n {
+        if b < inode::address(m, n, x) as usize {
+            return false;
+        }
+    }
+    true
+}
+
+// The image is the one that the desk's running copy fills.
+pub fn image_fits(m: &[u8], d: &[u8]) -> bool
+    requires { ⌜ (deskFramed (now d) ≡ true) × (deskFits (now d) ≡ true) ⌝ }
+    ensures { λ r. ⌜ r ≡ imageFits (now (m .entry)) (now (d .entry)) ⌝ }
+{
+    let h = Desk::read(d);
+    let n = h.inodes as usize;
+    let b = h.blocks as usize;
+    if m.len() != store_length(n, b) {
+        return false;
+    }
+    let t = Header::read(m);
+    if t.inodes != h.inodes {
+        return false;
+    }
+    if t.blocks != h.blocks {
+        return false;
+    }
+    if t.root as usize != ROOT {
+        return false;
+    }
+    if t.complete != NOT_COMPLETE {
+        return false;
+    }
+    addresses_fit(m, n, b)
+}
+
+// ---- both
+// Desk and image, beside a store of n inodes; the image is looked at only while the copy runs.
+pub fn notes_fit(n: usize, m: &[u8], d: &[u8]) -> bool
+    requires { ⌜ deskFramed (now d) ≡ true ⌝ }
+    ensures { λ r. ⌜ r ≡ notesRight n (now (m .entry)) (now (d .entry)) ⌝ }
+{
+    if !desk_fits(d) {
+        return false;
+    }
+    let h = Desk::read(d);
+    if h.inodes as usize != n {
+        return false;
+    }
+    if h.state != RUNNING {
+        return true;
+    }
+    image_fits(m, d)
+}
