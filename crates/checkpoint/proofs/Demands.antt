@@ -1,26 +1,25 @@
 -- The demands are met: for every accepted start on any bytes, and every list of events after it.
 use Prim.Native.Nat.{ℕ, _+_, _*_, _<_}
 use mathlib.Core.Path.{_≡_, refl, sym, ap, _∙_, subst}
-use mathlib.Core.Bool.{Bool, true}
+use mathlib.Core.Bool.{true}
 use mathlib.Core.List.{List}
 use native.Mathlib.Omega.{arith}
 use lib.Dec.{eqb}
 use lib.ListN.{length}
 use Rattle.bounded.proofs.BoolLaws.{clash}
-use Rattle.desk.specs.Sizes.{finished, stopped}
+use Rattle.desk.specs.Sizes.{finished}
 use Rattle.desk.specs.Desk.{deskOf}
 use Rattle.answers.specs.declared.Answer.the-variants.{Done}
 use Rattle.answers.specs.declared.Refusal.the-variants.{ImageFull}
 use Rattle.answers.specs.Refusal.{refusalNumber}
 use Rattle.answers.specs.Told.{Told, told}
 use Rattle.directory.specs.Slot.{mostSlots}
-use Rattle.sound.specs.Sound.{inodesIn}
 use Rattle.checkpoint.specs.Fit.{imageBlocks}
 use Rattle.checkpoint.specs.Live.{World}
 use Rattle.checkpoint.specs.Shown.{Shown}
 use Rattle.checkpoint.specs.List.{Event, steps, starts, outcome, next, refusalOf, accepted, run, Finish}
 use Rattle.checkpoint.specs.Finished.{countOf, Finished}
-use Rattle.checkpoint.specs.Progress.{noRestart, Roomy, Stays, Opens}
+use Rattle.checkpoint.specs.Progress.{noRestart, Roomy, Opens}
 use Rattle.checkpoint.specs.Demand.{Takes, Demand, Demands}
 use Rattle.checkpoint.proofs.PlainLaws.{starts-keep, run-plain}
 use Rattle.checkpoint.proofs.Copy.ChosenLaws.{never-full}

@@ -17,7 +17,7 @@ use Rattle.files.specs.Effect.{Call, Planned, refused, does, onPlanned, plainDe
 use Rattle.files.specs.Plain.{leaves, plain}
 use Rattle.checkpoint.specs.Fit.{deskFramed, imageAllowed, isRunning, notesFit}
 use Rattle.checkpoint.specs.Copier.{Step, lock, copy, close, finish, full, stepOf}
-use Rattle.checkpoint.specs.Live.{World, Outcome, refuse, decision, leavesIn, live, outOf, guarded, ask, doStep, started, start, step}
+use Rattle.checkpoint.specs.Live.{World, Outcome, refuse, decision, leavesIn, live, outOf, guarded, doStep, started, start, step}
 use Rattle.checkpoint.specs.Shown.{numberOf}
 use Rattle.checkpoint.specs.List.{Event, Ready, call, steps, asks, starts, outcome, next, run, Moment, here, after, isBusy, replies, heard, plainRun, plainReplies}
 use Rattle.checkpoint.specs.Demand.{AsPlain}

@@ -2,24 +2,22 @@
 use Prim.Native.Nat.{ℕ, _≤_, _<_}
 use mathlib.Core.Path.{_≡_, refl, sym, ap, _∙_, subst}
 use mathlib.Core.Logic.{_≢_, inl, inr}
-use mathlib.Core.Bool.{Bool, true, false, _&&_, _||_}
+use mathlib.Core.Bool.{Bool, true, false, _&&_}
 use mathlib.Core.List.{List, [], _∷_}
 use native.Mathlib.Decide.{ℕ-discrete}
 use native.Mathlib.Omega.{arith}
-use borrow.Author.Tests.{eq-eqb, leb-true}
+use borrow.Author.Tests.{leb-true}
 use lib.Dec.{eqb, leb}
 use lib.ListN.{length}
 use Rattle.bounded.specs.Search.{pick}
-use Rattle.bounded.proofs.BoolLaws.{clash, or-l}
 use Rattle.directory.specs.Slot.{mostSlots}
 use Rattle.desk.specs.Sizes.{deskLength}
 use Rattle.desk.specs.Desk.{deskOf, reservedZero, copiedOf, markOf, setMark, clearMark}
 use Rattle.desk.proofs.DeskLaws.{length-setMark, length-clearMark, desk-setMark, desk-clearMark, reserved-setMark, reserved-clearMark, copied-setMark, copied-clearMark, mark-setMark-same, mark-setMark-slot, mark-setMark-other, mark-clearMark-slot, mark-clearMark-other}
 use Rattle.sound.specs.Place.{placeOf}
 use Rattle.files.specs.Effect.{Entry, placeIn}
-use Rattle.files.proofs.Lawful.{All, Some, Apart, Away}
+use Rattle.files.proofs.Lawful.{All, Some, Away}
 use Rattle.checkpoint.specs.Fit.{isRunning}
-use Rattle.checkpoint.specs.Busy.{isLocked, anyLocked}
 use Rattle.checkpoint.specs.Notes.{isCopied, noteMade, noteTaken, cutsImage, cutImage, cutEntries, clearMarks, setMarks}
 
 -- ---- the copy does not run

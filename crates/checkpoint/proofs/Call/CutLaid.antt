@@ -1,6 +1,6 @@
 -- Image and desk lie as they did after entries of the image are cut. s is the store, m the image, d the desk, n and b the counts of inodes and image blocks.
-use Prim.Native.Nat.{ℕ, zero, suc, _+_, _*_, _/_, _≤_, _<_}
-use mathlib.Core.Path.{_≡_, refl, sym, ap, ap₂, _∙_, subst}
+use Prim.Native.Nat.{ℕ, _+_, _*_, _/_, _≤_, _<_}
+use mathlib.Core.Path.{_≡_, sym, ap, _∙_, subst}
 use mathlib.Core.Logic.{_≢_, inl}
 use mathlib.Core.Bool.{true, false, not}
 use mathlib.Core.List.{List}
@@ -9,7 +9,6 @@ use native.Mathlib.Omega.{arith}
 use borrow.Author.Tests.{not-true}
 use lib.ListN.{getD}
 use Rattle.bounded.specs.Search.{pick}
-use Rattle.bounded.specs.Sum.{sum}
 use Rattle.bounded.proofs.SumLaws.{sum-ext}
 use Rattle.layout.specs.Sizes.{addressCount, blockBytes, mostStoreBlocks}
 use Rattle.layout.specs.Inode.{sizeOf, place}

@@ -12,7 +12,6 @@ use Rattle.sound.specs.Place.{dirOf, slotOf, entryAt, naming}
 use Rattle.content.specs.Content.{fileBytes}
 use Rattle.copying.specs.View.{Shelf, View}
 use Rattle.checkpoint.specs.Notes.{isCopied}
-use Rattle.checkpoint.specs.Live.{World}
 
 unfoldable pub shelfOf : ℕ → List ℕ → Shelf
 shelfOf n s = record {

@@ -2,15 +2,13 @@
 use Prim.Native.Nat.{ℕ, _≤_}
 use mathlib.Core.Path.{_≡_, refl, sym, ap, _∙_, subst}
 use mathlib.Core.Bool.{Bool, true, false}
-use mathlib.Core.List.{List}
 use native.Mathlib.Omega.{arith}
 use Rattle.bounded.specs.Search.{pick}
-use Rattle.bounded.proofs.BoolLaws.{clash}
 use Rattle.sound.specs.Sound.{inodesIn, blocksIn}
 use Rattle.answers.specs.Refusal.{refusalNumber}
 use Rattle.answers.specs.declared.Refusal.{Refusal}
 use Rattle.answers.specs.declared.Refusal.the-variants.{Busy}
-use Rattle.files.specs.Effect.{Call, Effect, Planned, does, refused, planned, plainDecision, onPlanned, given}
+use Rattle.files.specs.Effect.{Call, Effect, Planned, does, refused, planned, onPlanned, given}
 use Rattle.files.specs.Plain.{plain, leaves}
 use Rattle.files.proofs.Lawful.{Some, Each}
 use Rattle.desk.specs.Desk.{deskOf}

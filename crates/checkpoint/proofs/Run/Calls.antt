@@ -1,30 +1,26 @@
 -- A file call, a question and a start while a copy runs. n and b are the counts of inodes and image blocks.
-use Prim.Native.Nat.{ℕ, _+_, _*_, _≤_, _<_}
+use Prim.Native.Nat.{ℕ, _≤_}
 use mathlib.Core.Path.{_≡_, refl, sym, ap, _∙_, subst}
-use mathlib.Core.Bool.{Bool, true, false, not, _&&_}
-use mathlib.Core.List.{List}
+use mathlib.Core.Bool.{true, false}
 use native.Mathlib.Omega.{arith}
 use borrow.Author.Tests.{eq-eqb, le-leb}
-use lib.Dec.{eqb, leb}
 use lib.ListN.{length}
 use Rattle.layout.specs.Sizes.{mostStoreBlocks, mostImageBlocks}
 use Rattle.layout.specs.Block.{storeLength}
-use Rattle.desk.specs.Desk.{deskOf}
 use Rattle.sound.specs.Sound.{Sound, inodesIn, blocksIn}
-use Rattle.answers.specs.declared.Answer.the-variants.{Done}
 use Rattle.answers.specs.declared.Refusal.the-variants.{WrongState}
 use Rattle.files.specs.Effect.{Call, Effect, Planned, does, refused, planned}
 use Rattle.files.proofs.Lawful.{Each, Lawful}
 use Rattle.files.proofs.LawfulCalls.{lawful}
-use Rattle.copying.specs.View.{Shelf, View, Tidy}
-use Rattle.copying.specs.Deed.{Alike, Deed, Quiet, called, rests}
+use Rattle.copying.specs.View.{Shelf, Tidy}
+use Rattle.copying.specs.Deed.{Alike, called, rests}
 use Rattle.copying.proofs.HoldsLaws.{holds-does}
 use Rattle.checkpoint.specs.Fit.{imageAllowed, imageBlocks}
 use Rattle.checkpoint.specs.Notes.{cutEntries, clearMarks, setMarks}
 use Rattle.checkpoint.specs.Busy.{anyLocked}
-use Rattle.checkpoint.specs.Live.{World, Outcome, left, refuse, decision, leavesIn, live, started, start, ask}
+use Rattle.checkpoint.specs.Live.{World, refuse, decision, leavesIn, live, started, start}
 use Rattle.checkpoint.specs.Shown.{shown}
-use Rattle.checkpoint.specs.List.{Ready, Event, call, asks, starts, outcome, next}
+use Rattle.checkpoint.specs.List.{call, asks, starts, outcome, next}
 use Rattle.checkpoint.proofs.DecisionLaws.{Allowed, each-decided}
 use Rattle.checkpoint.proofs.Copy.Seen.{seen}
 use Rattle.checkpoint.proofs.Call.PartedLaws.{Parted, taken-made-apart}

@@ -1,11 +1,10 @@
 -- Accepted steps, counted from the latest start, are those in the desk. n and b are the counts of inodes and image blocks.
-use Prim.Native.Nat.{ℕ, suc, _+_, _*_, _≤_, _<_}
+use Prim.Native.Nat.{ℕ, suc, _+_, _*_, _≤_}
 use mathlib.Core.Path.{_≡_, refl, sym, ap, _∙_}
-use mathlib.Core.Bool.{Bool, true, false, not, _&&_, _||_}
+use mathlib.Core.Bool.{Bool, true, false}
 use mathlib.Core.List.{List, [], _∷_}
 use native.Mathlib.Omega.{arith}
-use borrow.Author.Tests.{leb-true, eqb-true}
-use lib.Dec.{eqb, leb}
+use lib.Dec.{eqb}
 use Rattle.bounded.specs.Search.{pick}
 use Rattle.bounded.proofs.BoolLaws.{and-false-l, and-false-r}
 use Rattle.desk.specs.declared.Desk.{Desk}
@@ -19,20 +18,18 @@ use Rattle.layout.specs.Header.{headerOf}
 use Rattle.desk.specs.Sizes.{running, finished, stopped}
 use Rattle.sound.specs.Sound.{inodesIn}
 use Rattle.files.specs.Effect.{Call, Entry, Planned, does, refused}
-use Rattle.checkpoint.specs.declared.Status.{Status}
 use Rattle.checkpoint.specs.declared.Status.the-variants.{Is}
-use Rattle.checkpoint.specs.Fit.{isRunning, stepsAnInode, deskFits, mostSteps}
+use Rattle.checkpoint.specs.Fit.{isRunning, stepsAnInode}
 use Rattle.checkpoint.specs.Notes.{noteMade, noteTaken, clearMarks, setMarks}
-use Rattle.checkpoint.specs.Live.{World, Outcome, decision, leavesIn, live}
-use Rattle.checkpoint.specs.Shown.{numberOf, Shown, shown, toldStatus}
-use Rattle.checkpoint.specs.List.{Ready, Event, call, steps, asks, starts, outcome, next, accepted, run, acceptedSteps, refusalOf, completes, stateAfter}
-use Rattle.checkpoint.specs.Finished.{countOf}
+use Rattle.checkpoint.specs.Live.{World, decision, leavesIn, live}
+use Rattle.checkpoint.specs.Shown.{Shown, toldStatus}
+use Rattle.checkpoint.specs.List.{Event, call, steps, asks, starts, outcome, next, accepted, run, acceptedSteps, refusalOf, completes, stateAfter}
 use Rattle.checkpoint.specs.Demand.{Reported}
 use Rattle.checkpoint.proofs.Copy.FitLaws.{laid-steps, notes-fit-is, desk-fits-is}
 use Rattle.checkpoint.proofs.Run.Going.{Running, next-is, incomplete}
 use Rattle.checkpoint.proofs.Run.Turned.{Stepped, on, ends, halts, stepped}
 use Rattle.checkpoint.proofs.Run.Calls.{asks-same, start-busy}
-use Rattle.checkpoint.proofs.Run.Rests.{Resting, idle, step-idle}
+use Rattle.checkpoint.proofs.Run.Rests.{idle, step-idle}
 use Rattle.checkpoint.proofs.Run.Ends.{finals, halted, completed}
 use Rattle.checkpoint.proofs.Run.Results.{asked}
 use Rattle.checkpoint.proofs.Run.Lists.{Going, runs, rests, fit, counted, start-anew, start-taken, going-next, going-run}

@@ -1,8 +1,8 @@
 -- A copy that ends: by its last step, or by 16. n and b are the counts of inodes and image blocks.
-use Prim.Native.Nat.{ℕ, _+_, _*_, _≤_, _<_}
-use mathlib.Core.Path.{_≡_, refl, sym, ap, _∙_, subst}
-use mathlib.Core.Logic.{_≢_, _⊎_, inl, inr}
-use mathlib.Core.Bool.{Bool, true, false, not, _&&_, _||_}
+use Prim.Native.Nat.{ℕ, _+_, _*_, _≤_}
+use mathlib.Core.Path.{_≡_, refl, sym, ap, _∙_}
+use mathlib.Core.Logic.{_⊎_, inl, inr}
+use mathlib.Core.Bool.{true, false, not, _&&_, _||_}
 use mathlib.Core.List.{List}
 use native.Mathlib.Omega.{arith}
 use borrow.Author.Tests.{eq-eqb, ne-eqb, le-leb}
@@ -27,14 +27,14 @@ use Rattle.answers.specs.declared.Answer.the-variants.{Done, Refused}
 use Rattle.answers.specs.Told.{Told, told}
 use Rattle.checkpoint.specs.Fit.{deskFramed, deskFits, blocksFit, isRunning, mostSteps, mostCopied, stepsAnInode, notesFit, imageFits}
 use Rattle.checkpoint.specs.Copier.{Step, finish, full, stepOf, finishImage}
-use Rattle.checkpoint.specs.Live.{World, Outcome, left, doStep}
+use Rattle.checkpoint.specs.Live.{World, doStep}
 use Rattle.checkpoint.specs.Shown.{Shown, shown}
-use Rattle.checkpoint.specs.List.{Ready, steps, outcome, next, accepted, completes}
-use Rattle.checkpoint.proofs.Copy.Laid.{DeskLaid, Laid}
+use Rattle.checkpoint.specs.List.{steps, outcome, next, accepted, completes}
+use Rattle.checkpoint.proofs.Copy.Laid.{DeskLaid}
 use Rattle.checkpoint.proofs.Copy.FitLaws.{laid-steps}
 use Rattle.checkpoint.proofs.Step.FinishFacts as facts
 use Rattle.checkpoint.proofs.Step.FinishSeen.{finish-sound, finish-quiet}
-use Rattle.checkpoint.proofs.Run.Going.{seenIn, Running, ready, step-is, leftIn, next-is}
+use Rattle.checkpoint.proofs.Run.Going.{seenIn, Running, ready, step-is, next-is}
 use Rattle.checkpoint.proofs.Run.Turned.{Finishes, Fills}
 use Rattle.checkpoint.proofs.Run.Rests.{Resting}
 

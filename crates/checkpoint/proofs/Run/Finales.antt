@@ -1,31 +1,30 @@
 -- A list that ends in the finish of its copy: the copy runs up to its last step, and the theory knows every event. n and b are the counts of inodes and image blocks.
-use Prim.Native.Nat.{ℕ, zero, suc, _+_, _*_, _≤_, _<_}
-use mathlib.Core.Path.{_≡_, refl, sym, ap, _∙_}
-use mathlib.Core.Bool.{Bool, true, false, _&&_}
+use Prim.Native.Nat.{ℕ, zero, suc, _≤_, _<_}
+use mathlib.Core.Path.{_≡_, refl, ap}
+use mathlib.Core.Bool.{true, false}
 use mathlib.Core.List.{List, [], _∷_}
 use native.Mathlib.Omega.{arith}
 use lib.Dec.{eqb}
 use lib.ListN.{length}
-use Rattle.bounded.proofs.BoolLaws.{clash, and-left, and-right, and-true}
+use Rattle.bounded.proofs.BoolLaws.{clash, and-left, and-right}
 use Rattle.layout.specs.Sizes.{isComplete}
 use Rattle.layout.specs.Header.{headerOf}
-use Rattle.desk.specs.Desk.{deskOf}
 use Rattle.answers.specs.Told.{Told}
 use Rattle.copying.specs.View.{View, Tidy}
-use Rattle.copying.specs.Deed.{Deed, Quiet, rests}
-use Rattle.copying.specs.Holds.{Fresh, Ended}
+use Rattle.copying.specs.Deed.{Deed, rests}
+use Rattle.copying.specs.Holds.{Fresh}
 use Rattle.copying.specs.History.{Recorded}
-use Rattle.checkpoint.specs.Live.{World, Outcome}
+use Rattle.checkpoint.specs.Live.{World}
 use Rattle.checkpoint.specs.Shown.{Shown}
-use Rattle.checkpoint.specs.List.{Event, call, steps, asks, starts, outcome, next, accepted, restarts, completes, run, Finish, last, more}
+use Rattle.checkpoint.specs.List.{Event, call, steps, asks, starts, next, accepted, completes, run, Finish, last, more}
 use Rattle.checkpoint.proofs.Copy.Seen.{seen}
 use Rattle.checkpoint.proofs.Copy.TidyLaws.{store-tidy}
-use Rattle.checkpoint.proofs.Run.Moments.{at, at-end}
+use Rattle.checkpoint.proofs.Run.Moments.{at}
 use Rattle.checkpoint.proofs.Run.Going.{seenIn, Running, incomplete}
 use Rattle.checkpoint.proofs.Run.Turned.{Goes, Finishes, Stepped, on, ends, halts, stepped}
 use Rattle.checkpoint.proofs.Run.Calls.{call-goes, asks-goes, starts-goes}
 use Rattle.checkpoint.proofs.Run.Rests.{Resting, step-idle}
-use Rattle.checkpoint.proofs.Run.Ends.{Finals, finals, halted, completed}
+use Rattle.checkpoint.proofs.Run.Ends.{finals, halted, completed}
 use Rattle.checkpoint.proofs.Run.Progresses.{still-next}
 
 -- the view at each moment

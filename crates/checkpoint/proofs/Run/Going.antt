@@ -1,35 +1,25 @@
 -- A world in which a copy runs, one in which it rests, and what each event does to a running one. n and b are the counts of inodes and image blocks.
-use Prim.Native.Nat.{ℕ, _+_, _*_, _≤_, _<_}
-use mathlib.Core.Path.{_≡_, refl, sym, ap, _∙_, subst}
-use mathlib.Core.Logic.{_≢_, _⊎_, inl, inr, ⊎-elim}
-use mathlib.Core.Bool.{Bool, true, false, not, _&&_}
-use mathlib.Core.List.{List}
+use Prim.Native.Nat.{ℕ}
+use mathlib.Core.Path.{_≡_, refl, sym, ap, _∙_}
+use mathlib.Core.Logic.{_≢_}
+use mathlib.Core.Bool.{true, false}
 use native.Mathlib.Omega.{arith}
 use borrow.Author.Tests.{eq-eqb, ne-eqb}
 use lib.Dec.{eqb}
-use lib.ListN.{length}
-use Rattle.bounded.specs.Search.{pick}
-use Rattle.bounded.proofs.BoolLaws.{clash}
-use Rattle.layout.specs.Sizes.{mostStoreBlocks, mostImageBlocks, isComplete, notComplete, rootInode}
+use Rattle.layout.specs.Sizes.{mostStoreBlocks, isComplete}
 use Rattle.layout.specs.Header.{headerOf}
 use Rattle.layout.specs.Inode.{kindOf, freeKind}
-use Rattle.layout.specs.Block.{storeLength}
-use Rattle.layout.proofs.ViewLaws.{within-in, below-in, is-below, below-out}
-use Rattle.directory.specs.Slot.{mostSlots}
-use Rattle.desk.specs.Sizes.{running, finished, stopped}
+use Rattle.layout.proofs.ViewLaws.{within-in}
+use Rattle.desk.specs.Sizes.{running}
 use Rattle.desk.specs.Desk.{deskOf}
-use Rattle.sound.specs.Place.{naming}
-use Rattle.sound.specs.Sound.{Sound, isSound, framedB, inodesIn}
-use Rattle.sound.specs.declared.Form.the-variants.{Store}
-use Rattle.copying.specs.View.{View, Tidy}
-use Rattle.copying.specs.Deed.{Deed, Quiet, locks, closes, called, rests}
-use Rattle.copying.specs.Holds.{Holds, Ended}
-use Rattle.copying.proofs.HoldsLaws.{holds-does}
-use Rattle.checkpoint.specs.Fit.{deskFramed, isRunning, notesFit}
-use Rattle.checkpoint.specs.Copier.{Step, lock, copy, close, finish, full, stepOf, stepImage, stepDesk, finishImage}
-use Rattle.checkpoint.specs.Live.{World, Outcome, left, guarded, doStep, step}
+use Rattle.sound.specs.Sound.{Sound, inodesIn}
+use Rattle.copying.specs.View.{View}
+use Rattle.copying.specs.Holds.{Holds}
+use Rattle.checkpoint.specs.Fit.{isRunning}
+use Rattle.checkpoint.specs.Copier.{lock, stepOf}
+use Rattle.checkpoint.specs.Live.{World, Outcome, guarded, doStep, step}
 use Rattle.checkpoint.specs.Shown.{Shown, shown}
-use Rattle.checkpoint.specs.List.{Ready, Event, steps, outcome, next, accepted, completes}
+use Rattle.checkpoint.specs.List.{Ready, Event, steps, outcome, next}
 use Rattle.checkpoint.proofs.DecisionLaws.{guarded-is}
 use Rattle.checkpoint.proofs.Copy.Seen.{shelfOf, seen}
 use Rattle.checkpoint.proofs.Copy.Laid.{Laid}

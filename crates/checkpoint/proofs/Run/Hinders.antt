@@ -1,12 +1,11 @@
 -- Whom 14 meets: a call that touches the locked inode is one of those that the paper lists. s is the store, b its count of blocks.
 use Prim.Native.Nat.{ℕ, _≤_}
 use mathlib.Core.Path.{_≡_, refl, sym, ap, _∙_, subst}
-use mathlib.Core.Logic.{_⊎_, inl, inr}
-use mathlib.Core.Bool.{Bool, true, false, _&&_, _||_}
+use mathlib.Core.Logic.{inl, inr}
+use mathlib.Core.Bool.{true, false, _&&_}
 use mathlib.Core.List.{List, [], _∷_}
 use native.Mathlib.Omega.{arith}
 use borrow.Author.Tests.{eqb-true}
-use lib.Dec.{eqb}
 use lib.ListN.{length}
 use Rattle.bounded.proofs.SearchLaws.{pick-not}
 use Rattle.bounded.proofs.BoolLaws.{clash, and-left, and-right, or-cases}

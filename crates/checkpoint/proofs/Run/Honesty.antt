@@ -22,7 +22,7 @@ use Rattle.copying.proofs.HistoryLaws.{told-holds}
 use Rattle.copying.proofs.EndLaws.{all-honest, kept-there, kept-body, kept-kind}
 use Rattle.checkpoint.specs.Live.{World}
 use Rattle.checkpoint.specs.List.{Event, next, run, Moment, Kept}
-use Rattle.checkpoint.specs.Finished.{countOf, SameContent, HadName, HadBytes, HadKind, Copied, Names, Throughout, Honest, OneMoment, Finished}
+use Rattle.checkpoint.specs.Finished.{countOf, SameContent, HadName, HadBytes, Copied, Names, Throughout, Honest, OneMoment, Finished}
 use Rattle.checkpoint.proofs.Run.Moments.{at, moment-at, Parts, parts}
 use Rattle.checkpoint.proofs.Run.Going.{Running}
 use Rattle.checkpoint.proofs.Run.Lists.{Going, runs, counted, going-at}

@@ -1,13 +1,10 @@
 -- A list of events after an accepted start: at every moment the copy runs or rests. n and b are the counts of inodes and image blocks.
-use Prim.Native.Nat.{ℕ, _+_, _*_, _≤_, _<_}
+use Prim.Native.Nat.{ℕ}
 use mathlib.Core.Path.{_≡_, refl, sym, ap, _∙_}
-use mathlib.Core.Bool.{Bool, true, false}
+use mathlib.Core.Bool.{true, false}
 use mathlib.Core.List.{List, [], _∷_}
-use native.Mathlib.Omega.{arith}
 use lib.Dec.{eqb}
 use lib.ListN.{length}
-use Rattle.layout.specs.Block.{storeLength}
-use Rattle.desk.specs.Desk.{deskOf}
 use Rattle.sound.specs.Sound.{inodesIn}
 use Rattle.answers.specs.declared.Answer.the-variants.{Done}
 use Rattle.answers.specs.Told.{Told, told}
@@ -15,7 +12,7 @@ use Rattle.checkpoint.specs.Fit.{imageAllowed, isRunning}
 use Rattle.checkpoint.specs.Live.{World, Outcome, started, start}
 use Rattle.checkpoint.specs.List.{Ready, Event, call, steps, asks, starts, outcome, next, accepted, run, Moment, here, after}
 use Rattle.checkpoint.proofs.Run.Going.{Running, ready, guards-pass}
-use Rattle.checkpoint.proofs.Run.Turned.{Goes, Stepped, on, ends, halts, stepped}
+use Rattle.checkpoint.proofs.Run.Turned.{Stepped, on, ends, halts, stepped}
 use Rattle.checkpoint.proofs.Run.Calls.{blocks-told, image-allowed, call-goes, asks-goes, starts-goes}
 use Rattle.checkpoint.proofs.Run.Starts.{Fresher, opens, opened-runs}
 use Rattle.checkpoint.proofs.Run.Rests.{Resting, idle, call-kept, asks-kept, steps-kept}

@@ -1,39 +1,35 @@
 -- A running copy gets done, is out of the way, and stays. n and b are the counts of inodes and image blocks.
-use Prim.Native.Nat.{ℕ, suc, _+_, _*_, _≤_, _<_}
-use mathlib.Core.Path.{_≡_, refl, sym, ap, _∙_}
-use mathlib.Core.Logic.{_≢_, _⊎_, inl, inr}
-use mathlib.Core.Bool.{Bool, true, false, not, _&&_}
+use Prim.Native.Nat.{ℕ, _+_, _*_, _≤_}
+use mathlib.Core.Path.{_≡_, refl, ap, _∙_}
+use mathlib.Core.Logic.{_⊎_, inl, inr}
+use mathlib.Core.Bool.{true, false, not}
 use mathlib.Core.List.{List, [], _∷_}
 use native.Mathlib.Omega.{arith}
-use borrow.Author.Tests.{not-true, not-false}
+use borrow.Author.Tests.{not-true}
 use lib.Dec.{eqb}
 use lib.ListN.{length, getD}
-use Rattle.bounded.specs.Search.{pick}
 use Rattle.bounded.proofs.BoolLaws.{clash, and-left, and-right}
 use Rattle.layout.specs.Sizes.{addressCount, isComplete}
 use Rattle.layout.specs.Header.{headerOf}
-use Rattle.layout.specs.Block.{storeLength}
 use Rattle.desk.specs.Sizes.{finished, stopped}
 use Rattle.desk.specs.declared.Desk.{Desk}
 use Rattle.desk.specs.Desk.{deskOf}
 use Rattle.desk.specs.Next.{finishing}
 use Rattle.desk.proofs.DeskLaws.{length-putDesk}
-use Rattle.sound.specs.Sound.{inodesIn, blocksIn}
 use Rattle.answers.specs.declared.Refusal.the-variants.{ImageFull}
 use Rattle.answers.specs.Told.{Told}
 use Rattle.answers.specs.Refusal.{refusalNumber}
-use Rattle.files.specs.Effect.{Call, Effect, Planned, does, refused, planned, onPlanned, given}
 use Rattle.checkpoint.specs.Fit.{isRunning, stepsAnInode}
-use Rattle.checkpoint.specs.Live.{World, Outcome, refuse}
+use Rattle.checkpoint.specs.Live.{World}
 use Rattle.checkpoint.specs.Shown.{Shown}
-use Rattle.checkpoint.specs.List.{Event, call, steps, asks, starts, outcome, next, accepted, restarts, run, acceptedSteps, refusalOf, completes}
+use Rattle.checkpoint.specs.List.{Event, call, steps, asks, starts, next, accepted, restarts, run, refusalOf, completes}
 use Rattle.checkpoint.specs.Finished.{countOf}
 use Rattle.checkpoint.specs.Progress.{ImageTaken, Ended, Progress, noRestart, tried, Roomy, GetsDone, Timing}
 use Rattle.checkpoint.proofs.Copy.FitLaws.{laid-steps}
 use Rattle.checkpoint.proofs.Copy.ChosenLaws.{never-full}
 use Rattle.checkpoint.proofs.Run.Going.{Running, incomplete, next-is}
 use Rattle.checkpoint.proofs.Run.Going as now
-use Rattle.checkpoint.proofs.Run.Turned.{Goes, Finishes, Fills, Stepped, on, ends, halts, stepped}
+use Rattle.checkpoint.proofs.Run.Turned.{Fills, Stepped, on, ends, halts, stepped}
 use Rattle.checkpoint.proofs.Run.Calls.{asks-same, call-goes, asks-goes, starts-goes, start-busy}
 use Rattle.checkpoint.proofs.Run.Rests.{Resting, idle, step-idle, call-kept, asks-kept, steps-kept}
 use Rattle.checkpoint.proofs.Run.Ends.{finals, halted}

@@ -1,33 +1,32 @@
 -- A world in which no copy runs, after one was started: what each event does to it. n and b are the counts of inodes and image blocks.
-use Prim.Native.Nat.{ℕ, _+_, _*_, _≤_, _<_}
-use mathlib.Core.Path.{_≡_, refl, sym, ap, _∙_, subst}
+use Prim.Native.Nat.{ℕ, _≤_}
+use mathlib.Core.Path.{_≡_, refl, sym, ap, _∙_}
 use mathlib.Core.Logic.{_⊎_, inl, inr}
-use mathlib.Core.Bool.{Bool, true, false, not, _&&_}
+use mathlib.Core.Bool.{false}
 use mathlib.Core.List.{List, [], _∷_}
 use native.Mathlib.Omega.{arith}
 use borrow.Author.Tests.{ne-eqb}
 use lib.Dec.{eqb}
 use lib.ListN.{length}
 use Rattle.bounded.specs.Search.{pick}
-use Rattle.bounded.proofs.BoolLaws.{clash, and-left, and-right}
+use Rattle.bounded.proofs.BoolLaws.{and-left}
 use Rattle.layout.specs.Sizes.{mostStoreBlocks, mostImageBlocks, isComplete, notComplete}
 use Rattle.layout.specs.Header.{headerOf}
 use Rattle.layout.specs.Block.{storeLength}
 use Rattle.desk.specs.Sizes.{running, finished, stopped}
 use Rattle.desk.specs.Desk.{deskOf}
-use Rattle.sound.specs.Sound.{Sound, isSound, framedB, soundB, inodesIn, blocksIn}
+use Rattle.sound.specs.Sound.{Sound, framedB, soundB, inodesIn, blocksIn}
 use Rattle.sound.specs.declared.Form.the-variants.{Store}
 use Rattle.sound.proofs.SoundLaws.{is-sound}
-use Rattle.answers.specs.declared.Answer.the-variants.{Done}
 use Rattle.answers.specs.declared.Refusal.the-variants.{WrongState}
-use Rattle.files.specs.Effect.{Call, Entry, Effect, Planned, does, refused, planned}
+use Rattle.files.specs.Effect.{Call, Entry, Planned, does, refused}
 use Rattle.files.proofs.Lawful.{Each, Lawful}
 use Rattle.files.proofs.LawfulCalls.{lawful}
-use Rattle.checkpoint.specs.Fit.{deskFits, isRunning, notesFit, imageFits}
+use Rattle.checkpoint.specs.Fit.{isRunning, notesFit}
 use Rattle.checkpoint.specs.Notes.{noteMade, noteTaken, cutsImage, cutImage, cutEntries, clearMarks, setMarks}
-use Rattle.checkpoint.specs.Live.{World, Outcome, left, refuse, decision, leavesIn, live, doStep, step, ask}
+use Rattle.checkpoint.specs.Live.{World, refuse, decision, leavesIn, live, step}
 use Rattle.checkpoint.specs.Shown.{shown}
-use Rattle.checkpoint.specs.List.{Ready, Event, call, steps, asks, starts, outcome, next}
+use Rattle.checkpoint.specs.List.{Ready, call, steps, asks, outcome, next}
 use Rattle.checkpoint.proofs.DecisionLaws.{Allowed, each-decided}
 use Rattle.checkpoint.proofs.Run.Calls.{asks-same}
 use Rattle.checkpoint.proofs.Run.Going.{guards-pass, leftIn, next-is}

@@ -1,21 +1,16 @@
 -- What an event answers at any moment of a list: a result, a refusal that changes nothing, or 16. n and b are the counts of inodes and image blocks.
-use Prim.Native.Nat.{ℕ, _+_, _*_, _≤_, _<_}
+use Prim.Native.Nat.{ℕ, _≤_}
 use mathlib.Core.Path.{_≡_, refl, sym, ap, _∙_, subst}
-use mathlib.Core.Logic.{_≢_, inl, inr}
-use mathlib.Core.Bool.{Bool, true, false}
-use mathlib.Core.List.{List}
+use mathlib.Core.Logic.{_≢_}
+use mathlib.Core.Bool.{true}
 use native.Mathlib.Omega.{arith}
 use native.Mathlib.Decide.{ℕ-discrete}
-use borrow.Author.Tests.{eqb-true}
-use lib.Dec.{eqb}
-use lib.ListN.{length}
-use Rattle.octets.specs.Octets.{Octets}
 use Rattle.desk.specs.declared.Desk.{Desk}
-use Rattle.desk.specs.Desk.{deskOf, putDesk}
+use Rattle.desk.specs.Desk.{deskOf}
 use Rattle.desk.specs.Next.{stopping}
 use Rattle.desk.proofs.DeskLaws.{desk-putDesk, length-putDesk}
 use Rattle.answers.specs.declared.Refusal.{Refusal}
-use Rattle.answers.specs.declared.Refusal.the-variants.{BadBuffer, UnsoundStore, BadDesk, IllegalName, WrongInode, NameAbsent, NameTaken, NotEmpty, PastEnd, IntoItself, NoInode, NoBlocks, NoSlot, Busy, WrongState, ImageFull}
+use Rattle.answers.specs.declared.Refusal.the-variants.{WrongState, ImageFull}
 use Rattle.answers.specs.Refusal.{refusalNumber}
 use Rattle.answers.proofs.RefusalLaws.{number-range}
 use Rattle.answers.specs.declared.Answer.{Answer}
@@ -26,17 +21,17 @@ use Rattle.layout.specs.Free.{named}
 use Rattle.files.specs.Effect.{Call}
 use Rattle.checkpoint.specs.Live.{World, Outcome, refuse, live, ask, asStatus, status}
 use Rattle.checkpoint.specs.Shown.{numberOf, Shown, shown, toldStatus}
-use Rattle.checkpoint.specs.List.{Event, call, steps, asks, starts, outcome, next, accepted, refusalOf}
+use Rattle.checkpoint.specs.List.{Event, call, steps, asks, starts, outcome, next, refusalOf}
 use Rattle.checkpoint.specs.Progress.{ImageTaken, Stopped}
 use Rattle.checkpoint.specs.Demand.{Refusals}
 use Rattle.checkpoint.proofs.PlainAnswers.{plain-never}
 use Rattle.checkpoint.proofs.PlainLaws.{guards-pass}
 use Rattle.checkpoint.proofs.RefusedLaws.{live-refused}
 use Rattle.checkpoint.proofs.Run.Going as going
-use Rattle.checkpoint.proofs.Run.Going.{Running, leftIn, next-is}
-use Rattle.checkpoint.proofs.Run.Turned.{Goes, Stepped, on, ends, halts, stepped, Fills}
+use Rattle.checkpoint.proofs.Run.Going.{Running, next-is}
+use Rattle.checkpoint.proofs.Run.Turned.{Stepped, on, ends, halts, stepped, Fills}
 use Rattle.checkpoint.proofs.Run.Calls.{start-busy}
-use Rattle.checkpoint.proofs.Run.Rests.{Resting, step-idle}
+use Rattle.checkpoint.proofs.Run.Rests.{step-idle}
 use Rattle.checkpoint.proofs.Run.Ends.{finals, halted}
 use Rattle.checkpoint.proofs.Run.Stops.{stop-bytes}
 use Rattle.checkpoint.proofs.Run.Lists.{Going, runs, rests, fit, start-done}

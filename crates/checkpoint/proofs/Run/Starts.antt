@@ -1,10 +1,10 @@
 -- An accepted start: what it found, and that the copy runs after it.
-use Prim.Native.Nat.{ℕ, _+_, _*_, _≤_, _<_}
+use Prim.Native.Nat.{ℕ, _≤_}
 use mathlib.Core.Path.{_≡_, refl, sym, ap, _∙_, subst}
 use mathlib.Core.Bool.{Bool, true, false, not, _&&_}
 use mathlib.Core.List.{List}
 use native.Mathlib.Omega.{arith}
-use borrow.Author.Tests.{eqb-true, leb-true}
+use borrow.Author.Tests.{eqb-true}
 use lib.Dec.{eqb, leb}
 use lib.ListN.{length}
 use Rattle.bounded.specs.Search.{pick}
@@ -21,7 +21,7 @@ use Rattle.sound.proofs.SoundLaws.{is-sound}
 use Rattle.answers.specs.declared.Answer.the-variants.{Done}
 use Rattle.answers.specs.declared.Refusal.the-variants.{BadBuffer, UnsoundStore, BadDesk, WrongState}
 use Rattle.copying.specs.View.{Tidy}
-use Rattle.copying.specs.Holds.{Holds, Fresh}
+use Rattle.copying.specs.Holds.{Fresh}
 use Rattle.copying.proofs.HoldsLight.{holds-fresh}
 use Rattle.checkpoint.specs.Fit.{deskFramed, deskFits, imageAllowed, imageBlocks, isRunning, notesFit}
 use Rattle.checkpoint.specs.Copier.{startImage, startDesk}
@@ -32,7 +32,7 @@ use Rattle.checkpoint.proofs.DecisionLaws.{guarded-is}
 use Rattle.checkpoint.proofs.Copy.Seen.{seen}
 use Rattle.checkpoint.proofs.Copy.TidyLaws.{store-tidy}
 use Rattle.checkpoint.proofs.Step.StartLaws.{start-laid, start-fresh}
-use Rattle.checkpoint.proofs.Run.Going.{seenIn, Running, leftIn, next-is}
+use Rattle.checkpoint.proofs.Run.Going.{seenIn, Running, next-is}
 
 -- what it leaves
 abbrev pub opened : World → World

@@ -1,18 +1,15 @@
 -- An entry that no call took stands where it stood, at every moment of a list. n and b are the counts of inodes and image blocks.
-use Prim.Native.Nat.{ℕ, zero, suc, _+_, _*_, _/_, _≤_, _<_}
+use Prim.Native.Nat.{ℕ, zero, suc, _*_, _≤_, _<_}
 use mathlib.Core.Path.{_≡_, refl, sym, ap, _∙_, subst}
 use mathlib.Core.Logic.{_≢_, inl, inr}
-use mathlib.Core.Bool.{Bool, true, false}
+use mathlib.Core.Bool.{true, false}
 use mathlib.Core.List.{List, [], _∷_}
 use native.Mathlib.Omega.{arith}
-use lib.ListN.{length}
 use Rattle.bounded.proofs.BoolLaws.{holds-or-fails}
-use Rattle.layout.specs.Sizes.{mostStoreBlocks, rootInode}
 use Rattle.layout.proofs.ViewLaws.{below-in}
 use Rattle.directory.specs.Slot.{mostSlots}
 use Rattle.sound.specs.Place.{dirOf, filled, naming}
 use Rattle.sound.specs.Entry.{EntrySound}
-use Rattle.sound.specs.Sound.{Sound, inodesIn}
 use Rattle.files.specs.Effect.{Call}
 use Rattle.files.proofs.Lawful.{Lawful}
 use Rattle.copying.specs.History.{Stood, Chain, top, below}
@@ -21,7 +18,7 @@ use Rattle.checkpoint.specs.List.{Event, call, steps, asks, starts, next
 use Rattle.checkpoint.specs.List as list
 use Rattle.checkpoint.proofs.PlainLaws.{steps-keep, asks-keep, starts-keep}
 use Rattle.checkpoint.proofs.Copy.Seen.{seen, shelfOf}
-use Rattle.checkpoint.proofs.Call.LiveLaws.{ready-sound, Does, live-accepted, live-refused, taken-none, untaken-stays}
+use Rattle.checkpoint.proofs.Call.LiveLaws.{ready-sound, live-accepted, live-refused, taken-none, untaken-stays}
 use Rattle.checkpoint.proofs.Run.Moments.{at}
 use Rattle.checkpoint.proofs.Run.Going.{seenIn}
 use Rattle.checkpoint.proofs.Run.Lists.{Going, fit, counted, going-next}

@@ -1,15 +1,14 @@
 -- What 16 and a finish leave in the desk, byte by byte.
 use Prim.Native.Nat.{ℕ, zero, suc, _+_, _-_, _*_, _/_, _%_, _≤_, _<_}
 use mathlib.Core.Path.{_≡_, refl, sym, ap, _∙_}
-use mathlib.Core.List.{List, [], _∷_}
+use mathlib.Core.List.{List}
 use native.Mathlib.Omega.{arith}
 use native.Mathlib.Decide.{decLt}
 use lib.ListN.{length, getD}
-use Rattle.octets.specs.Octets.{Octets, Apart, part, splice, numAt, toBytes, putNum}
-use Rattle.octets.proofs.PartLaws.{splice-out, splice-in, length-splice}
-use Rattle.octets.proofs.NumLaws.{num-suc, length-toBytes, length-num}
+use Rattle.octets.specs.Octets.{Octets, Apart, numAt, toBytes, putNum}
+use Rattle.octets.proofs.PartLaws.{splice-out, splice-in}
+use Rattle.octets.proofs.NumLaws.{length-toBytes, length-num}
 use Rattle.desk.specs.Sizes.{finished, stopped, deskHeaderBytes}
-use Rattle.desk.specs.declared.Desk.{Desk}
 use Rattle.desk.specs.Desk.{deskOf, putDesk}
 use Rattle.desk.specs.Next.{finishing, stopping}
 

@@ -1,26 +1,25 @@
 -- What an event takes is what it empties, and all other entries stand. n and b are the counts of inodes and image blocks.
-use Prim.Native.Nat.{ℕ, _*_, _≤_, _<_}
-use mathlib.Core.Path.{_≡_, refl, sym, ap, _∙_, subst}
-use mathlib.Core.Logic.{_≢_, inl, inr}
-use mathlib.Core.Bool.{Bool, true, false, _&&_, _||_}
+use Prim.Native.Nat.{ℕ, _*_, _<_}
+use mathlib.Core.Path.{_≡_, refl, sym, ap, _∙_}
+use mathlib.Core.Logic.{inl, inr}
+use mathlib.Core.Bool.{true, false}
 use mathlib.Core.List.{List, [], _∷_}
 use native.Mathlib.Omega.{arith}
 use borrow.Author.Tests.{eqb-true}
 use lib.Dec.{eqb}
 use Rattle.bounded.proofs.BoolLaws.{clash, and-left, and-right, or-cases}
 use Rattle.directory.specs.Slot.{mostSlots}
-use Rattle.sound.specs.Place.{filled, naming}
-use Rattle.sound.specs.Sound.{inodesIn}
+use Rattle.sound.specs.Place.{filled}
 use Rattle.sound.proofs.PlaceLaws.{naming-filled}
 use Rattle.files.specs.Effect.{Call, Entry, placeIn, Effect, Planned, onPlanned}
-use Rattle.files.proofs.Lawful.{All, Away, Stands, Lawful}
+use Rattle.files.proofs.Lawful.{All, Away, Lawful}
 use Rattle.files.proofs.EffectFacts.{all-both}
 use Rattle.checkpoint.specs.Live.{World}
-use Rattle.checkpoint.specs.List.{Event, call, steps, asks, starts, next, accepted, takenFrom, anyAt, takes}
+use Rattle.checkpoint.specs.List.{Event, call, steps, asks, starts, next, accepted, anyAt, takes}
 use Rattle.checkpoint.specs.Finished.{countOf}
 use Rattle.checkpoint.specs.Demand.{Takes}
-use Rattle.checkpoint.proofs.Call.LiveLaws.{Does, live-accepted}
-use Rattle.checkpoint.proofs.Run.Lists.{Going, fit, counted}
+use Rattle.checkpoint.proofs.Call.LiveLaws.{live-accepted}
+use Rattle.checkpoint.proofs.Run.Lists.{Going, fit}
 use Rattle.checkpoint.proofs.Run.Stood.{entry-of, event-names}
 
 -- one of the entries stands at p

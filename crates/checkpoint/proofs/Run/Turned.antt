@@ -1,42 +1,32 @@
 -- What each event does to a world in which a copy runs. n and b are the counts of inodes and image blocks.
-use Prim.Native.Nat.{ℕ, _+_, _*_, _≤_, _<_}
-use mathlib.Core.Path.{_≡_, refl, sym, ap, _∙_, subst}
-use mathlib.Core.Logic.{_≢_, _⊎_, inl, inr, ⊎-elim}
-use mathlib.Core.Bool.{Bool, true, false, not, _&&_}
+use Prim.Native.Nat.{ℕ, _+_, _≤_, _<_}
+use mathlib.Core.Path.{_≡_, refl, sym, ap, _∙_}
+use mathlib.Core.Logic.{_≢_}
+use mathlib.Core.Bool.{true}
 use mathlib.Core.List.{List}
 use native.Mathlib.Omega.{arith}
-use lib.Dec.{eqb}
 use lib.ListN.{length}
-use Rattle.bounded.specs.Search.{pick}
-use Rattle.bounded.proofs.BoolLaws.{clash}
-use Rattle.layout.specs.Sizes.{mostStoreBlocks, isComplete, rootInode}
-use Rattle.layout.specs.Header.{headerOf}
-use Rattle.layout.specs.Inode.{kindOf, sizeOf, freeKind}
+use Rattle.layout.specs.Inode.{sizeOf}
 use Rattle.layout.specs.Block.{blocksUsed, kthBlock}
 use Rattle.layout.specs.Free.{named}
-use Rattle.layout.proofs.ViewLaws.{below-in, below-out, is-below}
-use Rattle.directory.specs.Slot.{mostSlots}
 use Rattle.desk.specs.Sizes.{deskHeaderBytes}
 use Rattle.desk.specs.declared.Desk.{Desk}
 use Rattle.desk.specs.Next.{locking, copyingOne, unlocking}
 use Rattle.desk.specs.Desk.{deskOf, putCopied}
 use Rattle.desk.proofs.DeskLaws.{desk-putDesk, length-putCopied}
-use Rattle.sound.specs.Place.{naming}
-use Rattle.sound.specs.Sound.{Sound, inodesIn}
-use Rattle.copying.specs.View.{View, Tidy}
-use Rattle.copying.specs.Deed.{Deed, Quiet, locks, closes, called, rests}
-use Rattle.copying.specs.Holds.{Holds, Ended}
+use Rattle.sound.specs.Sound.{inodesIn}
+use Rattle.copying.specs.View.{Tidy}
+use Rattle.copying.specs.Deed.{Deed, locks, closes, rests}
+use Rattle.copying.specs.Holds.{Ended}
 use Rattle.copying.proofs.HoldsLaws.{holds-does}
 use Rattle.answers.specs.declared.Answer.the-variants.{Done}
 use Rattle.answers.specs.Told.{told}
-use Rattle.checkpoint.specs.Image.{imageNaming}
-use Rattle.checkpoint.specs.Notes.{isCopied}
-use Rattle.checkpoint.specs.Copier.{Step, lock, copy, close, finish, full, stepOf, stepImage, stepDesk, finishImage, targetBlock}
-use Rattle.checkpoint.specs.Live.{World, Outcome, doStep}
+use Rattle.checkpoint.specs.Copier.{Step, lock, copy, close, finish, full, stepOf, targetBlock}
+use Rattle.checkpoint.specs.Live.{World, doStep}
 use Rattle.checkpoint.specs.Shown.{Shown, shown}
-use Rattle.checkpoint.specs.List.{Event, steps, outcome, next, accepted, completes}
-use Rattle.bounded.specs.declared.Found.the-variants.{At, Absent}
-use Rattle.checkpoint.proofs.Copy.Seen.{shelfOf, seen}
+use Rattle.checkpoint.specs.List.{steps, outcome, next}
+use Rattle.bounded.specs.declared.Found.the-variants.{At}
+use Rattle.checkpoint.proofs.Copy.Seen.{seen}
 use Rattle.checkpoint.proofs.Copy.Laid.{Laid}
 use Rattle.checkpoint.proofs.Copy.TidyLaws.{store-tidy}
 use Rattle.checkpoint.proofs.Step.LockLaws.{lock-laid, lock-locked}
@@ -45,7 +35,7 @@ use Rattle.checkpoint.proofs.Step.CloseFacts.{Closing}
 use Rattle.checkpoint.proofs.Step.CloseLaws.{close-laid}
 use Rattle.checkpoint.proofs.Step.CloseSeen.{close-closed}
 use Rattle.checkpoint.proofs.Copy.ChosenLaws.{Chosen, will-lock, will-copy, will-close, will-finish, no-room, chosen, chosen-ended}
-use Rattle.checkpoint.proofs.Run.Going.{seenIn, Running, incomplete, locked-used, step-is, leftIn, next-is}
+use Rattle.checkpoint.proofs.Run.Going.{seenIn, Running, locked-used, step-is, leftIn, next-is}
 
 -- nothing is left to copy, and the next step finishes
 pub record Finishes (n b : ℕ) (w : World) : Type 0 where
