@@ -1,4 +1,4 @@
-use Rattle.copier.proofs.BlockLaws.{block-put}
+use Rattle.transfer.proofs.BlockLaws.{block-put}
 use native.Mathlib.Omega.{arith}
 use denote.Ref.{now}
 use Rattle.copier.proofs.StepLaws.{copy-done}

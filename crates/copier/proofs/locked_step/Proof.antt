@@ -1,6 +1,6 @@
 use Rattle.layout.specs.Block.{blocksUsed}
 use Rattle.checkpoint.specs.Copier.{close, copy, lockedStep}
-use Rattle.copier.proofs.BlockLaws.{block-few}
+use Rattle.transfer.proofs.BlockLaws.{block-few}
 use Rattle.copier.proofs.StepLaws.{locked-close, locked-copy, locked-full, does-same, does-full, target-inside}
 use mathlib.Core.Path.{ap, _∙_}
 use native.Mathlib.Omega.{arith}

@@ -1,8 +1,8 @@
 use denote.Ref.{now}
-use Rattle.copier.proofs.BlockLaws.{entry-unmarked, entry-uncopied, entry-zeroed}
+use Rattle.transfer.proofs.BlockLaws.{entry-unmarked, entry-uncopied, entry-zeroed}
 use borrow.Author.Needs.{needs}
-use Rattle.copier.proofs.copy_entry.Statement.{statement}
-use Rattle.copier.proofs.copy_entry.Tie as tie
+use Rattle.transfer.proofs.copy_entry.Statement.{statement}
+use Rattle.transfer.proofs.copy_entry.Tie as tie
 
 mul-o : tie.Need-mul-o
 mul-o c = search needs

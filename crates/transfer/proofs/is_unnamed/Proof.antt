@@ -1,9 +1,9 @@
 use native.Mathlib.Omega.{arith}
 use denote.Ref.{now}
-use Rattle.copier.proofs.BlockLaws.{test-low, test-high, test-read}
+use Rattle.transfer.proofs.BlockLaws.{test-low, test-high, test-read}
 use borrow.Author.Needs.{needs}
-use Rattle.copier.proofs.is_unnamed.Statement.{statement}
-use Rattle.copier.proofs.is_unnamed.Tie as tie
+use Rattle.transfer.proofs.is_unnamed.Statement.{statement}
+use Rattle.transfer.proofs.is_unnamed.Tie as tie
 
 returns : tie.Need-returns
 returns c = let a = c .before .args in test-low (now (a .map)) (a .b) (a .c) (c .if1 .taken)

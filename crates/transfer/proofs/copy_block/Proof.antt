@@ -3,10 +3,10 @@ use mathlib.Core.Path.{ap, _∙_}
 use native.Mathlib.Omega.{arith}
 use denote.Ref.{now}
 use lib.ListN.{length}
-use Rattle.copier.proofs.BlockLaws.{block-here, block-few, block-plain, block-parted}
+use Rattle.transfer.proofs.BlockLaws.{block-here, block-few, block-plain, block-parted}
 use borrow.Author.Needs.{needs}
-use Rattle.copier.proofs.copy_block.Statement.{statement}
-use Rattle.copier.proofs.copy_block.Tie as tie
+use Rattle.transfer.proofs.copy_block.Statement.{statement}
+use Rattle.transfer.proofs.copy_block.Tie as tie
 
 kth-block-requires : tie.Need-kth-block-requires
 kth-block-requires c κs = let z = c .before .before .before in let a = z .args in let p = z .pre in (p .1 .inode, block-few (now (a .s)) (a .n) (a .i) (a .k) (p .1) (p .2))

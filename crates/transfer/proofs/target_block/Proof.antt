@@ -1,8 +1,8 @@
 use denote.Ref.{now}
-use Rattle.copier.proofs.BlockLaws.{target-own, target-other}
+use Rattle.transfer.proofs.BlockLaws.{target-own, target-other}
 use borrow.Author.Needs.{needs}
-use Rattle.copier.proofs.target_block.Statement.{statement}
-use Rattle.copier.proofs.target_block.Tie as tie
+use Rattle.transfer.proofs.target_block.Statement.{statement}
+use Rattle.transfer.proofs.target_block.Tie as tie
 
 named-blocks-requires : tie.Need-named-blocks-requires
 named-blocks-requires c κs = search needs

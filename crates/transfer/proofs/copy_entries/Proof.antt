@@ -4,10 +4,10 @@ use denote.Ref.{now}
 use Prim.Native.Nat.{_-_, _≤_}
 use lib.ListN.{length}
 use Rattle.checkpoint.specs.Copier.{copiedEntries}
-use Rattle.copier.proofs.BlockLaws.{entries-none, entries-more}
+use Rattle.transfer.proofs.BlockLaws.{entries-none, entries-more}
 use borrow.Author.Needs.{needs}
-use Rattle.copier.proofs.copy_entries.Statement.{statement}
-use Rattle.copier.proofs.copy_entries.Tie as tie
+use Rattle.transfer.proofs.copy_entries.Statement.{statement}
+use Rattle.transfer.proofs.copy_entries.Tie as tie
 
 abbrev Inv-loop : tie.InvT-loop
 Inv-loop x₀ d n i k j₀ x j = (j ≤ 4) × (length x ≡ 64) × (x ≡ copiedEntries d n i k x₀ j)

@@ -1,0 +1,86 @@
+// A block of the store on its way into the image: where it goes, and its bytes as they are copied. s is the store, m the image, d the desk, n the count of inodes.
+ghost use mathlib.Core.Path.{_≡_};
+ghost use mathlib.Core.Bool.{_&&_};
+ghost use Prim.Native.Nat.{_<_, _≤_};
+ghost use lib.Dec.{eqb, leb};
+ghost use lib.ListN.{length, getD};
+ghost use Rattle.layout.specs.Sizes.{mostImageBlocks, addressCount, blockBytes};
+ghost use Rattle.layout.specs.Inode.{sizeOf};
+ghost use Rattle.layout.specs.Block.{blocksUsed};
+ghost use Rattle.directory.specs.Slot.{DirFits, slotsInBlock};
+ghost use Rattle.desk.specs.Sizes.{deskLength};
+ghost use Rattle.checkpoint.specs.Copier.{targetBlock, copiedEntry, copiedEntries, copiedBlock};
+ghost use Rattle.tallies.specs.Addressed.{Addressed};
+use bounded::Found;
+use directory::SLOTS_IN_BLOCK;
+use layout::block;
+use layout::free;
+use layout::inode;
+use layout::sizes::BLOCK_BYTES;
+use layout::sizes::DIRECTORY;
+use names::ENTRY_BYTES;
+
+// Block c is one of the b blocks of the image, and the map does not have it.
+fn is_unnamed(map: &[u8; 4097], b: usize, c: usize) -> bool
+    requires { ⌜ b ≤ mostImageBlocks ⌝ }
+    ensures { λ r. ⌜ r ≡ leb 1 c && (leb c b && eqb (getD (now (map .entry)) c 0) 0) ⌝ }
+{
+    if c < 1 {
+        return false;
+    }
+    if b < c {
+        return false;
+    }
+    map[c] == 0
+}
+
+// Where block c of the store goes in an image of b blocks: one pass over the image's addresses.
+pub fn target_block(m: &[u8], n: usize, b: usize, c: usize) -> Found
+    requires { ⌜ Addressed (now m) n × (b ≤ mostImageBlocks) ⌝ }
+    ensures { λ r. ⌜ r ≡ targetBlock (now (m .entry)) n b c ⌝ }
+{
+    let map = free::named_blocks(m, n);
+    if is_unnamed(&map, b, c) {
+        return Found::At(c);
+    }
+    free::lowest_unnamed(&map, b)
+}
+
+// Entry j of the k-th block of directory i, whose bytes x are: a marked one that names a copied inode is zeroed.
+fn copy_entry(x: &mut [u8], d: &[u8], n: usize, i: usize, k: usize, j: usize)
+    requires { ⌜ (length (now x) ≡ blockBytes) × (deskLength n ≤ length (now d)) × (1 ≤ i) × (i ≤ n) × (k < addressCount) × (j < slotsInBlock) ⌝ }
+    ensures { λ _. ⌜ now (x .exit) ≡ copiedEntry (now (d .entry)) n i k (now (x .entry)) j ⌝ }
+{
+    let o = ENTRY_BYTES * j;
+    if !desk::is_marked(d, n, i, SLOTS_IN_BLOCK * k + j) {
+        return;
+    }
+    let named = names::entry_inode(&x[o..o + ENTRY_BYTES]) as usize;
+    if !tallies::is_copied(d, n, named) {
+        return;
+    }
+    octets::zero_range(&mut *x, o, ENTRY_BYTES);
+}
+
+// The four entries of the block.
+fn copy_entries(x: &mut [u8], d: &[u8], n: usize, i: usize, k: usize)
+    requires { ⌜ (length (now x) ≡ blockBytes) × (deskLength n ≤ length (now d)) × (1 ≤ i) × (i ≤ n) × (k < addressCount) ⌝ }
+    ensures { λ _. ⌜ now (x .exit) ≡ copiedEntries (now (d .entry)) n i k (now (x .entry)) slotsInBlock ⌝ }
+{
+    for j in 0..SLOTS_IN_BLOCK {
+        copy_entry(&mut *x, d, n, i, k, j);
+    }
+}
+
+// The k-th block of inode i as it is copied, to the 64 bytes x.
+pub fn copy_block(x: &mut [u8], s: &[u8], d: &[u8], n: usize, i: usize, k: usize)
+    requires { ⌜ (length (now x) ≡ blockBytes) × DirFits (now s) n i × (k < blocksUsed (sizeOf (now s) i)) × (deskLength n ≤ length (now d)) ⌝ }
+    ensures { λ _. ⌜ now (x .exit) ≡ copiedBlock (now (s .entry)) (now (d .entry)) n i k ⌝ }
+{
+    let a = block::kth_block(s, n, i, k) as usize;
+    octets::copy_range(&mut *x, 0, s, block::block_at(n, a), BLOCK_BYTES);
+    if inode::kind(s, n, i) != DIRECTORY {
+        return;
+    }
+    copy_entries(&mut *x, d, n, i, k);
+}
