@@ -1,0 +1,75 @@
+-- The calls: what the guards let through, and each way that a call returns. s is the store, m the image, d the desk, n and b the counts of inodes and blocks.
+use Prim.Native.Nat.{ℕ, _≤_}
+use mathlib.Core.Path.{_≡_, refl, sym, ap, _∙_, subst}
+use mathlib.Core.Bool.{Bool, true, false}
+use mathlib.Core.List.{List}
+use native.Mathlib.Omega.{arith}
+use Rattle.bounded.specs.Search.{pick}
+use Rattle.layout.specs.Sizes.{mostInodes}
+use Rattle.desk.specs.Desk.{deskOf}
+use Rattle.sound.specs.Sound.{inodesIn, blocksIn}
+use Rattle.answers.specs.declared.Refusal.{Refusal}
+use Rattle.answers.specs.declared.Refusal.the-variants.{Busy}
+use Rattle.answers.specs.declared.Answer.the-variants.{Done}
+use Rattle.files.specs.declared.Guard.{Guard}
+use Rattle.files.specs.declared.Guard.the-variants.{Pass, Stop}
+use Rattle.files.specs.Effect.{Call, Effect, Planned, refused, does, planned}
+use Rattle.files.proofs.Lawful.{Lawful, Each}
+use Rattle.files.proofs.LawfulCalls.{lawful}
+use Rattle.checkpoint.specs.Busy.{anyLocked, unlessBusy}
+use Rattle.checkpoint.specs.Notes.{cutEntries, clearMarks, setMarks}
+use Rattle.checkpoint.specs.Fit.{imageFits}
+use Rattle.checkpoint.specs.Live.{World, Outcome, left, refuse, threeGuards, storeAlone, decision, leavesIn, live}
+use Rattle.checkpoint.specs.Shown.{world, shown}
+use Rattle.checkpoint.proofs.Copy.FitLaws.{desk-framed-is, image-fits-is, notes-fit-is}
+use Rattle.guards.proofs.GuardLaws.{passed}
+use Rattle.watch.specs.Fits.{Fits, Lies, Seen}
+
+-- ---- what the guards let through
+image-lies : (m d : List ℕ) → deskOf d .inodes ≤ mostInodes → imageFits m d ≡ true → Lies m (deskOf d .inodes)
+image-lies m d l f =
+    let k = image-fits-is m d .to f in
+    let e = k .0 in
+    record { few = l; area = omega arith; inside = λ x h. let a = k .1 .1 .1 .1 .1 x h in omega arith }
+
+pub let-through : (s m d : List ℕ) (n b : ℕ) → threeGuards s m d ≡ Pass n b → Fits s d n × (b ≡ blocksIn s) × Seen m d n
+let-through s m d n b g =
+    let p = passed s m d n b g in
+    let f = desk-framed-is d .to (p .desk) in
+    let l = f .1 .1 in
+    let k = notes-fit-is s m d .to (p .notes) .1 in
+    let e = p .inodes ∙ sym (k .0) in
+    (record { sound = p .sound; inodes = p .inodes; long = omega arith }, p .blocks, λ r. subst (Lies m) (sym e) (image-lies m d (f .1 .0) (k .1 r)))
+
+-- ---- a call returns: g is what the guards have answered, o what it leaves
+module _ (c : Call) (own : storeAlone c ≡ false) (s m d : List ℕ) (g : Guard) (e : g ≡ threeGuards s m d) where
+  pub call-through : (n b : ℕ) (o : Outcome) → g ≡ Pass n b → o ≡ leavesIn (world s m d) (unlessBusy d (planned c s n b)) → shown o ≡ shown (live c (world s m d))
+  unfolding live decision
+  call-through n b o h q = let p = sym e ∙ h in rw (own, p) (ap shown q)
+
+  pub call-stopped : (w : Refusal) → g ≡ Stop w → shown (refuse w s m d) ≡ shown (live c (world s m d))
+  unfolding live decision
+  call-stopped w h = let p = sym e ∙ h in rw (own, p) refl
+
+-- ---- the laws of what was planned
+pub effect-laws : (c : Call) (s d : List ℕ) (n b : ℕ) → Fits s d n → b ≡ blocksIn s → (x : Effect) → does x ≡ planned c s n b → Lawful s n x
+effect-laws c s d n b f y x q = subst (Each (Lawful s n)) (sym q) (lawful c s n b (f .sound) (f .inodes) y)
+
+-- ---- behind the guards: p is what was planned, w what was lent
+module _ (w : World) (p : Planned) where
+  -- the plan refuses
+  pub ends-refused : (e : Refusal) → refused e ≡ p → refuse e (w .store) (w .image) (w .desk) ≡ leavesIn w (unlessBusy (w .desk) p)
+  ends-refused e q = ap (λ (z : Planned). leavesIn w (unlessBusy (w .desk) z)) q
+
+  -- it has an effect; r says whether an inode that it touches is locked
+  module _ (x : Effect) (q : does x ≡ p) (r : Bool) (l : r ≡ anyLocked (w .desk) (x .touches)) where
+    by-lock : leavesIn w (pick r (refused Busy) (does x)) ≡ leavesIn w (unlessBusy (w .desk) p)
+    by-lock = ap (λ (z : Bool). leavesIn w (pick z (refused Busy) (does x))) l ∙ ap (λ (z : Planned). leavesIn w (unlessBusy (w .desk) z)) q
+
+    pub ends-busy : r ≡ true → refuse Busy (w .store) (w .image) (w .desk) ≡ leavesIn w (unlessBusy (w .desk) p)
+    ends-busy e = ap (λ (z : Bool). leavesIn w (pick z (refused Busy) (does x))) (sym e) ∙ by-lock
+
+    pub ends-done : r ≡ false → (n : ℕ) → n ≡ inodesIn (w .store) → (s m d : List ℕ)
+        → s ≡ x .store → m ≡ cutEntries (w .image) (w .desk) n (x .taken) → d ≡ setMarks (clearMarks (w .desk) n (x .taken)) n (x .made)
+        → left (Done (x .answer)) s m d ≡ leavesIn w (unlessBusy (w .desk) p)
+    ends-done e n k s m d a b c = rw (a, b, c, k) (ap (λ (z : Bool). leavesIn w (pick z (refused Busy) (does x))) (sym e) ∙ by-lock)
