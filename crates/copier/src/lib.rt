@@ -8,6 +8,7 @@ ghost use Rattle.layout.specs.Sizes.{mostImageBlocks, blockBytes};
 ghost use Rattle.layout.specs.Inode.{sizeOf};
 ghost use Rattle.layout.specs.Block.{Sized, blockAt, blocksUsed};
 ghost use Rattle.directory.specs.Slot.{DirFits};
+ghost use Rattle.desk.specs.Sizes.{deskHeaderBytes};
 ghost use Rattle.desk.specs.Desk.{deskOf};
 ghost use Rattle.sound.specs.Sound.{inodesIn};
 ghost use Rattle.answers.specs.declared.Answer.the-variants.{Done, Refused};
@@ -31,8 +32,8 @@ use layout::sizes::BLOCK_BYTES;
 use layout::sizes::ROOT;
 
 // 1 and 2: inode i is locked.
-fn lock(d: &mut [u8], h: Desk, n: usize, i: usize) -> Answer
-    requires { ⌜ Held (now d) n h × (i < 65536) ⌝ }
+fn lock(d: &mut [u8], h: Desk, i: usize) -> Answer
+    requires { ⌜ (h ≡ deskOf (now d)) × (deskHeaderBytes ≤ length (now d)) × (h .steps + 1 < 4294967296) × (i < 65536) ⌝ }
     ensures { λ r. ⌜ (r ≡ Done (deskOf (now (d .entry)) .steps + 1)) × (now (d .exit) ≡ stepDesk (now (d .entry)) (lock i)) ⌝ }
 {
     let held = h.lock(i as u16);
@@ -83,8 +84,8 @@ fn finish(m: &mut [u8], d: &mut [u8], h: Desk, n: usize) -> Answer
 }
 
 // 16: every image block is named.
-fn stop(d: &mut [u8], h: Desk, n: usize) -> Answer
-    requires { ⌜ Held (now d) n h ⌝ }
+fn stop(d: &mut [u8], h: Desk) -> Answer
+    requires { ⌜ (h ≡ deskOf (now d)) × (deskHeaderBytes ≤ length (now d)) ⌝ }
     ensures { λ r. ⌜ (r ≡ Refused ImageFull) × (now (d .exit) ≡ stepDesk (now (d .entry)) full) ⌝ }
 {
     h.stop().write(&mut *d);
@@ -97,12 +98,12 @@ fn free_step(m: &mut [u8], d: &mut [u8], h: Desk, n: usize) -> Answer
     ensures { λ r. ⌜ ((s : List ℕ) → left r s (now (m .exit)) (now (d .exit)) ≡ doStep s (now (m .entry)) (now (d .entry)) n (freeStep (now (m .entry)) (now (d .entry)) n)) ⌝ }
 {
     if !tallies::is_copied(&*d, n, ROOT) {
-        return lock(&mut *d, h, n, ROOT);
+        return lock(&mut *d, h, ROOT);
     }
     let Found::At(i) = tallies::next_inode(&*m, &*d, n) else {
         return finish(&mut *m, &mut *d, h, n);
     };
-    lock(&mut *d, h, n, i)
+    lock(&mut *d, h, i)
 }
 
 // An inode is locked.
@@ -117,7 +118,7 @@ fn locked_step(s: &[u8], m: &mut [u8], d: &mut [u8], h: Desk, n: usize) -> Answe
     }
     let own = block::kth_block(s, n, i, k) as usize;
     let Found::At(c) = transfer::target_block(&*m, n, h.blocks as usize, own) else {
-        return stop(&mut *d, h, n);
+        return stop(&mut *d, h);
     };
     copy(s, &mut *m, &mut *d, h, n, c)
 }

@@ -73,7 +73,7 @@ fn count_directory(m: &[u8], n: usize, e: usize, counts: &mut [u16])
 }
 
 // How often each inode is named by the image's directories: one pass over their slots.
-pub fn count_names(m: &[u8], n: usize) -> [u16; 257]
+fn count_names(m: &[u8], n: usize) -> [u16; 257]
     requires { ⌜ Addressed (now m) n ⌝ }
     ensures { λ r. ⌜ Tallied (imageNaming (now (m .entry)) n) 1 (mostInodes + 1) (mostSlots * n) r ⌝ }
 {

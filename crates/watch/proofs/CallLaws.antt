@@ -1,11 +1,15 @@
 -- The calls: what the guards let through, and each way that a call returns. s is the store, m the image, d the desk, n and b the counts of inodes and blocks.
 use Prim.Native.Nat.{ℕ, _≤_}
 use mathlib.Core.Path.{_≡_, refl, sym, ap, _∙_, subst}
-use mathlib.Core.Bool.{Bool, true, false}
+use mathlib.Core.Bool.{Bool, true, false, _&&_}
 use mathlib.Core.List.{List}
 use native.Mathlib.Omega.{arith}
+use borrow.Author.Tests.{eqb-true, leb-true}
+use lib.Dec.{eqb, leb}
 use Rattle.bounded.specs.Search.{pick}
-use Rattle.layout.specs.Sizes.{mostInodes}
+use Rattle.bounded.proofs.BoolLaws.{and-right}
+use Rattle.layout.specs.Sizes.{mostInodes, mostImageBlocks}
+use Rattle.desk.specs.Sizes.{idle}
 use Rattle.desk.specs.Desk.{deskOf}
 use Rattle.sound.specs.Sound.{inodesIn, blocksIn}
 use Rattle.answers.specs.declared.Refusal.{Refusal}
@@ -18,28 +22,42 @@ use Rattle.files.proofs.Lawful.{Lawful, Each}
 use Rattle.files.proofs.LawfulCalls.{lawful}
 use Rattle.checkpoint.specs.Busy.{anyLocked, unlessBusy}
 use Rattle.checkpoint.specs.Notes.{cutEntries, clearMarks, setMarks}
-use Rattle.checkpoint.specs.Fit.{imageFits}
+use Rattle.checkpoint.specs.Fit.{blocksFit, deskFits, imageFits}
 use Rattle.checkpoint.specs.Live.{World, Outcome, left, refuse, threeGuards, storeAlone, decision, leavesIn, live}
 use Rattle.checkpoint.specs.Shown.{world, shown}
-use Rattle.checkpoint.proofs.Copy.FitLaws.{desk-framed-is, image-fits-is, notes-fit-is}
+use Rattle.checkpoint.proofs.Copy.FitLaws.{desk-framed-is, desk-fits-is, image-fits-is, notes-fit-is}
+use Rattle.tallies.specs.Addressed.{Addressed}
 use Rattle.guards.proofs.GuardLaws.{passed}
-use Rattle.watch.specs.Fits.{Fits, Lies, Seen}
+use Rattle.watch.specs.Fits.{Fits, Seen}
 
 -- ---- what the guards let through
-image-lies : (m d : List ℕ) → deskOf d .inodes ≤ mostInodes → imageFits m d ≡ true → Lies m (deskOf d .inodes)
-image-lies m d l f =
+few-blocks : (d : List ℕ) → deskFits d ≡ true → deskOf d .blocks ≤ mostImageBlocks
+few-blocks d f = unfold blocksFit in go (eqb (deskOf d .state) idle) (desk-fits-is d .to f .1 .0)
+  where
+    go : (i : Bool) → pick i (eqb (deskOf d .blocks) 0) (leb 1 (deskOf d .blocks) && leb (deskOf d .blocks) mostImageBlocks) ≡ true → deskOf d .blocks ≤ mostImageBlocks
+    go true e = let z = eqb-true (deskOf d .blocks) 0 e in omega arith
+    go false e = leb-true (deskOf d .blocks) mostImageBlocks (and-right (leb 1 (deskOf d .blocks)) (leb (deskOf d .blocks) mostImageBlocks) e)
+
+image-addressed : (m d : List ℕ) → deskOf d .inodes ≤ mostInodes → deskFits d ≡ true → imageFits m d ≡ true → Addressed m (deskOf d .inodes)
+image-addressed m d l w f =
     let k = image-fits-is m d .to f in
     let e = k .0 in
-    record { few = l; area = omega arith; inside = λ x h. let a = k .1 .1 .1 .1 .1 x h in omega arith }
+    let b = few-blocks d w in
+    record {
+      few = l;
+      area = omega arith;
+      most = λ x h. let a = k .1 .1 .1 .1 .1 x h in omega arith;
+      inside = λ x h. let a = k .1 .1 .1 .1 .1 x h in omega arith;
+    }
 
 pub let-through : (s m d : List ℕ) (n b : ℕ) → threeGuards s m d ≡ Pass n b → Fits s d n × (b ≡ blocksIn s) × Seen m d n
 let-through s m d n b g =
     let p = passed s m d n b g in
     let f = desk-framed-is d .to (p .desk) in
     let l = f .1 .1 in
-    let k = notes-fit-is s m d .to (p .notes) .1 in
-    let e = p .inodes ∙ sym (k .0) in
-    (record { sound = p .sound; inodes = p .inodes; long = omega arith }, p .blocks, λ r. subst (Lies m) (sym e) (image-lies m d (f .1 .0) (k .1 r)))
+    let k = notes-fit-is s m d .to (p .notes) in
+    let e = p .inodes ∙ sym (k .1 .0) in
+    (record { sound = p .sound; inodes = p .inodes; long = omega arith }, p .blocks, λ r. subst (Addressed m) (sym e) (image-addressed m d (f .1 .0) (k .0) (k .1 .1 r)))
 
 -- ---- a call returns: g is what the guards have answered, o what it leaves
 module _ (c : Call) (own : storeAlone c ≡ false) (s m d : List ℕ) (g : Guard) (e : g ≡ threeGuards s m d) where

@@ -1,11 +1,11 @@
 -- What the code has read of desk and image, as the definitions say it. m is the image, d the desk, n the inode count, e a directory, t a slot, i an inode.
-use Prim.Native.Nat.{ℕ, zero, suc, _+_, _-_, _/_, _≤_, _<_}
+use Prim.Native.Nat.{ℕ, zero, suc, _+_, _-_, _/_, _≤_}
 use mathlib.Core.Path.{_≡_, refl, sym, ap, _∙_}
 use mathlib.Core.Bool.{Bool, true, false, not, _&&_, _||_}
 use mathlib.Core.List.{List, [], _∷_}
 use native.Mathlib.Omega.{arith}
-use borrow.Author.Tests.{eq-eqb, ne-eqb, le-leb, lt-leb}
-use lib.Dec.{eqb, leb}
+use borrow.Author.Tests.{eq-eqb, ne-eqb}
+use lib.Dec.{eqb}
 use lib.ListN.{length, take, drop}
 use Rattle.bounded.specs.Search.{pick}
 use Rattle.bounded.proofs.BoolLaws.{and-false-l, chain-end}
@@ -17,7 +17,7 @@ use Rattle.names.specs.Entry.{entryInode, entryBytes}
 use Rattle.directory.specs.Slot.{slotsInBlock, slotAt, entryOf, clearEntry}
 use Rattle.desk.specs.declared.Desk.{Desk}
 use Rattle.desk.specs.Sizes.{running}
-use Rattle.desk.specs.Desk.{deskOf, copiedOf, clearMark}
+use Rattle.desk.specs.Desk.{deskOf, clearMark}
 use Rattle.desk.proofs.DeskLaws.{length-clearMark}
 use Rattle.checkpoint.specs.Fit.{isRunning}
 use Rattle.checkpoint.specs.Image.{hasSlot, slotNames}
@@ -55,20 +55,6 @@ module _ (d : List ℕ) (i : ℕ) where
     pub locked-rest : r ≡ false → anyLocked d is ≡ anyLocked d (i ∷ is)
     unfolding anyLocked
     locked-rest e = rw (sym q ∙ e) refl
-
--- ---- copied
-module _ (d : List ℕ) (n i : ℕ) where
-  pub copied-low : i < 1 → false ≡ isCopied d n i
-  unfolding isCopied
-  copied-low l = sym (and-false-l _ _ (lt-leb 1 i l))
-
-  pub copied-high : 1 ≤ i → n < i → false ≡ isCopied d n i
-  unfolding isCopied
-  copied-high l h = chain-end _ _ _ (le-leb 1 i l) (sym (and-false-l _ _ (lt-leb i n h)))
-
-  pub copied-is : (x : ℕ) → 1 ≤ i → i ≤ n → x ≡ copiedOf d i → eqb x 1 ≡ isCopied d n i
-  unfolding isCopied
-  copied-is x l h q = chain-end _ _ _ (le-leb 1 i l) (chain-end _ _ _ (le-leb i n h) (ap (λ (y : ℕ). eqb y 1) q))
 
 -- ---- what is written only while the copy runs
 module _ (d : List ℕ) (r : Bool) (q : r ≡ isRunning d) (y : List ℕ) where

@@ -1,14 +1,14 @@
 -- What refusals 1, 2 and 3 leave to a call that they let through. s is the store, m the image, d the desk, n the inode count.
-use Prim.Native.Nat.{ℕ, _+_, _*_, _≤_, _<_}
+use Prim.Native.Nat.{ℕ, _≤_}
 use mathlib.Core.Path.{_≡_}
 use mathlib.Core.Bool.{true, false}
 use mathlib.Core.List.{List}
 use lib.ListN.{length}
-use Rattle.layout.specs.Sizes.{headerBytes, inodeBytes, blockBytes, addressCount, mostInodes, mostStoreBlocks}
-use Rattle.layout.specs.Inode.{addressOf}
+use Rattle.layout.specs.Sizes.{mostStoreBlocks}
 use Rattle.desk.specs.Sizes.{deskLength}
 use Rattle.sound.specs.Sound.{Sound, inodesIn}
 use Rattle.checkpoint.specs.Fit.{isRunning}
+use Rattle.tallies.specs.Addressed.{Addressed}
 
 -- store and desk
 pub record Fits (s d : List ℕ) (n : ℕ) : Type 0 where
@@ -16,12 +16,6 @@ pub record Fits (s d : List ℕ) (n : ℕ) : Type 0 where
   pub inodes : n ≡ inodesIn s
   pub long : deskLength n ≤ length d
 
--- an image, whatever its kinds and sizes: its inodes, and each block that an address names, lie inside
-pub record Lies (m : List ℕ) (n : ℕ) : Type 0 where
-  pub few : n ≤ mostInodes
-  pub area : headerBytes + inodeBytes * n ≤ length m
-  pub inside : (x : ℕ) → x < addressCount * n → headerBytes + inodeBytes * n + blockBytes * addressOf m n x ≤ length m
-
 -- "unless the copy runs they don't read it"
 abbrev pub Seen : List ℕ → List ℕ → ℕ → Type 0
-Seen m d n = isRunning d ≡ true → Lies m n
+Seen m d n = isRunning d ≡ true → Addressed m n

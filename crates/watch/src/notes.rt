@@ -9,14 +9,16 @@ ghost use Rattle.desk.specs.Sizes.{deskHeaderBytes, deskLength};
 ghost use Rattle.checkpoint.specs.Fit.{isRunning};
 ghost use Rattle.checkpoint.specs.Image.{slotNames};
 ghost use Rattle.checkpoint.specs.Busy.{isLocked, anyLocked};
-ghost use Rattle.checkpoint.specs.Notes.{isCopied, noteMade, noteTaken, cutImage};
-ghost use Rattle.watch.specs.Fits.{Lies, Seen};
+ghost use Rattle.checkpoint.specs.Notes.{noteMade, noteTaken, cutImage};
+ghost use Rattle.tallies.specs.Addressed.{Addressed};
+ghost use Rattle.watch.specs.Fits.{Seen};
 use desk::Desk;
 use directory::SLOTS_IN_BLOCK;
 use layout::block;
 use layout::inode;
 use layout::sizes::DIRECTORY;
 use names::ENTRY_BYTES;
+use tallies::is_copied;
 
 // The copy runs.
 fn is_running(d: &[u8]) -> bool
@@ -60,20 +62,6 @@ pub fn any_locked(d: &[u8], i: usize, j: usize, k: usize) -> bool
     either_locked(d, j, k)
 }
 
-// Inode i, from 1 to n, is copied.
-fn is_copied(d: &[u8], n: usize, i: usize) -> bool
-    requires { ⌜ deskLength n ≤ length (now d) ⌝ }
-    ensures { λ r. ⌜ r ≡ isCopied (now (d .entry)) n i ⌝ }
-{
-    if i < 1 {
-        return false;
-    }
-    if n < i {
-        return false;
-    }
-    desk::copied_byte(d, i) == 1
-}
-
 // While the copy runs, the entry made in slot t of directory e is marked.
 pub fn note_made(d: &mut [u8], n: usize, e: usize, t: usize)
     requires { ⌜ (1 ≤ e) × (e ≤ n) × (deskLength n ≤ length (now d)) × (t < mostSlots) ⌝ }
@@ -96,7 +84,7 @@ pub fn note_taken(d: &mut [u8], n: usize, e: usize, t: usize)
 
 // Where slot t of an image directory starts, by the block that its address names, whatever its size.
 fn image_slot(m: &[u8], n: usize, e: usize, t: usize) -> usize
-    requires { ⌜ Lies (now m) n × (1 ≤ e) × (e ≤ n) × (t < mostSlots) × (1 ≤ kthBlock (now m) n e (t / 4)) ⌝ }
+    requires { ⌜ Addressed (now m) n × (1 ≤ e) × (e ≤ n) × (t < mostSlots) × (1 ≤ kthBlock (now m) n e (t / 4)) ⌝ }
     ensures { λ r. ⌜ (r ≡ slotAt (now (m .entry)) n e t) × (r + 16 ≤ length (now (m .entry))) ⌝ }
 {
     let c = block::kth_block(m, n, e, t / SLOTS_IN_BLOCK) as usize;
@@ -105,7 +93,7 @@ fn image_slot(m: &[u8], n: usize, e: usize, t: usize) -> usize
 
 // The inode that slot t of e names in the image, 0 for none.
 fn slot_names(m: &[u8], n: usize, e: usize, t: usize) -> usize
-    requires { ⌜ Lies (now m) n × (1 ≤ e) × (e ≤ n) × (t < mostSlots) ⌝ }
+    requires { ⌜ Addressed (now m) n × (1 ≤ e) × (e ≤ n) × (t < mostSlots) ⌝ }
     ensures { λ r. ⌜ r ≡ slotNames (now (m .entry)) n e t ⌝ }
 {
     if inode::kind(m, n, e) != DIRECTORY {

@@ -32,7 +32,10 @@ same-length-2 : tie.Need-same-length-2
 same-length-2 c = search needs
 
 returns : tie.Need-returns
-returns c = let z = c .before .before .before .before .before .before .before .before .before .before .before .before .before .before .before .before .before .before .before in let a = z .args in close-done (now (a .d)) (a .h) _ (z .pre .0 .read) (now (a .m)) (a .n) _ (now (a .s)) _ _ _ (c .before .before .before .before .before .before .before .before .before .before .before .before .before .before .read .ensures) (c .before .before .before .before .before .before .before .before .before .before .before .before .write-attributes .ensures) (c .before .before .before .before .before .before .before .before .put-copied .ensures) (c .before .before .before .before .before .unlock .ensures) (c .before .before .before .write .ensures)
+returns c =
+    let z = c .before .before .before .before .before .before .before .before .before .before .before .before .before .before .before .before .before .before .before in
+    let a = z .args in
+    close-done (now (a .d)) (a .h) _ (z .pre .0 .read) (now (a .m)) (a .n) _ (now (a .s)) _ _ _ (c .before .before .before .before .before .before .before .before .before .before .before .before .before .before .read .ensures) (c .before .before .before .before .before .before .before .before .before .before .before .before .write-attributes .ensures) (c .before .before .before .before .before .before .before .before .put-copied .ensures) (c .before .before .before .before .before .unlock .ensures) (c .before .before .before .write .ensures)
 
 pub close-spec : {M : Type 1} → statement M
 close-spec =

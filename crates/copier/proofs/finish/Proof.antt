@@ -26,7 +26,10 @@ same-length-2 : tie.Need-same-length-2
 same-length-2 c = search needs
 
 returns : tie.Need-returns
-returns c = let z = c .before .before .before .before .before .before .before .before .before .before .before .before .before in let a = z .args in finish-done (now (a .d)) (a .h) _ (z .pre .0 .read) (now (a .m)) (a .n) _ _ (c .before .before .before .before .before .before .before .before .finish-image .ensures) (c .before .before .before .before .before .finish .ensures) (c .before .before .before .write .ensures)
+returns c =
+    let z = c .before .before .before .before .before .before .before .before .before .before .before .before .before in
+    let a = z .args in
+    finish-done (now (a .d)) (a .h) _ (z .pre .0 .read) (now (a .m)) (a .n) _ _ (c .before .before .before .before .before .before .before .before .finish-image .ensures) (c .before .before .before .before .before .finish .ensures) (c .before .before .before .write .ensures)
 
 pub finish-spec : {M : Type 1} → statement M
 finish-spec =

@@ -16,7 +16,9 @@ same-length : tie.Need-same-length
 same-length c = search needs
 
 returns : tie.Need-returns
-returns c = let a = c .before .before .before .before .before .before .before .before .before .args in λ s. does-lock s (now (a .m)) (now (a .d)) (a .n) (freeStep (now (a .m)) (now (a .d)) (a .n)) 1 (free-root (now (a .m)) (now (a .d)) (a .n) _ (c .before .before .before .before .before .is-copied .ensures) (c .before .before .before .before .if1 .taken)) _ _ (c .before .before .lock .ensures .0) (c .before .before .lock .ensures .1)
+returns c =
+    let a = c .before .before .before .before .before .before .before .before .before .args in
+    λ s. does-lock s (now (a .m)) (now (a .d)) (a .n) (freeStep (now (a .m)) (now (a .d)) (a .n)) 1 (free-root (now (a .m)) (now (a .d)) (a .n) _ (c .before .before .before .before .before .is-copied .ensures) (c .before .before .before .before .if1 .taken)) _ _ (c .before .before .lock .ensures .0) (c .before .before .lock .ensures .1)
 
 next-inode-requires : tie.Need-next-inode-requires
 next-inode-requires c κs = search needs
@@ -37,10 +39,16 @@ same-length-3 : tie.Need-same-length-3
 same-length-3 c = search needs
 
 returns-2 : tie.Need-returns-2
-returns-2 c = let a = c .before .before .before .before .before .before .before .before .before .before .before .before .before .before .before .before .before .args in λ s. does-same s (now (a .m)) (now (a .d)) (a .n) (freeStep (now (a .m)) (now (a .d)) (a .n)) finish (free-finish (now (a .m)) (now (a .d)) (a .n) _ (c .before .before .before .before .before .before .before .before .before .before .before .before .before .is-copied .ensures) (c .before .before .before .before .before .before .before .before .before .before .before .before .if1 .left) _ (c .before .before .before .before .before .before .before .before .before .next-inode .ensures) (c .before .before .before .before .before .before .before .enum-told .given .1)) _ (c .before .before .before .before .finish .ensures s)
+returns-2 c =
+    let a = c .before .before .before .before .before .before .before .before .before .before .before .before .before .before .before .before .before .args in
+    λ s. does-same s (now (a .m)) (now (a .d)) (a .n) (freeStep (now (a .m)) (now (a .d)) (a .n)) finish (free-finish (now (a .m)) (now (a .d)) (a .n) _ (c .before .before .before .before .before .before .before .before .before .before .before .before .before .is-copied .ensures) (c .before .before .before .before .before .before .before .before .before .before .before .before .if1 .left) _ (c .before .before .before .before .before .before .before .before .before .next-inode .ensures) (c .before .before .before .before .before .before .before .enum-told .given .1)) _ (c .before .before .before .before .finish .ensures s)
 
 lock-requires-2 : tie.Need-lock-requires-2
-lock-requires-2 c κs = let z = c .before .before .before .before .before .before .before .before .before .before .before .before in let a = z .args in (z .pre .0, omega (arith, z .pre .1 .few, next-few (now (a .m)) (now (a .d)) (a .n) (c .before .before .i .given .0 .0) _ (c .before .before .before .before .next-inode .ensures) (c .before .before .i .given .1)))
+lock-requires-2 c κs =
+    let z = c .before .before .before .before .before .before .before .before .before .before .before .before in
+    let a = z .args in
+    let w = z .pre .0 in
+    (w .read, omega (arith, w .long), w .steps, omega (arith, z .pre .1 .few, next-few (now (a .m)) (now (a .d)) (a .n) (c .before .before .i .given .0 .0) _ (c .before .before .before .before .next-inode .ensures) (c .before .before .i .given .1)))
 
 same-length-4 : tie.Need-same-length-4
 same-length-4 c = search needs
@@ -49,7 +57,10 @@ same-length-5 : tie.Need-same-length-5
 same-length-5 c = search needs
 
 returns-3 : tie.Need-returns-3
-returns-3 c = let a = c .before .before .before .before .before .before .before .before .before .before .before .before .before .before .before .args in let i = c .before .before .before .before .before .i .given in λ s. does-lock s (now (a .m)) (now (a .d)) (a .n) (freeStep (now (a .m)) (now (a .d)) (a .n)) (i .0 .0) (free-lock (now (a .m)) (now (a .d)) (a .n) _ (c .before .before .before .before .before .before .before .before .before .before .before .is-copied .ensures) (c .before .before .before .before .before .before .before .before .before .before .if1 .left) _ (c .before .before .before .before .before .before .before .next-inode .ensures) (i .0 .0) (i .1)) _ _ (c .before .before .lock2 .ensures .0) (c .before .before .lock2 .ensures .1)
+returns-3 c =
+    let a = c .before .before .before .before .before .before .before .before .before .before .before .before .before .before .before .args in
+    let i = c .before .before .before .before .before .i .given in
+    λ s. does-lock s (now (a .m)) (now (a .d)) (a .n) (freeStep (now (a .m)) (now (a .d)) (a .n)) (i .0 .0) (free-lock (now (a .m)) (now (a .d)) (a .n) _ (c .before .before .before .before .before .before .before .before .before .before .before .is-copied .ensures) (c .before .before .before .before .before .before .before .before .before .before .if1 .left) _ (c .before .before .before .before .before .before .before .next-inode .ensures) (i .0 .0) (i .1)) _ _ (c .before .before .lock2 .ensures .0) (c .before .before .lock2 .ensures .1)
 
 pub free-step-spec : {M : Type 1} → statement M
 free-step-spec =

@@ -34,10 +34,20 @@ same-length-2 : tie.Need-same-length-2
 same-length-2 c = search needs
 
 returns : tie.Need-returns
-returns c = let z = c .before .before .before .before .before .before .before .before .before .before .before .before .before .before .before in let a = z .args in let h = a .h in let u = c .before .before .before .before .before .before .before .before .blocks-used .ensures ∙ ap blocksUsed (c .before .before .before .before .before .before .before .before .before .size .ensures) in does-same (now (a .s)) (now (a .m)) (now (a .d)) (a .n) (lockedStep (now (a .s)) (now (a .m)) (a .n) (h .blocks) (h .locked) (h .copied)) (close (h .locked)) (locked-close (now (a .s)) (now (a .m)) (a .n) (h .blocks) (h .locked) (h .copied) _ u (c .before .before .before .before .before .before .before .if1 .taken)) _ (c .before .before .before .before .close .ensures)
+returns c =
+    let z = c .before .before .before .before .before .before .before .before .before .before .before .before .before .before .before in
+    let a = z .args in
+    let h = a .h in
+    let u = c .before .before .before .before .before .before .before .before .blocks-used .ensures ∙ ap blocksUsed (c .before .before .before .before .before .before .before .before .before .size .ensures) in
+    does-same (now (a .s)) (now (a .m)) (now (a .d)) (a .n) (lockedStep (now (a .s)) (now (a .m)) (a .n) (h .blocks) (h .locked) (h .copied)) (close (h .locked)) (locked-close (now (a .s)) (now (a .m)) (a .n) (h .blocks) (h .locked) (h .copied) _ u (c .before .before .before .before .before .before .before .if1 .taken)) _ (c .before .before .before .before .close .ensures)
 
 kth-block-requires : tie.Need-kth-block-requires
-kth-block-requires c κs = let z = c .before .before .before .before .before .before .before .before in let a = z .args in let h = a .h in let u = c .before .blocks-used .ensures ∙ ap blocksUsed (c .before .before .size .ensures) in (z .pre .1 .inode, block-few (now (a .s)) (a .n) (h .locked) (h .copied) (z .pre .1) (omega arith))
+kth-block-requires c κs =
+    let z = c .before .before .before .before .before .before .before .before in
+    let a = z .args in
+    let h = a .h in
+    let u = c .before .blocks-used .ensures ∙ ap blocksUsed (c .before .before .size .ensures) in
+    (z .pre .1 .inode, block-few (now (a .s)) (a .n) (h .locked) (h .copied) (z .pre .1) (omega arith))
 
 cast-own : tie.Need-cast-own
 cast-own c = search needs
@@ -64,10 +74,21 @@ same-length-4 : tie.Need-same-length-4
 same-length-4 c = search needs
 
 returns-2 : tie.Need-returns-2
-returns-2 c = let z = c .before .before .before .before .before .before .before .before .before .before .before .before .before .before .before .before .before .before in let a = z .args in let h = a .h in let u = c .before .before .before .before .before .before .before .before .before .before .before .blocks-used .ensures ∙ ap blocksUsed (c .before .before .before .before .before .before .before .before .before .before .before .before .size .ensures) in does-full (now (a .s)) (now (a .m)) (now (a .d)) (a .n) (lockedStep (now (a .s)) (now (a .m)) (a .n) (h .blocks) (h .locked) (h .copied)) (locked-full (now (a .s)) (now (a .m)) (a .n) (h .blocks) (h .locked) (h .copied) _ u (omega arith) _ (c .before .before .before .before .before .before .before .before .before .kth-block .ensures) _ (c .before .before .before .before .before .before .target-block .ensures) (c .before .before .before .before .enum-told .given .1)) _ _ (c .before .before .stop .ensures .0) (c .before .before .stop .ensures .1)
+returns-2 c =
+    let z = c .before .before .before .before .before .before .before .before .before .before .before .before .before .before .before .before .before .before in
+    let a = z .args in
+    let h = a .h in
+    let u = c .before .before .before .before .before .before .before .before .before .before .before .blocks-used .ensures ∙ ap blocksUsed (c .before .before .before .before .before .before .before .before .before .before .before .before .size .ensures) in
+    does-full (now (a .s)) (now (a .m)) (now (a .d)) (a .n) (lockedStep (now (a .s)) (now (a .m)) (a .n) (h .blocks) (h .locked) (h .copied)) (locked-full (now (a .s)) (now (a .m)) (a .n) (h .blocks) (h .locked) (h .copied) _ u (omega arith) _ (c .before .before .before .before .before .before .before .before .before .kth-block .ensures) _ (c .before .before .before .before .before .before .target-block .ensures) (c .before .before .before .before .enum-told .given .1)) _ _ (c .before .before .stop .ensures .0) (c .before .before .stop .ensures .1)
 
 copy-requires : tie.Need-copy-requires
-copy-requires c κs = let z = c .before .before .before .before .before .before .before .before .before .before .before .before .before .before .before .before .before in let a = z .args in let h = a .h in let u = c .before .before .before .before .before .before .before .before .before .before .blocks-used .ensures ∙ ap blocksUsed (c .before .before .before .before .before .before .before .before .before .before .before .size .ensures) in let i = c .before .before .before .c .given in ((z .pre .0, z .pre .1, omega arith), target-inside (now (a .m)) (a .n) (h .blocks) _ (i .0 .0) _ (z .pre .3) (c .before .before .before .before .before .target-block .ensures) (i .1))
+copy-requires c κs =
+    let z = c .before .before .before .before .before .before .before .before .before .before .before .before .before .before .before .before .before in
+    let a = z .args in
+    let h = a .h in
+    let u = c .before .before .before .before .before .before .before .before .before .before .blocks-used .ensures ∙ ap blocksUsed (c .before .before .before .before .before .before .before .before .before .before .before .size .ensures) in
+    let i = c .before .before .before .c .given in
+    ((z .pre .0, z .pre .1, omega arith), target-inside (now (a .m)) (a .n) (h .blocks) _ (i .0 .0) _ (z .pre .3) (c .before .before .before .before .before .target-block .ensures) (i .1))
 
 same-length-5 : tie.Need-same-length-5
 same-length-5 c = search needs
@@ -76,7 +97,38 @@ same-length-6 : tie.Need-same-length-6
 same-length-6 c = search needs
 
 returns-3 : tie.Need-returns-3
-returns-3 c = let z = c .before .before .before .before .before .before .before .before .before .before .before .before .before .before .before .before .before .before .before .before .before .before in let a = z .args in let h = a .h in let u = c .before .before .before .before .before .before .before .before .before .before .before .before .before .before .before .blocks-used .ensures ∙ ap blocksUsed (c .before .before .before .before .before .before .before .before .before .before .before .before .before .before .before .before .size .ensures) in let i = c .before .before .before .before .before .before .before .before .c .given in does-same (now (a .s)) (now (a .m)) (now (a .d)) (a .n) (lockedStep (now (a .s)) (now (a .m)) (a .n) (h .blocks) (h .locked) (h .copied)) (copy (h .locked) (h .copied) (i .0 .0)) (locked-copy (now (a .s)) (now (a .m)) (a .n) (h .blocks) (h .locked) (h .copied) _ u (omega arith) _ (c .before .before .before .before .before .before .before .before .before .before .before .before .before .kth-block .ensures) _ (c .before .before .before .before .before .before .before .before .before .before .target-block .ensures) (i .0 .0) (i .1)) _ (c .before .before .before .before .copy .ensures)
+returns-3 c =
+    let z = c .before .before .before .before .before .before .before .before .before .before .before .before .before .before .before .before .before .before .before .before .before .before in
+    let a = z .args in
+    let h = a .h in
+    let u = c .before .before .before .before .before .before .before .before .before .before .before .before .before .before .before .blocks-used .ensures ∙ ap blocksUsed (c .before .before .before .before .before .before .before .before .before .before .before .before .before .before .before .before .size .ensures) in
+    let i = c .before .before .before .before .before .before .before .before .c .given in
+    does-same (now (a .s)) (now (a .m)) (now (a .d)) (a .n) (lockedStep (now (a .s)) (now (a .m)) (a .n) (h .blocks) (h .locked) (h .copied)) (copy (h .locked) (h .copied) (i .0 .0)) (locked-copy (now (a .s)) (now (a .m)) (a .n) (h .blocks) (h .locked) (h .copied) _ u (omega arith) _ (c .before .before .before .before .before .before .before .before .before .before .before .before .before .kth-block .ensures) _ (c .before .before .before .before .before .before .before .before .before .before .target-block .ensures) (i .0 .0) (i .1)) _ (c .before .before .before .before .copy .ensures)
 
 pub locked-step-spec : {M : Type 1} → statement M
-locked-step-spec = tie.close (tie.spec cast-i cast-k size-requires cast-blocks-used blocks-used-requires close-requires same-length same-length-2 returns kth-block-requires cast-own cast-target-block target-block-requires enum-known-c enum-told stop-requires same-length-3 same-length-4 returns-2 copy-requires same-length-5 same-length-6 returns-3)
+locked-step-spec =
+    tie.close
+    (tie.spec
+    cast-i
+    cast-k
+    size-requires
+    cast-blocks-used
+    blocks-used-requires
+    close-requires
+    same-length
+    same-length-2
+    returns
+    kth-block-requires
+    cast-own
+    cast-target-block
+    target-block-requires
+    enum-known-c
+    enum-told
+    stop-requires
+    same-length-3
+    same-length-4
+    returns-2
+    copy-requires
+    same-length-5
+    same-length-6
+    returns-3)

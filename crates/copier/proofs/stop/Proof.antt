@@ -15,7 +15,10 @@ same-length : tie.Need-same-length
 same-length c = search needs
 
 returns : tie.Need-returns
-returns c = let z = c .before .before .before .before .before .before in let a = z .args in (refl, stop-done (now (a .d)) (a .h) _ (z .pre .read) (c .before .before .before .before .stop .ensures) _ (c .before .before .write .ensures))
+returns c =
+    let z = c .before .before .before .before .before .before in
+    let a = z .args in
+    (refl, stop-done (now (a .d)) (a .h) _ (z .pre .0) (c .before .before .before .before .stop .ensures) _ (c .before .before .write .ensures))
 
 pub stop-spec : {M : Type 1} → statement M
 stop-spec = tie.close (tie.spec stop-requires write-requires same-length returns)

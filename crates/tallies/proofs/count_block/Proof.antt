@@ -19,7 +19,9 @@ abbrev μ-loop : tie.MeasureT-loop
 μ-loop m n e k counts₀ a o j₀ counts j = 4 - j
 
 kth-block-requires : tie.Need-kth-block-requires Inv-loop μ-loop
-kth-block-requires c κs = let p = c .before .before .pre in (record { low = p .1; high = p .2; few = p .0 .few; area = p .0 .area }, p .3)
+kth-block-requires c κs =
+    let p = c .before .before .pre in
+    (record { low = p .1; high = p .2; few = p .0 .few; area = p .0 .area }, p .3)
 
 cast-a : tie.Need-cast-a Inv-loop μ-loop
 cast-a c = search needs

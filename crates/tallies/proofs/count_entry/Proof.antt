@@ -24,10 +24,14 @@ cast-i : tie.Need-cast-i
 cast-i c = search needs
 
 returns : tie.Need-returns
-returns c = let a = c .before .before .before .before .before .args in λ f p e t. entry-none (now (a .m)) (a .o) _ (now (a .counts)) (c .before .entry-inode .ensures) f p e t (c .if1 .taken)
+returns c =
+    let a = c .before .before .before .before .before .args in
+    λ f p e t. entry-none (now (a .m)) (a .o) _ (now (a .counts)) (c .before .entry-inode .ensures) f p e t (c .if1 .taken)
 
 returns-2 : tie.Need-returns-2
-returns-2 c = let a = c .before .before .before .before .before .before .args in λ f p e t. entry-past (now (a .m)) (a .o) _ (now (a .counts)) (c .before .before .entry-inode .ensures) f p e t (c .if2 .taken)
+returns-2 c =
+    let a = c .before .before .before .before .before .before .args in
+    λ f p e t. entry-past (now (a .m)) (a .o) _ (now (a .counts)) (c .before .before .entry-inode .ensures) f p e t (c .if2 .taken)
 
 mul-counts : tie.Need-mul-counts
 mul-counts c = search needs
@@ -48,7 +52,9 @@ same-length : tie.Need-same-length
 same-length c = search needs
 
 returns-3 : tie.Need-returns-3
-returns-3 c = let a = c .before .before .before .before .before .before .before .args in λ f p e t. entry-one (now (a .m)) (a .o) _ (now (a .counts)) (c .before .before .before .entry-inode .ensures) f p e t (omega arith) (omega arith)
+returns-3 c =
+    let a = c .before .before .before .before .before .before .before .args in
+    λ f p e t. entry-one (now (a .m)) (a .o) _ (now (a .counts)) (c .before .before .before .entry-inode .ensures) f p e t (omega arith) (omega arith)
 
 pub count-entry-spec : {M : Type 1} → statement M
 count-entry-spec =

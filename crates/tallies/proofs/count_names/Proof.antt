@@ -25,7 +25,10 @@ slice-aggregate-count-directory : tie.Need-slice-aggregate-count-directory Inv-l
 slice-aggregate-count-directory c = search needs
 
 count-directory-requires : tie.Need-count-directory-requires Inv-loop μ-loop
-count-directory-requires c κs = let k = c .before .before .loop .k in let w : 48 * k ≡ 48 * (k + 1 - 1) = omega arith in (c .before .before .before .before .pre, omega arith, omega arith, tallied-at _ _ _ _ w (c .before .before .loop .inv .1))
+count-directory-requires c κs =
+    let k = c .before .before .loop .k in
+    let w : 48 * k ≡ 48 * (k + 1 - 1) = omega arith in
+    (c .before .before .before .before .pre, omega arith, omega arith, tallied-at _ _ _ _ w (c .before .before .loop .inv .1))
 
 add-k : tie.Need-add-k Inv-loop μ-loop
 add-k c = search needs
@@ -37,7 +40,9 @@ loop-again : tie.Need-loop-again Inv-loop μ-loop
 loop-again c = (omega arith, c .before .count-directory .ensures)
 
 returns : tie.Need-returns Inv-loop μ-loop
-returns c = let w : 48 * c .before .loop .k ≡ 48 * c .before .before .before .args .n = omega arith in tallied-at _ _ _ _ w (c .before .loop .inv .1)
+returns c =
+    let w : 48 * c .before .loop .k ≡ 48 * c .before .before .before .args .n = omega arith in
+    tallied-at _ _ _ _ w (c .before .loop .inv .1)
 
 pub count-names-spec : {M : Type 1} → statement M
 count-names-spec =

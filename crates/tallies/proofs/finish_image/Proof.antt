@@ -29,10 +29,14 @@ put-counts-requires : tie.Need-put-counts-requires
 put-counts-requires c κs = search needs
 
 cast-put-free : tie.Need-cast-put-free
-cast-put-free c = let z = c .before .before .before .before .before .before .before .before .before .before .before .before .before .before .before in omega (arith, z .pre .0 .few, c .before .before .before .before .before .before .before .before .free-inodes .ensures, count-le (freeB (now (z .args .m))) (z .args .n))
+cast-put-free c =
+    let z = c .before .before .before .before .before .before .before .before .before .before .before .before .before .before .before in
+    omega (arith, z .pre .0 .few, c .before .before .before .before .before .before .before .before .free-inodes .ensures, count-le (freeB (now (z .args .m))) (z .args .n))
 
 cast-put-free-2 : tie.Need-cast-put-free-2
-cast-put-free-2 c = let z = c .before .before .before .before .before .before .before .before .before .before .before .before .before .before .before in omega (arith, z .pre .1, c .before .before .before .before .before .before .free-blocks .ensures, count-le (λ k. eqb (getD (c .before .before .before .before .before .before .before .before .before .before .named-blocks .result) (k + 1) 0) 0) (z .args .b))
+cast-put-free-2 c =
+    let z = c .before .before .before .before .before .before .before .before .before .before .before .before .before .before .before in
+    omega (arith, z .pre .1, c .before .before .before .before .before .before .free-blocks .ensures, count-le (λ k. eqb (getD (c .before .before .before .before .before .before .before .before .before .before .named-blocks .result) (k + 1) 0) 0) (z .args .b))
 
 put-free-requires : tie.Need-put-free-requires
 put-free-requires c κs = search needs
@@ -44,7 +48,10 @@ same-length : tie.Need-same-length
 same-length c = search needs
 
 returns : tie.Need-returns
-returns c = let z = c .before .before .before .before .before .before .before .before .before .before .before .before .before .before .before .before .before .before .before .before .before .before in let a = z .args in finish-read (now (a .m)) _ _ _ _ (a .n) (a .b) _ _ (z .pre .1) (c .before .before .before .before .before .before .before .before .before .before .before .before .before .before .before .before .before .named-blocks .ensures) (c .before .before .before .before .before .before .before .before .before .before .before .before .before .before .before .free-inodes .ensures) (c .before .before .before .before .before .before .before .before .before .before .before .before .before .free-blocks .ensures) (c .before .before .before .before .before .before .before .before .before .before .put-counts .ensures) (c .before .before .before .before .before .before .put-free .ensures) (c .before .before .put-complete .ensures)
+returns c =
+    let z = c .before .before .before .before .before .before .before .before .before .before .before .before .before .before .before .before .before .before .before .before .before .before in
+    let a = z .args in
+    finish-read (now (a .m)) _ _ _ _ (a .n) (a .b) _ _ (z .pre .1) (c .before .before .before .before .before .before .before .before .before .before .before .before .before .before .before .before .before .named-blocks .ensures) (c .before .before .before .before .before .before .before .before .before .before .before .before .before .before .before .free-inodes .ensures) (c .before .before .before .before .before .before .before .before .before .before .before .before .before .free-blocks .ensures) (c .before .before .before .before .before .before .before .before .before .before .put-counts .ensures) (c .before .before .before .before .before .before .put-free .ensures) (c .before .before .put-complete .ensures)
 
 pub finish-image-spec : {M : Type 1} → statement M
 finish-image-spec =

@@ -36,7 +36,9 @@ is-copied-requires : tie.Need-is-copied-requires Inv-loop μ-loop
 is-copied-requires c κs = search needs
 
 returns : tie.Need-returns Inv-loop μ-loop
-returns c = let l = c .before .before .before .before .before .loop in sym (l .inv .2 ∙ first-found _ (l .i) _ (omega arith) (and-true _ _ (ap not (sym (c .before .is-copied .ensures)) ∙ c .if2 .taken) (ap not (ne-eqb _ 0 (c .before .before .if1 .taken)))))
+returns c =
+    let l = c .before .before .before .before .before .loop in
+    sym (l .inv .2 ∙ first-found _ (l .i) _ (omega arith) (and-true _ _ (ap not (sym (c .before .is-copied .ensures)) ∙ c .if2 .taken) (ap not (ne-eqb _ 0 (c .before .before .if1 .taken)))))
 
 add-i : tie.Need-add-i Inv-loop μ-loop
 add-i c = search needs
@@ -45,7 +47,9 @@ loop-less : tie.Need-loop-less Inv-loop μ-loop
 loop-less c = search needs
 
 loop-again : tie.Need-loop-again Inv-loop μ-loop
-loop-again c = let l = c .before .before .before .loop in (omega arith, omega arith, l .inv .2 ∙ first-turn _ (l .i) _ (omega arith) (⊎-elim (λ w. and-false-l _ _ (ap not (sym (w .1 .ensures)) ∙ w .2 .left)) (λ w. and-false-r (not (isCopied (c .before .before .before .before .before .args .d .now) (c .before .before .before .before .before .args .n) (l .i))) _ (ap not (eq-eqb _ 0 (w .left)))) (c .if1 .came)))
+loop-again c =
+    let l = c .before .before .before .loop in
+    (omega arith, omega arith, l .inv .2 ∙ first-turn _ (l .i) _ (omega arith) (⊎-elim (λ w. and-false-l _ _ (ap not (sym (w .1 .ensures)) ∙ w .2 .left)) (λ w. and-false-r (not (isCopied (c .before .before .before .before .before .args .d .now) (c .before .before .before .before .before .args .n) (l .i))) _ (ap not (eq-eqb _ 0 (w .left)))) (c .if1 .came)))
 
 returns-2 : tie.Need-returns-2 Inv-loop μ-loop
 returns-2 c = let i = c .before .loop in sym (i .inv .2 ∙ first-end _ (i .i) _ (omega arith))

@@ -17,7 +17,9 @@ is-marked-requires : tie.Need-is-marked-requires
 is-marked-requires c κs = search needs
 
 returns : tie.Need-returns
-returns c = let a = c .before .before .before .before .args in entry-unmarked (now (a .d)) (a .n) (a .i) (a .k) (now (a .x)) (a .j) _ (c .before .is-marked .ensures) (c .if1 .taken)
+returns c =
+    let a = c .before .before .before .before .args in
+    entry-unmarked (now (a .d)) (a .n) (a .i) (a .k) (now (a .x)) (a .j) _ (c .before .is-marked .ensures) (c .if1 .taken)
 
 add-entry-inode : tie.Need-add-entry-inode
 add-entry-inode c = search needs
@@ -44,7 +46,9 @@ same-length : tie.Need-same-length
 same-length c = search needs
 
 returns-2 : tie.Need-returns-2
-returns-2 c = let a = c .before .before .before .before .before .before .before .before .before .args in entry-uncopied (now (a .d)) (a .n) (a .i) (a .k) (now (a .x)) (a .j) _ (c .before .before .before .before .before .before .is-marked .ensures) _ (c .before .before .entry-inode .ensures) _ (c .before .is-copied .ensures) (c .if2 .taken)
+returns-2 c =
+    let a = c .before .before .before .before .before .before .before .before .before .args in
+    entry-uncopied (now (a .d)) (a .n) (a .i) (a .k) (now (a .x)) (a .j) _ (c .before .before .before .before .before .before .is-marked .ensures) _ (c .before .before .entry-inode .ensures) _ (c .before .is-copied .ensures) (c .if2 .taken)
 
 zero-range-requires : tie.Need-zero-range-requires
 zero-range-requires c κs = search needs
@@ -53,7 +57,9 @@ same-length-2 : tie.Need-same-length-2
 same-length-2 c = search needs
 
 returns-3 : tie.Need-returns-3
-returns-3 c = let a = c .before .before .before .before .before .before .before .before .before .before .before .before .before .args in entry-zeroed (now (a .d)) (a .n) (a .i) (a .k) (now (a .x)) (a .j) _ (c .before .before .before .before .before .before .before .before .before .before .is-marked .ensures) _ (c .before .before .before .before .before .before .entry-inode .ensures) _ (c .before .before .before .before .before .is-copied .ensures) (c .before .before .before .before .before .before .before .before .before .if1 .left) (c .before .before .before .before .if2 .left) _ (c .before .before .zero-range .ensures)
+returns-3 c =
+    let a = c .before .before .before .before .before .before .before .before .before .before .before .before .before .args in
+    entry-zeroed (now (a .d)) (a .n) (a .i) (a .k) (now (a .x)) (a .j) _ (c .before .before .before .before .before .before .before .before .before .before .is-marked .ensures) _ (c .before .before .before .before .before .before .entry-inode .ensures) _ (c .before .before .before .before .before .is-copied .ensures) (c .before .before .before .before .before .before .before .before .before .if1 .left) (c .before .before .before .before .if2 .left) _ (c .before .before .zero-range .ensures)
 
 pub copy-entry-spec : {M : Type 1} → statement M
 copy-entry-spec =

@@ -11,13 +11,19 @@ is-unnamed-requires : tie.Need-is-unnamed-requires
 is-unnamed-requires c κs = search needs
 
 returns : tie.Need-returns
-returns c = let z = c .before .before .before .before .before in let a = z .args in target-own (now (a .m)) _ (a .n) (a .b) (a .c) (z .pre .1) (c .before .before .before .named-blocks .ensures) _ (c .before .is-unnamed .ensures) (c .if1 .taken)
+returns c =
+    let z = c .before .before .before .before .before in
+    let a = z .args in
+    target-own (now (a .m)) _ (a .n) (a .b) (a .c) (z .pre .1) (c .before .before .before .named-blocks .ensures) _ (c .before .is-unnamed .ensures) (c .if1 .taken)
 
 lowest-unnamed-requires : tie.Need-lowest-unnamed-requires
 lowest-unnamed-requires c κs = search needs
 
 returns-2 : tie.Need-returns-2
-returns-2 c = let z = c .before .before .before .before .before .before .before in let a = z .args in target-other (now (a .m)) _ (a .n) (a .b) (a .c) (z .pre .1) (c .before .before .before .before .before .named-blocks .ensures) _ _ (c .before .before .before .is-unnamed .ensures) (c .before .before .if1 .left) (c .lowest-unnamed .ensures)
+returns-2 c =
+    let z = c .before .before .before .before .before .before .before in
+    let a = z .args in
+    target-other (now (a .m)) _ (a .n) (a .b) (a .c) (z .pre .1) (c .before .before .before .before .before .named-blocks .ensures) _ _ (c .before .before .before .is-unnamed .ensures) (c .before .before .if1 .left) (c .lowest-unnamed .ensures)
 
 pub target-block-spec : {M : Type 1} → statement M
 target-block-spec =
