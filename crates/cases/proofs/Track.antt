@@ -31,7 +31,8 @@ use Rattle.checkpoint.specs.Table.{createTable, writeTable, startTable}
 use Rattle.checkpoint.specs.Busy.{anyLocked}
 use Rattle.checkpoint.specs.Live.{World, live, start}
 use Rattle.checkpoint.specs.List.{Ready, call, starts, outcome}
-use Rattle.checkpoint.proofs.TableLaws.{create-table, write-table, start-table}
+use Rattle.checkpoint.proofs.TableLaws.{create-table, write-table}
+use Rattle.checkpoint.proofs.CopierTables.{start-table}
 use Rattle.cases.specs.Cases.{TrackCases, Writes, Creates, inodes}
 use Rattle.cases.proofs.Runs.{three-steps, finish, reused-block, moved-directory, unlinked-file, into-child}
 

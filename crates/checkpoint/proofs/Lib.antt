@@ -5,6 +5,7 @@ pub mod PlainLaws
 pub mod RefusedLaws
 pub mod RowLaws
 pub mod TableLaws
+pub mod CopierTables
 pub mod Call
 pub mod Copy
 pub mod Step

@@ -16,6 +16,7 @@ pub mod Finales
 pub mod Stood
 pub mod Taking
 pub mod Lasts
+pub mod Held
 pub mod Honesty
 pub mod Unwritten
 pub mod Still

@@ -1,29 +1,22 @@
 -- "looked at lowest first, when and only when the condition holds for that call": each call's answer is the first condition of its table that holds. s is the store, m the image, d the desk.
-use mathlib.Core.Path.{_≡_, refl, sym, ap, ap₂, _∙_}
-use mathlib.Core.Bool.{Bool, true, false, not, _&&_, _||_, true≢false}
+use mathlib.Core.Path.{_≡_, refl}
+use mathlib.Core.Bool.{Bool, true, false, not, _&&_, _||_}
 use mathlib.Core.List.{List, [], _∷_}
-use Prim.Native.Nat.{ℕ, _+_, _-_, _≤_, min, max}
-use native.Mathlib.Omega.{arith}
-use borrow.Author.Tests.{leb-true, not-true, not-false}
-use lib.Dec.{eqb, leb, ltb}
+use Prim.Native.Nat.{ℕ, _+_, _-_, min, max}
+use lib.Dec.{eqb, ltb}
 use lib.ListN.{length}
-use Rattle.bounded.specs.Search.{pick, firstFrom, onFound}
-use Rattle.bounded.proofs.BoolLaws.{and-left, and-right, fails, same-test, clash}
-use Rattle.bounded.proofs.BelowLaws.{allTo, to-at, to-of}
-use Rattle.bounded.proofs.SearchLaws.{none-below, absent-of}
+use Rattle.bounded.specs.Search.{pick, onFound}
 use Rattle.bounded.specs.declared.Found.{Found}
 use Rattle.bounded.specs.declared.Found.the-variants.{At, Absent}
-use Rattle.layout.specs.Sizes.{mostStoreBlocks, mostFileBytes, rootInode}
+use Rattle.layout.specs.Sizes.{mostFileBytes}
 use Rattle.layout.specs.Header.{headerOf}
 use Rattle.layout.specs.Inode.{kindOf, sizeOf, directoryKind, isFile, isDirectory}
-use Rattle.layout.specs.Block.{blocksUsed, kthBlock}
-use Rattle.layout.specs.Free.{named, freeInode, freeBlock}
+use Rattle.layout.specs.Block.{blocksUsed}
+use Rattle.layout.specs.Free.{freeInode}
 use Rattle.names.specs.Name.{legalName}
 use Rattle.directory.specs.Slot.{findSlot}
-use Rattle.desk.specs.Desk.{deskOf}
-use Rattle.sound.specs.Sound.{framedB, isSound, inodesIn, blocksIn}
-use Rattle.sound.specs.declared.Form.the-variants.{Store}
-use Rattle.answers.specs.declared.Refusal.the-variants.{BadBuffer, NameTaken, IntoItself, NoBlocks, NoSlot, Busy, WrongState, ImageFull}
+use Rattle.sound.specs.Sound.{inodesIn, blocksIn}
+use Rattle.answers.specs.declared.Refusal.the-variants.{NameTaken, IntoItself, NoBlocks, NoSlot, Busy}
 use Rattle.answers.specs.declared.Answer.{Answer}
 use Rattle.answers.specs.declared.Answer.the-variants.{Done}
 use Rattle.content.specs.declared.NumberPlan.{NumberPlan}
@@ -42,14 +35,11 @@ use Rattle.files.specs.declared.Guard.the-variants.{Pass, Stop}
 use Rattle.files.specs.Guard.{guardOf, onGuard}
 use Rattle.files.specs.Effect.{lookUp, read, create, write, shorten, link, unlink, rename, refused, doLookUp, doRead, doCreate, doWrite, doShorten, doLink, doUnlink, doRename, planned, plainDecision}
 use Rattle.files.specs.Plain.{leaves, plain, Outcome as PlainOutcome}
-use Rattle.checkpoint.specs.Fit.{deskFramed, imageAllowed, isRunning, notesFit}
 use Rattle.checkpoint.specs.Busy.{anyLocked, unlessBusy}
-use Rattle.checkpoint.specs.Notes.{isCopied, cutEntries, clearMarks, setMarks}
-use Rattle.checkpoint.specs.Copier.{targetBlock, stepOf, lock, copy, close, finish, full, lockedStep, freeStep, nextInode}
-use Rattle.checkpoint.specs.Live.{World, Outcome, left, refuse, decision, leavesIn, live, ask, doStep, started, start, step, asStatus, status}
-use Rattle.checkpoint.proofs.DecisionLaws.{guarded-is}
-use Rattle.checkpoint.specs.Table.{Row, row, firstOf, found, orZero, liveRows, noBlock, noSlot, slotFor, inodeFor, lookUpTable, readTable, createTable, writeTable, shortenTable, linkTable, unlinkTable, renameTable, startTable, stepTable}
-use Rattle.checkpoint.proofs.ConditionLaws.{Gives, by-pick, by-found, by-absent, by-room, by-busy, by-guards, by-three, by-store, by-none, give}
+use Rattle.checkpoint.specs.Notes.{cutEntries, clearMarks, setMarks}
+use Rattle.checkpoint.specs.Live.{World, Outcome, left, decision, leavesIn, live}
+use Rattle.checkpoint.specs.Table.{Row, row, firstOf, found, orZero, noBlock, noSlot, slotFor, inodeFor, lookUpTable, readTable, createTable, writeTable, shortenTable, linkTable, unlinkTable, renameTable}
+use Rattle.checkpoint.proofs.ConditionLaws.{Gives, by-pick, by-found, by-absent, by-room, by-busy, by-three, by-store, by-none, give}
 
 -- ---- the calls on the store alone
 module _ (s : List ℕ) where
@@ -139,13 +129,6 @@ module _ (w : World) (e f : ℕ) (other : List ℕ) (t i : ℕ) where
                 (by-room (renameAnswer w e f other) (w .store) f _ _ (λ x. refl) (λ r. by-busy (anyLocked (w .desk) (e ∷ f ∷ i ∷ [])) w _)) .first;
           }
 
--- 1 of start, where the image is looked at too
-start-first : {A : Type 0} (f k i : Bool) (x y : A) → pick (f && (k && not i)) x (pick (not (f && k)) x y) ≡ pick (not (f && (k && i))) x y
-start-first true true true x y = refl
-start-first true true false x y = refl
-start-first true false i x y = refl
-start-first false k i x y = refl
-
 -- ---- the calls on all three buffers
 module _ (w : World) where
   pub create-table : (e : ℕ) (name : List ℕ) (k : Kind) → live (create e name k) w .answer ≡ firstOf (createTable (w .store) (w .image) (w .desk) e name) (Done (orZero (freeInode (w .store) (inodesIn (w .store)))))
@@ -215,69 +198,3 @@ module _ (w : World) where
       (by-pick h (not (isDirectory (w .store) (inodesIn (w .store)) e && isDirectory (w .store) (inodesIn (w .store)) f)) _ _ refl
       (by-absent h (findSlot (w .store) (inodesIn (w .store)) e name) _ _ refl
       (by-rename w e f other (slotFor (w .store) e name) (inodeFor (w .store) e name))))))
-
--- ---- start, step and state
-module _ (s m d : List ℕ) where
-  pub start-table : start s m d .answer ≡ firstOf (startTable s m d) (Done 0)
-  unfolding start started startTable
-  start-table =
-      let h : Outcome → Answer = λ z. z .answer in
-      ap (λ (o : Outcome). h (pick (framedB mostStoreBlocks s && (deskFramed d && not (imageAllowed (inodesIn s) (length m)))) (refuse BadBuffer s m d) o)) (guarded-is s m d _)
-      ∙ ap h (start-first (framedB mostStoreBlocks s) (deskFramed d) (imageAllowed (inodesIn s) (length m)) _ _)
-      ∙ give _ (startTable s m d) _
-      (by-pick h (not (framedB mostStoreBlocks s && (deskFramed d && imageAllowed (inodesIn s) (length m)))) _ _ refl
-      (by-pick h (not (isSound Store s)) _ _ refl
-      (by-pick h (not (notesFit s m d)) _ _ refl
-      (by-pick h (isRunning d) _ _ refl by-none))))
-
-  by-step : (i k : ℕ) (runs none more : Bool) (t : Found) (root : Bool) (next : Found)
-      → Gives (pick runs (doStep s m d (inodesIn s) (pick none (pick root (onFound next lock finish) (lock rootInode)) (pick more (onFound t (λ c. copy i k c) full) (close i)))) (refuse WrongState s m d) .answer)
-      (row (not runs) WrongState ∷ row (not none && (more && not (found t))) ImageFull ∷ []) (Done (deskOf d .steps + 1))
-  by-step i k false none more t root next = record { first = refl }
-  by-step i k true true more t true (At j) = record { first = refl }
-  by-step i k true true more t true Absent = record { first = refl }
-  by-step i k true true more t false next = record { first = refl }
-  by-step i k true false true (At c) root next = record { first = refl }
-  by-step i k true false true Absent root next = record { first = refl }
-  by-step i k true false false t root next = record { first = refl }
-
-  pub step-table : step s m d .answer ≡ firstOf (stepTable s m d) (Done (deskOf d .steps + 1))
-  unfolding step stepOf freeStep lockedStep stepTable
-  step-table =
-      let i : ℕ = deskOf d .locked in
-      let k : ℕ = deskOf d .copied in
-      give _ (stepTable s m d) _
-      (by-guards s m d _
-      (by-step i k (isRunning d) (eqb i 0) (ltb k (blocksUsed (sizeOf s i))) (targetBlock m (inodesIn s) (deskOf d .blocks) (kthBlock s (inodesIn s) i k))
-      (isCopied d (inodesIn s) rootInode) (nextInode m d (inodesIn s))))
-
-  pub status-table : status s m d ≡ asStatus (firstOf (liveRows s m d []) (Done 0)) d
-  unfolding status ask
-  status-table = ap (λ (a : Answer). asStatus a d) (give _ (liveRows s m d []) _ (by-guards s m d (left (Done 0) s m d) by-none))
-
--- 16: a block finds no place, when and only when "every image block [is] named"
-no-place : (c : ℕ) (t : Bool) (f : Found) → not (found (pick t (At c) f)) ≡ true → f ≡ Absent
-no-place c true f h = absurd (true≢false (sym h))
-no-place c false (At j) h = absurd (true≢false (sym h))
-no-place c false Absent h = refl
-
-pub full-image : (m : List ℕ) (n b c : ℕ) → not (found (targetBlock m n b c)) ≡ allTo (named m n) b
-unfolding targetBlock freeBlock
-full-image m n b c = same-test (not (found (targetBlock m n b c))) (allTo (named m n) b) there back
-  where
-    there : not (found (targetBlock m n b c)) ≡ true → allTo (named m n) b ≡ true
-    there h =
-        let e : firstFrom (λ j. not (named m n j)) 1 b ≡ Absent = no-place c (leb 1 c && (leb c b && not (named m n c))) (freeBlock m n b) h in
-        to-of (named m n) b (λ j l k. not-false (named m n j) (none-below (λ i. not (named m n i)) 1 b e j (omega arith) (omega arith)))
-
-    own : allTo (named m n) b ≡ true → leb 1 c && (leb c b && not (named m n c)) ≡ true → ⊥
-    own h w =
-        let r : leb c b && not (named m n c) ≡ true = and-right (leb 1 c) (leb c b && not (named m n c)) w in
-        let l : 1 ≤ c = leb-true 1 c (and-left (leb 1 c) (leb c b && not (named m n c)) w) in
-        let k : c ≤ b = leb-true c b (and-left (leb c b) (not (named m n c)) r) in
-        clash (named m n c) (to-at (named m n) b h c l k) (not-true (named m n c) (and-right (leb c b) (not (named m n c)) r))
-
-    back : allTo (named m n) b ≡ true → not (found (targetBlock m n b c)) ≡ true
-    back h =
-        let none : freeBlock m n b ≡ Absent = absent-of (λ j. not (named m n j)) 1 b (λ j l k. ap not (to-at (named m n) b h j (omega arith) (omega arith))) in
-        ap₂ (λ (t : Bool) (f : Found). not (found (pick t (At c) f))) (fails (leb 1 c && (leb c b && not (named m n c))) (own h)) none

@@ -81,6 +81,27 @@ module _ (s : List ℕ) (n b d : ℕ) (name : List ℕ) (r : Room) (h : Sound mo
   unfolding enter
   entered-steady i = steady-then (blocks-of s n h x) (room-steady s n b d r h x y (new .directory) e) (put-steady m n d (r .slot) i name (blocks-of m n (room .sound) count) there) (λ j z. (z, z))
 
+  -- the entry made, and nothing else of the store that a law speaks of. v is the answer, ks what else may change
+  made-lawful : (w : List ℕ) (v i : ℕ) (ks : List ℕ) → Filled m w n (placeOf d (r .slot)) i name → Steady s w n (d ∷ ks) → Sound mostStoreBlocks false w
+      → Lawful s n (changes v w (d ∷ ks) [] (entry d (r .slot) i ∷ []))
+  made-lawful w v i ks o a sound =
+      record {
+        sound = sound;
+        frame = a .frame;
+        stood = tt;
+        gone = tt;
+        stands = (made-stands m w n d (r .slot) i name there o, tt);
+        bare = (λ _. was-bare, tt);
+        one-taken = omega arith;
+        one-made = omega arith;
+        moves = tt;
+        others = λ q l _ z. made-others w i o q l (z .0);
+        kinds = λ j l k z. inl (a .kinds j l k z);
+        untouched = a .stays;
+        contents = λ j l m z _ _. a .files j l m z;
+        apart = λ j z. (tt, (z .0, tt));
+      }
+
   link-lawful : (i : ℕ) → isFile s n i ≡ true → Sound mostStoreBlocks false (linked s n d name i r) → Lawful s n (changes 0 (linked s n d name i r) (d ∷ i ∷ []) [] (entry d (r .slot) i ∷ []))
   unfolding linked enter
   link-lawful i file sound =
@@ -89,22 +110,7 @@ module _ (s : List ℕ) (n b d : ℕ) (name : List ℕ) (r : Room) (h : Sound mo
       let g = entered-steady i in
       let f = inode-fits s (enter s n d r i name) n i (g .frame .long) (kind-fits s n h x fileKind i file) in
       let a = steady-then {ks = d ∷ i ∷ []} (blocks-of s n h x) g (links-steady (enter s n d r i name) n i (linksOf (enter s n d r i name) i + 1) f) (λ j z. ((z .0, tt), (z .1 .0, tt))) in
-      record {
-        sound = sound;
-        frame = a .frame;
-        stood = tt;
-        gone = tt;
-        stands = (made-stands m _ n d (r .slot) i name there o, tt);
-        bare = (λ _. was-bare, tt);
-        one-taken = omega arith;
-        one-made = omega arith;
-        moves = tt;
-        others = λ q l _ z. made-others _ i o q l (z .0);
-        kinds = λ j l k z. inl (a .kinds j l k z);
-        untouched = a .stays;
-        contents = λ j l m z _ _. a .files j l m z;
-        apart = λ j z. (tt, (z .0, tt));
-      }
+      made-lawful _ _ i _ o a sound
 
   create-lawful : (k : Kind) (i : ℕ) → freeInode s n ≡ At i → Sound mostStoreBlocks false (created s n d name k i r) → Lawful s n (changes i (created s n d name k i r) (d ∷ []) [] (entry d (r .slot) i ∷ []))
   unfolding created enter
@@ -115,22 +121,7 @@ module _ (s : List ℕ) (n b d : ℕ) (name : List ℕ) (r : Room) (h : Sound mo
       let f = inode-fits s (enter s n d r i name) n i (g .frame .long) (fits s n h x i (z .low) (z .high)) in
       let c = put-entry m n d (r .slot) (slot-low m m n d (r .slot) (blocks-of m n (room .sound) count) there) i name .inodes i (z .low) (z .high) .kind ∙ room .tree .kinds i (z .low) (z .high) ∙ z .kind in
       let a = steady-then {ks = d ∷ []} (blocks-of s n h x) g (new-steady (enter s n d r i name) n i (newInode k d) f c (new-addresses k d)) (λ j u. (u, tt)) in
-      record {
-        sound = sound;
-        frame = a .frame;
-        stood = tt;
-        gone = tt;
-        stands = (made-stands m _ n d (r .slot) i name there o, tt);
-        bare = (λ _. was-bare, tt);
-        one-taken = omega arith;
-        one-made = omega arith;
-        moves = tt;
-        others = λ q l _ z. made-others _ i o q l (z .0);
-        kinds = λ j l k z. inl (a .kinds j l k z);
-        untouched = a .stays;
-        contents = λ j l m z _ _. a .files j l m z;
-        apart = λ j z. (tt, (z .0, tt));
-      }
+      made-lawful _ _ i _ o a sound
 
 pub lawful-link : (s : List ℕ) (n b d : ℕ) (name : List ℕ) (i : ℕ) → Sound mostStoreBlocks false s → n ≡ inodesIn s → b ≡ blocksIn s → Each (Lawful s n) (planned (link d name i) s n b)
 lawful-link s n b d name i h x y = go (linkPlan s n b d name i) refl

@@ -25,7 +25,7 @@ use Rattle.changes.proofs.KeepLaws.{inode-kept}
 use Rattle.changes.proofs.AddressLaws.{same-named, same-differ}
 use Rattle.changes.proofs.EntryWriteLaws.{SlotIn}
 use Rattle.checkpoint.specs.Notes.{isCopied}
-use Rattle.checkpoint.proofs.Copy.Laid.{Laid, Open, Frame, Fair, cost, costSoFar}
+use Rattle.checkpoint.proofs.Copy.Laid.{Laid, Open, Frame, frame-kept, Fair, cost, costSoFar}
 use Rattle.checkpoint.proofs.Copy.NamingLaws.{used-other}
 use Rattle.checkpoint.proofs.Call.CutLaws.{inside, in-use, slot-same, cut-inode, cut-block, cut-file, cut-empty, cut-other}
 
@@ -42,21 +42,7 @@ module _ {n b : ℕ} {s m d : List ℕ} (k : Sound mostStoreBlocks false s) (x :
   cut = clearEntry m n e t
 
   frame : Frame n b cut
-  frame =
-      let f = h .frame in
-      let g = inside h e t slot .frame in
-      record {
-        some-inodes = f .some-inodes;
-        most-inodes = f .most-inodes;
-        some-blocks = f .some-blocks;
-        most-blocks = f .most-blocks;
-        long = g .long ∙ f .long;
-        inodes = g .inodes ∙ f .inodes;
-        blocks = g .blocks ∙ f .blocks;
-        root = g .root ∙ f .root;
-        complete = g .complete ∙ f .complete;
-        reserved = g .reserved ∙ f .reserved;
-      }
+  frame = frame-kept (inside h e t slot .frame) (h .frame)
 
   not-locked : deskOf d .locked ≢ e
   not-locked z = used-other h e (slot .low) (slot .high) (in-use h e t slot) (sym z)

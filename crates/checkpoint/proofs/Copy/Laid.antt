@@ -1,6 +1,6 @@
 -- How image and desk lie at every moment of a running copy: what each buffer holds, apart from history. s is the store, m the image, d the desk, n and b the counts of inodes and image blocks.
 use Prim.Native.Nat.{ℕ, _+_, _*_, _≤_, _<_}
-use mathlib.Core.Path.{_≡_}
+use mathlib.Core.Path.{_≡_, _∙_}
 use mathlib.Core.Logic.{_≢_, _⊎_}
 use mathlib.Core.Bool.{true, false}
 use mathlib.Core.List.{List}
@@ -21,6 +21,7 @@ use Rattle.desk.specs.Desk as desk
 use Rattle.sound.specs.Place.{isSlot, entryAt}
 use Rattle.sound.specs.Inode.{InodeSound}
 use Rattle.sound.specs.Sound.{unnamedB}
+use Rattle.changes.proofs.SameLaws.{SameFrame}
 use Rattle.checkpoint.specs.Notes.{isCopied}
 use Rattle.checkpoint.specs.Copier.{copiedBlock}
 
@@ -48,6 +49,20 @@ pub record Frame (n b : ℕ) (m : List ℕ) : Type 0 where
   pub root : headerOf m .root ≡ rootInode
   pub complete : headerOf m .complete ≡ notComplete
   pub reserved : reservedZero m ≡ true
+
+pub frame-kept : {n b : ℕ} {m t : List ℕ} → SameFrame m t → Frame n b m → Frame n b t
+frame-kept g f = record {
+  some-inodes = f .some-inodes;
+  most-inodes = f .most-inodes;
+  some-blocks = f .some-blocks;
+  most-blocks = f .most-blocks;
+  long = g .long ∙ f .long;
+  inodes = g .inodes ∙ f .inodes;
+  blocks = g .blocks ∙ f .blocks;
+  root = g .root ∙ f .root;
+  complete = g .complete ∙ f .complete;
+  reserved = g .reserved ∙ f .reserved;
+}
 
 -- the locked inode l, k of whose blocks are copied: no attributes yet, k addresses, and each of these blocks is as a step would copy it now
 pub record Open (n b : ℕ) (s m d : List ℕ) (l k : ℕ) : Type 0 where

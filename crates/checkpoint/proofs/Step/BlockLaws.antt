@@ -18,7 +18,7 @@ use Rattle.layout.specs.Block.{storeLength, blockAt, blockOf, putInBlock}
 use Rattle.layout.proofs.FrameLaws.{length-address, length-in-block, header-past}
 use Rattle.changes.proofs.SameLaws.{InBlock, put-in-block}
 use Rattle.changes.proofs.AddressLaws.{same-addresses}
-use Rattle.checkpoint.proofs.Copy.Laid.{Frame}
+use Rattle.checkpoint.proofs.Copy.Laid.{Frame, frame-kept}
 
 pub record OneBlock (m t : List ℕ) (n x c : ℕ) (xs : List ℕ) : Type 0 where
   pub long : length t ≡ length m
@@ -118,15 +118,13 @@ module _ (m : List ℕ) (n b x c : ℕ) (xs : List ℕ) (long : length m ≡ sto
 pub one-frame : {m t : List ℕ} {n b x c : ℕ} {xs : List ℕ} → OneBlock m t n x c xs → Frame n b m → Frame n b t
 one-frame w f =
     let g = w .header in
+    frame-kept
     record {
-      some-inodes = f .some-inodes;
-      most-inodes = f .most-inodes;
-      some-blocks = f .some-blocks;
-      most-blocks = f .most-blocks;
-      long = w .long ∙ f .long;
-      inodes = ap (λ (x : Header). x .inodes) g ∙ f .inodes;
-      blocks = ap (λ (x : Header). x .blocks) g ∙ f .blocks;
-      root = ap (λ (x : Header). x .root) g ∙ f .root;
-      complete = ap (λ (x : Header). x .complete) g ∙ f .complete;
-      reserved = w .reserved ∙ f .reserved;
+      long = w .long;
+      inodes = ap (λ (x : Header). x .inodes) g;
+      blocks = ap (λ (x : Header). x .blocks) g;
+      complete = ap (λ (x : Header). x .complete) g;
+      root = ap (λ (x : Header). x .root) g;
+      reserved = w .reserved;
     }
+    f

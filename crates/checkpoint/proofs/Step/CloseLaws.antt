@@ -26,7 +26,7 @@ use Rattle.changes.proofs.AddressLaws.{same-named, same-differ}
 use Rattle.changes.proofs.SoundTreeLaws.{body-at}
 use Rattle.checkpoint.specs.Notes.{isCopied}
 use Rattle.checkpoint.specs.Copier.{close, stepImage, stepDesk}
-use Rattle.checkpoint.proofs.Copy.Laid.{Frame, Fair, Laid, cost, costSoFar}
+use Rattle.checkpoint.proofs.Copy.Laid.{Frame, frame-kept, Fair, Laid, cost, costSoFar}
 use Rattle.bounded.proofs.SumLaws.{sum-but}
 use Rattle.checkpoint.proofs.Step.PasteLaws.{pasted, pasted-either}
 use Rattle.checkpoint.proofs.Step.CloseFacts.{Closing, lock, low, high, full, desk-closed, copied-closed, desk-laid, in-inode, new-kind, new-size, same-blocks, entry-new, inodes-sound}
@@ -93,21 +93,7 @@ module _ {n b : ℕ} {s m d : List ℕ} (c : Closing n b s m d) where
 
   -- ---- the frame
   frame : Frame n b m′
-  frame =
-      let f = c .laid .frame in
-      let g = in-inode c .frame in
-      record {
-        some-inodes = f .some-inodes;
-        most-inodes = f .most-inodes;
-        some-blocks = f .some-blocks;
-        most-blocks = f .most-blocks;
-        long = g .long ∙ f .long;
-        inodes = g .inodes ∙ f .inodes;
-        blocks = g .blocks ∙ f .blocks;
-        root = g .root ∙ f .root;
-        complete = g .complete ∙ f .complete;
-        reserved = g .reserved ∙ f .reserved;
-      }
+  frame = frame-kept (in-inode c .frame) (c .laid .frame)
 
   blank : (i : ℕ) → 1 ≤ i → i ≤ n → isCopied d′ n i ≡ false → kindOf m′ i ≡ freeKind
   blank i o q e =
