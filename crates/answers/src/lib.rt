@@ -1,3 +1,8 @@
+// What calls answer.
+ghost use mathlib.Core.Path.{_≡_};
+ghost use Rattle.answers.specs.Refusal.{refusalNumber};
+ghost use Rattle.answers.specs.Told.{told};
+
 // The sixteen refusals of document 01, in its order.
 pub enum Refusal {
     BadBuffer,
@@ -22,4 +27,38 @@ pub enum Refusal {
 pub enum Answer {
     Done(usize),
     Refused(Refusal),
+}
+
+// ---- the paper's numbers
+pub fn refusal_number(e: Refusal) -> usize
+    ensures { λ r. ⌜ r ≡ refusalNumber e ⌝ }
+{
+    match e {
+        Refusal::BadBuffer => 1,
+        Refusal::UnsoundStore => 2,
+        Refusal::BadDesk => 3,
+        Refusal::IllegalName => 4,
+        Refusal::WrongInode => 5,
+        Refusal::NameAbsent => 6,
+        Refusal::NameTaken => 7,
+        Refusal::NotEmpty => 8,
+        Refusal::PastEnd => 9,
+        Refusal::IntoItself => 10,
+        Refusal::NoInode => 11,
+        Refusal::NoBlocks => 12,
+        Refusal::NoSlot => 13,
+        Refusal::Busy => 14,
+        Refusal::WrongState => 15,
+        Refusal::ImageFull => 16,
+    }
+}
+
+// 0, or the refusal's number.
+pub fn told_number(a: Answer) -> usize
+    ensures { λ r. ⌜ r ≡ told a .number ⌝ }
+{
+    match a {
+        Answer::Done(_) => 0,
+        Answer::Refused(e) => refusal_number(e),
+    }
 }

@@ -10,9 +10,9 @@ use Rattle.answers.specs.declared.Answer.{Answer}
 use Rattle.answers.specs.declared.Answer.the-variants as answer
 use Rattle.text.specs.Letters.{letters}
 use Rattle.text.specs.Put.{decimalText}
-use Rattle.commands.specs.Line.{replyOf, laidText, shownText, replyText, sumsText, isError, ending}
+use Rattle.commands.specs.Line.{replyOf, laidText, shownText, askedText, replyText, sumsText, isError, ending}
 use Rattle.commands.specs.declared.Reply.{Reply}
-use Rattle.commands.specs.declared.Reply.the-variants.{Error, Plain, Yes, No, Done, Refused, Laid, Shown}
+use Rattle.commands.specs.declared.Reply.the-variants.{Error, Plain, Yes, No, Done, Refused, Laid, Shown, Asked}
 use Rattle.commands.specs.declared.Sums.{Sums}
 
 -- ---- a call's answer
@@ -54,6 +54,10 @@ laid-text r page a d e = rw e refl
 pub shown-text : (r : Reply) (page : List ℕ) (n k : ℕ) → r ≡ Shown n k → shownText n (take k page) ≡ replyText r page
 unfolding replyText
 shown-text r page n k e = rw e refl
+
+pub asked-text : (r : Reply) (page : List ℕ) (a l k : ℕ) → r ≡ Asked a l k → askedText a l k ≡ replyText r page
+unfolding replyText
+asked-text r page a l k e = rw e refl
 
 -- ---- the end of the line
 pub error-ending : (r : Reply) (w : Sums) → isError r ≡ true → letters "\n" ≡ ending r w

@@ -16,7 +16,7 @@ use Rattle.text.specs.Hex.{hexCount, takeHex}
 use Rattle.text.specs.declared.Number.{Number}
 use Rattle.text.specs.declared.Number.the-variants.{Value, NoNumber}
 use Rattle.commands.specs.declared.Command.{Command}
-use Rattle.commands.specs.declared.Command.the-variants.{New, PokeStore, PokeImage, PokeDesk, LayStore, LayDesk, CheckStore, CheckImage, Read, File, Bad}
+use Rattle.commands.specs.declared.Command.the-variants.{New, PokeStore, PokeImage, PokeDesk, LayStore, LayDesk, CheckStore, CheckImage, Read, File, Start, Step, Ask, Bad}
 use Rattle.commands.specs.declared.Call.the-variants.{LookUp, CreateFile, CreateDirectory, Write, Shorten, Link, Unlink, Rename}
 
 -- ---- The forms: `#` is a number, `*` and `+` are bytes in hex, for the first and the second of two buffers; any other field is itself
@@ -47,6 +47,9 @@ forms =
     ∷ form "ln # * #" (λ dir name inode _. File (Link dir name inode))
     ∷ form "rm # *" (λ dir name _ _. File (Unlink dir name))
     ∷ form "mv # * # +" (λ dir name to new. File (Rename dir name to new))
+    ∷ form "go" (λ _ _ _ _. Start)
+    ∷ form "st" (λ _ _ _ _. Step)
+    ∷ form "ask" (λ _ _ _ _. Ask)
     ∷ []
 
 -- the forms as one text, a form a line

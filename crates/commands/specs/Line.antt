@@ -11,7 +11,7 @@ use Rattle.io.specs.Digits.{digits}
 use Rattle.text.specs.Letters.{letters}
 use Rattle.text.specs.Put.{decimalText, bytesText}
 use Rattle.commands.specs.declared.Reply.{Reply}
-use Rattle.commands.specs.declared.Reply.the-variants.{Error, Plain, Yes, No, Done, Refused, Laid, Shown}
+use Rattle.commands.specs.declared.Reply.the-variants.{Error, Plain, Yes, No, Done, Refused, Laid, Shown, Asked}
 use Rattle.commands.specs.declared.Sums.{Sums}
 
 -- "`ok` and the answer's numbers, or `no` and the number"
@@ -27,6 +27,10 @@ laidText a d = (letters "ok " ++ decimalText a) ++ (letters " " ++ decimalText d
 abbrev pub shownText : ℕ → List ℕ → List ℕ
 shownText n xs = (letters "ok " ++ decimalText n) ++ (letters " " ++ bytesText xs)
 
+-- "`ask`: state, locked inode, steps"
+abbrev pub askedText : ℕ → ℕ → ℕ → List ℕ
+askedText a l k = laidText a l ++ (letters " " ++ decimalText k)
+
 -- the reply's text; the first k bytes of page are the out-buffer of a read
 unfoldable pub replyText : Reply → List ℕ → List ℕ
 replyText Error page = letters "err"
@@ -37,6 +41,7 @@ replyText (Done n) page = letters "ok " ++ decimalText n
 replyText (Refused n) page = letters "no " ++ decimalText n
 replyText (Laid a d) page = laidText a d
 replyText (Shown n k) page = shownText n (take k page)
+replyText (Asked a l k) page = askedText a l k
 
 -- a checksum in 16 hex digits
 abbrev pub sumText : ℕ → List ℕ
@@ -54,6 +59,7 @@ isError (Done n) = false
 isError (Refused n) = false
 isError (Laid a d) = false
 isError (Shown n k) = false
+isError (Asked a l k) = false
 
 -- an unknown command's line ends without checksums
 unfoldable pub ending : Reply → Sums → List ℕ

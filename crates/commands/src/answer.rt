@@ -3,52 +3,17 @@ ghost use mathlib.Core.Path.{_≡_};
 ghost use mathlib.Core.List.{_++_};
 ghost use Prim.Native.Nat.{_+_, _*_, _≤_};
 ghost use lib.ListN.{length, take};
-ghost use Rattle.answers.specs.Refusal.{refusalNumber};
-ghost use Rattle.answers.specs.Told.{told};
 ghost use Rattle.text.specs.Put.{Put, decimalText};
-ghost use Rattle.commands.specs.Line.{replyOf, laidText, shownText, replyText, sumText, sumsText, isError, ending, lineText};
+ghost use Rattle.commands.specs.Line.{replyOf, laidText, shownText, askedText, replyText, sumText, sumsText, isError, ending, lineText};
 use crate::Reply;
 use crate::Sums;
 use answers::Answer;
-use answers::Refusal;
+use answers::refusal_number;
 use text::pieces::front;
 use text::put::put;
 use text::put::put_bytes;
 use text::put::put_decimal;
 use text::put::put_hex;
-
-pub fn refusal_number(e: Refusal) -> usize
-    ensures { λ r. ⌜ r ≡ refusalNumber e ⌝ }
-{
-    match e {
-        Refusal::BadBuffer => 1,
-        Refusal::UnsoundStore => 2,
-        Refusal::BadDesk => 3,
-        Refusal::IllegalName => 4,
-        Refusal::WrongInode => 5,
-        Refusal::NameAbsent => 6,
-        Refusal::NameTaken => 7,
-        Refusal::NotEmpty => 8,
-        Refusal::PastEnd => 9,
-        Refusal::IntoItself => 10,
-        Refusal::NoInode => 11,
-        Refusal::NoBlocks => 12,
-        Refusal::NoSlot => 13,
-        Refusal::Busy => 14,
-        Refusal::WrongState => 15,
-        Refusal::ImageFull => 16,
-    }
-}
-
-// 0, or the refusal's number.
-pub fn told_number(a: Answer) -> usize
-    ensures { λ r. ⌜ r ≡ told a .number ⌝ }
-{
-    match a {
-        Answer::Done(_) => 0,
-        Answer::Refused(e) => refusal_number(e),
-    }
-}
 
 // What a call answered.
 pub fn reply(a: Answer) -> Reply
@@ -79,6 +44,15 @@ fn put_laid(out: &mut [u8], o: usize, a: usize, d: usize) -> usize
     put_numbered(out, e, b" ", d)
 }
 
+fn put_asked(out: &mut [u8], o: usize, state: usize, locked: usize, steps: usize) -> usize
+    requires { ⌜ o + 65 ≤ length (now out) ⌝ }
+    ensures { λ r. ⌜ Put (now (out .entry)) o (askedText state locked steps) r (now (out .exit)) ⌝ }
+    ensures { λ r. ⌜ r ≤ o + 65 ⌝ }
+{
+    let e = put_laid(&mut *out, o, state, locked);
+    put_numbered(out, e, b" ", steps)
+}
+
 fn put_shown(out: &mut [u8], o: usize, n: usize, k: usize, page: &[u8]) -> usize
     requires { ⌜ o + 25 + 2 * length (now page) ≤ length (now out) ⌝ }
     ensures { λ r. ⌜ Put (now (out .entry)) o (shownText n (take k (now (page .entry)))) r (now (out .exit)) ⌝ }
@@ -91,9 +65,9 @@ fn put_shown(out: &mut [u8], o: usize, n: usize, k: usize, page: &[u8]) -> usize
 }
 
 fn put_reply(out: &mut [u8], o: usize, reply: Reply, page: &[u8]) -> usize
-    requires { ⌜ o + 44 + 2 * length (now page) ≤ length (now out) ⌝ }
+    requires { ⌜ o + 65 + 2 * length (now page) ≤ length (now out) ⌝ }
     ensures { λ r. ⌜ Put (now (out .entry)) o (replyText reply (now (page .entry))) r (now (out .exit)) ⌝ }
-    ensures { λ r. ⌜ r ≤ o + 44 + 2 * length (now (page .entry)) ⌝ }
+    ensures { λ r. ⌜ r ≤ o + 65 + 2 * length (now (page .entry)) ⌝ }
 {
     match reply {
         Reply::Error => put(out, o, b"err"),
@@ -104,6 +78,7 @@ fn put_reply(out: &mut [u8], o: usize, reply: Reply, page: &[u8]) -> usize
         Reply::Refused(n) => put_numbered(out, o, b"no ", n),
         Reply::Laid(a, d) => put_laid(out, o, a, d),
         Reply::Shown(n, k) => put_shown(out, o, n, k, page),
+        Reply::Asked(a, l, k) => put_asked(out, o, a, l, k),
     }
 }
 
@@ -141,6 +116,7 @@ fn is_error(reply: Reply) -> bool
         Reply::Refused(_) => false,
         Reply::Laid(_, _) => false,
         Reply::Shown(_, _) => false,
+        Reply::Asked(_, _, _) => false,
     }
 }
 
@@ -157,9 +133,9 @@ fn put_ending(out: &mut [u8], o: usize, reply: Reply, sums: Sums) -> usize
 
 // The line at o of out; where it ends.
 pub fn put_line(out: &mut [u8], o: usize, reply: Reply, page: &[u8], sums: Sums) -> usize
-    requires { ⌜ o + 98 + 2 * length (now page) ≤ length (now out) ⌝ }
+    requires { ⌜ o + 119 + 2 * length (now page) ≤ length (now out) ⌝ }
     ensures { λ r. ⌜ Put (now (out .entry)) o (lineText reply (now (page .entry)) sums) r (now (out .exit)) ⌝ }
-    ensures { λ r. ⌜ r ≤ o + 98 + 2 * length (now (page .entry)) ⌝ }
+    ensures { λ r. ⌜ r ≤ o + 119 + 2 * length (now (page .entry)) ⌝ }
 {
     let e = put_reply(&mut *out, o, reply, page);
     put_ending(out, e, reply, sums)

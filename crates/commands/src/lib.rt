@@ -26,11 +26,14 @@ pub enum Command {
     CheckImage,
     Read(usize, usize, usize),
     File(Call),
+    Start,
+    Step,
+    Ask,
     Bad,
 }
 
 // What a command answers, in numbers. `Laid` has those of the two layout calls, `Shown` a read's count and how many bytes of its out-buffer are
-// shown.
+// shown, `Asked` state, locked inode and steps.
 pub enum Reply {
     Error,
     Plain,
@@ -40,6 +43,7 @@ pub enum Reply {
     Refused(usize),
     Laid(usize, usize),
     Shown(usize, usize),
+    Asked(usize, usize, usize),
 }
 
 // The checksums of store, image and desk.

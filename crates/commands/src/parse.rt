@@ -135,6 +135,9 @@ fn asked(j: usize, a: usize, b: usize, c: usize, d: usize) -> Command
         14 => Command::File(Call::Link(a, b, c)),
         15 => Command::File(Call::Unlink(a, b)),
         16 => Command::File(Call::Rename(a, b, c, d)),
+        17 => Command::Start,
+        18 => Command::Step,
+        19 => Command::Ask,
         _ => Command::Bad,
     }
 }
@@ -167,7 +170,7 @@ pub fn parse(cmd: &[u8], name: &mut [u8], other: &mut [u8]) -> Command
     ensures { λ r. ⌜ parsed r (now (name .exit)) (now (other .exit)) ≡ parseCommand (now (cmd .entry)) (now (name .entry)) (now (other .entry)) ⌝ }
 {
     parse_by(
-        b"new # # #\npoke store # #\npoke image # #\npoke desk # #\nlay store # #\nlay desk #\nchk store\nchk image\nlk # *\nmk # * f\nmk # * d\nrd # # #\nwr # # *\nsh # #\nln # * #\nrm # *\nmv # * # +",
+        b"new # # #\npoke store # #\npoke image # #\npoke desk # #\nlay store # #\nlay desk #\nchk store\nchk image\nlk # *\nmk # * f\nmk # * d\nrd # # #\nwr # # *\nsh # #\nln # * #\nrm # *\nmv # * # +\ngo\nst\nask",
         cmd,
         name,
         other,

@@ -1,9 +1,9 @@
-// The file calls: each answers what the store's call does.
+// The calls: each answers what the library's does.
 use answers::Answer;
+use answers::refusal_number;
+use checkpoint::Status;
 use commands::Call;
 use commands::Reply;
-use commands::answer::refusal_number;
-use commands::answer::reply;
 use entries::Kind;
 use files::plain;
 use text::pieces::front;
@@ -19,20 +19,36 @@ pub fn read(store: &[u8], inode: usize, offset: usize, length: usize, page: &mut
     }
 }
 
-// The names and bytes stand at the front of name and other.
-fn answer(call: Call, store: &mut [u8], name: &[u8], other: &[u8]) -> Answer {
-    match call {
-        Call::LookUp(d, n) => plain::look_up(store, d, front(name, n)),
-        Call::CreateFile(d, n) => plain::create(store, d, front(name, n), Kind::File),
-        Call::CreateDirectory(d, n) => plain::create(store, d, front(name, n), Kind::Directory),
-        Call::Write(i, o, n) => plain::write(store, i, o, front(name, n)),
-        Call::Shorten(i, k) => plain::shorten(store, i, k),
-        Call::Link(d, n, i) => plain::link(store, d, front(name, n), i),
-        Call::Unlink(d, n) => plain::unlink(store, d, front(name, n)),
-        Call::Rename(d, n, t, m) => plain::rename(store, d, front(name, n), t, front(other, m)),
+pub fn state(store: &[u8], image: &[u8], desk: &[u8]) -> Reply {
+    match guards::state::state(store, image, desk) {
+        Status::Is(state, locked, steps) => {
+            Reply::Asked(state as usize, locked as usize, steps as usize)
+        }
+        Status::NoStatus(e) => Reply::Refused(refusal_number(e)),
     }
 }
 
-pub fn call(call: Call, store: &mut [u8], name: &[u8], other: &[u8]) -> Reply {
-    reply(answer(call, store, name, other))
+// The names and bytes stand at the front of name and other.
+pub fn call(
+    call: Call,
+    store: &mut [u8],
+    image: &mut [u8],
+    desk: &mut [u8],
+    name: &[u8],
+    other: &[u8],
+) -> Answer {
+    match call {
+        Call::LookUp(d, n) => plain::look_up(store, d, front(name, n)),
+        Call::CreateFile(d, n) => watch::create(store, image, desk, d, front(name, n), Kind::File),
+        Call::CreateDirectory(d, n) => {
+            watch::create(store, image, desk, d, front(name, n), Kind::Directory)
+        }
+        Call::Write(i, o, n) => watch::write(store, image, desk, i, o, front(name, n)),
+        Call::Shorten(i, k) => watch::shorten(store, image, desk, i, k),
+        Call::Link(d, n, i) => watch::link(store, image, desk, d, front(name, n), i),
+        Call::Unlink(d, n) => watch::unlink(store, image, desk, d, front(name, n)),
+        Call::Rename(d, n, t, m) => {
+            watch::rename(store, image, desk, d, front(name, n), t, front(other, m))
+        }
+    }
 }

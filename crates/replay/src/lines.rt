@@ -1,16 +1,19 @@
 // Lines run on the three buffers, and their answers printed.
-ghost use Rattle.replay.specs.Fit.{Fit, Within};
+ghost use Prim.Native.Nat.{_≤_};
+ghost use lib.ListN.{length};
+ghost use Rattle.replay.specs.Fit.{Inside, Within};
 use crate::buffers;
-use crate::buffers::Lengths;
-use crate::buffers::Step;
 use crate::calls;
 use crate::input::Input;
 use crate::input::next_line;
+use crate::lengths::Lengths;
+use crate::lengths::planned;
 use checksum::checksum;
 use commands::Command;
 use commands::Reply;
 use commands::Sums;
 use commands::answer::put_line;
+use commands::answer::reply;
 use commands::parse::command;
 use commands::parse::parse;
 use libc::STDOUT_FILENO;
@@ -19,8 +22,7 @@ use text::pieces::front;
 // What an out-buffer holds before a read.
 const FILLER: u8 = 170;
 
-// Every command but `new`, on the buffers as long as they are.
-fn dispatch(
+fn run(
     command: Command,
     store: &mut [u8],
     image: &mut [u8],
@@ -30,87 +32,86 @@ fn dispatch(
     other: &[u8],
 ) -> Reply {
     match command {
+        Command::New(n, b, _) => buffers::fresh(store, image, desk, n, b),
         Command::Read(i, o, k) => calls::read(store, i, o, k, page),
-        Command::File(c) => calls::call(c, store, name, other),
+        Command::File(c) => reply(calls::call(c, store, image, desk, name, other)),
+        Command::Start => reply(copystart::start::start(store, image, desk)),
+        Command::Step => reply(copystep::step(store, image, desk)),
+        Command::Ask => calls::state(store, image, desk),
         _ => buffers::run(command, store, image, desk),
     }
 }
 
-// A name's buffers hold half the longest line: two digits of it are a byte.
-fn step(
-    cmd: &[u8],
-    store: &mut [u8],
-    image: &mut [u8],
-    desk: &mut [u8],
-    page: &mut [u8],
-    lengths: Lengths,
-) -> Step
-    requires { ⌜ Fit lengths (now store) (now image) (now desk) ⌝ }
-    ensures { λ r. ⌜ Fit (r .lengths) (now (store .entry)) (now (image .entry)) (now (desk .entry)) ⌝ }
-{
-    let mut name = [0u8; 32768];
-    let mut other = [0u8; 32768];
-    let command = parse(cmd, &mut name, &mut other);
-    if let Command::New(n, b, i) = command {
-        return buffers::renewed(store, image, desk, n, b, i, lengths);
-    }
-    let s = lengths.store;
-    let i = lengths.image;
-    let d = lengths.desk;
-    let reply = dispatch(
-        command,
-        &mut store[0..s],
-        &mut image[0..i],
-        &mut desk[0..d],
-        page,
-        &name,
-        &other,
-    );
-    Step { reply, lengths }
-}
-
-fn sums(store: &[u8], image: &[u8], desk: &[u8], lengths: Lengths) -> Sums
-    requires { ⌜ Fit lengths (now store) (now image) (now desk) ⌝ }
-{
-    let s = lengths.store;
-    let i = lengths.image;
-    let d = lengths.desk;
+fn sums(store: &[u8], image: &[u8], desk: &[u8]) -> Sums {
     Sums {
-        store: checksum(&store[0..s]),
-        image: checksum(&image[0..i]),
-        desk: checksum(&desk[0..d]),
+        store: checksum(store),
+        image: checksum(image),
+        desk: checksum(desk),
     }
 }
 
 // The longest line shows a whole page.
 fn print(reply: Reply, page: &[u8; 4096], sums: Sums) {
-    let mut out = [0u8; 8290];
+    let mut out = [0u8; 8311];
     let n = put_line(&mut out, 0, reply, page, sums);
     io::write_all(STDOUT_FILENO, front(&out, n));
 }
 
+// The command done, and its answer printed at once.
+fn respond(
+    command: Command,
+    store: &mut [u8],
+    image: &mut [u8],
+    desk: &mut [u8],
+    name: &[u8],
+    other: &[u8],
+) {
+    let mut page = [FILLER; 4096];
+    let reply = run(
+        command,
+        &mut *store,
+        &mut *image,
+        &mut *desk,
+        &mut page,
+        name,
+        other,
+    );
+    print(reply, &page, sums(store, image, desk));
+}
+
+// A name's buffers hold half the longest line: two digits of it are a byte.
 fn answer(
     line: &[u8],
     store: &mut [u8],
     image: &mut [u8],
     desk: &mut [u8],
-    lengths: Lengths,
+    kept: Lengths,
 ) -> Lengths
-    requires { ⌜ Fit lengths (now store) (now image) (now desk) ⌝ }
-    ensures { λ r. ⌜ Fit r (now (store .entry)) (now (image .entry)) (now (desk .entry)) ⌝ }
+    requires { ⌜ Inside kept (now store) (now image) (now desk) ⌝ }
+    ensures { λ r. ⌜ Inside r (now (store .entry)) (now (image .entry)) (now (desk .entry)) ⌝ }
 {
-    let mut page = [FILLER; 4096];
-    let step = step(
-        command(line),
-        &mut *store,
-        &mut *image,
-        &mut *desk,
-        &mut page,
-        lengths,
+    let mut name = [0u8; 32768];
+    let mut other = [0u8; 32768];
+    let asked = parse(command(line), &mut name, &mut other);
+    let room = Lengths {
+        store: store.len(),
+        image: image.len(),
+        desk: desk.len(),
+    };
+    let plan = planned(asked, kept, room);
+    let todo = plan.command;
+    let next = plan.lengths;
+    let s = next.store;
+    let i = next.image;
+    let d = next.desk;
+    respond(
+        todo,
+        &mut store[0..s],
+        &mut image[0..i],
+        &mut desk[0..d],
+        &name,
+        &other,
     );
-    let reply = step.reply;
-    let next = step.lengths;
-    print(reply, &page, sums(&*store, &*image, &*desk, next));
     next
 }
 
@@ -123,8 +124,8 @@ fn end_line(
     desk: &mut [u8],
     lengths: Lengths,
 ) -> Lengths
-    requires { ⌜ Within input × Fit lengths (now store) (now image) (now desk) ⌝ }
-    ensures { λ r. ⌜ Fit r (now (store .entry)) (now (image .entry)) (now (desk .entry)) ⌝ }
+    requires { ⌜ Within input × Inside lengths (now store) (now image) (now desk) ⌝ }
+    ensures { λ r. ⌜ Inside r (now (store .entry)) (now (image .entry)) (now (desk .entry)) ⌝ }
 {
     let used = input.used;
     if used == 0 && !input.open {

@@ -2,6 +2,7 @@
 mod buffers;
 mod calls;
 mod input;
+mod lengths;
 mod lines;
 
 // Room for stores of 300 inodes and 1,025 blocks, and images of 4,097.

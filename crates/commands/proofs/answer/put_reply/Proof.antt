@@ -1,4 +1,4 @@
-use Rattle.commands.proofs.LineLaws.{error-text, plain-text, yes-text, no-text, done-text, refused-text, laid-text, shown-text}
+use Rattle.commands.proofs.LineLaws.{error-text, plain-text, yes-text, no-text, done-text, refused-text, laid-text, shown-text, asked-text}
 use Rattle.text.proofs.PutLaws.{put-same}
 use borrow.Author.Needs.{needs}
 use native.Mathlib.Omega.{arith}
@@ -71,6 +71,12 @@ enum-known-reply-4 c = search needs
 put-shown-requires : tie.Need-put-shown-requires
 put-shown-requires c κs = search needs
 
+enum-known-reply-5 : tie.Need-enum-known-reply-5
+enum-known-reply-5 c = search needs
+
+put-asked-requires : tie.Need-put-asked-requires
+put-asked-requires c κs = search needs
+
 same-length : tie.Need-same-length
 same-length c = search needs
 
@@ -119,6 +125,12 @@ same-length-8 c = search needs
 returns-8 : tie.Need-returns-8
 returns-8 c = (put-same _ _ _ _ _ _ (shown-text _ _ _ _ (c .before .before .before .before .before .reply4 .given .1)) (c .before .before .put-shown .ensures .0), omega (arith, c .before .before .put-shown .ensures .1))
 
+same-length-9 : tie.Need-same-length-9
+same-length-9 c = search needs
+
+returns-9 : tie.Need-returns-9
+returns-9 c = (put-same _ _ _ _ _ _ (asked-text _ _ _ _ _ (c .before .before .before .before .before .reply5 .given .1)) (c .before .before .put-asked .ensures .0), omega (arith, c .before .before .put-asked .ensures .1))
+
 pub put-reply-spec : {M : Type 1} → statement M
 put-reply-spec =
     tie.close
@@ -145,6 +157,8 @@ put-reply-spec =
     put-laid-requires
     enum-known-reply-4
     put-shown-requires
+    enum-known-reply-5
+    put-asked-requires
     same-length
     returns
     same-length-2
@@ -160,4 +174,6 @@ put-reply-spec =
     same-length-7
     returns-7
     same-length-8
-    returns-8)
+    returns-8
+    same-length-9
+    returns-9)

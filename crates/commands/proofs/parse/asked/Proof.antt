@@ -73,7 +73,19 @@ unfolding asked forms
 returns-17 c = asked-is 16 (c .before .args .j) _ _ _ _ (omega arith)
 
 returns-18 : tie.Need-returns-18
-returns-18 c = asked-no (c .before .args .j) _ _ _ _ (c .match .rest)
+unfolding asked forms
+returns-18 c = asked-is 17 (c .before .args .j) _ _ _ _ (omega arith)
+
+returns-19 : tie.Need-returns-19
+unfolding asked forms
+returns-19 c = asked-is 18 (c .before .args .j) _ _ _ _ (omega arith)
+
+returns-20 : tie.Need-returns-20
+unfolding asked forms
+returns-20 c = asked-is 19 (c .before .args .j) _ _ _ _ (omega arith)
+
+returns-21 : tie.Need-returns-21
+returns-21 c = asked-no (c .before .args .j) _ _ _ _ (c .match .rest)
 
 pub asked-spec : {M : Type 1} → statement M
 asked-spec =
@@ -96,4 +108,7 @@ asked-spec =
     returns-15
     returns-16
     returns-17
-    returns-18)
+    returns-18
+    returns-19
+    returns-20
+    returns-21)

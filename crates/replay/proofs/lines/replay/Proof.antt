@@ -1,4 +1,4 @@
-use Rattle.replay.specs.Fit.{Fit, Within}
+use Rattle.replay.specs.Fit.{Inside, Within}
 use lib.ListN.{length}
 use mathlib.Core.Path.{_≡_}
 use borrow.Author.Needs.{needs}
@@ -7,7 +7,7 @@ use Rattle.replay.proofs.lines.replay.Statement.{statement}
 use Rattle.replay.proofs.lines.replay.Tie as tie
 
 abbrev Inv-loop : tie.InvT-loop
-Inv-loop store₀ image₀ desk₀ piece₀ line₀ input₀ lengths₀ turns₀ store image desk piece line input lengths turns = Within input × Fit lengths store₀ image₀ desk₀ × (length store ≡ length store₀) × (length image ≡ length image₀) × (length desk ≡ length desk₀)
+Inv-loop store₀ image₀ desk₀ piece₀ line₀ input₀ lengths₀ turns₀ store image desk piece line input lengths turns = Within input × Inside lengths store₀ image₀ desk₀ × (length store ≡ length store₀) × (length image ≡ length image₀) × (length desk ≡ length desk₀)
 
 abbrev μ-loop : tie.MeasureT-loop
 μ-loop store₀ image₀ desk₀ piece₀ line₀ input₀ lengths₀ turns₀ store image desk piece line input lengths turns = turns
