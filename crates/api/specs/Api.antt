@@ -1,11 +1,59 @@
--- What the exported calls answer.
-use Prim.Native.Nat.{ℕ}
-use mathlib.Core.List.{List}
+-- What the exported calls answer and leave: "the result if not negative, else minus the refusal's number", and the content of every lent buffer.
+use Prim.Native.Nat.{ℕ, zero, suc, min}
+use mathlib.Core.List.{List, [], _∷_}
 use lib.Dec.{eqb}
+use lib.IntN.{ℤ, pos, negsuc}
 use Rattle.bounded.specs.Count.{one}
 use Rattle.bounded.specs.Search.{pick}
 use Rattle.sound.specs.Sound.{isSound}
 use Rattle.sound.specs.declared.Form.the-variants.{Store, Image}
+use Rattle.answers.specs.Told.{Told}
+use Rattle.format.specs.Format.{Outcome}
+use Rattle.files.specs.Plain.{Shown as Alone}
+use Rattle.checkpoint.specs.Shown.{Shown}
+
+-- the largest number of 32 bits with a sign; no call's result comes near it
+abbrev pub mostResult : ℕ
+mostResult = 2147483647
+
+abbrev pub codeBy : ℕ → List ℕ → ℤ
+codeBy zero (x ∷ xs) = pos (min x mostResult)
+codeBy zero [] = pos 0
+codeBy (suc k) xs = negsuc k
+
+abbrev pub codeOf : Told → ℤ
+codeOf t = codeBy (t .number) (t .values)
+
+-- the buffers stand in the order of the call's parameters
+pub record Sent : Type 0 where
+  pub code : ℤ
+  pub buffers : List (List ℕ)
+
+abbrev pub sends : ℤ → List (List ℕ) → Sent
+sends c bs = record { code = c; buffers = bs }
+
+-- a layout call
+abbrev pub sentLaid : Outcome → Sent
+sentLaid o = sends (codeOf (o .answer)) (o .buffer ∷ [])
+
+-- "Look up and read take the store alone": the store, and a read's out-buffer
+abbrev pub sentAlone : Alone → Sent
+sentAlone o = sends (codeOf (o .answer)) (o .store ∷ o .out ∷ [])
+
+-- the calls over store, image and desk
+abbrev pub sent : Shown → Sent
+sent o = sends (codeOf (o .answer)) (o .store ∷ o .image ∷ o .desk ∷ [])
+
+-- "state takes all three buffers and gives state, locked inode and steps": 0 and the three, or minus the refusal's number and the numbers as they were
+pub record SentState : Type 0 where
+  pub code : ℤ
+  pub numbers : List ℕ
+
+abbrev pub sendsState : ℤ → List ℕ → SentState
+sendsState c ns = record { code = c; numbers = ns }
+
+abbrev pub sentState : Told → List ℕ → SentState
+sentState t ns = sendsState (codeBy (t .number) (0 ∷ [])) (pick (eqb (t .number) 0) (t .values) ns)
 
 -- "The check is told store or image, takes any bytes and answers yes or no": 0 tells a store; 1 is yes
 unfoldable pub checked : ℕ → List ℕ → ℕ

@@ -1,10 +1,40 @@
-// The calls that programs in other languages link: slices pass as a pointer and a length.
+// The calls that programs in other languages link: slices pass as a pointer and a length, and every number is one of the machine's size. A call answers its result, which is never
+// negative, or minus the number of its refusal. Any bytes and numbers may be handed in; a refused call changes nothing, save that 16 writes the desk.
+mod code;
+
 ghost use mathlib.Core.Path.{_≡_};
-ghost use Rattle.api.specs.Api.{checked};
+ghost use mathlib.Core.List.{[], _∷_};
 ghost use Rattle.bounded.specs.Count.{one};
+ghost use Rattle.entries.specs.declared.Kind.the-variants.{File, Directory};
+ghost use Rattle.format.specs.Format.{layOutStore, layOutDesk};
+ghost use Rattle.files.specs.Effect.{lookUp, read, create, write, shorten, link, unlink, rename};
+ghost use Rattle.files.specs.Plain as alone;
+ghost use Rattle.checkpoint.specs.Live.{live, start, step, status};
+ghost use Rattle.checkpoint.specs.Shown.{world, shown, toldStatus};
+ghost use Rattle.api.specs.Api.{sends, sentLaid, sentAlone, sent, sendsState, sentState, checked};
+use crate::code::code;
+use crate::code::refused;
 use checker::check::check;
+use checkpoint::Status;
+use entries::Kind;
 use sound::Form;
 
+// ---- laying out
+#[no_mangle]
+pub extern "C" fn honecerise_lay_out_store(store: &mut [u8], inodes: usize, blocks: usize) -> i32
+    ensures { λ r. ⌜ sends r (now (store .exit) ∷ []) ≡ sentLaid (layOutStore (now (store .entry)) inodes blocks) ⌝ }
+{
+    code(format::lay_out_store(store, inodes, blocks))
+}
+
+#[no_mangle]
+pub extern "C" fn honecerise_lay_out_desk(desk: &mut [u8], inodes: usize) -> i32
+    ensures { λ r. ⌜ sends r (now (desk .exit) ∷ []) ≡ sentLaid (layOutDesk (now (desk .entry)) inodes) ⌝ }
+{
+    code(format::lay_out_desk(desk, inodes))
+}
+
+// ---- the check
 // Whether the bytes are a sound store (image 0) or a sound finished image (any other number): 1 for yes, 0 for no.
 #[no_mangle]
 pub extern "C" fn honecerise_check(image: u8, store: &[u8]) -> u8
@@ -20,4 +50,152 @@ fn number(b: bool) -> u8
     ensures { λ r. ⌜ r ≡ one b ⌝ }
 {
     if b { 1 } else { 0 }
+}
+
+// ---- the calls on the store alone
+#[no_mangle]
+pub extern "C" fn honecerise_look_up(store: &[u8], directory: usize, name: &[u8]) -> i32
+    ensures { λ r. ⌜ sends r (now (store .entry) ∷ [] ∷ []) ≡ sentAlone (alone.shown (alone.plain (lookUp directory (now (name .entry))) (now (store .entry)))) ⌝ }
+{
+    code(files::plain::look_up(store, directory, name))
+}
+
+#[no_mangle]
+pub extern "C" fn honecerise_read(store: &[u8], inode: usize, offset: usize, out: &mut [u8]) -> i32
+    ensures { λ r. ⌜ sends r (now (store .entry) ∷ now (out .exit) ∷ []) ≡ sentAlone (alone.shown (alone.plain (read inode offset (now (out .entry))) (now (store .entry)))) ⌝ }
+{
+    code(files::plain::read(store, inode, offset, out))
+}
+
+// ---- the file calls over store, image and desk
+#[no_mangle]
+pub extern "C" fn honecerise_create_file(
+    store: &mut [u8],
+    image: &mut [u8],
+    desk: &mut [u8],
+    directory: usize,
+    name: &[u8],
+) -> i32
+    ensures { λ r. ⌜ sends r (now (store .exit) ∷ now (image .exit) ∷ now (desk .exit) ∷ []) ≡ sent (shown (live (create directory (now (name .entry)) File) (world (now (store .entry)) (now (image .entry)) (now (desk .entry))))) ⌝ }
+{
+    code(watch::create(store, image, desk, directory, name, Kind::File))
+}
+
+#[no_mangle]
+pub extern "C" fn honecerise_create_directory(
+    store: &mut [u8],
+    image: &mut [u8],
+    desk: &mut [u8],
+    directory: usize,
+    name: &[u8],
+) -> i32
+    ensures { λ r. ⌜ sends r (now (store .exit) ∷ now (image .exit) ∷ now (desk .exit) ∷ []) ≡ sent (shown (live (create directory (now (name .entry)) Directory) (world (now (store .entry)) (now (image .entry)) (now (desk .entry))))) ⌝ }
+{
+    code(watch::create(store, image, desk, directory, name, Kind::Directory))
+}
+
+#[no_mangle]
+pub extern "C" fn honecerise_write(
+    store: &mut [u8],
+    image: &mut [u8],
+    desk: &mut [u8],
+    inode: usize,
+    offset: usize,
+    bytes: &[u8],
+) -> i32
+    ensures { λ r. ⌜ sends r (now (store .exit) ∷ now (image .exit) ∷ now (desk .exit) ∷ []) ≡ sent (shown (live (write inode offset (now (bytes .entry))) (world (now (store .entry)) (now (image .entry)) (now (desk .entry))))) ⌝ }
+{
+    code(watch::write(store, image, desk, inode, offset, bytes))
+}
+
+#[no_mangle]
+pub extern "C" fn honecerise_shorten(
+    store: &mut [u8],
+    image: &mut [u8],
+    desk: &mut [u8],
+    inode: usize,
+    length: usize,
+) -> i32
+    ensures { λ r. ⌜ sends r (now (store .exit) ∷ now (image .exit) ∷ now (desk .exit) ∷ []) ≡ sent (shown (live (shorten inode length) (world (now (store .entry)) (now (image .entry)) (now (desk .entry))))) ⌝ }
+{
+    code(watch::shorten(store, image, desk, inode, length))
+}
+
+#[no_mangle]
+pub extern "C" fn honecerise_link(
+    store: &mut [u8],
+    image: &mut [u8],
+    desk: &mut [u8],
+    directory: usize,
+    name: &[u8],
+    inode: usize,
+) -> i32
+    ensures { λ r. ⌜ sends r (now (store .exit) ∷ now (image .exit) ∷ now (desk .exit) ∷ []) ≡ sent (shown (live (link directory (now (name .entry)) inode) (world (now (store .entry)) (now (image .entry)) (now (desk .entry))))) ⌝ }
+{
+    code(watch::link(store, image, desk, directory, name, inode))
+}
+
+#[no_mangle]
+pub extern "C" fn honecerise_unlink(
+    store: &mut [u8],
+    image: &mut [u8],
+    desk: &mut [u8],
+    directory: usize,
+    name: &[u8],
+) -> i32
+    ensures { λ r. ⌜ sends r (now (store .exit) ∷ now (image .exit) ∷ now (desk .exit) ∷ []) ≡ sent (shown (live (unlink directory (now (name .entry))) (world (now (store .entry)) (now (image .entry)) (now (desk .entry))))) ⌝ }
+{
+    code(watch::unlink(store, image, desk, directory, name))
+}
+
+#[no_mangle]
+pub extern "C" fn honecerise_rename(
+    store: &mut [u8],
+    image: &mut [u8],
+    desk: &mut [u8],
+    directory: usize,
+    name: &[u8],
+    to_directory: usize,
+    to_name: &[u8],
+) -> i32
+    ensures { λ r. ⌜ sends r (now (store .exit) ∷ now (image .exit) ∷ now (desk .exit) ∷ []) ≡ sent (shown (live (rename directory (now (name .entry)) «to_directory» (now («to_name» .entry))) (world (now (store .entry)) (now (image .entry)) (now (desk .entry))))) ⌝ }
+{
+    code(watch::rename(store, image, desk, directory, name, to_directory, to_name))
+}
+
+// ---- the copier
+#[no_mangle]
+pub extern "C" fn honecerise_start(store: &[u8], image: &mut [u8], desk: &mut [u8]) -> i32
+    ensures { λ r. ⌜ sends r (now (store .entry) ∷ now (image .exit) ∷ now (desk .exit) ∷ []) ≡ sent (shown (start (now (store .entry)) (now (image .entry)) (now (desk .entry)))) ⌝ }
+{
+    code(copystart::start::start(store, image, desk))
+}
+
+#[no_mangle]
+pub extern "C" fn honecerise_step(store: &[u8], image: &mut [u8], desk: &mut [u8]) -> i32
+    ensures { λ r. ⌜ sends r (now (store .entry) ∷ now (image .exit) ∷ now (desk .exit) ∷ []) ≡ sent (shown (step (now (store .entry)) (now (image .entry)) (now (desk .entry)))) ⌝ }
+{
+    code(copystep::step(store, image, desk))
+}
+
+#[no_mangle]
+pub extern "C" fn honecerise_state(
+    store: &[u8],
+    image: &[u8],
+    desk: &[u8],
+    state: &mut usize,
+    locked: &mut usize,
+    steps: &mut usize,
+) -> i32
+    ensures { λ r. ⌜ sendsState r (now (state .exit) ∷ now (locked .exit) ∷ now (steps .exit) ∷ []) ≡ sentState (toldStatus (status (now (store .entry)) (now (image .entry)) (now (desk .entry)))) (now (state .entry) ∷ now (locked .entry) ∷ now (steps .entry) ∷ []) ⌝ }
+{
+    match guards::state::state(store, image, desk) {
+        Status::Is(a, l, k) => {
+            *state = a as usize;
+            *locked = l as usize;
+            *steps = k as usize;
+            0
+        }
+        Status::NoStatus(why) => refused(why),
+    }
 }

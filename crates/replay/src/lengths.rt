@@ -47,10 +47,7 @@ fn renewed(n: usize, b: usize, i: usize, kept: Lengths, room: Lengths) -> Plan
             image: length_of(n, i),
             desk: DESK_HEADER_BYTES + DESK_INODE_BYTES * n,
         };
-        if lengths.store <= room.store
-            && lengths.image <= room.image
-            && lengths.desk <= room.desk
-        {
+        if lengths.store <= room.store && lengths.image <= room.image && lengths.desk <= room.desk {
             let command = Command::New(n, b, i);
             return Plan { command, lengths };
         }

@@ -1,0 +1,27 @@
+use Rattle.api.proofs.CodeLaws.{sent-three}
+use borrow.Author.Needs.{needs}
+use Rattle.api.proofs.honecerise_link.Statement.{statement}
+use Rattle.api.proofs.honecerise_link.Tie as tie
+
+link-requires : tie.Need-link-requires
+link-requires c κs = search needs
+
+code-requires : tie.Need-code-requires
+code-requires c κs = search needs
+
+same-length : tie.Need-same-length
+same-length c = search needs
+
+same-length-2 : tie.Need-same-length-2
+same-length-2 c = search needs
+
+same-length-3 : tie.Need-same-length-3
+same-length-3 c = search needs
+
+returns : tie.Need-returns
+returns c = sent-three (c .before .before .before .before .before .before .before .link .result) _ (c .code .ensures) _ _ _ _ (c .before .before .before .before .before .before .before .link .ensures)
+
+pub honecerise-link-spec : {M : Type 1} → statement M
+honecerise-link-spec =
+    tie.close
+    (tie.spec link-requires code-requires same-length same-length-2 same-length-3 returns)

@@ -1,0 +1,23 @@
+use Rattle.api.proofs.CodeLaws.{sent-three}
+use borrow.Author.Needs.{needs}
+use Rattle.api.proofs.honecerise_step.Statement.{statement}
+use Rattle.api.proofs.honecerise_step.Tie as tie
+
+step-requires : tie.Need-step-requires
+step-requires c κs = search needs
+
+code-requires : tie.Need-code-requires
+code-requires c κs = search needs
+
+same-length : tie.Need-same-length
+same-length c = search needs
+
+same-length-2 : tie.Need-same-length-2
+same-length-2 c = search needs
+
+returns : tie.Need-returns
+returns c = sent-three (c .before .before .before .before .before .step .result) _ (c .code .ensures) _ _ _ _ (c .before .before .before .before .before .step .ensures)
+
+pub honecerise-step-spec : {M : Type 1} → statement M
+honecerise-step-spec =
+    tie.close (tie.spec step-requires code-requires same-length same-length-2 returns)
