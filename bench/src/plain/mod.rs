@@ -1,0 +1,43 @@
+//! Document 01's calls in plain Rust: the same checks and the same order of refusals as the proved library, over lent buffers, without a heap and without `unsafe`.
+mod content;
+mod copier;
+mod desk;
+mod entries;
+mod format;
+mod guards;
+mod image;
+mod names;
+mod rename;
+mod slots;
+mod sound;
+mod view;
+
+pub use content::{read, shorten, write};
+pub use copier::{start, state, step};
+pub use entries::{create, link, look_up, unlink, Kind};
+pub use format::{lay_out_desk, lay_out_store};
+pub use rename::rename;
+pub use sound::check;
+
+/// A call's number (0 where document 01 names none), or the number of its refusal.
+pub type Answer = Result<usize, u8>;
+
+/// The refusals by document 01's numbers.
+mod refusal {
+    pub const BAD_BUFFER: u8 = 1;
+    pub const UNSOUND_STORE: u8 = 2;
+    pub const BAD_DESK: u8 = 3;
+    pub const ILLEGAL_NAME: u8 = 4;
+    pub const WRONG_INODE: u8 = 5;
+    pub const NAME_ABSENT: u8 = 6;
+    pub const NAME_TAKEN: u8 = 7;
+    pub const NOT_EMPTY: u8 = 8;
+    pub const PAST_END: u8 = 9;
+    pub const INTO_ITSELF: u8 = 10;
+    pub const NO_INODE: u8 = 11;
+    pub const NO_BLOCKS: u8 = 12;
+    pub const NO_SLOT: u8 = 13;
+    pub const BUSY: u8 = 14;
+    pub const WRONG_STATE: u8 = 15;
+    pub const IMAGE_FULL: u8 = 16;
+}

@@ -1,0 +1,152 @@
+//! A store or an image: where its parts stand, and the same as slices of inodes and blocks.
+
+pub const FREE: u8 = 0;
+pub const FILE: u8 = 1;
+pub const DIRECTORY: u8 = 2;
+pub const BLOCK: usize = 64;
+pub const MOST_BYTES: usize = 768;
+pub const MOST_INODES: usize = 256;
+pub const MOST_STORE_BLOCKS: usize = 1024;
+pub const MOST_IMAGE_BLOCKS: usize = 4096;
+
+/// A byte for each block, set where an address names it; place 0 stands for no block.
+pub type Map = [bool; MOST_IMAGE_BLOCKS + 1];
+
+pub fn get16(s: &[u8], o: usize) -> usize {
+    u16::from_le_bytes([s[o], s[o + 1]]) as usize
+}
+
+pub fn put16(s: &mut [u8], o: usize, v: usize) {
+    s[o..o + 2].copy_from_slice(&(v as u16).to_le_bytes());
+}
+
+/// The count of inodes and of blocks.
+#[derive(Clone, Copy, PartialEq)]
+pub struct Shape {
+    pub n: usize,
+    pub b: usize,
+}
+
+impl Shape {
+    pub fn allowed(n: usize, b: usize, limit: usize, length: usize) -> Option<Shape> {
+        let right = (1..=MOST_INODES).contains(&n) && (1..=limit).contains(&b) && length == 16 + 32 * n + 64 * b;
+        right.then_some(Shape { n, b })
+    }
+
+    /// By the header's own counts.
+    pub fn framed(s: &[u8], limit: usize) -> Option<Shape> {
+        if s.len() < 16 {
+            return None;
+        }
+        Shape::allowed(get16(s, 0), get16(s, 2), limit, s.len())
+    }
+
+    pub fn attributes(self, i: usize) -> usize {
+        16 + 8 * (i - 1)
+    }
+
+    pub fn addresses(self, i: usize) -> usize {
+        16 + 8 * self.n + 24 * (i - 1)
+    }
+
+    pub fn block(self, c: usize) -> usize {
+        16 + 32 * self.n + BLOCK * (c - 1)
+    }
+}
+
+/// An inode's attributes.
+#[derive(Clone, Copy)]
+pub struct Inode {
+    pub kind: u8,
+    pub links: u16,
+    pub size: u16,
+    pub parent: u16,
+}
+
+impl Inode {
+    pub fn of(a: [u8; 8]) -> Inode {
+        let w = u64::from_le_bytes(a);
+        Inode { kind: w as u8, links: (w >> 16) as u16, size: (w >> 32) as u16, parent: (w >> 48) as u16 }
+    }
+
+    pub fn bytes(self) -> [u8; 8] {
+        (self.kind as u64 | (self.links as u64) << 16 | (self.size as u64) << 32 | (self.parent as u64) << 48).to_le_bytes()
+    }
+
+    pub fn size(self) -> usize {
+        self.size as usize
+    }
+
+    pub fn blocks(self) -> usize {
+        self.size().div_ceil(BLOCK)
+    }
+
+    pub fn put(self, s: &mut [u8], shape: Shape, i: usize) {
+        let o = shape.attributes(i);
+        s[o..o + 8].copy_from_slice(&self.bytes());
+    }
+}
+
+/// The parts of a framed store or image.
+#[derive(Clone, Copy)]
+pub struct View<'a> {
+    pub attributes: &'a [[u8; 8]],
+    pub addresses: &'a [[u8; 24]],
+    pub blocks: &'a [[u8; 64]],
+}
+
+impl<'a> View<'a> {
+    pub fn of(s: &'a [u8], shape: Shape) -> View<'a> {
+        let (attributes, rest) = s[16..].split_at(8 * shape.n);
+        let (addresses, blocks) = rest.split_at(24 * shape.n);
+        View { attributes: attributes.as_chunks().0, addresses: addresses.as_chunks().0, blocks: blocks.as_chunks().0 }
+    }
+
+    pub fn inode(&self, i: usize) -> Inode {
+        Inode::of(self.attributes[i - 1])
+    }
+
+    /// Inode i, if that is a number of one of this kind.
+    pub fn of_kind(&self, i: usize, kind: u8) -> Option<Inode> {
+        let a = self.attributes.get(i.wrapping_sub(1))?;
+        (a[0] == kind).then(|| Inode::of(*a))
+    }
+
+    /// The twelve addresses of inode i.
+    pub fn addresses_of(&self, i: usize) -> &'a [[u8; 2]] {
+        self.addresses[i - 1].as_chunks().0
+    }
+
+    /// The first k blocks of inode i.
+    pub fn blocks_of(&self, i: usize, k: usize) -> impl Iterator<Item = &'a [u8; 64]> + 'a {
+        let blocks = self.blocks;
+        self.addresses_of(i)[..k].iter().map(move |&a| &blocks[u16::from_le_bytes(a) as usize - 1])
+    }
+
+    /// All addresses of all inodes.
+    pub fn all_addresses(&self) -> impl Iterator<Item = u16> + 'a {
+        self.addresses.as_flattened().as_chunks().0.iter().map(|&a| u16::from_le_bytes(a))
+    }
+
+    /// Which blocks an address names, in one pass.
+    pub fn named(&self) -> Map {
+        let mut map = [false; MOST_IMAGE_BLOCKS + 1];
+        for a in self.all_addresses() {
+            map[a as usize] = true;
+        }
+        map
+    }
+}
+
+pub fn free_inodes(s: &[u8]) -> usize {
+    get16(s, 4)
+}
+
+pub fn free_blocks(s: &[u8]) -> usize {
+    get16(s, 6)
+}
+
+pub fn put_free(s: &mut [u8], inodes: usize, blocks: usize) {
+    put16(s, 4, inodes);
+    put16(s, 6, blocks);
+}
