@@ -5,7 +5,9 @@ use bench::proved::Proved;
 use bench::side::{Answer, Buffers, Plain, Side};
 use std::hint::black_box;
 
-const ROUNDS: usize = 300;
+/// The table is gone through so often, with so many rounds for each cycle, and so many times the cycle in a round.
+const PASSES: usize = 6;
+const ROUNDS: usize = 60;
 const CYCLES: usize = 10;
 
 enum Call<'a> {
@@ -70,71 +72,95 @@ fn growing(s: &Scene) -> Cycle<'_> {
     Cycle { calls: vec![("create + block (written back)", Call::Create(1, &s.free_name))], restore: true }
 }
 
-/// One side's buffers, and the least time of each call of a cycle.
-struct Bench {
+/// The buffers of a run, with a read's.
+#[derive(Clone, PartialEq)]
+struct Lent {
     w: Buffers,
     out: [u8; 768],
-    least: Vec<f64>,
 }
 
-impl Bench {
-    fn new(s: &Scene, calls: usize) -> Bench {
-        Bench { w: s.buffers.clone(), out: [0; 768], least: vec![f64::MAX; calls] }
+impl Lent {
+    fn of(s: &Scene) -> Lent {
+        Lent { w: s.buffers.clone(), out: [0; 768] }
     }
 
-    fn round<S: Side>(&mut self, c: &Cycle, s: &Scene) {
-        let mut sums = vec![0.0; c.calls.len()];
-        for _ in 0..CYCLES {
-            for ((_, call), sum) in c.calls.iter().zip(&mut sums) {
-                let (w, out) = (black_box(&mut self.w), &mut self.out);
-                *sum += once(|| {
-                    let _ = black_box(make::<S>(black_box(call), w, out));
-                });
-            }
-            if c.restore {
-                self.w.clone_from(&s.buffers);
-            }
-        }
-        for (least, sum) in self.least.iter_mut().zip(sums) {
-            *least = least.min(sum / CYCLES as f64);
+    fn restore(&mut self, c: &Cycle, s: &Scene) {
+        if c.restore {
+            self.w.clone_from(&s.buffers);
         }
     }
 }
 
-fn assert_alike(a: &Bench, b: &Bench, what: &str) {
-    assert!(a.w == b.w && a.out == b.out, "the two sides leave different bytes: {what}");
-}
-
-/// Once through the cycle, with answers and buffers compared after every call.
-fn compare(a: &mut Bench, b: &mut Bench, c: &Cycle, s: &Scene) {
+/// Once through the cycle on each side, with answers and buffers compared after every call; what it leaves.
+fn compare(c: &Cycle, s: &Scene) -> Lent {
+    let (mut a, mut b) = (Lent::of(s), Lent::of(s));
     for (label, call) in &c.calls {
         let (x, y) = (make::<Proved>(call, &mut a.w, &mut a.out), make::<Plain>(call, &mut b.w, &mut b.out));
         assert!(x == y && x.is_ok(), "{label}, {} store: {x:?} proved, {y:?} plain", s.name);
-        assert_alike(a, b, label);
+        assert!(a == b, "{label}, {} store: the two sides leave different bytes", s.name);
     }
-    if c.restore {
-        a.w.clone_from(&s.buffers);
-        b.w.clone_from(&s.buffers);
+    a.restore(c, s);
+    a
+}
+
+/// One side's round: the time of each call, whose answers must not be refusals.
+fn round<S: Side>(c: &Cycle, s: &Scene, lent: &mut Lent, least: &mut [f64]) {
+    let mut sums = vec![0.0; least.len()];
+    for _ in 0..CYCLES {
+        for ((_, call), sum) in c.calls.iter().zip(&mut sums) {
+            let (w, out) = (black_box(&mut lent.w), &mut lent.out);
+            let mut answer = Ok(0);
+            *sum += once(|| answer = black_box(make::<S>(black_box(call), w, out)));
+            assert!(answer.is_ok());
+        }
+        lent.restore(c, s);
+    }
+    for (least, sum) in least.iter_mut().zip(sums) {
+        *least = least.min(sum / CYCLES as f64);
     }
 }
 
-/// The rows of one cycle; the largest ratio.
-fn time(c: &Cycle, s: &Scene, clock: f64) -> f64 {
-    let (mut a, mut b) = (Bench::new(s, c.calls.len()), Bench::new(s, c.calls.len()));
-    compare(&mut a, &mut b, c, s);
-    for _ in 0..ROUNDS {
-        a.round::<Proved>(c, s);
-        b.round::<Plain>(c, s);
-        assert_alike(&a, &b, "after a round");
+/// A cycle on a scene, what it leaves, and the least time of each of its calls on either side.
+struct Job<'a> {
+    cycle: Cycle<'a>,
+    scene: &'a Scene,
+    lent: Lent,
+    expected: Lent,
+    proved: Vec<f64>,
+    plain: Vec<f64>,
+}
+
+impl<'a> Job<'a> {
+    fn new(cycle: Cycle<'a>, scene: &'a Scene) -> Job<'a> {
+        let expected = compare(&cycle, scene);
+        let least = vec![f64::MAX; cycle.calls.len()];
+        Job { cycle, scene, lent: expected.clone(), expected, proved: least.clone(), plain: least }
     }
-    compare(&mut a, &mut b, c, s);
-    let mut worst = 0.0f64;
-    for (k, (label, _)) in c.calls.iter().enumerate() {
-        let (p, q) = (a.least[k] - clock, b.least[k] - clock);
-        println!("{:<34} {:>17} {:>11.0} {:>11.0} {:>7.2}", label, s.name, p, q, p / q);
-        worst = worst.max(p / q);
+
+    /// Both sides work on the same buffers in turn, so that these lie alike for both.
+    fn rounds(&mut self) {
+        for _ in 0..ROUNDS {
+            round::<Proved>(&self.cycle, self.scene, &mut self.lent, &mut self.proved);
+            self.assert_right(Proved::NAME);
+            round::<Plain>(&self.cycle, self.scene, &mut self.lent, &mut self.plain);
+            self.assert_right(Plain::NAME);
+        }
     }
-    worst
+
+    fn assert_right(&self, side: &str) {
+        assert!(self.lent == self.expected, "{}, {} store: bytes after the {side} calls", self.cycle.calls[0].0, self.scene.name);
+    }
+
+    /// Prints a row for each call; the largest ratio.
+    fn print(&self, clock: f64) -> f64 {
+        let mut worst = 0.0f64;
+        for ((label, _), (p, q)) in self.cycle.calls.iter().zip(self.proved.iter().zip(&self.plain)) {
+            let (p, q) = (p - clock, q - clock);
+            println!("{:<34} {:>17} {:>11.0} {:>11.0} {:>7.2}", label, self.scene.name, p, q, p / q);
+            worst = worst.max(p / q);
+        }
+        worst
+    }
 }
 
 /// The scene while a copy runs: started, and the root copied.
@@ -148,20 +174,21 @@ fn running(mut s: Scene, name: &'static str) -> Scene {
 
 /// The table of calls; the largest ratio.
 pub fn run() -> f64 {
-    println!("\n{:<34} {:>17} {:>11} {:>11} {:>7}", "call", "store", "proved ns", "Rust ns", "ratio");
     let bytes = std::array::from_fn(|k| k as u8 | 1);
+    let idle = [scenes::typical_scene(), scenes::full_scene()];
+    let copying = [running(scenes::typical_scene(), "typical, copying"), running(scenes::full_scene(), "full, copying")];
+    let mut jobs = vec![];
+    for s in &idle {
+        jobs.extend(reading(s).into_iter().chain(writing(s, &bytes)).map(|c| Job::new(c, s)));
+    }
+    jobs.push(Job::new(growing(&idle[0]), &idle[0]));
+    for s in &copying {
+        jobs.extend(writing(s, &bytes).into_iter().map(|c| Job::new(c, s)));
+    }
     let clock = clock();
-    let mut worst = 0.0f64;
-    for s in [scenes::typical_scene(), scenes::full_scene()] {
-        for c in reading(&s).iter().chain(&writing(&s, &bytes)) {
-            worst = worst.max(time(c, &s, clock));
-        }
+    for _ in 0..PASSES {
+        jobs.iter_mut().for_each(Job::rounds);
     }
-    worst = worst.max(time(&growing(&scenes::typical_scene()), &scenes::typical_scene(), clock));
-    for s in [running(scenes::typical_scene(), "typical, copying"), running(scenes::full_scene(), "full, copying")] {
-        for c in &writing(&s, &bytes) {
-            worst = worst.max(time(c, &s, clock));
-        }
-    }
-    worst
+    println!("\n{:<34} {:>17} {:>11} {:>11} {:>7}", "call", "store", "proved ns", "Rust ns", "ratio");
+    jobs.iter().map(|job| job.print(clock)).fold(0.0, f64::max)
 }

@@ -14,23 +14,30 @@ fn copy<S: Side>(w: &mut Buffers, answers: &mut Vec<Answer>) {
     }
 }
 
-/// The same call by call on both sides, with answers, states and buffers compared after each; the count of calls.
-fn compare(start: &Buffers, name: &str) -> usize {
+/// What a copy answers and leaves.
+struct Copied {
+    answers: Vec<Answer>,
+    w: Buffers,
+}
+
+/// The same call by call on both sides, with answers, states and buffers compared after each.
+fn compare(start: &Buffers, name: &str) -> Copied {
     let (mut a, mut b) = (start.clone(), start.clone());
-    let mut answers = (Proved::start(&mut a), Plain::start(&mut b));
-    let mut calls = 1;
+    let mut answers = vec![];
+    let mut next = (Proved::start(&mut a), Plain::start(&mut b));
     loop {
-        assert_eq!(answers.0, answers.1, "{name}: call {calls}");
+        answers.push(next.0);
+        let calls = answers.len();
+        assert!(next.0 == next.1 && next.0.is_ok(), "{name}, call {calls}: {next:?}");
         assert_eq!(Proved::state(&a), Plain::state(&b), "{name}: state after call {calls}");
-        assert!(answers.0.is_ok() && a == b, "{name}: bytes after call {calls}");
+        assert!(a == b, "{name}: bytes after call {calls}");
         if a.image[8] == 1 {
             break;
         }
-        answers = (Proved::step(&mut a), Plain::step(&mut b));
-        calls += 1;
+        next = (Proved::step(&mut a), Plain::step(&mut b));
     }
     assert!(Proved::check(&a.image, true) && Plain::check(&a.image, true), "{name}: the finished image");
-    calls
+    Copied { answers, w: a }
 }
 
 struct Least {
@@ -41,21 +48,30 @@ struct Least {
     zeros: f64,
 }
 
-/// The least times of so many rounds, in which all take turns.
-fn time(start: &Buffers, calls: usize, rounds: usize) -> Least {
-    let (mut a, mut b) = (start.clone(), start.clone());
-    let (mut x, mut y) = (Vec::with_capacity(calls), Vec::with_capacity(calls));
-    let (mut other, mut image) = (start.store.clone(), start.image.clone());
+/// One side's copy, which must be the expected one; its time.
+fn timed<S: Side>(w: &mut Buffers, answers: &mut Vec<Answer>, expected: &Copied) -> f64 {
+    let time = each(1, || copy::<S>(black_box(w), answers));
+    assert!(*answers == expected.answers && *w == expected.w, "a {} copy differs", S::NAME);
+    time
+}
+
+/// The least times of so many rounds, in which all take turns; both sides work on the same buffers.
+fn time(expected: &Copied, rounds: usize) -> Least {
+    let calls = expected.answers.len();
+    let mut w = expected.w.clone();
+    let mut answers = Vec::with_capacity(calls);
+    let (mut other, mut image) = (w.store.clone(), w.image.clone());
     let mut t = Least { proved: f64::MAX, plain: f64::MAX, checks: f64::MAX, bytes: f64::MAX, zeros: f64::MAX };
     for _ in 0..rounds {
-        t.proved = t.proved.min(each(1, || copy::<Proved>(black_box(&mut a), &mut x)));
-        t.plain = t.plain.min(each(1, || copy::<Plain>(black_box(&mut b), &mut y)));
-        assert!(x == y && x.len() == calls && a == b, "the two copies differ");
+        for _ in 0..2 {
+            t.proved = t.proved.min(timed::<Proved>(&mut w, &mut answers, expected));
+            t.plain = t.plain.min(timed::<Plain>(&mut w, &mut answers, expected));
+        }
         let check = || {
-            black_box(Proved::check(black_box(&start.store), false));
+            black_box(Proved::check(black_box(&w.store), false));
         };
         t.checks = t.checks.min(each(calls, check) * calls as f64);
-        t.bytes = t.bytes.min(each(20, || black_box(&mut other).copy_from_slice(black_box(&start.store))));
+        t.bytes = t.bytes.min(each(20, || black_box(&mut other).copy_from_slice(black_box(&w.store))));
         t.zeros = t.zeros.min(each(20, || black_box(&mut image).fill(0)));
     }
     t
@@ -68,9 +84,9 @@ pub fn run() -> (f64, f64) {
         "copy of", "calls", "proved ns", "Rust ns", "ratio", "checks ns", "to checks", "memcpy ns", "to memcpy", "zero image"
     );
     let mut worst = (0.0f64, 0.0f64);
-    for (name, start, rounds) in [("an empty", scenes::empty(), 300), ("a typical", scenes::typical(), 60), ("a full store", scenes::full(), 30)] {
-        let calls = compare(&start, name);
-        let t = time(&start, calls, rounds);
+    for (name, start, rounds) in [("an empty", scenes::empty(), 1000), ("a typical", scenes::typical(), 200), ("a full store", scenes::full(), 40)] {
+        let expected = compare(&start, name);
+        let (calls, t) = (expected.answers.len(), time(&expected, rounds));
         let (to_plain, to_checks) = (t.proved / t.plain, t.proved / t.checks);
         println!(
             "{:<14} {:>6} {:>11.0} {:>11.0} {:>7.2} {:>11.0} {:>10.2} {:>10.0} {:>9.1} {:>12.0}",

@@ -44,12 +44,11 @@ pub fn next_inode(v: &View, desk: &[u8], n: usize) -> Option<usize> {
 
 /// Where the store's block c goes: its own number if that is an unnamed block, else the lowest such.
 pub fn target(v: &View, c: usize) -> Option<usize> {
-    let map = v.named();
-    let named = &map[..=v.blocks.len()];
-    if named.get(c) == Some(&false) {
+    let b = v.blocks.len();
+    if c <= b && !v.all_addresses().fold(false, |named, a| named | (a == c as u16)) {
         return Some(c);
     }
-    named[1..].iter().position(|&x| !x).map(|k| k + 1)
+    v.named()[1..=b].iter().position(|&named| !named).map(|k| k + 1)
 }
 
 /// Link counts, free counts and byte 8 of a finished image.

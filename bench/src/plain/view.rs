@@ -128,11 +128,13 @@ impl<'a> View<'a> {
         self.addresses.as_flattened().as_chunks().0.iter().map(|&a| u16::from_le_bytes(a))
     }
 
-    /// Which blocks an address names, in one pass.
+    /// Which blocks an address names, in one pass; most inodes have none.
     pub fn named(&self) -> Map {
         let mut map = [false; MOST_IMAGE_BLOCKS + 1];
-        for a in self.all_addresses() {
-            map[a as usize] = true;
+        for addresses in self.addresses.iter().filter(|addresses| **addresses != [0; 24]) {
+            for a in addresses.as_chunks().0 {
+                map[u16::from_le_bytes(*a) as usize] = true;
+            }
         }
         map
     }
