@@ -1,6 +1,6 @@
-// The proved library is built before: rt staticlib api
+// The proved library, as bench/run leaves it.
 fn main() {
-    println!("cargo:rustc-link-search=native=../target/staticlib");
+    println!("cargo:rustc-link-search=native=target");
     println!("cargo:rustc-link-lib=static=api");
-    println!("cargo:rerun-if-changed=../target/staticlib/libapi.a");
+    println!("cargo:rerun-if-changed=target/libapi.a");
 }
