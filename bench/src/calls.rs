@@ -1,6 +1,6 @@
 //! The file calls, proved and plain, each timed alone on a typical and on a full store, while no copy runs and while one does.
 use crate::scenes::{self, Scene};
-use crate::timing::{clock, once};
+use crate::timing::{clock, once, shown, TO_RUST};
 use bench::proved::Proved;
 use bench::side::{Answer, Buffers, Plain, Side};
 use std::hint::black_box;
@@ -156,7 +156,7 @@ impl<'a> Job<'a> {
         let mut worst = 0.0f64;
         for ((label, _), (p, q)) in self.cycle.calls.iter().zip(self.proved.iter().zip(&self.plain)) {
             let (p, q) = (p - clock, q - clock);
-            println!("{:<34} {:>17} {:>11.0} {:>11.0} {:>7.2}", label, self.scene.name, p, q, p / q);
+            println!("{:<34} {:>17} {:>11.0} {:>11.0} {:>8}", label, self.scene.name, p, q, shown(p / q, TO_RUST));
             worst = worst.max(p / q);
         }
         worst
@@ -189,6 +189,6 @@ pub fn run() -> f64 {
     for _ in 0..PASSES {
         jobs.iter_mut().for_each(Job::rounds);
     }
-    println!("\n{:<34} {:>17} {:>11} {:>11} {:>7}", "call", "store", "proved ns", "Rust ns", "ratio");
+    println!("\n{:<34} {:>17} {:>11} {:>11} {:>8}", "call", "store", "proved ns", "Rust ns", "ratio");
     jobs.iter().map(|job| job.print(clock)).fold(0.0, f64::max)
 }

@@ -1,6 +1,7 @@
 //! The proved check beside a plain Rust check of the same conditions: the ratio of their times, and both answer alike on damaged stores.
+use crate::random::Random;
 use crate::stores::{chain, cycle, empty, full, Build};
-use crate::timing::each;
+use crate::timing::{each, shown, TO_RUST};
 use bench::plain::check as plain;
 use bench::proved::Proved;
 use bench::side::Side;
@@ -8,16 +9,6 @@ use std::hint::black_box;
 
 fn proved(s: &[u8], image: bool) -> bool {
     Proved::check(s, image)
-}
-
-struct Random(u64);
-impl Random {
-    fn next(&mut self, below: usize) -> usize {
-        self.0 ^= self.0 << 13;
-        self.0 ^= self.0 >> 7;
-        self.0 ^= self.0 << 17;
-        (self.0 % below as u64) as usize
-    }
 }
 
 /// Both checks answer alike on a sound store with one to three bytes written over (some with what stood there), most of them outside of the blocks; at times cut short, or told the other form.
@@ -48,8 +39,8 @@ fn compare(s: &[u8], image: bool, times: usize, r: &mut Random) -> (usize, usize
     (times, yes)
 }
 
-/// The table of checks, then the buffers written over.
-pub fn run() {
+/// The table of checks, then the buffers written over; the largest ratio to Rust.
+pub fn run() -> f64 {
     let mut cut = full(1024);
     cut[16 + 8 * 255 + 2] ^= 1;
     let mut late = full(4096);
@@ -66,7 +57,8 @@ pub fn run() {
         ("two directories in a circle", cycle(), false, false),
         ("image, its last byte not zero", late, true, false),
     ];
-    println!("{:<34} {:>5} {:>11} {:>11} {:>7} {:>11} {:>7}", "case", "sound", "proved ns", "Rust ns", "ratio", "sum ns", "to sum");
+    let mut worst = 0.0f64;
+    println!("{:<34} {:>5} {:>11} {:>11} {:>8} {:>11} {:>7}", "case", "sound", "proved ns", "Rust ns", "ratio", "sum ns", "to sum");
     for (name, s, image, sound) in &cases {
         let (a, b) = (proved(s, *image), plain(s, *image));
         assert_eq!((a, b), (*sound, *sound), "{name}");
@@ -82,7 +74,8 @@ pub fn run() {
                 black_box(black_box(s).iter().map(|&x| x as u64).sum::<u64>());
             }));
         }
-        println!("{:<34} {:>5} {:>11.0} {:>11.0} {:>7.2} {:>11.0} {:>7.2}", name, a, p, q, p / q, z, p / z);
+        println!("{:<34} {:>5} {:>11.0} {:>11.0} {:>8} {:>11.0} {:>7.2}", name, a, p, q, shown(p / q, TO_RUST), z, p / z);
+        worst = worst.max(p / q);
     }
     let mut r = Random(0x9e3779b97f4a7c15);
     let (mut tried, mut yes) = (0, 0);
@@ -92,4 +85,5 @@ pub fn run() {
         yes += y;
     }
     println!("{tried} buffers written over: both checks answer alike, {yes} of them sound");
+    worst
 }

@@ -1,6 +1,7 @@
-//! Whole copies, start to finish and step by step, of an empty, a typical and a full store: proved and plain, beside the checks that their calls must make, a copy of the store's bytes and the zeroing of the image.
+//! Whole copies, start to finish and step by step, of an empty, a typical and a full store: proved and plain,
+//! beside the checks that their calls must make, a copy of the store's bytes and the zeroing of the image.
 use crate::scenes;
-use crate::timing::each;
+use crate::timing::{each, shown, TO_CHECKS, TO_RUST};
 use bench::proved::Proved;
 use bench::side::{Answer, Buffers, Plain, Side};
 use std::hint::black_box;
@@ -80,7 +81,7 @@ fn time(expected: &Copied, rounds: usize) -> Least {
 /// The table of copies; the largest ratio to Rust, and to the checks.
 pub fn run() -> (f64, f64) {
     println!(
-        "\n{:<14} {:>6} {:>11} {:>11} {:>7} {:>11} {:>10} {:>10} {:>9} {:>12}",
+        "\n{:<14} {:>6} {:>11} {:>11} {:>8} {:>11} {:>10} {:>10} {:>9} {:>12}",
         "copy of", "calls", "proved ns", "Rust ns", "ratio", "checks ns", "to checks", "memcpy ns", "to memcpy", "zero image"
     );
     let mut worst = (0.0f64, 0.0f64);
@@ -89,8 +90,8 @@ pub fn run() -> (f64, f64) {
         let (calls, t) = (expected.answers.len(), time(&expected, rounds));
         let (to_plain, to_checks) = (t.proved / t.plain, t.proved / t.checks);
         println!(
-            "{:<14} {:>6} {:>11.0} {:>11.0} {:>7.2} {:>11.0} {:>10.2} {:>10.0} {:>9.1} {:>12.0}",
-            name, calls, t.proved, t.plain, to_plain, t.checks, to_checks, t.bytes, t.proved / t.bytes, t.zeros
+            "{:<14} {:>6} {:>11.0} {:>11.0} {:>8} {:>11.0} {:>10} {:>10.0} {:>9.1} {:>12.0}",
+            name, calls, t.proved, t.plain, shown(to_plain, TO_RUST), t.checks, shown(to_checks, TO_CHECKS), t.bytes, t.proved / t.bytes, t.zeros
         );
         worst = (worst.0.max(to_plain), worst.1.max(to_checks));
     }

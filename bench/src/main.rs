@@ -2,13 +2,21 @@
 mod calls;
 mod checks;
 mod copies;
+mod lists;
+mod random;
 mod scenes;
 mod stores;
 mod timing;
 
+use timing::{TO_CHECKS, TO_RUST};
+
 fn main() {
-    checks::run();
+    if cfg!(feature = "self") {
+        println!("the library does not export its calls yet: all but the check is plain Rust on both sides\n");
+    }
+    let checks = checks::run();
+    lists::run();
     let calls = calls::run();
     let (copies, floor) = copies::run();
-    println!("\nlargest ratio to Rust: a call {calls:.2}, a copy {copies:.2} (goal: at most 1.1); a copy to its checks {floor:.2} (goal: at most 1.3)");
+    println!("\nlargest ratio to Rust: check {checks:.2}, call {calls:.2}, copy {copies:.2} (goal: at most {TO_RUST}); copy to its checks {floor:.2} (goal: at most {TO_CHECKS}); * is above its goal");
 }

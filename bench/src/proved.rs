@@ -7,16 +7,40 @@ extern "C" {
     fn honecerise_check(image: u8, bytes: *const u8, length: usize) -> u8;
     fn honecerise_look_up(store: *const u8, store_length: usize, directory: usize, name: *const u8, name_length: usize) -> i32;
     fn honecerise_read(store: *const u8, store_length: usize, inode: usize, offset: usize, out: *mut u8, out_length: usize) -> i32;
-    fn honecerise_create_file(store: *mut u8, store_length: usize, image: *mut u8, image_length: usize, desk: *mut u8, desk_length: usize, directory: usize, name: *const u8, name_length: usize) -> i32;
-    fn honecerise_create_directory(store: *mut u8, store_length: usize, image: *mut u8, image_length: usize, desk: *mut u8, desk_length: usize, directory: usize, name: *const u8, name_length: usize) -> i32;
-    fn honecerise_write(store: *mut u8, store_length: usize, image: *mut u8, image_length: usize, desk: *mut u8, desk_length: usize, inode: usize, offset: usize, bytes: *const u8, length: usize) -> i32;
-    fn honecerise_shorten(store: *mut u8, store_length: usize, image: *mut u8, image_length: usize, desk: *mut u8, desk_length: usize, inode: usize, length: usize) -> i32;
-    fn honecerise_link(store: *mut u8, store_length: usize, image: *mut u8, image_length: usize, desk: *mut u8, desk_length: usize, directory: usize, name: *const u8, name_length: usize, inode: usize) -> i32;
-    fn honecerise_unlink(store: *mut u8, store_length: usize, image: *mut u8, image_length: usize, desk: *mut u8, desk_length: usize, directory: usize, name: *const u8, name_length: usize) -> i32;
-    fn honecerise_rename(store: *mut u8, store_length: usize, image: *mut u8, image_length: usize, desk: *mut u8, desk_length: usize, directory: usize, name: *const u8, name_length: usize, to_directory: usize, to_name: *const u8, to_name_length: usize) -> i32;
+    fn honecerise_create_file(
+        store: *mut u8, store_length: usize, image: *mut u8, image_length: usize, desk: *mut u8, desk_length: usize,
+        directory: usize, name: *const u8, name_length: usize,
+    ) -> i32;
+    fn honecerise_create_directory(
+        store: *mut u8, store_length: usize, image: *mut u8, image_length: usize, desk: *mut u8, desk_length: usize,
+        directory: usize, name: *const u8, name_length: usize,
+    ) -> i32;
+    fn honecerise_write(
+        store: *mut u8, store_length: usize, image: *mut u8, image_length: usize, desk: *mut u8, desk_length: usize,
+        inode: usize, offset: usize, bytes: *const u8, length: usize,
+    ) -> i32;
+    fn honecerise_shorten(
+        store: *mut u8, store_length: usize, image: *mut u8, image_length: usize, desk: *mut u8, desk_length: usize,
+        inode: usize, length: usize,
+    ) -> i32;
+    fn honecerise_link(
+        store: *mut u8, store_length: usize, image: *mut u8, image_length: usize, desk: *mut u8, desk_length: usize,
+        directory: usize, name: *const u8, name_length: usize, inode: usize,
+    ) -> i32;
+    fn honecerise_unlink(
+        store: *mut u8, store_length: usize, image: *mut u8, image_length: usize, desk: *mut u8, desk_length: usize,
+        directory: usize, name: *const u8, name_length: usize,
+    ) -> i32;
+    fn honecerise_rename(
+        store: *mut u8, store_length: usize, image: *mut u8, image_length: usize, desk: *mut u8, desk_length: usize,
+        directory: usize, name: *const u8, name_length: usize, to_directory: usize, to_name: *const u8, to_name_length: usize,
+    ) -> i32;
     fn honecerise_start(store: *const u8, store_length: usize, image: *mut u8, image_length: usize, desk: *mut u8, desk_length: usize) -> i32;
     fn honecerise_step(store: *const u8, store_length: usize, image: *mut u8, image_length: usize, desk: *mut u8, desk_length: usize) -> i32;
-    fn honecerise_state(store: *const u8, store_length: usize, image: *const u8, image_length: usize, desk: *const u8, desk_length: usize, state: *mut usize, locked: *mut usize, steps: *mut usize) -> i32;
+    fn honecerise_state(
+        store: *const u8, store_length: usize, image: *const u8, image_length: usize, desk: *const u8, desk_length: usize,
+        state: *mut usize, locked: *mut usize, steps: *mut usize,
+    ) -> i32;
 }
 
 fn answer(r: i32) -> Answer {

@@ -1,5 +1,15 @@
-//! Times in nanoseconds.
+//! Times in nanoseconds, and the goals for their ratios.
 use std::time::Instant;
+
+/// Of a proved call or copy to the plain Rust one.
+pub const TO_RUST: f64 = 1.1;
+/// Of a copy to the checks that its calls must make.
+pub const TO_CHECKS: f64 = 1.3;
+
+/// A ratio, starred if it is above its goal.
+pub fn shown(ratio: f64, goal: f64) -> String {
+    format!("{ratio:.2}{}", if ratio > goal { "*" } else { " " })
+}
 
 /// The time of one of so many runs.
 pub fn each(times: usize, mut f: impl FnMut()) -> f64 {

@@ -1,0 +1,105 @@
+//! Lists of calls at random, on small stores and at times with a byte written over: both sides answer alike and leave the same bytes.
+use crate::random::Random;
+use bench::proved::Proved;
+use bench::side::{Buffers, Plain, Side};
+
+const LISTS: usize = 2_000;
+const CALLS: usize = 150;
+const NAMES: [&[u8]; 10] = [b"a", b"b", b"c", b"laps", b"run-00012-lap", b"exactly-14-byt", b"longer-than-14b", b"", b"..", b"a/b"];
+
+fn any_name(r: &mut Random) -> &'static [u8] {
+    let among = if r.next(12) == 0 { NAMES.len() } else { 6 };
+    NAMES[r.next(among)]
+}
+
+/// A call that both sides are to make, with all that it names.
+#[derive(Debug)]
+struct Call {
+    kind: usize,
+    numbers: [usize; 3],
+    names: [&'static [u8]; 2],
+    bytes: Vec<u8>,
+}
+
+impl Call {
+    /// Inode numbers up to one past n, the root more often; offsets and lengths up to and past a file's largest; mostly legal names.
+    fn any(r: &mut Random, n: usize) -> Call {
+        let length = [r.next(5), r.next(70), r.next(780)][r.next(3)];
+        Call {
+            kind: r.next(19),
+            numbers: [[1, r.next(n + 2)][r.next(2)], [0, r.next(65), r.next(780), usize::MAX][r.next(4)], r.next(n + 2)],
+            names: [any_name(r), any_name(r)],
+            bytes: (0..length).map(|k| (k + 1) as u8).collect(),
+        }
+    }
+
+    /// The refusal or 0, all numbers of the answer, and a read's out-buffer.
+    fn make<S: Side>(&self, w: &mut Buffers) -> (u8, [usize; 3], Vec<u8>) {
+        let ([x, y, z], [name, other]) = (self.numbers, self.names);
+        let mut out = vec![0xaa; if self.kind == 1 { self.bytes.len() } else { 0 }];
+        let answer = match self.kind {
+            0 => S::look_up(&w.store, x, name),
+            1 => S::read(&w.store, x, y, &mut out),
+            2 | 3 => S::create_file(w, x, name),
+            4 | 5 => S::create_directory(w, x, name),
+            6 | 7 => S::write(w, x, y, &self.bytes),
+            8 => S::shorten(w, x, y),
+            9 => S::link(w, x, name, z),
+            10 | 11 => S::unlink(w, x, name),
+            12 | 13 => S::rename(w, x, name, z, other),
+            14 => S::start(w),
+            15 => return S::state(w).map_or_else(|no| (no, [0; 3], out), |(a, b, c)| (0, [a as usize, b as usize, c as usize], vec![])),
+            _ => S::step(w),
+        };
+        (answer.err().unwrap_or(0), [answer.unwrap_or(0), 0, 0], out)
+    }
+}
+
+/// Buffers of a few inodes and blocks, laid out by one side.
+fn fresh<S: Side>(n: usize, b: usize, image: usize) -> Buffers {
+    let mut w = Buffers { store: vec![0; 16 + 32 * n + 64 * b], image: vec![7; 16 + 32 * n + 64 * image], desk: vec![7; 16 + 9 * n] };
+    S::lay_out_store(&mut w.store, n, b).unwrap();
+    S::lay_out_desk(&mut w.desk, n).unwrap();
+    w
+}
+
+/// One byte of one buffer is another, for one call.
+fn damage(w: &mut Buffers, r: &mut Random) -> (usize, usize, u8) {
+    let which = r.next(3);
+    let buffer = [&mut w.store, &mut w.image, &mut w.desk][which].as_mut_slice();
+    let first = if r.next(2) == 0 { 40 } else { buffer.len() };
+    let o = r.next(first.min(buffer.len()));
+    let old = buffer[o];
+    buffer[o] = r.next(4) as u8;
+    (which, o, old)
+}
+
+fn mend(w: &mut Buffers, (which, o, old): (usize, usize, u8)) {
+    [&mut w.store, &mut w.image, &mut w.desk][which][o] = old;
+}
+
+/// One list; how often each refusal came, and at 0 how many calls were accepted.
+fn list(r: &mut Random, tally: &mut [usize; 17]) {
+    let (n, b, image) = (1 + r.next(7), 1 + r.next(12), 1 + r.next(20));
+    let (mut w, mut v) = (fresh::<Proved>(n, b, image), fresh::<Plain>(n, b, image));
+    for _ in 0..CALLS {
+        let call = Call::any(r, n);
+        let hurt = (r.next(30) == 0).then(|| damage(&mut w, r));
+        v.clone_from(&w);
+        let (x, y) = (call.make::<Proved>(&mut w), call.make::<Plain>(&mut v));
+        assert!(x == y && w == v, "{call:?} on {n} inodes, {b} and {image} blocks, damaged {hurt:?}: {x:?} proved, {y:?} plain");
+        tally[x.0 as usize] += 1;
+        if let Some(old) = hurt {
+            mend(&mut w, old);
+        }
+    }
+}
+
+pub fn run() {
+    let mut r = Random(0x2545f4914f6cdd1d);
+    let mut tally = [0; 17];
+    for _ in 0..LISTS {
+        list(&mut r, &mut tally);
+    }
+    println!("\n{} calls at random: both sides answer and write alike; {} accepted, by refusal 1 to 16: {:?}", LISTS * CALLS, tally[0], &tally[1..]);
+}
