@@ -11,9 +11,6 @@ mod timing;
 use timing::{TO_CHECKS, TO_RUST};
 
 fn main() {
-    if cfg!(feature = "self") {
-        println!("the library does not export its calls yet: all but the check is plain Rust on both sides\n");
-    }
     let checks = checks::run();
     lists::run();
     let calls = calls::run();
