@@ -2,8 +2,6 @@
 ghost use Prim.Native.Nat.{_≤_};
 ghost use lib.ListN.{length};
 ghost use Rattle.replay.specs.Fit.{Inside, Within};
-use crate::buffers;
-use crate::calls;
 use crate::input::Input;
 use crate::input::next_line;
 use crate::lengths::Lengths;
@@ -13,34 +11,14 @@ use commands::Command;
 use commands::Reply;
 use commands::Sums;
 use commands::answer::put_line;
-use commands::answer::reply;
 use commands::parse::command;
 use commands::parse::parse;
 use libc::STDOUT_FILENO;
+use runner::run;
 use text::pieces::front;
 
 // What an out-buffer holds before a read.
 const FILLER: u8 = 170;
-
-fn run(
-    command: Command,
-    store: &mut [u8],
-    image: &mut [u8],
-    desk: &mut [u8],
-    page: &mut [u8],
-    name: &[u8],
-    other: &[u8],
-) -> Reply {
-    match command {
-        Command::New(n, b, _) => buffers::fresh(store, image, desk, n, b),
-        Command::Read(i, o, k) => calls::read(store, i, o, k, page),
-        Command::File(c) => reply(calls::call(c, store, image, desk, name, other)),
-        Command::Start => reply(copystart::start::start(store, image, desk)),
-        Command::Step => reply(copystep::step(store, image, desk)),
-        Command::Ask => calls::state(store, image, desk),
-        _ => buffers::run(command, store, image, desk),
-    }
-}
 
 fn sums(store: &[u8], image: &[u8], desk: &[u8]) -> Sums {
     Sums {
