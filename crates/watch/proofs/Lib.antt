@@ -1,2 +1,1 @@
-pub mod NoteLaws
-pub mod CallLaws
+pub mod ReturnLaws

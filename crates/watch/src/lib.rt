@@ -1,16 +1,34 @@
-// The file calls over store, image and desk. Any bytes may be lent and any numbers handed in; a refused call changes nothing.
-mod notes;
-mod work;
-
+// All public calls over store, image and desk. Any bytes may be lent and any numbers handed in, and no call asks anything of its caller. A refused call changes nothing, save that 16 writes the desk.
 ghost use mathlib.Core.Path.{_≡_};
 ghost use Rattle.files.specs.Effect.{create, write, shorten, link, unlink, rename};
 ghost use Rattle.checkpoint.specs.Live.{left, live};
 ghost use Rattle.checkpoint.specs.Shown.{world, shown};
-use answers::Answer;
-use entries::Kind;
 use files::Guard;
 use guards::three::three_guards;
+use live::work;
 
+// What calls take and answer.
+pub use answers::Answer;
+pub use answers::Refusal;
+pub use checkpoint::Status;
+pub use entries::Kind;
+pub use sound::Form;
+
+// Lay out a store or a desk; check a store or a finished image.
+pub use checker::check::check;
+pub use format::lay_out_desk;
+pub use format::lay_out_store;
+
+// Look up and read, which take the store alone.
+pub use files::plain::look_up;
+pub use files::plain::read;
+
+// Start a copy, step, and ask its state.
+pub use copystart::start::start;
+pub use copystep::step;
+pub use guards::state::state;
+
+// The other file calls.
 pub fn create(
     store: &mut [u8],
     image: &mut [u8],

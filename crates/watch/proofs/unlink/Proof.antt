@@ -1,7 +1,8 @@
 use mathlib.Core.Path.{refl, sym, _∙_}
 use denote.Ref.{now}
 use Rattle.files.specs.Effect.{unlink}
-use Rattle.watch.proofs.CallLaws.{let-through, call-through, call-stopped}
+use Rattle.live.proofs.CallLaws.{let-through}
+use Rattle.watch.proofs.ReturnLaws.{call-through, call-stopped}
 use borrow.Author.Needs.{needs}
 use Rattle.watch.proofs.unlink.Statement.{statement}
 use Rattle.watch.proofs.unlink.Tie as tie

@@ -1,0 +1,81 @@
+-- The calls behind the guards: what the guards let through, and each way that a call returns. s is the store, m the image, d the desk, n and b the counts of inodes and blocks.
+use Prim.Native.Nat.{ℕ, _≤_}
+use mathlib.Core.Path.{_≡_, sym, ap, _∙_, subst}
+use mathlib.Core.Bool.{Bool, true, false, _&&_}
+use mathlib.Core.List.{List}
+use native.Mathlib.Omega.{arith}
+use borrow.Author.Tests.{eqb-true, leb-true}
+use lib.Dec.{eqb, leb}
+use Rattle.bounded.specs.Search.{pick}
+use Rattle.bounded.proofs.BoolLaws.{and-right}
+use Rattle.layout.specs.Sizes.{mostInodes, mostImageBlocks}
+use Rattle.desk.specs.Sizes.{idle}
+use Rattle.desk.specs.Desk.{deskOf}
+use Rattle.sound.specs.Sound.{inodesIn, blocksIn}
+use Rattle.answers.specs.declared.Refusal.{Refusal}
+use Rattle.answers.specs.declared.Refusal.the-variants.{Busy}
+use Rattle.answers.specs.declared.Answer.the-variants.{Done}
+use Rattle.files.specs.declared.Guard.the-variants.{Pass}
+use Rattle.files.specs.Effect.{Call, Effect, Planned, refused, does, planned}
+use Rattle.files.proofs.Lawful.{Lawful, Each}
+use Rattle.files.proofs.LawfulCalls.{lawful}
+use Rattle.checkpoint.specs.Busy.{anyLocked, unlessBusy}
+use Rattle.checkpoint.specs.Notes.{cutEntries, clearMarks, setMarks}
+use Rattle.checkpoint.specs.Fit.{blocksFit, deskFits, imageFits}
+use Rattle.checkpoint.specs.Live.{World, left, refuse, threeGuards, leavesIn}
+use Rattle.checkpoint.proofs.Copy.FitLaws.{desk-framed-is, desk-fits-is, image-fits-is, notes-fit-is}
+use Rattle.tallies.specs.Addressed.{Addressed}
+use Rattle.guards.proofs.GuardLaws.{passed}
+use Rattle.live.specs.Fits.{Fits, Seen}
+
+-- ---- what the guards let through
+few-blocks : (d : List ℕ) → deskFits d ≡ true → deskOf d .blocks ≤ mostImageBlocks
+few-blocks d f = unfold blocksFit in go (eqb (deskOf d .state) idle) (desk-fits-is d .to f .1 .0)
+  where
+    go : (i : Bool) → pick i (eqb (deskOf d .blocks) 0) (leb 1 (deskOf d .blocks) && leb (deskOf d .blocks) mostImageBlocks) ≡ true → deskOf d .blocks ≤ mostImageBlocks
+    go true e = let z = eqb-true (deskOf d .blocks) 0 e in omega arith
+    go false e = leb-true (deskOf d .blocks) mostImageBlocks (and-right (leb 1 (deskOf d .blocks)) (leb (deskOf d .blocks) mostImageBlocks) e)
+
+image-addressed : (m d : List ℕ) → deskOf d .inodes ≤ mostInodes → deskFits d ≡ true → imageFits m d ≡ true → Addressed m (deskOf d .inodes)
+image-addressed m d l w f =
+    let k = image-fits-is m d .to f in
+    let e = k .0 in
+    let b = few-blocks d w in
+    record {
+      few = l;
+      area = omega arith;
+      most = λ x h. let a = k .1 .1 .1 .1 .1 x h in omega arith;
+      inside = λ x h. let a = k .1 .1 .1 .1 .1 x h in omega arith;
+    }
+
+pub let-through : (s m d : List ℕ) (n b : ℕ) → threeGuards s m d ≡ Pass n b → Fits s d n × (b ≡ blocksIn s) × Seen m d n
+let-through s m d n b g =
+    let p = passed s m d n b g in
+    let f = desk-framed-is d .to (p .desk) in
+    let l = f .1 .1 in
+    let k = notes-fit-is s m d .to (p .notes) in
+    let e = p .inodes ∙ sym (k .1 .0) in
+    (record { sound = p .sound; inodes = p .inodes; long = omega arith }, p .blocks, λ r. subst (Addressed m) (sym e) (image-addressed m d (f .1 .0) (k .0) (k .1 .1 r)))
+
+-- ---- the laws of what was planned
+pub effect-laws : (c : Call) (s d : List ℕ) (n b : ℕ) → Fits s d n → b ≡ blocksIn s → (x : Effect) → does x ≡ planned c s n b → Lawful s n x
+effect-laws c s d n b f y x q = subst (Each (Lawful s n)) (sym q) (lawful c s n b (f .sound) (f .inodes) y)
+
+-- ---- behind the guards: p is what was planned, w what was lent
+module _ (w : World) (p : Planned) where
+  -- the plan refuses
+  pub ends-refused : (e : Refusal) → refused e ≡ p → refuse e (w .store) (w .image) (w .desk) ≡ leavesIn w (unlessBusy (w .desk) p)
+  ends-refused e q = ap (λ (z : Planned). leavesIn w (unlessBusy (w .desk) z)) q
+
+  -- it has an effect; r says whether an inode that it touches is locked
+  module _ (x : Effect) (q : does x ≡ p) (r : Bool) (l : r ≡ anyLocked (w .desk) (x .touches)) where
+    by-lock : leavesIn w (pick r (refused Busy) (does x)) ≡ leavesIn w (unlessBusy (w .desk) p)
+    by-lock = ap (λ (z : Bool). leavesIn w (pick z (refused Busy) (does x))) l ∙ ap (λ (z : Planned). leavesIn w (unlessBusy (w .desk) z)) q
+
+    pub ends-busy : r ≡ true → refuse Busy (w .store) (w .image) (w .desk) ≡ leavesIn w (unlessBusy (w .desk) p)
+    ends-busy e = ap (λ (z : Bool). leavesIn w (pick z (refused Busy) (does x))) (sym e) ∙ by-lock
+
+    pub ends-done : r ≡ false → (n : ℕ) → n ≡ inodesIn (w .store) → (s m d : List ℕ)
+        → s ≡ x .store → m ≡ cutEntries (w .image) (w .desk) n (x .taken) → d ≡ setMarks (clearMarks (w .desk) n (x .taken)) n (x .made)
+        → left (Done (x .answer)) s m d ≡ leavesIn w (unlessBusy (w .desk) p)
+    ends-done e n k s m d a b c = rw (a, b, c, k) (ap (λ (z : Bool). leavesIn w (pick z (refused Busy) (does x))) (sym e) ∙ by-lock)

@@ -1,0 +1,39 @@
+use Prim.Native.Nat.{_/_}
+use mathlib.Core.Path.{ap, _∙_}
+use native.Mathlib.Omega.{arith}
+use denote.Ref.{now}
+use Rattle.layout.specs.Block.{blockAt, kthBlock}
+use Rattle.layout.specs.Inode.{place}
+use Rattle.directory.specs.Slot.{slotAt}
+use borrow.Author.Needs.{needs}
+use Rattle.live.proofs.notes.image_slot.Statement.{statement}
+use Rattle.live.proofs.notes.image_slot.Tie as tie
+
+kth-block-requires : tie.Need-kth-block-requires
+kth-block-requires c κs = search needs
+
+cast-c : tie.Need-cast-c
+cast-c c = search needs
+
+block-at-requires : tie.Need-block-at-requires
+block-at-requires c κs = search needs
+
+mul-result : tie.Need-mul-result
+mul-result c = search needs
+
+add-result : tie.Need-add-result
+add-result c = search needs
+
+returns : tie.Need-returns
+unfolding slotAt kthBlock
+returns c =
+    let a = c .before .before .before .args in
+    let p = c .before .before .before .pre in
+    let k = c .before .kth-block .ensures in
+    let e = c .block-at .ensures in
+    let i = p .0 .inside (place (a .e) (a .t / 4)) (omega arith) in
+    (omega arith, omega arith)
+
+pub image-slot-spec : {M : Type 1} → statement M
+image-slot-spec =
+    tie.close (tie.spec kth-block-requires cast-c block-at-requires mul-result add-result returns)

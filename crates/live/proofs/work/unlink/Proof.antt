@@ -1,0 +1,111 @@
+use mathlib.Core.Path.{refl, sym, ap, _∙_}
+use native.Mathlib.Omega.{arith}
+use denote.Ref.{now}
+use Rattle.directory.proofs.SlotLaws.{find-below}
+use Rattle.changes.proofs.SlotPlaceLaws.{found-here}
+use Rattle.entries.proofs.PlanFacts.{unlinks}
+use Rattle.files.specs.Effect.{unlink, doUnlink}
+use Rattle.checkpoint.specs.Notes.{cutEntries, clearMarks, setMarks}
+use Rattle.live.proofs.CallLaws.{effect-laws, ends-refused, ends-busy, ends-done}
+use borrow.Author.Needs.{needs}
+use Rattle.live.proofs.work.unlink.Statement.{statement}
+use Rattle.live.proofs.work.unlink.Tie as tie
+
+unlink-plan-requires : tie.Need-unlink-plan-requires
+unlink-plan-requires c κs = search needs
+
+enum-known-t : tie.Need-enum-known-t
+enum-known-t c = search needs
+
+either-locked-requires : tie.Need-either-locked-requires
+either-locked-requires c κs = search needs
+
+same-length : tie.Need-same-length
+same-length c = search needs
+
+same-length-2 : tie.Need-same-length-2
+same-length-2 c = search needs
+
+returns : tie.Need-returns
+returns c =
+    let a = c .before .before .before .before .before .before .before .before .before .before .before .before .args in
+    ends-busy _ _ _ (ap (doUnlink (now (a .s)) (a .n) (a .dir)) (sym (c .before .before .before .before .t .given .1) ∙ c .before .before .before .before .before .before .unlink-plan .ensures)) _ (c .before .either-locked .ensures) (c .if1 .taken)
+
+unlink-requires : tie.Need-unlink-requires
+unlink-requires c κs =
+    let x = c .before .before .before .before .before in
+    let p = x .before .before .before .before .before .before .before .before .pre .0 in
+    let f = unlinks _ _ _ _ _ _ (sym (x .before .before .unlink-plan .ensures) ∙ x .t .given .1) .entry in
+    let e = f .inode in
+    let l = found-here _ _ (p .sound) (p .inodes) _ _ _ (f .directory) (f .legal) (f .found) .low in
+    let m = found-here _ _ (p .sound) (p .inodes) _ _ _ (f .directory) (f .legal) (f .found) .high in
+    (p .sound, p .inodes, f .directory, find-below _ _ _ _ _ (f .found), omega arith, omega arith)
+
+cut-image-requires : tie.Need-cut-image-requires
+cut-image-requires c κs =
+    let x = c .before .before .before .before .before .before .before .before .before .before in
+    let o = x .before .before .before .before .before .before .before .before in
+    let a = o .args in
+    let p = o .pre .0 in
+    let f = unlinks _ _ _ _ _ _ (sym (x .before .before .unlink-plan .ensures) ∙ x .t .given .1) .entry in
+    let e = f .inode in
+    let l = found-here _ _ (p .sound) (p .inodes) _ _ _ (f .directory) (f .legal) (f .found) .low in
+    let k = effect-laws (unlink (a .dir) (now (a .name))) _ _ _ _ p refl _ (ap (doUnlink (now (a .s)) (a .n) (a .dir)) (sym (x .t .given .1) ∙ x .before .before .unlink-plan .ensures)) .stood .0 in
+    (o .pre .1, p .long, k .low, k .high, k .small, omega arith)
+
+note-taken-requires : tie.Need-note-taken-requires
+note-taken-requires c κs =
+    let x = c .before .before .before .before .before .before .before .before .before .before .before .before .before .before in
+    let o = x .before .before .before .before .before .before .before .before in
+    let a = o .args in
+    let k = effect-laws (unlink (a .dir) (now (a .name))) _ _ _ _ (o .pre .0) refl _ (ap (doUnlink (now (a .s)) (a .n) (a .dir)) (sym (x .t .given .1) ∙ x .before .before .unlink-plan .ensures)) .stood .0 in
+    (k .low, k .high, o .pre .0 .long, k .small)
+
+enum-known-why : tie.Need-enum-known-why
+enum-known-why c = search needs
+
+same-length-3 : tie.Need-same-length-3
+same-length-3 c = search needs
+
+same-length-4 : tie.Need-same-length-4
+same-length-4 c = search needs
+
+same-length-5 : tie.Need-same-length-5
+same-length-5 c = search needs
+
+returns-2 : tie.Need-returns-2
+unfolding cutEntries clearMarks setMarks
+returns-2 c =
+    let x = c .before .before .before .before .before .before .before .before .before .before .before in
+    let o = x .before .before .before .before .before .before .before .before .before .before .before .before .before .before in
+    let a = o .args in
+    ends-done _ _ _ (ap (doUnlink (now (a .s)) (a .n) (a .dir)) (sym (x .before .before .before .before .before .before .t .given .1) ∙ x .before .before .before .before .before .before .before .before .unlink-plan .ensures)) _ (x .before .before .before .either-locked .ensures) (x .before .before .if1 .left) _ (o .pre .0 .inodes) _ _ _ (x .unlink .ensures) (c .before .before .before .before .before .before .cut-image .ensures) (c .before .before .note-taken .ensures)
+
+same-length-6 : tie.Need-same-length-6
+same-length-6 c = search needs
+
+returns-3 : tie.Need-returns-3
+returns-3 c =
+    let a = c .before .before .before .before .before .before .before .before .before .args in
+    ends-refused _ _ _ (ap (doUnlink (now (a .s)) (a .n) (a .dir)) (sym (c .before .why .given .1) ∙ c .before .before .before .unlink-plan .ensures))
+
+pub unlink-spec : {M : Type 1} → statement M
+unlink-spec =
+    tie.close
+    (tie.spec
+    unlink-plan-requires
+    enum-known-t
+    either-locked-requires
+    same-length
+    same-length-2
+    returns
+    unlink-requires
+    cut-image-requires
+    note-taken-requires
+    enum-known-why
+    same-length-3
+    same-length-4
+    same-length-5
+    returns-2
+    same-length-6
+    returns-3)
