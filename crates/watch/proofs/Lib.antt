@@ -1,1 +1,4 @@
 pub mod ReturnLaws
+pub mod OutLaws
+pub mod MadeLaws
+pub mod Claim

@@ -1,0 +1,66 @@
+-- Public calls made on the code, "each done by the library on the buffers as the last one left them, while nobody else writes to them".
+-- Of the code this knows the contracts of the functions in src/lib.rt, and nothing else: each way to have made a call has the call's promise as its one hypothesis. r is what the function answered.
+use Prim.Native.Nat.{ℕ}
+use mathlib.Core.Path.{_≡_}
+use mathlib.Core.List.{List, [], _∷_}
+use Rattle.answers.specs.declared.Answer.{Answer}
+use Rattle.answers.specs.Told.{Told, told}
+use Rattle.entries.specs.declared.Kind.{Kind}
+use Rattle.files.specs.Effect.{lookUp, read, create, write, shorten, link, unlink, rename}
+use Rattle.files.specs.Plain.{plain, left as leftAlone, shown as shownAlone}
+use Rattle.checkpoint.specs.declared.Status.{Status}
+use Rattle.checkpoint.specs.Live.{World, left, live, start, step, status}
+use Rattle.checkpoint.specs.Shown.{world, shown, toldStatus}
+use Rattle.checkpoint.specs.List.{Event, call, steps, asks, starts}
+
+-- what a caller gets: the answer by the paper's numbers, and a read's out-buffer ([] for the other calls)
+pub record Received : Type 0 where
+  pub answer : Told
+  pub out : List ℕ
+
+abbrev pub got : Told → List ℕ → Received
+got t out = record { answer = t; out = out }
+
+-- one call: the world that was lent, what the caller got, and the world that was left. A buffer that is not lent to be written stays.
+pub data Did : Event → World → Received → World → Type 0 where
+  -- "Look up and read take the store alone"
+  looked-up : {dir : ℕ} {name : List ℕ} {w : World} (r : Answer)
+      → shownAlone (leftAlone r (w .store) []) ≡ shownAlone (plain (lookUp dir name) (w .store))
+      → Did (call (lookUp dir name)) w (got (told r) []) w
+  has-read : {inode offset : ℕ} {out filled : List ℕ} {w : World} (r : Answer)
+      → shownAlone (leftAlone r (w .store) filled) ≡ shownAlone (plain (read inode offset out) (w .store))
+      → Did (call (read inode offset out)) w (got (told r) filled) w
+  -- the file calls over the three buffers
+  created : {dir : ℕ} {name : List ℕ} {kind : Kind} {w v : World} (r : Answer)
+      → shown (left r (v .store) (v .image) (v .desk)) ≡ shown (live (create dir name kind) w)
+      → Did (call (create dir name kind)) w (got (told r) []) v
+  written : {inode offset : ℕ} {bytes : List ℕ} {w v : World} (r : Answer)
+      → shown (left r (v .store) (v .image) (v .desk)) ≡ shown (live (write inode offset bytes) w)
+      → Did (call (write inode offset bytes)) w (got (told r) []) v
+  shortened : {inode size : ℕ} {w v : World} (r : Answer)
+      → shown (left r (v .store) (v .image) (v .desk)) ≡ shown (live (shorten inode size) w)
+      → Did (call (shorten inode size)) w (got (told r) []) v
+  linked : {dir : ℕ} {name : List ℕ} {inode : ℕ} {w v : World} (r : Answer)
+      → shown (left r (v .store) (v .image) (v .desk)) ≡ shown (live (link dir name inode) w)
+      → Did (call (link dir name inode)) w (got (told r) []) v
+  unlinked : {dir : ℕ} {name : List ℕ} {w v : World} (r : Answer)
+      → shown (left r (v .store) (v .image) (v .desk)) ≡ shown (live (unlink dir name) w)
+      → Did (call (unlink dir name)) w (got (told r) []) v
+  renamed : {dir : ℕ} {name : List ℕ} {to-dir : ℕ} {to-name : List ℕ} {w v : World} (r : Answer)
+      → shown (left r (v .store) (v .image) (v .desk)) ≡ shown (live (rename dir name to-dir to-name) w)
+      → Did (call (rename dir name to-dir to-name)) w (got (told r) []) v
+  -- start, step and state
+  started : {w : World} {image desk : List ℕ} (r : Answer)
+      → shown (left r (w .store) image desk) ≡ shown (start (w .store) (w .image) (w .desk))
+      → Did starts w (got (told r) []) (world (w .store) image desk)
+  stepped : {w : World} {image desk : List ℕ} (r : Answer)
+      → shown (left r (w .store) image desk) ≡ shown (step (w .store) (w .image) (w .desk))
+      → Did steps w (got (told r) []) (world (w .store) image desk)
+  asked : {w : World} (r : Status)
+      → toldStatus r ≡ toldStatus (status (w .store) (w .image) (w .desk))
+      → Did asks w (got (toldStatus r) []) w
+
+-- a list of calls, one after another: from which world, what their callers got, and to which world
+pub data Made : List Event → World → List Received → World → Type 0 where
+  none : {w : World} → Made [] w [] w
+  then : {e : Event} {es : List Event} {a : Received} {rs : List Received} {w v u : World} → Did e w a v → Made es v rs u → Made (e ∷ es) w (a ∷ rs) u
