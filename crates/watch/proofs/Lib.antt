@@ -2,3 +2,6 @@ pub mod ReturnLaws
 pub mod OutLaws
 pub mod MadeLaws
 pub mod Claim
+pub mod AnswerLaws
+pub mod KeepLaws
+pub mod FirstDemand

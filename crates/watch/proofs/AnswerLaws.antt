@@ -1,0 +1,74 @@
+-- Each call's answer is by its table of conditions, on any world.
+use Prim.Native.Nat.{ℕ, _≤_}
+use mathlib.Core.Path.{_≡_, refl, ap, _∙_}
+use mathlib.Core.Bool.{Bool, true, false}
+use mathlib.Core.List.{List, [], _∷_}
+use native.Mathlib.Omega.{arith}
+use Rattle.bounded.specs.Search.{pick}
+use Rattle.answers.specs.declared.Refusal.{Refusal}
+use Rattle.answers.specs.declared.Refusal.the-variants.{ImageFull}
+use Rattle.answers.specs.declared.Answer.{Answer}
+use Rattle.answers.specs.declared.Answer.the-variants.{Done, Refused}
+use Rattle.answers.specs.Refusal.{refusalNumber}
+use Rattle.answers.specs.Told.{Told, told}
+use Rattle.answers.proofs.RefusalLaws.{number-range}
+use Rattle.files.specs.Effect.{lookUp, read, create, write, shorten, link, unlink, rename}
+use Rattle.checkpoint.specs.Live.{World, Outcome, asStatus}
+use Rattle.checkpoint.specs.Shown.{toldStatus}
+use Rattle.checkpoint.specs.Table.{Row, firstOf, ascendsFrom, askTable}
+use Rattle.checkpoint.specs.List.{Event, call, steps, asks, starts, outcome}
+use Rattle.checkpoint.proofs.TableLaws.{look-up-table, read-table, create-table, write-table, shorten-table, link-table, unlink-table, rename-table, start-table, step-table, status-table, look-up-alone, read-alone}
+use Rattle.checkpoint.proofs.RowLaws.{look-up-ascends, read-ascends, create-ascends, write-ascends, shorten-ascends, link-ascends, unlink-ascends, rename-ascends, start-ascends, step-ascends, status-ascends}
+use Rattle.watch.specs.Answered.{ByTable, result, holds, passes, Answered, tableOf, resultOf}
+
+-- ---- tables
+-- the first condition that holds; f tells an answer
+by-first : (f : Answer → Told) (vs : List ℕ) (x : ℕ) → f (Done x) ≡ record { number = 0; values = vs } → ((e : Refusal) → f (Refused e) ≡ record { number = refusalNumber e; values = [] })
+    → (rs : List Row) → ByTable vs rs (f (firstOf rs (Done x)))
+by-first f vs x p q [] = rw p result
+by-first f vs x p q (r ∷ rs) = go (r .holds) refl (by-first f vs x p q rs)
+  where
+    go : (b : Bool) → r .holds ≡ b → ByTable vs rs (f (firstOf rs (Done x))) → ByTable vs (r ∷ rs) (f (pick b (Refused (r .refusal)) (firstOf rs (Done x))))
+    go true h t = rw (q (r .refusal)) (holds h)
+    go false h t = passes h t
+
+pub at-most : {vs : List ℕ} {rs : List Row} {t : Told} → ByTable vs rs t → t .number ≤ refusalNumber ImageFull
+at-most result = omega arith
+at-most (holds {r} h) = number-range (r .refusal) .1
+at-most (passes h b) = at-most b
+
+by-answer : (rs : List Row) (x : ℕ) (a : Answer) → a ≡ firstOf rs (Done x) → ByTable (x ∷ []) rs (told a)
+by-answer rs x a h = rw h (by-first told (x ∷ []) x refl (λ e. refl) rs)
+
+-- ---- each call's answer is by its table
+module _ (w : World) where
+  pub by-table : (e : Event) → ByTable (resultOf e w) (tableOf e w) (outcome e w .answer)
+  unfolding tableOf resultOf outcome
+  by-table (call (lookUp d name)) = by-answer _ _ _ (ap (λ (o : Outcome). o .answer) (look-up-alone w d name) ∙ look-up-table (w .store) d name)
+  by-table (call (read i o out)) = by-answer _ _ _ (ap (λ (o : Outcome). o .answer) (read-alone w i o out) ∙ read-table (w .store) i o out)
+  by-table (call (create d name k)) = by-answer _ _ _ (create-table w d name k)
+  by-table (call (write i o xs)) = by-answer _ _ _ (write-table w i o xs)
+  by-table (call (shorten i z)) = by-answer _ _ _ (shorten-table w i z)
+  by-table (call (link d name i)) = by-answer _ _ _ (link-table w d name i)
+  by-table (call (unlink d name)) = by-answer _ _ _ (unlink-table w d name)
+  by-table (call (rename d name e other)) = by-answer _ _ _ (rename-table w d name e other)
+  by-table starts = by-answer _ _ _ (start-table (w .store) (w .image) (w .desk))
+  by-table steps = by-answer _ _ _ (step-table (w .store) (w .image) (w .desk))
+  by-table asks = rw (status-table (w .store) (w .image) (w .desk)) (by-first (λ a. toldStatus (asStatus a (w .desk))) _ 0 refl (λ e. refl) (askTable (w .store) (w .image) (w .desk)))
+
+  table-ascends : (e : Event) → ascendsFrom 0 (tableOf e w) ≡ true
+  unfolding tableOf
+  table-ascends (call (lookUp d name)) = look-up-ascends (w .store) d name
+  table-ascends (call (read i o out)) = read-ascends (w .store) i o
+  table-ascends (call (create d name k)) = create-ascends (w .store) (w .image) (w .desk) d name
+  table-ascends (call (write i o xs)) = write-ascends (w .store) (w .image) (w .desk) i o xs
+  table-ascends (call (shorten i z)) = shorten-ascends (w .store) (w .image) (w .desk) i z
+  table-ascends (call (link d name i)) = link-ascends (w .store) (w .image) (w .desk) d name i
+  table-ascends (call (unlink d name)) = unlink-ascends (w .store) (w .image) (w .desk) d name
+  table-ascends (call (rename d name e other)) = rename-ascends (w .store) (w .image) (w .desk) d name e other
+  table-ascends starts = start-ascends (w .store) (w .image) (w .desk)
+  table-ascends steps = step-ascends (w .store) (w .image) (w .desk)
+  table-ascends asks = status-ascends (w .store) (w .image) (w .desk)
+
+  pub answered : (e : Event) → Answered (resultOf e w) (tableOf e w) (outcome e w .answer)
+  answered e = record { by = by-table e; ascends = table-ascends e; sixteen = at-most (by-table e) }

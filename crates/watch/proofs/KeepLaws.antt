@@ -1,0 +1,153 @@
+-- What a refused call leaves, on any world: everything as it was, save that 16, which comes to a step alone, stops the copy.
+use Prim.Native.Nat.{ℕ, _≤_}
+use mathlib.Core.Path.{_≡_, refl, ap, _∙_}
+use mathlib.Core.Bool.{Bool, true, _&&_}
+use mathlib.Core.List.{List, [], _∷_}
+use mathlib.Core.Logic.{_⊎_, inl, inr}
+use native.Mathlib.Omega.{arith}
+use borrow.Author.Tests.{ltb-true, not-false}
+use lib.Dec.{ltb}
+use lib.ListN.{length}
+use Rattle.bounded.proofs.BoolLaws.{and-left, and-right}
+use Rattle.layout.specs.Sizes.{mostStoreBlocks}
+use Rattle.desk.specs.declared.Desk.{Desk}
+use Rattle.desk.specs.Sizes.{deskHeaderBytes}
+use Rattle.desk.specs.Desk.{deskOf, putDesk}
+use Rattle.desk.specs.Next.{stopping}
+use Rattle.desk.proofs.DeskLaws.{length-putDesk, desk-putDesk}
+use Rattle.sound.specs.Sound.{framedB}
+use Rattle.answers.specs.declared.Refusal.{Refusal}
+use Rattle.answers.specs.declared.Refusal.the-variants.{BadBuffer, UnsoundStore, BadDesk, IllegalName, WrongInode, NameAbsent, NameTaken, NotEmpty, PastEnd, IntoItself, NoInode, NoBlocks, NoSlot, Busy, WrongState, ImageFull}
+use Rattle.answers.specs.declared.Answer.{Answer}
+use Rattle.answers.specs.declared.Answer.the-variants.{Done, Refused}
+use Rattle.answers.specs.Refusal.{refusalNumber}
+use Rattle.answers.specs.Told.{Told}
+use Rattle.files.specs.Effect.{lookUp, read, create, write, shorten, link, unlink, rename, Planned, refused, does, onPlanned, given}
+use Rattle.checkpoint.specs.Fit.{deskFramed}
+use Rattle.checkpoint.specs.Live.{World, Outcome, decision, leavesIn, live, outOf, start, step}
+use Rattle.checkpoint.specs.Shown.{world, numberOf}
+use Rattle.checkpoint.specs.Table.{Row, liveRows, lookUpTable, readTable, createTable, writeTable, shortenTable, linkTable, unlinkTable, renameTable, startTable, stepTable}
+use Rattle.checkpoint.specs.List.{Event, call, steps, asks, starts, outcome, next, refusalOf}
+use Rattle.checkpoint.specs.Progress.{Stopped}
+use Rattle.checkpoint.proofs.Copy.FitLaws.{desk-framed-is}
+use Rattle.checkpoint.proofs.RefusedLaws.{Keeps, live-refused, start-refused, step-refused, step-full}
+use Rattle.checkpoint.proofs.Run.Stops.{stop-bytes}
+use Rattle.watch.specs.Answered.{ByTable, result, holds, passes, tableOf, lentTo}
+use Rattle.watch.specs.Claim.{outAfter}
+use Rattle.watch.proofs.AnswerLaws.{by-table}
+
+-- ---- 16
+-- it has a number of its own
+is-full : (e : Refusal) → refusalNumber e ≡ refusalNumber ImageFull → e ≡ ImageFull
+is-full BadBuffer h = absurd (omega arith)
+is-full UnsoundStore h = absurd (omega arith)
+is-full BadDesk h = absurd (omega arith)
+is-full IllegalName h = absurd (omega arith)
+is-full WrongInode h = absurd (omega arith)
+is-full NameAbsent h = absurd (omega arith)
+is-full NameTaken h = absurd (omega arith)
+is-full NotEmpty h = absurd (omega arith)
+is-full PastEnd h = absurd (omega arith)
+is-full IntoItself h = absurd (omega arith)
+is-full NoInode h = absurd (omega arith)
+is-full NoBlocks h = absurd (omega arith)
+is-full NoSlot h = absurd (omega arith)
+is-full Busy h = absurd (omega arith)
+is-full WrongState h = absurd (omega arith)
+is-full ImageFull h = refl
+
+answer-full : (a : Answer) → numberOf a ≡ refusalNumber ImageFull → a ≡ Refused ImageFull
+answer-full (Done x) h = absurd (omega arith)
+answer-full (Refused e) h = ap Refused (is-full e h)
+
+-- a table without it does not give it
+abbrev lacksFull : List Row → Bool
+lacksFull [] = true
+lacksFull (r ∷ rs) = ltb (refusalNumber (r .refusal)) (refusalNumber ImageFull) && lacksFull rs
+
+not-full : {vs : List ℕ} {rs : List Row} {t : Told} → ByTable vs rs t → lacksFull rs ≡ true → t .number ≡ refusalNumber ImageFull → ⊥
+not-full result l h = omega arith
+not-full (holds {r} {rs} p) l h =
+    let k = ltb-true (refusalNumber (r .refusal)) (refusalNumber ImageFull) (and-left (ltb (refusalNumber (r .refusal)) (refusalNumber ImageFull)) (lacksFull rs) l) in
+    omega arith
+not-full (passes {r} {rs} p b) l h = not-full b (and-right (ltb (refusalNumber (r .refusal)) (refusalNumber ImageFull)) (lacksFull rs) l) h
+
+step-alone : (w : World) (e : Event) → (e ≡ steps) ⊎ (lacksFull (tableOf e w) ≡ true)
+unfolding tableOf lookUpTable readTable createTable writeTable shortenTable linkTable unlinkTable renameTable startTable
+step-alone w (call (lookUp d name)) = inr refl
+step-alone w (call (read i o out)) = inr refl
+step-alone w (call (create d name k)) = inr refl
+step-alone w (call (write i o xs)) = inr refl
+step-alone w (call (shorten i z)) = inr refl
+step-alone w (call (link d name i)) = inr refl
+step-alone w (call (unlink d name)) = inr refl
+step-alone w (call (rename d name e other)) = inr refl
+step-alone w starts = inr refl
+step-alone w steps = inl refl
+step-alone w asks = inr refl
+
+-- the guards let it through
+framed-if-full : (s m d : List ℕ) {vs : List ℕ} {rs : List Row} {t : Told} → ByTable vs (liveRows s m d rs) t → t .number ≡ refusalNumber ImageFull → deskFramed d ≡ true
+framed-if-full s m d (holds h) k = absurd (omega arith)
+framed-if-full s m d (passes h b) k = and-right (framedB mostStoreBlocks s) (deskFramed d) (not-false (framedB mostStoreBlocks s && deskFramed d) h)
+
+module _ (w : World) where
+  abbrev stoppedDesk : List ℕ
+  stoppedDesk = putDesk (w .desk) (stopping (deskOf (w .desk)))
+
+  -- what it leaves
+  full-leaves : refusalOf steps w ≡ refusalNumber ImageFull → next steps w ≡ world (w .store) (w .image) stoppedDesk
+  unfolding next outcome
+  full-leaves h = ap (λ (o : Outcome). world (o .store) (o .image) (o .desk)) (step-full (w .store) (w .image) (w .desk) (answer-full (step (w .store) (w .image) (w .desk) .answer) h))
+
+  desk-there : refusalOf steps w ≡ refusalNumber ImageFull → deskHeaderBytes ≤ length (w .desk)
+  unfolding tableOf stepTable
+  desk-there h = let l = desk-framed-is (w .desk) .to (framed-if-full (w .store) (w .image) (w .desk) (by-table w steps) h) .1 .1 in omega arith
+
+  full-stops : refusalOf steps w ≡ refusalNumber ImageFull → Stopped w (next steps w)
+  full-stops h =
+      let l = desk-there h in
+      let k = desk-putDesk (w .desk) (stopping (deskOf (w .desk))) l in
+      rw (full-leaves h) (record {
+        store = refl;
+        image = refl;
+        state = ap (λ (x : Desk). x .state) k;
+        locked = ap (λ (x : Desk). x .locked) k;
+        copied = ap (λ (x : Desk). x .copied) k;
+        long = length-putDesk (w .desk) (stopping (deskOf (w .desk)));
+        rest = λ o x p q. stop-bytes (w .desk) o l x p q;
+      })
+
+  pub stops : (e : Event) → refusalOf e w ≡ refusalNumber ImageFull → (e ≡ steps) × Stopped w (next e w)
+  stops e h = elim (step-alone w e) [
+    | inl s ↦ (s, rw s (full-stops (rw s at h)))
+    | inr l ↦ absurd (not-full (by-table w e) l h)
+  ]
+
+  -- ---- the other refusals
+  -- an outcome that keeps the buffers if it is a refusal
+  kept : (o : Outcome) → Keeps (w .store) (w .image) (w .desk) o → (numberOf (o .answer) ≡ 0 → ⊥) → world (o .store) (o .image) (o .desk) ≡ w
+  kept o k n = go (o .answer) refl
+    where
+      go : (a : Answer) → o .answer ≡ a → world (o .store) (o .image) (o .desk) ≡ w
+      go (Done x) h = absurd (n (ap numberOf h))
+      go (Refused e) h = ap (λ (q : Outcome). world (q .store) (q .image) (q .desk)) (k e h)
+
+  pub keeps : (e : Event) → (refusalOf e w ≡ 0 → ⊥) → (refusalOf e w ≡ refusalNumber ImageFull → ⊥) → next e w ≡ w
+  unfolding next outcome
+  keeps (call c) n f = kept (live c w) (live-refused c w) n
+  keeps starts n f = kept (start (w .store) (w .image) (w .desk)) (start-refused (w .store) (w .image) (w .desk)) n
+  keeps steps n f = kept (step (w .store) (w .image) (w .desk)) (λ e h. step-refused (w .store) (w .image) (w .desk) e (λ z. f (ap numberOf h ∙ ap refusalNumber z)) h) n
+  keeps asks n f = refl
+
+  -- a read's out-buffer
+  pub out-keeps : (e : Event) → (refusalOf e w ≡ 0 → ⊥) → outAfter e w ≡ lentTo e
+  unfolding outcome live outOf
+  out-keeps (call c) n = go (decision c w) n
+    where
+      go : (p : Planned) → (numberOf (leavesIn w p .answer) ≡ 0 → ⊥) → onPlanned p (λ x. x .out) (λ e. given c) ≡ given c
+      go (does x) n = absurd (n refl)
+      go (refused e) n = refl
+  out-keeps starts n = refl
+  out-keeps steps n = refl
+  out-keeps asks n = refl

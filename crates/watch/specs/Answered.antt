@@ -1,0 +1,98 @@
+-- Demand 1, of the calls' code: "The answer of each public call, for all bytes and numbers handed to it, is its result or one of the sixteen refusals of document 01", and which.
+-- "A refusal changes no lent buffer, save that 16 marks the copy stopped and unlocks what was being copied."
+use Prim.Native.Nat.{ℕ, _+_, _-_, _≤_, min, max}
+use mathlib.Core.Path.{_≡_}
+use mathlib.Core.Bool.{true, false, not}
+use mathlib.Core.List.{List, [], _∷_}
+use lib.ListN.{length}
+use Rattle.layout.specs.Inode.{sizeOf}
+use Rattle.layout.specs.Free.{freeInode}
+use Rattle.desk.specs.Desk.{deskOf}
+use Rattle.sound.specs.Sound.{inodesIn}
+use Rattle.answers.specs.declared.Answer.{Answer}
+use Rattle.answers.specs.declared.Refusal.the-variants.{BadBuffer, ImageFull}
+use Rattle.answers.specs.Refusal.{refusalNumber}
+use Rattle.answers.specs.Told.{Told, told}
+use Rattle.format.specs.Format.{left, storeAllowed, deskAllowed, layOutStore, layOutDesk}
+use Rattle.files.specs.Effect.{lookUp, read, create, write, shorten, link, unlink, rename, given}
+use Rattle.checkpoint.specs.Live.{World}
+use Rattle.checkpoint.specs.Table.{Row, row, ascendsFrom, orZero, inodeFor, lookUpTable, readTable, createTable, writeTable, shortenTable, linkTable, unlinkTable, renameTable, startTable, stepTable, askTable}
+use Rattle.checkpoint.specs.List.{Event, call, steps, asks, starts}
+use Rattle.checkpoint.specs.Progress.{Stopped}
+use Rattle.watch.specs.Made.{Received, Did}
+
+-- ---- "Given by number, looked at lowest first, when and only when the condition holds for that call"
+-- the answer by a table of conditions, where the result has the values vs: the refusal of the first that holds, or the result if none does
+pub data ByTable (vs : List ℕ) : List Row → Told → Type 0 where
+  result : ByTable vs [] (record { number = 0; values = vs })
+  holds : {r : Row} {rs : List Row} → r .holds ≡ true → ByTable vs (r ∷ rs) (record { number = refusalNumber (r .refusal); values = [] })
+  passes : {r : Row} {rs : List Row} {t : Told} → r .holds ≡ false → ByTable vs rs t → ByTable vs (r ∷ rs) t
+
+-- the table's numbers go up, so the first is the lowest; no number is above the sixteenth's
+pub record Answered (vs : List ℕ) (rs : List Row) (t : Told) : Type 0 where
+  pub by : ByTable vs rs t
+  pub ascends : ascendsFrom 0 rs ≡ true
+  pub sixteen : t .number ≤ refusalNumber ImageFull
+
+-- ---- the calls in lists
+-- the conditions of each call
+unfoldable pub tableOf : Event → World → List Row
+tableOf (call (lookUp d name)) w = lookUpTable (w .store) d name
+tableOf (call (read i o out)) w = readTable (w .store) i o
+tableOf (call (create d name k)) w = createTable (w .store) (w .image) (w .desk) d name
+tableOf (call (write i o xs)) w = writeTable (w .store) (w .image) (w .desk) i o xs
+tableOf (call (shorten i z)) w = shortenTable (w .store) (w .image) (w .desk) i z
+tableOf (call (link d name i)) w = linkTable (w .store) (w .image) (w .desk) d name i
+tableOf (call (unlink d name)) w = unlinkTable (w .store) (w .image) (w .desk) d name
+tableOf (call (rename d name e other)) w = renameTable (w .store) (w .image) (w .desk) d name e other
+tableOf starts w = startTable (w .store) (w .image) (w .desk)
+tableOf steps w = stepTable (w .store) (w .image) (w .desk)
+tableOf asks w = askTable (w .store) (w .image) (w .desk)
+
+-- "Create and look up answer the inode, read its count, write and shorten the new size, step the steps so far"; state "gives state, locked inode and steps"; the others 0
+unfoldable pub resultOf : Event → World → List ℕ
+resultOf (call (lookUp d name)) w = inodeFor (w .store) d name ∷ []
+resultOf (call (read i o out)) w = min (length out) (sizeOf (w .store) i - o) ∷ []
+resultOf (call (create d name k)) w = orZero (freeInode (w .store) (inodesIn (w .store))) ∷ []
+resultOf (call (write i o xs)) w = max (sizeOf (w .store) i) (o + length xs) ∷ []
+resultOf (call (shorten i z)) w = z ∷ []
+resultOf (call (link d name i)) w = 0 ∷ []
+resultOf (call (unlink d name)) w = 0 ∷ []
+resultOf (call (rename d name e other)) w = 0 ∷ []
+resultOf starts w = 0 ∷ []
+resultOf steps w = (deskOf (w .desk) .steps + 1) ∷ []
+resultOf asks w = deskOf (w .desk) .state ∷ deskOf (w .desk) .locked ∷ deskOf (w .desk) .steps ∷ []
+
+-- the out-buffer that came in, [] for a call that has none
+abbrev pub lentTo : Event → List ℕ
+lentTo (call c) = given c
+lentTo starts = []
+lentTo steps = []
+lentTo asks = []
+
+-- the call e made on the world w: its caller got a, and v was left
+pub record Answers (e : Event) (w : World) (a : Received) (v : World) : Type 0 where
+  pub answered : Answered (resultOf e w) (tableOf e w) (a .answer)
+  -- "A refusal changes no lent buffer"
+  pub keeps : (a .answer .number ≡ 0 → ⊥) → (a .answer .number ≡ refusalNumber ImageFull → ⊥) → v ≡ w
+  pub out : (a .answer .number ≡ 0 → ⊥) → a .out ≡ lentTo e
+  -- "save that 16 marks the copy stopped and unlocks what was being copied"; it comes to a step alone
+  pub stops : a .answer .number ≡ refusalNumber ImageFull → (e ≡ steps) × Stopped w v
+
+-- ---- the layout calls: refusal 1 "by the numbers told"
+abbrev pub storeLayTable : List ℕ → ℕ → ℕ → List Row
+storeLayTable s n b = row (not (storeAllowed n b (length s))) BadBuffer ∷ []
+
+abbrev pub deskLayTable : List ℕ → ℕ → List Row
+deskLayTable d n = row (not (deskAllowed n (length d))) BadBuffer ∷ []
+
+-- a layout call with the table rs, on the buffer s: it answered r and left t
+pub record LayAnswers (rs : List Row) (s : List ℕ) (r : Answer) (t : List ℕ) : Type 0 where
+  pub answered : Answered (0 ∷ []) rs (told r)
+  pub keeps : (told r .number ≡ 0 → ⊥) → t ≡ s
+
+-- ---- demand 1: each call as its contract promises it. (The check refuses nothing: it "takes any bytes and answers yes or no".)
+pub record FirstDemand : Type 0 where
+  pub calls : {e : Event} {w v : World} {a : Received} → Did e w a v → Answers e w a v
+  pub lays-store : {s t : List ℕ} (r : Answer) (inodes blocks : ℕ) → left r t ≡ layOutStore s inodes blocks → LayAnswers (storeLayTable s inodes blocks) s r t
+  pub lays-desk : {d t : List ℕ} (r : Answer) (inodes : ℕ) → left r t ≡ layOutDesk d inodes → LayAnswers (deskLayTable d inodes) d r t
