@@ -5,16 +5,14 @@ use mathlib.Core.Bool.{Bool, true, _&&_}
 use mathlib.Core.List.{List, [], _∷_}
 use mathlib.Core.Logic.{_⊎_, inl, inr}
 use native.Mathlib.Omega.{arith}
-use borrow.Author.Tests.{ltb-true, not-false}
+use borrow.Author.Tests.{eqb-true, ltb-true, not-false}
 use lib.Dec.{ltb}
 use lib.ListN.{length}
 use Rattle.bounded.proofs.BoolLaws.{and-left, and-right}
 use Rattle.layout.specs.Sizes.{mostStoreBlocks}
-use Rattle.desk.specs.declared.Desk.{Desk}
 use Rattle.desk.specs.Sizes.{deskHeaderBytes}
 use Rattle.desk.specs.Desk.{deskOf, putDesk}
 use Rattle.desk.specs.Next.{stopping}
-use Rattle.desk.proofs.DeskLaws.{length-putDesk, desk-putDesk}
 use Rattle.sound.specs.Sound.{framedB}
 use Rattle.answers.specs.declared.Refusal.{Refusal}
 use Rattle.answers.specs.declared.Refusal.the-variants.{BadBuffer, UnsoundStore, BadDesk, IllegalName, WrongInode, NameAbsent, NameTaken, NotEmpty, PastEnd, IntoItself, NoInode, NoBlocks, NoSlot, Busy, WrongState, ImageFull}
@@ -22,16 +20,17 @@ use Rattle.answers.specs.declared.Answer.{Answer}
 use Rattle.answers.specs.declared.Answer.the-variants.{Done, Refused}
 use Rattle.answers.specs.Refusal.{refusalNumber}
 use Rattle.answers.specs.Told.{Told}
-use Rattle.files.specs.Effect.{lookUp, read, create, write, shorten, link, unlink, rename, Planned, refused, does, onPlanned, given}
+use Rattle.files.specs.Effect.{lookUp, read, create, write, shorten, link, unlink, rename}
 use Rattle.checkpoint.specs.Fit.{deskFramed}
-use Rattle.checkpoint.specs.Live.{World, Outcome, decision, leavesIn, live, outOf, start, step}
+use Rattle.checkpoint.specs.Live.{World, Outcome, live, start, step}
 use Rattle.checkpoint.specs.Shown.{world, numberOf}
 use Rattle.checkpoint.specs.Table.{Row, liveRows, lookUpTable, readTable, createTable, writeTable, shortenTable, linkTable, unlinkTable, renameTable, startTable, stepTable}
 use Rattle.checkpoint.specs.List.{Event, call, steps, asks, starts, outcome, next, refusalOf}
 use Rattle.checkpoint.specs.Progress.{Stopped}
 use Rattle.checkpoint.proofs.Copy.FitLaws.{desk-framed-is}
 use Rattle.checkpoint.proofs.RefusedLaws.{Keeps, live-refused, start-refused, step-refused, step-full}
-use Rattle.checkpoint.proofs.Run.Stops.{stop-bytes}
+use Rattle.checkpoint.proofs.Run.Stops.{stop-leaves}
+use Rattle.checkpoint.proofs.Run.Busies.{out-kept}
 use Rattle.watch.specs.Answered.{ByTable, result, holds, passes, tableOf, lentTo}
 use Rattle.watch.specs.Claim.{outAfter}
 use Rattle.watch.proofs.AnswerLaws.{by-table}
@@ -105,18 +104,7 @@ module _ (w : World) where
   desk-there h = let l = desk-framed-is (w .desk) .to (framed-if-full (w .store) (w .image) (w .desk) (by-table w steps) h) .1 .1 in omega arith
 
   full-stops : refusalOf steps w ≡ refusalNumber ImageFull → Stopped w (next steps w)
-  full-stops h =
-      let l = desk-there h in
-      let k = desk-putDesk (w .desk) (stopping (deskOf (w .desk))) l in
-      rw (full-leaves h) (record {
-        store = refl;
-        image = refl;
-        state = ap (λ (x : Desk). x .state) k;
-        locked = ap (λ (x : Desk). x .locked) k;
-        copied = ap (λ (x : Desk). x .copied) k;
-        long = length-putDesk (w .desk) (stopping (deskOf (w .desk)));
-        rest = λ o x p q. stop-bytes (w .desk) o l x p q;
-      })
+  full-stops h = rw (full-leaves h) (stop-leaves w (desk-there h))
 
   pub stops : (e : Event) → refusalOf e w ≡ refusalNumber ImageFull → (e ≡ steps) × Stopped w (next e w)
   stops e h = elim (step-alone w e) [
@@ -142,12 +130,7 @@ module _ (w : World) where
 
   -- a read's out-buffer
   pub out-keeps : (e : Event) → (refusalOf e w ≡ 0 → ⊥) → outAfter e w ≡ lentTo e
-  unfolding outcome live outOf
-  out-keeps (call c) n = go (decision c w) n
-    where
-      go : (p : Planned) → (numberOf (leavesIn w p .answer) ≡ 0 → ⊥) → onPlanned p (λ x. x .out) (λ e. given c) ≡ given c
-      go (does x) n = absurd (n refl)
-      go (refused e) n = refl
+  out-keeps (call c) n = out-kept c w (λ a. n (eqb-true (refusalOf (call c) w) 0 a))
   out-keeps starts n = refl
   out-keeps steps n = refl
   out-keeps asks n = refl

@@ -51,7 +51,7 @@ module _ (c : Call) (w : World) (r : Ready w) where
   unfolding outcome live
   only-busy k = by-plan plan refl (sym (ap (λ (q : Planned). numberOf (leavesIn w q .answer)) (ready-decides c w r)) ∙ k)
 
-out-kept : (c : Call) (w : World) → (accepted (call c) w ≡ true → ⊥) → outOf c w ≡ given c
+pub out-kept : (c : Call) (w : World) → (accepted (call c) w ≡ true → ⊥) → outOf c w ≡ given c
 unfolding outOf
 out-kept c w n = go (decision c w) (λ e. n (accepted-is c w ∙ e))
   where

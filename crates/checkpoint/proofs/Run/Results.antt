@@ -5,10 +5,7 @@ use mathlib.Core.Logic.{_≢_}
 use mathlib.Core.Bool.{true}
 use native.Mathlib.Omega.{arith}
 use native.Mathlib.Decide.{ℕ-discrete}
-use Rattle.desk.specs.declared.Desk.{Desk}
 use Rattle.desk.specs.Desk.{deskOf}
-use Rattle.desk.specs.Next.{stopping}
-use Rattle.desk.proofs.DeskLaws.{desk-putDesk, length-putDesk}
 use Rattle.answers.specs.declared.Refusal.{Refusal}
 use Rattle.answers.specs.declared.Refusal.the-variants.{WrongState, ImageFull}
 use Rattle.answers.specs.Refusal.{refusalNumber}
@@ -33,7 +30,7 @@ use Rattle.checkpoint.proofs.Run.Turned.{Stepped, on, ends, halts, step
 use Rattle.checkpoint.proofs.Run.Calls.{start-busy}
 use Rattle.checkpoint.proofs.Run.Rests.{step-idle}
 use Rattle.checkpoint.proofs.Run.Ends.{finals, halted}
-use Rattle.checkpoint.proofs.Run.Stops.{stop-bytes}
+use Rattle.checkpoint.proofs.Run.Stops.{stop-leaves}
 use Rattle.checkpoint.proofs.Run.Lists.{Going, runs, rests, fit, start-done}
 
 pub data Result (e : Event) (w : World) : Type 0 where
@@ -74,19 +71,7 @@ module _ (n b : ℕ) (w : World) (g : Going n b w) (c : Call) where
 -- ---- a step
 module _ (n b : ℕ) (w : World) where
   stop-is : Running n b w → Fills n b w → Stopped w (next steps w)
-  stop-is r f =
-      let h = halted n b w r f in
-      let l = r .laid .desk .long in
-      let k = desk-putDesk (w .desk) (stopping (deskOf (w .desk))) (omega arith) in
-      rw (h .is) (record {
-        store = refl;
-        image = refl;
-        state = ap (λ (x : Desk). x .state) k;
-        locked = ap (λ (x : Desk). x .locked) k;
-        copied = ap (λ (x : Desk). x .copied) k;
-        long = length-putDesk (w .desk) (stopping (deskOf (w .desk)));
-        rest = λ o x p q. stop-bytes (w .desk) o (omega arith) x p q;
-      })
+  stop-is r f = let l = r .laid .desk .long in rw (halted n b w r f .is) (stop-leaves w (omega arith))
 
   taken-is : Running n b w → Fills n b w → ImageTaken w
   taken-is r f =

@@ -8,9 +8,14 @@ use lib.ListN.{length, getD}
 use Rattle.octets.specs.Octets.{Octets, Apart, numAt, toBytes, putNum}
 use Rattle.octets.proofs.PartLaws.{splice-out, splice-in}
 use Rattle.octets.proofs.NumLaws.{length-toBytes, length-num}
+use Rattle.desk.specs.declared.Desk.{Desk}
 use Rattle.desk.specs.Sizes.{finished, stopped, deskHeaderBytes}
 use Rattle.desk.specs.Desk.{deskOf, putDesk}
 use Rattle.desk.specs.Next.{finishing, stopping}
+use Rattle.desk.proofs.DeskLaws.{length-putDesk, desk-putDesk}
+use Rattle.checkpoint.specs.Live.{World}
+use Rattle.checkpoint.specs.Shown.{world}
+use Rattle.checkpoint.specs.Progress.{Stopped}
 
 -- a number's bytes are those that it was read from
 byte-back : (k : ℕ) (d : List ℕ) (o j : ℕ) → Octets d → j < k → getD (toBytes k (numAt k d o)) j 0 ≡ getD d (o + j) 0
@@ -79,6 +84,20 @@ stop-bytes d h l x a b =
   where
     outside : (o : ℕ) → 6 ≤ o → o ≤ 8 → Apart x 1 o 2
     outside o l m = elim (decLt x 6) [ yes c ↦ omega arith | no c ↦ elim (decLt 9 x) [ yes f ↦ omega arith | no f ↦ absurd (b (omega arith) (omega arith)) ] ]
+
+-- what 16 leaves of a world
+pub stop-leaves : (w : World) → deskHeaderBytes ≤ length (w .desk) → Stopped w (world (w .store) (w .image) (putDesk (w .desk) (stopping (deskOf (w .desk)))))
+stop-leaves w l =
+    let k = desk-putDesk (w .desk) (stopping (deskOf (w .desk))) l in
+    record {
+      store = refl;
+      image = refl;
+      state = ap (λ (x : Desk). x .state) k;
+      locked = ap (λ (x : Desk). x .locked) k;
+      copied = ap (λ (x : Desk). x .copied) k;
+      long = length-putDesk (w .desk) (stopping (deskOf (w .desk)));
+      rest = λ o x p q. stop-bytes (w .desk) o l x p q;
+    }
 
 pub finish-bytes : (d : List ℕ) → Octets d → deskHeaderBytes ≤ length d → (x : ℕ) → (x ≡ 4 → ⊥) → (12 ≤ x → x ≤ 15 → ⊥) → getD (putDesk d (finishing (deskOf d))) x 0 ≡ getD d x 0
 unfolding putDesk deskOf
