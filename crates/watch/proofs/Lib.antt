@@ -5,3 +5,4 @@ pub mod Claim
 pub mod AnswerLaws
 pub mod KeepLaws
 pub mod FirstDemand
+pub mod Contracts

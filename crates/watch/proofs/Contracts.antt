@@ -1,0 +1,99 @@
+-- The hypotheses of specs/Made.antt are the contracts of the code: what a caller learns of a call by its contract, whatever the arguments, makes it one of the ways to have made that call.
+-- a are the arguments, z is the result, e the parameters at exit; m and d are an image and a desk that the call does not have.
+use Prim.Native.Nat.{ℕ}
+use mathlib.Core.Path.{_≡_}
+use mathlib.Core.List.{List, []}
+use contract.Lifetimes.{Lfts}
+use denote.Ref.{now}
+use denote.Triple.Clauses.{AtExit}
+use borrow.Fn.Kinds.{PK, RK, Out, Dens, resT, endedOf}
+use Rattle.answers.specs.Told.{told}
+use Rattle.format.specs.Format.{left, layOutStore, layOutDesk}
+use Rattle.files.specs.Effect.{lookUp, read, create, write, shorten, link, unlink, rename}
+use Rattle.checkpoint.specs.Shown.{world, toldStatus}
+use Rattle.checkpoint.specs.List.{call, steps, asks, starts}
+use Rattle.watch.specs.Made.{got, Did, looked-up, has-read, created, written, shortened, linked, unlinked, renamed, started, stepped, asked}
+use Rattle.files.proofs.plain.look_up.Kinds as look-up-kinds
+use Rattle.files.proofs.plain.look_up.Reads as look-up-reads
+use Rattle.files.proofs.plain.read.Kinds as read-kinds
+use Rattle.files.proofs.plain.read.Reads as read-reads
+use Rattle.watch.proofs.create.Kinds as create-kinds
+use Rattle.watch.proofs.create.Reads as create-reads
+use Rattle.watch.proofs.write.Kinds as write-kinds
+use Rattle.watch.proofs.write.Reads as write-reads
+use Rattle.watch.proofs.shorten.Kinds as shorten-kinds
+use Rattle.watch.proofs.shorten.Reads as shorten-reads
+use Rattle.watch.proofs.link.Kinds as link-kinds
+use Rattle.watch.proofs.link.Reads as link-reads
+use Rattle.watch.proofs.unlink.Kinds as unlink-kinds
+use Rattle.watch.proofs.unlink.Reads as unlink-reads
+use Rattle.watch.proofs.rename.Kinds as rename-kinds
+use Rattle.watch.proofs.rename.Reads as rename-reads
+use Rattle.copystart.proofs.start.start.Kinds as start-kinds
+use Rattle.copystart.proofs.start.start.Reads as start-reads
+use Rattle.copystep.proofs.step.Kinds as step-kinds
+use Rattle.copystep.proofs.step.Reads as step-reads
+use Rattle.guards.proofs.state.state.Kinds as state-kinds
+use Rattle.guards.proofs.state.state.Reads as state-reads
+use Rattle.format.proofs.lay_out_store.Kinds as lay-store-kinds
+use Rattle.format.proofs.lay_out_store.Reads as lay-store-reads
+use Rattle.format.proofs.lay_out_desk.Kinds as lay-desk-kinds
+use Rattle.format.proofs.lay_out_desk.Reads as lay-desk-reads
+
+-- what a caller learns of a function gives D; n lifetimes, parameters ps, result r
+abbrev Gives : (n : ℕ) (ps : List (PK n)) (r : RK n) → Out n ps r → ((κs : Lfts n) → Dens κs ps → resT r κs .Denot → AtExit (endedOf n ps r) κs → Type 0) → Type 0
+Gives n ps r learnt D = (κs : Lfts n) (a : Dens κs ps) (z : resT r κs .Denot) (e : AtExit (endedOf n ps r) κs) → learnt κs a z e → D κs a z e
+
+-- ---- the calls on the store alone
+pub look-up-made : (m d : List ℕ) → Gives 2 look-up-kinds.ps look-up-kinds.r look-up-reads.Learnt (λ κs a z e.
+    Did (call (lookUp (a .1 .0) (now (a .1 .1 .0)))) (world (now (a .0)) m d) (got (told z) []) (world (now (a .0)) m d))
+look-up-made m d κs a z e h = looked-up z h
+
+pub read-made : (m d : List ℕ) → Gives 2 read-kinds.ps read-kinds.r read-reads.Learnt (λ κs a z e.
+    Did (call (read (a .1 .0) (a .1 .1 .0) (now (a .1 .1 .1 .0)))) (world (now (a .0)) m d) (got (told z) (now (e .1 .1 .1 .0))) (world (now (a .0)) m d))
+read-made m d κs a z e h = has-read z h
+
+-- ---- the file calls over the three buffers
+pub create-made : Gives 4 create-kinds.ps create-kinds.r create-reads.Learnt (λ κs a z e.
+    Did (call (create (a .1 .1 .1 .0) (now (a .1 .1 .1 .1 .0)) (a .1 .1 .1 .1 .1 .0))) (world (now (a .0)) (now (a .1 .0)) (now (a .1 .1 .0))) (got (told z) []) (world (now (e .0)) (now (e .1 .0)) (now (e .1 .1 .0))))
+create-made κs a z e h = created z h
+
+pub write-made : Gives 4 write-kinds.ps write-kinds.r write-reads.Learnt (λ κs a z e.
+    Did (call (write (a .1 .1 .1 .0) (a .1 .1 .1 .1 .0) (now (a .1 .1 .1 .1 .1 .0)))) (world (now (a .0)) (now (a .1 .0)) (now (a .1 .1 .0))) (got (told z) []) (world (now (e .0)) (now (e .1 .0)) (now (e .1 .1 .0))))
+write-made κs a z e h = written z h
+
+pub shorten-made : Gives 3 shorten-kinds.ps shorten-kinds.r shorten-reads.Learnt (λ κs a z e.
+    Did (call (shorten (a .1 .1 .1 .0) (a .1 .1 .1 .1 .0))) (world (now (a .0)) (now (a .1 .0)) (now (a .1 .1 .0))) (got (told z) []) (world (now (e .0)) (now (e .1 .0)) (now (e .1 .1 .0))))
+shorten-made κs a z e h = shortened z h
+
+pub link-made : Gives 4 link-kinds.ps link-kinds.r link-reads.Learnt (λ κs a z e.
+    Did (call (link (a .1 .1 .1 .0) (now (a .1 .1 .1 .1 .0)) (a .1 .1 .1 .1 .1 .0))) (world (now (a .0)) (now (a .1 .0)) (now (a .1 .1 .0))) (got (told z) []) (world (now (e .0)) (now (e .1 .0)) (now (e .1 .1 .0))))
+link-made κs a z e h = linked z h
+
+pub unlink-made : Gives 4 unlink-kinds.ps unlink-kinds.r unlink-reads.Learnt (λ κs a z e.
+    Did (call (unlink (a .1 .1 .1 .0) (now (a .1 .1 .1 .1 .0)))) (world (now (a .0)) (now (a .1 .0)) (now (a .1 .1 .0))) (got (told z) []) (world (now (e .0)) (now (e .1 .0)) (now (e .1 .1 .0))))
+unlink-made κs a z e h = unlinked z h
+
+pub rename-made : Gives 5 rename-kinds.ps rename-kinds.r rename-reads.Learnt (λ κs a z e.
+    Did (call (rename (a .1 .1 .1 .0) (now (a .1 .1 .1 .1 .0)) (a .1 .1 .1 .1 .1 .0) (now (a .1 .1 .1 .1 .1 .1 .0)))) (world (now (a .0)) (now (a .1 .0)) (now (a .1 .1 .0))) (got (told z) []) (world (now (e .0)) (now (e .1 .0)) (now (e .1 .1 .0))))
+rename-made κs a z e h = renamed z h
+
+-- ---- start, step and state
+pub start-made : Gives 3 start-kinds.ps start-kinds.r start-reads.Learnt (λ κs a z e.
+    Did starts (world (now (a .0)) (now (a .1 .0)) (now (a .1 .1 .0))) (got (told z) []) (world (now (a .0)) (now (e .1 .0)) (now (e .1 .1 .0))))
+start-made κs a z e h = started z h
+
+pub step-made : Gives 3 step-kinds.ps step-kinds.r step-reads.Learnt (λ κs a z e.
+    Did steps (world (now (a .0)) (now (a .1 .0)) (now (a .1 .1 .0))) (got (told z) []) (world (now (a .0)) (now (e .1 .0)) (now (e .1 .1 .0))))
+step-made κs a z e h = stepped z h
+
+pub state-made : Gives 3 state-kinds.ps state-kinds.r state-reads.Learnt (λ κs a z e.
+    Did asks (world (now (a .0)) (now (a .1 .0)) (now (a .1 .1 .0))) (got (toldStatus z) []) (world (now (a .0)) (now (a .1 .0)) (now (a .1 .1 .0))))
+state-made κs a z e h = asked z h
+
+-- ---- the layout calls, of which `FirstDemand` (specs/Answered.antt) has the same hypothesis
+pub lay-store-made : Gives 1 lay-store-kinds.ps lay-store-kinds.r lay-store-reads.Learnt (λ κs a z e. left z (now (e .0)) ≡ layOutStore (now (a .0)) (a .1 .0) (a .1 .1 .0))
+lay-store-made κs a z e h = h
+
+pub lay-desk-made : Gives 1 lay-desk-kinds.ps lay-desk-kinds.r lay-desk-reads.Learnt (λ κs a z e. left z (now (e .0)) ≡ layOutDesk (now (a .0)) (a .1 .0))
+lay-desk-made κs a z e h = h
