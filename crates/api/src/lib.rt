@@ -14,24 +14,24 @@ ghost use Rattle.checkpoint.specs.Shown.{world, shown, toldStatus};
 ghost use Rattle.api.specs.Api.{sends, sentLaid, sentAlone, sent, sendsState, sentState, checked};
 use crate::code::code;
 use crate::code::refused;
-use checker::check::check;
-use checkpoint::Status;
-use entries::Kind;
-use sound::Form;
+use watch::Form;
+use watch::Kind;
+use watch::Status;
+use watch::check;
 
 // ---- laying out
 #[no_mangle]
 pub extern "C" fn honecerise_lay_out_store(store: &mut [u8], inodes: usize, blocks: usize) -> i32
     ensures { λ r. ⌜ sends r (now (store .exit) ∷ []) ≡ sentLaid (layOutStore (now (store .entry)) inodes blocks) ⌝ }
 {
-    code(format::lay_out_store(store, inodes, blocks))
+    code(watch::lay_out_store(store, inodes, blocks))
 }
 
 #[no_mangle]
 pub extern "C" fn honecerise_lay_out_desk(desk: &mut [u8], inodes: usize) -> i32
     ensures { λ r. ⌜ sends r (now (desk .exit) ∷ []) ≡ sentLaid (layOutDesk (now (desk .entry)) inodes) ⌝ }
 {
-    code(format::lay_out_desk(desk, inodes))
+    code(watch::lay_out_desk(desk, inodes))
 }
 
 // ---- the check
@@ -57,14 +57,14 @@ fn number(b: bool) -> u8
 pub extern "C" fn honecerise_look_up(store: &[u8], directory: usize, name: &[u8]) -> i32
     ensures { λ r. ⌜ sends r (now (store .entry) ∷ [] ∷ []) ≡ sentAlone (alone.shown (alone.plain (lookUp directory (now (name .entry))) (now (store .entry)))) ⌝ }
 {
-    code(files::plain::look_up(store, directory, name))
+    code(watch::look_up(store, directory, name))
 }
 
 #[no_mangle]
 pub extern "C" fn honecerise_read(store: &[u8], inode: usize, offset: usize, out: &mut [u8]) -> i32
     ensures { λ r. ⌜ sends r (now (store .entry) ∷ now (out .exit) ∷ []) ≡ sentAlone (alone.shown (alone.plain (read inode offset (now (out .entry))) (now (store .entry)))) ⌝ }
 {
-    code(files::plain::read(store, inode, offset, out))
+    code(watch::read(store, inode, offset, out))
 }
 
 // ---- the file calls over store, image and desk
@@ -168,14 +168,14 @@ pub extern "C" fn honecerise_rename(
 pub extern "C" fn honecerise_start(store: &[u8], image: &mut [u8], desk: &mut [u8]) -> i32
     ensures { λ r. ⌜ sends r (now (store .entry) ∷ now (image .exit) ∷ now (desk .exit) ∷ []) ≡ sent (shown (start (now (store .entry)) (now (image .entry)) (now (desk .entry)))) ⌝ }
 {
-    code(copystart::start::start(store, image, desk))
+    code(watch::start(store, image, desk))
 }
 
 #[no_mangle]
 pub extern "C" fn honecerise_step(store: &[u8], image: &mut [u8], desk: &mut [u8]) -> i32
     ensures { λ r. ⌜ sends r (now (store .entry) ∷ now (image .exit) ∷ now (desk .exit) ∷ []) ≡ sent (shown (step (now (store .entry)) (now (image .entry)) (now (desk .entry)))) ⌝ }
 {
-    code(copystep::step(store, image, desk))
+    code(watch::step(store, image, desk))
 }
 
 #[no_mangle]
@@ -189,7 +189,7 @@ pub extern "C" fn honecerise_state(
 ) -> i32
     ensures { λ r. ⌜ sendsState r (now (state .exit) ∷ now (locked .exit) ∷ now (steps .exit) ∷ []) ≡ sentState (toldStatus (status (now (store .entry)) (now (image .entry)) (now (desk .entry)))) (now (state .entry) ∷ now (locked .entry) ∷ now (steps .entry) ∷ []) ⌝ }
 {
-    match guards::state::state(store, image, desk) {
+    match watch::state(store, image, desk) {
         Status::Is(a, l, k) => {
             *state = a as usize;
             *locked = l as usize;

@@ -3,7 +3,7 @@ use answers::told_number;
 use commands::Command;
 use commands::Reply;
 use commands::answer::reply;
-use sound::Form;
+use watch::Form;
 
 // Zeroed buffers, and the two layout calls.
 pub fn fresh(store: &mut [u8], image: &mut [u8], desk: &mut [u8], n: usize, b: usize) -> Reply {
@@ -13,8 +13,8 @@ pub fn fresh(store: &mut [u8], image: &mut [u8], desk: &mut [u8], n: usize, b: u
     octets::zero_range(&mut *store, 0, s);
     octets::zero_range(image, 0, i);
     octets::zero_range(&mut *desk, 0, d);
-    let laid = told_number(format::lay_out_store(store, n, b));
-    Reply::Laid(laid, told_number(format::lay_out_desk(desk, n)))
+    let laid = told_number(watch::lay_out_store(store, n, b));
+    Reply::Laid(laid, told_number(watch::lay_out_desk(desk, n)))
 }
 
 fn poke(buffer: &mut [u8], offset: usize, byte: usize) -> Reply {
@@ -29,7 +29,7 @@ fn poke(buffer: &mut [u8], offset: usize, byte: usize) -> Reply {
 }
 
 fn check(form: Form, bytes: &[u8]) -> Reply {
-    if checker::check::check(form, bytes) {
+    if watch::check(form, bytes) {
         Reply::Yes
     } else {
         Reply::No
@@ -42,8 +42,8 @@ pub fn run(command: Command, store: &mut [u8], image: &mut [u8], desk: &mut [u8]
         Command::PokeStore(o, x) => poke(store, o, x),
         Command::PokeImage(o, x) => poke(image, o, x),
         Command::PokeDesk(o, x) => poke(desk, o, x),
-        Command::LayStore(n, b) => reply(format::lay_out_store(store, n, b)),
-        Command::LayDesk(n) => reply(format::lay_out_desk(desk, n)),
+        Command::LayStore(n, b) => reply(watch::lay_out_store(store, n, b)),
+        Command::LayDesk(n) => reply(watch::lay_out_desk(desk, n)),
         Command::CheckStore => check(Form::Store, store),
         Command::CheckImage => check(Form::Image, image),
         _ => Reply::Error,

@@ -1,26 +1,25 @@
 // The calls: each answers what the library's does.
-use answers::Answer;
 use answers::refusal_number;
-use checkpoint::Status;
 use commands::Call;
 use commands::Reply;
-use entries::Kind;
-use files::plain;
 use text::pieces::front;
+use watch::Answer;
+use watch::Kind;
+use watch::Status;
 
 // The page is the out-buffer; a read that wants more than it holds is no command.
 pub fn read(store: &[u8], inode: usize, offset: usize, length: usize, page: &mut [u8]) -> Reply {
     if page.len() < length {
         return Reply::Error;
     }
-    match plain::read(store, inode, offset, &mut page[0..length]) {
+    match watch::read(store, inode, offset, &mut page[0..length]) {
         Answer::Done(n) => Reply::Shown(n, length),
         Answer::Refused(e) => Reply::Refused(refusal_number(e)),
     }
 }
 
 pub fn state(store: &[u8], image: &[u8], desk: &[u8]) -> Reply {
-    match guards::state::state(store, image, desk) {
+    match watch::state(store, image, desk) {
         Status::Is(state, locked, steps) => {
             Reply::Asked(state as usize, locked as usize, steps as usize)
         }
@@ -38,7 +37,7 @@ pub fn call(
     other: &[u8],
 ) -> Answer {
     match call {
-        Call::LookUp(d, n) => plain::look_up(store, d, front(name, n)),
+        Call::LookUp(d, n) => watch::look_up(store, d, front(name, n)),
         Call::CreateFile(d, n) => watch::create(store, image, desk, d, front(name, n), Kind::File),
         Call::CreateDirectory(d, n) => {
             watch::create(store, image, desk, d, front(name, n), Kind::Directory)

@@ -20,8 +20,8 @@ pub fn run(
         Command::New(n, b, _) => buffers::fresh(store, image, desk, n, b),
         Command::Read(i, o, k) => calls::read(store, i, o, k, page),
         Command::File(c) => reply(calls::call(c, store, image, desk, name, other)),
-        Command::Start => reply(copystart::start::start(store, image, desk)),
-        Command::Step => reply(copystep::step(store, image, desk)),
+        Command::Start => reply(watch::start(store, image, desk)),
+        Command::Step => reply(watch::step(store, image, desk)),
         Command::Ask => calls::state(store, image, desk),
         _ => buffers::run(command, store, image, desk),
     }
