@@ -1,5 +1,5 @@
 -- Public calls made on the code, "each done by the library on the buffers as the last one left them, while nobody else writes to them".
--- Of the code this knows the contracts of the functions in src/lib.rt, and nothing else: each way to have made a call has the call's promise as its one hypothesis. r is what the function answered.
+-- Of the code this knows the contracts of the public functions, and nothing else: each way to have made a call has the call's promise as its one hypothesis (proofs/Contracts.antt holds them to the code's). r is what the function answered.
 use Prim.Native.Nat.{ℕ}
 use mathlib.Core.Path.{_≡_}
 use mathlib.Core.List.{List, [], _∷_}
@@ -23,14 +23,14 @@ got t out = record { answer = t; out = out }
 
 -- one call: the world that was lent, what the caller got, and the world that was left. A buffer that is not lent to be written stays.
 pub data Did : Event → World → Received → World → Type 0 where
-  -- "Look up and read take the store alone"
+  -- "Look up and read take the store alone" (files/src/plain.rt)
   looked-up : {dir : ℕ} {name : List ℕ} {w : World} (r : Answer)
       → shownAlone (leftAlone r (w .store) []) ≡ shownAlone (plain (lookUp dir name) (w .store))
       → Did (call (lookUp dir name)) w (got (told r) []) w
   has-read : {inode offset : ℕ} {out filled : List ℕ} {w : World} (r : Answer)
       → shownAlone (leftAlone r (w .store) filled) ≡ shownAlone (plain (read inode offset out) (w .store))
       → Did (call (read inode offset out)) w (got (told r) filled) w
-  -- the file calls over the three buffers
+  -- the file calls over the three buffers (watch/src/lib.rt)
   created : {dir : ℕ} {name : List ℕ} {kind : Kind} {w v : World} (r : Answer)
       → shown (left r (v .store) (v .image) (v .desk)) ≡ shown (live (create dir name kind) w)
       → Did (call (create dir name kind)) w (got (told r) []) v
@@ -49,7 +49,7 @@ pub data Did : Event → World → Received → World → Type 0 where
   renamed : {dir : ℕ} {name : List ℕ} {to-dir : ℕ} {to-name : List ℕ} {w v : World} (r : Answer)
       → shown (left r (v .store) (v .image) (v .desk)) ≡ shown (live (rename dir name to-dir to-name) w)
       → Did (call (rename dir name to-dir to-name)) w (got (told r) []) v
-  -- start, step and state
+  -- start, step and state (copystart/src/start.rt, copystep/src/lib.rt, guards/src/state.rt)
   started : {w : World} {image desk : List ℕ} (r : Answer)
       → shown (left r (w .store) image desk) ≡ shown (start (w .store) (w .image) (w .desk))
       → Did starts w (got (told r) []) (world (w .store) image desk)
