@@ -1,5 +1,5 @@
-// The calls that programs in other languages link: slices pass as a pointer and a length, and every number is one of the machine's size. A call answers its result, which is never
-// negative, or minus the number of its refusal. Any bytes and numbers may be handed in; a refused call changes nothing, save that 16 writes the desk.
+// The calls that programs in other languages link: slices pass as a pointer and a length, numbers in the machine's size. A call answers 32 bits with a sign: its result, which is never
+// negative, or minus the number of its refusal; the check answers a byte. Any bytes and numbers may be handed in; a refused call changes nothing, save that 16 writes the desk.
 mod code;
 
 ghost use mathlib.Core.Path.{_≡_};
@@ -114,11 +114,11 @@ pub extern "C" fn honecerise_shorten(
     image: &mut [u8],
     desk: &mut [u8],
     inode: usize,
-    length: usize,
+    size: usize,
 ) -> i32
-    ensures { λ r. ⌜ sends r (now (store .exit) ∷ now (image .exit) ∷ now (desk .exit) ∷ []) ≡ sent (shown (live (shorten inode length) (world (now (store .entry)) (now (image .entry)) (now (desk .entry))))) ⌝ }
+    ensures { λ r. ⌜ sends r (now (store .exit) ∷ now (image .exit) ∷ now (desk .exit) ∷ []) ≡ sent (shown (live (shorten inode size) (world (now (store .entry)) (now (image .entry)) (now (desk .entry))))) ⌝ }
 {
-    code(watch::shorten(store, image, desk, inode, length))
+    code(watch::shorten(store, image, desk, inode, size))
 }
 
 #[no_mangle]

@@ -26,8 +26,8 @@ use Rattle.answers.specs.declared.Answer.the-variants.{Done}
 use Rattle.checkpoint.specs.Fit.{deskFramed, imageAllowed, isRunning, notesFit}
 use Rattle.checkpoint.specs.Notes.{isCopied}
 use Rattle.checkpoint.specs.Copier.{targetBlock, stepOf, lock, copy, close, finish, full, lockedStep, freeStep, nextInode}
-use Rattle.checkpoint.specs.Live.{Outcome, left, refuse, ask, doStep, started, start, step, asStatus, status}
-use Rattle.checkpoint.proofs.DecisionLaws.{guarded-is}
+use Rattle.checkpoint.specs.Live.{Outcome, left, refuse, doStep, started, start, step, status}
+use Rattle.checkpoint.proofs.DecisionLaws.{guarded-is, asStatus, status-is}
 use Rattle.checkpoint.specs.Table.{row, firstOf, found, liveRows, startTable, stepTable}
 use Rattle.checkpoint.proofs.ConditionLaws.{Gives, by-pick, by-guards, by-none, give}
 
@@ -37,45 +37,6 @@ start-first true true true x y = refl
 start-first true true false x y = refl
 start-first true false i x y = refl
 start-first false k i x y = refl
-
--- ---- start, step and state
-module _ (s m d : List ℕ) where
-  pub start-table : start s m d .answer ≡ firstOf (startTable s m d) (Done 0)
-  unfolding start started startTable
-  start-table =
-      let h : Outcome → Answer = λ z. z .answer in
-      ap (λ (o : Outcome). h (pick (framedB mostStoreBlocks s && (deskFramed d && not (imageAllowed (inodesIn s) (length m)))) (refuse BadBuffer s m d) o)) (guarded-is s m d _)
-      ∙ ap h (start-first (framedB mostStoreBlocks s) (deskFramed d) (imageAllowed (inodesIn s) (length m)) _ _)
-      ∙ give _ (startTable s m d) _
-      (by-pick h (not (framedB mostStoreBlocks s && (deskFramed d && imageAllowed (inodesIn s) (length m)))) _ _ refl
-      (by-pick h (not (isSound Store s)) _ _ refl
-      (by-pick h (not (notesFit s m d)) _ _ refl
-      (by-pick h (isRunning d) _ _ refl by-none))))
-
-  by-step : (i k : ℕ) (runs none more : Bool) (t : Found) (root : Bool) (next : Found)
-      → Gives (pick runs (doStep s m d (inodesIn s) (pick none (pick root (onFound next lock finish) (lock rootInode)) (pick more (onFound t (λ c. copy i k c) full) (close i)))) (refuse WrongState s m d) .answer)
-      (row (not runs) WrongState ∷ row (not none && (more && not (found t))) ImageFull ∷ []) (Done (deskOf d .steps + 1))
-  by-step i k false none more t root next = record { first = refl }
-  by-step i k true true more t true (At j) = record { first = refl }
-  by-step i k true true more t true Absent = record { first = refl }
-  by-step i k true true more t false next = record { first = refl }
-  by-step i k true false true (At c) root next = record { first = refl }
-  by-step i k true false true Absent root next = record { first = refl }
-  by-step i k true false false t root next = record { first = refl }
-
-  pub step-table : step s m d .answer ≡ firstOf (stepTable s m d) (Done (deskOf d .steps + 1))
-  unfolding step stepOf freeStep lockedStep stepTable
-  step-table =
-      let i : ℕ = deskOf d .locked in
-      let k : ℕ = deskOf d .copied in
-      give _ (stepTable s m d) _
-      (by-guards s m d _
-      (by-step i k (isRunning d) (eqb i 0) (ltb k (blocksUsed (sizeOf s i))) (targetBlock m (inodesIn s) (deskOf d .blocks) (kthBlock s (inodesIn s) i k))
-      (isCopied d (inodesIn s) rootInode) (nextInode m d (inodesIn s))))
-
-  pub status-table : status s m d ≡ asStatus (firstOf (liveRows s m d []) (Done 0)) d
-  unfolding status ask
-  status-table = ap (λ (a : Answer). asStatus a d) (give _ (liveRows s m d []) _ (by-guards s m d (left (Done 0) s m d) by-none))
 
 -- 16: a block finds no place, when and only when "every image block [is] named"
 no-place : (c : ℕ) (t : Bool) (f : Found) → not (found (pick t (At c) f)) ≡ true → f ≡ Absent
@@ -103,3 +64,47 @@ full-image m n b c = same-test (not (found (targetBlock m n b c))) (allTo (named
     back h =
         let none : freeBlock m n b ≡ Absent = absent-of (λ j. not (named m n j)) 1 b (λ j l k. ap not (to-at (named m n) b h j (omega arith) (omega arith))) in
         ap₂ (λ (t : Bool) (f : Found). not (found (pick t (At c) f))) (fails (leb 1 c && (leb c b && not (named m n c))) (own h)) none
+
+-- ---- start, step and state
+module _ (s m d : List ℕ) where
+  pub start-table : start s m d .answer ≡ firstOf (startTable s m d) (Done 0)
+  unfolding start started startTable
+  start-table =
+      let h : Outcome → Answer = λ z. z .answer in
+      ap (λ (o : Outcome). h (pick (framedB mostStoreBlocks s && (deskFramed d && not (imageAllowed (inodesIn s) (length m)))) (refuse BadBuffer s m d) o)) (guarded-is s m d _)
+      ∙ ap h (start-first (framedB mostStoreBlocks s) (deskFramed d) (imageAllowed (inodesIn s) (length m)) _ _)
+      ∙ give _ (startTable s m d) _
+      (by-pick h (not (framedB mostStoreBlocks s && (deskFramed d && imageAllowed (inodesIn s) (length m)))) _ _ refl
+      (by-pick h (not (isSound Store s)) _ _ refl
+      (by-pick h (not (notesFit s m d)) _ _ refl
+      (by-pick h (isRunning d) _ _ refl by-none))))
+
+  by-step : (i k : ℕ) (runs none more : Bool) (t : Found) (root : Bool) (next : Found)
+      → Gives (pick runs (doStep s m d (inodesIn s) (pick none (pick root (onFound next lock finish) (lock rootInode)) (pick more (onFound t (λ c. copy i k c) full) (close i)))) (refuse WrongState s m d) .answer)
+      (row (not runs) WrongState ∷ row (not none && (more && not (found t))) ImageFull ∷ []) (Done (deskOf d .steps + 1))
+  by-step i k false none more t root next = record { first = refl }
+  by-step i k true true more t true (At j) = record { first = refl }
+  by-step i k true true more t true Absent = record { first = refl }
+  by-step i k true true more t false next = record { first = refl }
+  by-step i k true false true (At c) root next = record { first = refl }
+  by-step i k true false true Absent root next = record { first = refl }
+  by-step i k true false false t root next = record { first = refl }
+
+  -- 16 by the paper's words
+  by-full : (i k : ℕ) (runs none more : Bool) (t : Found) (root : Bool) (next : Found) (all : Bool) → not (found t) ≡ all
+      → Gives (pick runs (doStep s m d (inodesIn s) (pick none (pick root (onFound next lock finish) (lock rootInode)) (pick more (onFound t (λ c. copy i k c) full) (close i)))) (refuse WrongState s m d) .answer)
+      (row (not runs) WrongState ∷ row (not none && (more && all)) ImageFull ∷ []) (Done (deskOf d .steps + 1))
+  by-full i k runs none more t root next all e = rw (← e) (by-step i k runs none more t root next)
+
+  pub step-table : step s m d .answer ≡ firstOf (stepTable s m d) (Done (deskOf d .steps + 1))
+  unfolding step stepOf freeStep lockedStep stepTable
+  step-table =
+      let i : ℕ = deskOf d .locked in
+      let k : ℕ = deskOf d .copied in
+      give _ (stepTable s m d) _
+      (by-guards s m d _
+      (by-full i k (isRunning d) (eqb i 0) (ltb k (blocksUsed (sizeOf s i))) (targetBlock m (inodesIn s) (deskOf d .blocks) (kthBlock s (inodesIn s) i k))
+      (isCopied d (inodesIn s) rootInode) (nextInode m d (inodesIn s)) _ (full-image m (inodesIn s) (deskOf d .blocks) (kthBlock s (inodesIn s) i k))))
+
+  pub status-table : status s m d ≡ asStatus (firstOf (liveRows s m d []) (Done 0)) d
+  status-table = status-is s m d ∙ ap (λ (a : Answer). asStatus a d) (give _ (liveRows s m d []) _ (by-guards s m d (left (Done 0) s m d) by-none))

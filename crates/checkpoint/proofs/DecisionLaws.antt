@@ -15,6 +15,8 @@ use Rattle.desk.specs.Desk.{deskOf}
 use Rattle.sound.specs.Sound.{framedB, isSound, inodesIn, blocksIn}
 use Rattle.sound.specs.declared.Form.the-variants.{Store}
 use Rattle.sound.proofs.SoundLaws.{is-sound}
+use Rattle.answers.specs.declared.Answer.{Answer}
+use Rattle.answers.specs.declared.Answer.the-variants.{Done, Refused}
 use Rattle.answers.specs.declared.Refusal.{Refusal}
 use Rattle.answers.specs.declared.Refusal.the-variants.{BadBuffer, UnsoundStore, BadDesk, Busy}
 use Rattle.answers.specs.Refusal.{refusalNumber}
@@ -25,9 +27,11 @@ use Rattle.files.specs.Guard.{guardOf, onGuard}
 use Rattle.files.specs.Effect.{Call, Effect, Planned, refused, does, onPlanned, planned, plainDecision}
 use Rattle.files.proofs.Lawful.{Apart, Stays, Lawful, Each}
 use Rattle.files.proofs.LawfulCalls.{lawful}
+use Rattle.checkpoint.specs.declared.Status.{Status}
+use Rattle.checkpoint.specs.declared.Status.the-variants.{Is, NoStatus}
 use Rattle.checkpoint.specs.Fit.{deskFramed, isRunning, notesFit}
 use Rattle.checkpoint.specs.Busy.{isLocked, anyLocked, unlessBusy}
-use Rattle.checkpoint.specs.Live.{World, Outcome, refuse, threeGuards, storeAlone, decision, leavesIn, live, guarded}
+use Rattle.checkpoint.specs.Live.{World, Outcome, left, refuse, threeGuards, storeAlone, decision, leavesIn, live, guarded, status}
 use Rattle.checkpoint.specs.Shown.{numberOf}
 use Rattle.checkpoint.specs.List.{Ready, call, outcome, accepted, takenFrom, anyAt, takes}
 
@@ -177,3 +181,16 @@ taken-is w p (does x) z b = elim b [
 
 pub takes-is : (c : Call) (w : World) (z : ℕ) → takes (call c) w z ≡ onPlanned (decision c w) (λ x. anyAt (x .taken) z) (λ e. false)
 takes-is c w z = ap (λ (b : Bool). b && anyAt (takenFrom c (w .store)) z) (accepted-is c w) ∙ taken-is w (plainDecision c (w .store)) (decision c w) z (beside c w)
+
+-- ---- the state question is answered as a call that does nothing would be
+abbrev pub asStatus : Answer → List ℕ → Status
+asStatus (Done x) d = Is (deskOf d .state) (deskOf d .locked) (deskOf d .steps)
+asStatus (Refused e) d = NoStatus e
+
+pub status-is : (s m d : List ℕ) → status s m d ≡ asStatus (guarded s m d (left (Done 0) s m d) .answer) d
+unfolding status guarded
+status-is s m d = go (threeGuards s m d)
+  where
+    go : (g : Guard) → onGuard g (λ n b. Is (deskOf d .state) (deskOf d .locked) (deskOf d .steps)) NoStatus ≡ asStatus (onGuard g (λ n b. left (Done 0) s m d) (λ e. refuse e s m d) .answer) d
+    go (Pass n b) = refl
+    go (Stop e) = refl

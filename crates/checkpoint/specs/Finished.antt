@@ -10,7 +10,7 @@ use Rattle.directory.specs.Slot.{mostSlots}
 use Rattle.desk.specs.Sizes.{finished}
 use Rattle.desk.specs.Desk.{deskOf}
 use Rattle.sound.specs.Sound.{Sound, inodesIn}
-use Rattle.sound.specs.Place.{entryAt, filled, naming}
+use Rattle.sound.specs.Place.{dirOf, entryAt, filled, naming}
 use Rattle.content.specs.Content.{fileBytes}
 use Rattle.checkpoint.specs.Live.{World}
 use Rattle.checkpoint.specs.List.{Event, next, run, Moment, Kept}
@@ -76,13 +76,16 @@ pub record Honest (es : List Event) (w : World) (f : List ℕ) (p : ℕ) : Type 
   pub kind : HadKind during (run before w) f (naming f (countOf w) p)
   pub file : kindOf f (naming f (countOf w) p) ≡ fileKind → HadBytes during (run before w) f (naming f (countOf w) p)
 
--- one moment for each inode of the copy: then it had the copy's kind and, a file, its size and bytes, and every entry of the copy that names it named it in the store. So no reused number poses as a hard link.
+-- one moment for each inode of the copy: then it had the copy's kind and, a file, its size and bytes; every entry of the copy that names it named it in the store; and whatever the copy has in it, a directory, stood in it.
+-- So no reused number poses as a hard link, nor as the directory that it was before.
 pub record OneMoment (es : List Event) (w : World) (f : List ℕ) (i : ℕ) : Type 0 where
   pub moment : World
   pub in-time : Moment es w moment
   pub kind : kindOf f i ≡ kindOf (moment .store) i
   pub file : kindOf f i ≡ fileKind → SameContent f (countOf w) (moment .store) (countOf moment) i
   pub links : (p : ℕ) → p < mostSlots * countOf w → filled f (countOf w) p ≡ true → naming f (countOf w) p ≡ i → Names moment p i
+  pub slots : (p : ℕ) → p < mostSlots * countOf w → filled f (countOf w) p ≡ true → dirOf p ≡ i
+      → Names moment p (naming f (countOf w) p) × (entryAt f (countOf w) p ≡ entryAt (moment .store) (countOf moment) p)
 
 -- ---- "A copy finished as under 3 is sound", has every kept entry, and nothing false; the desk says that it is finished. w is the world just after the opening start, es the events up to the finish
 pub record Finished (es : List Event) (w : World) : Type 0 where

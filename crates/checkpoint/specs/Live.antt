@@ -84,7 +84,7 @@ live c w = leavesIn w (decision c w)
 unfoldable pub outOf : Call → World → List ℕ
 outOf c w = onPlanned (decision c w) (λ x. x .out) (λ e. given c)
 
--- ---- the other calls: what follows where 1, 2 and 3 do not come
+-- ---- start and step: what follows where 1, 2 and 3 do not come
 unfoldable pub guarded : List ℕ → List ℕ → List ℕ → Outcome → Outcome
 guarded s m d o = onGuard (threeGuards s m d) (λ n b. o) (λ e. refuse e s m d)
 
@@ -111,12 +111,5 @@ unfoldable pub step : List ℕ → List ℕ → List ℕ → Outcome
 step s m d = guarded s m d (pick (isRunning d) (doStep s m d (inodesIn s) (stepOf s m d (inodesIn s))) (refuse WrongState s m d))
 
 -- ---- state: 1, 2, 3; it changes nothing. "state takes all three buffers and gives state, locked inode and steps"
-unfoldable pub ask : List ℕ → List ℕ → List ℕ → Outcome
-ask s m d = guarded s m d (left (Done 0) s m d)
-
-abbrev pub asStatus : Answer → List ℕ → Status
-asStatus (Done x) d = Is (deskOf d .state) (deskOf d .locked) (deskOf d .steps)
-asStatus (Refused e) d = NoStatus e
-
 unfoldable pub status : List ℕ → List ℕ → List ℕ → Status
-status s m d = asStatus (ask s m d .answer) d
+status s m d = onGuard (threeGuards s m d) (λ n b. Is (deskOf d .state) (deskOf d .locked) (deskOf d .steps)) NoStatus

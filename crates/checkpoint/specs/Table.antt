@@ -4,14 +4,15 @@ use mathlib.Core.Bool.{Bool, true, false, not, _&&_, _||_}
 use mathlib.Core.List.{List, [], _∷_}
 use lib.Dec.{eqb, ltb}
 use lib.ListN.{length}
+use Rattle.bounded.specs.Below.{allBelow}
 use Rattle.bounded.specs.Search.{pick}
 use Rattle.bounded.specs.declared.Found.{Found}
 use Rattle.bounded.specs.declared.Found.the-variants.{At, Absent}
 use Rattle.layout.specs.Sizes.{mostStoreBlocks, mostFileBytes, mostDirectoryBlocks}
 use Rattle.layout.specs.Header.{headerOf}
 use Rattle.layout.specs.Inode.{kindOf, sizeOf, directoryKind, isFile, isDirectory}
-use Rattle.layout.specs.Block.{blocksUsed, kthBlock}
-use Rattle.layout.specs.Free.{freeInode, freeBlock}
+use Rattle.layout.specs.Block.{blocksUsed}
+use Rattle.layout.specs.Free.{named, freeInode, freeBlock}
 use Rattle.names.specs.Name.{legalName}
 use Rattle.directory.specs.Slot.{findSlot, emptySlot, inodeAt}
 use Rattle.desk.specs.Desk.{deskOf}
@@ -25,7 +26,6 @@ use Rattle.answers.specs.Refusal.{refusalNumber}
 use Rattle.entries.specs.Plan.{holdsNone, isBelow}
 use Rattle.checkpoint.specs.Fit.{deskFramed, imageAllowed, isRunning, notesFit}
 use Rattle.checkpoint.specs.Busy.{anyLocked}
-use Rattle.checkpoint.specs.Copier.{targetBlock}
 
 pub record Row : Type 0 where
   pub holds : Bool
@@ -179,5 +179,5 @@ stepTable s m d =
     let k = deskOf d .copied in
     liveRows s m d
     (row (not (isRunning d)) WrongState
-    ∷ row (not (eqb i 0) && (ltb k (blocksUsed (sizeOf s i)) && not (found (targetBlock m (inodesIn s) (deskOf d .blocks) (kthBlock s (inodesIn s) i k))))) ImageFull
+    ∷ row (not (eqb i 0) && (ltb k (blocksUsed (sizeOf s i)) && allBelow (λ c. named m (inodesIn s) (c + 1)) (deskOf d .blocks))) ImageFull
     ∷ [])

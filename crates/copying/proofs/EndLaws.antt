@@ -55,7 +55,7 @@ module _ (t : ℕ → View) (n k : ℕ) (told : Recorded t n k) (e : Ended (t k)
   kept-body p h =
       let r = kept-there p h .1 in
       let m = told-holds t n k told k (omega arith) .1 .seen (t 0 .store .names p) (rw r at (e .last p (λ z. chain-stood h 0 (omega arith) (sym r ∙ z)))) in
-      (m .0, m .1, m .2)
+      (m .at, m .past, m .inode)
 
   pub kept-kind : (p : ℕ) → Chain t k p → t k .image .kind (t 0 .store .names p) ≡ t 0 .store .kind (t 0 .store .names p)
   kept-kind p h =

@@ -11,7 +11,7 @@ use Rattle.sound.specs.Place.{dirOf}
 use Rattle.copying.specs.View.{View}
 use Rattle.copying.specs.Deed.{Alike, Closed, Deed}
 use Rattle.copying.specs.Holds.{Holds, Fresh}
-use Rattle.copying.specs.History.{Names, Spell, Waits, Since}
+use Rattle.copying.specs.History.{Names, Spell, Waits, Seen, Since}
 use Rattle.copying.proofs.LightLaws.{alike-on, Light, light-or-closed, name-was, old-was, copied-was}
 use Rattle.copying.proofs.HoldsClosed.{copied-l, copied-before, same-name, same-entry, new-name, new-entry, new-unmarked, uncopied-l}
 
@@ -49,6 +49,12 @@ module _ (t : ℕ → View) where
     inode = rw n (alike-on (s .inode) a);
   }
 
+  -- an entry that the image keeps stood in its directory at whatever moment m it did before
+  slots-on : {j p m : ℕ} → t (suc j) .image .names p ≡ t j .image .names p → t (suc j) .image .entry p ≡ t j .image .entry p → t (suc j) .image .names p ≢ 0
+      → (t j .image .names p ≢ 0 → (t m .store .names p ≡ t j .image .names p) × (t j .image .entry p ≡ t m .store .entry p))
+      → (t m .store .names p ≡ t (suc j) .image .names p) × (t (suc j) .image .entry p ≡ t m .store .entry p)
+  slots-on n e z f = let x = f (λ u. z (n ∙ u)) in (x .0 ∙ sym n, e ∙ x .1)
+
   waits-on : {j p : ℕ} → t (suc j) .image .names p ≡ t j .image .names p → t (suc j) .image .entry p ≡ t j .image .entry p
       → t (suc j) .store .names p ≡ t (suc j) .image .names p → Waits t j p → Waits t (suc j) p
   waits-on n e s r = record {
@@ -68,7 +74,13 @@ module _ (t : ℕ → View) where
       old = λ p m z. let r = old-was e p z m in names-more (rw (r .0) (s .old p (r .1) (λ u. z (r .0 ∙ u)))) refl;
       seen = λ i k.
           let r = s .seen i (copied-was e i k) in
-          (r .0, omega (arith, r .1), alike-on (r .2) (e .inodes i), λ p q. r .3 p (sym (name-was e p (λ u. not-zero i k (sym q ∙ u))) ∙ q));
+          record {
+            at = r .at;
+            past = omega (arith, r .past);
+            inode = alike-on (r .inode) (e .inodes i);
+            links = λ p q. r .links p (sym (name-was e p (λ u. not-zero i k (sym q ∙ u))) ∙ q);
+            slots = λ p d z. slots-on (name-was e p z) (e .entries p z) z (r .slots p d);
+          };
       waits = λ p z k.
           let a = name-was e p z in
           waits-on a (e .entries p z) (h .stands p z k) (s .waits p (λ u. z (a ∙ u)) (cc (e .copied (t (suc j) .image .names p))));
@@ -105,15 +117,15 @@ module _ (t : ℕ → View) where
             from = 0;
             to = j;
             entry-at = j;
-            inode-at = r .0;
+            inode-at = r .at;
             past = omega arith;
             from-entry = omega arith;
             entry-to = omega arith;
             from-inode = omega arith;
-            inode-to = r .1;
+            inode-to = r .past;
             names = rw a (s .old p (new-unmarked e p d z (cc)) (λ u. z (a ∙ u)));
             entry = new-entry e p d z;
-            inode = alike-on (r .2) (e .others (t (suc j) .image .names p) g);
+            inode = alike-on (r .inode) (e .others (t (suc j) .image .names p) g);
           }
 
       -- wherever the image names l once it is closed, the store names it
@@ -128,16 +140,16 @@ module _ (t : ℕ → View) where
           ]
 
       -- and wherever it names an inode that was copied before, the store named it at that inode's moment
-      names-before : (i : ℕ) → t (suc j) .copied i ≡ true → i ≢ l → (r : (m : ℕ) × (m ≤ j) × Alike (t m .store) (t j .image) i × ((p : ℕ) → t j .image .names p ≡ i → t m .store .names p ≡ i))
-          → (p : ℕ) → t (suc j) .image .names p ≡ i → t (r .0) .store .names p ≡ i
+      names-before : (i : ℕ) → t (suc j) .copied i ≡ true → i ≢ l → (r : Seen t j i)
+          → (p : ℕ) → t (suc j) .image .names p ≡ i → t (r .at) .store .names p ≡ i
       names-before i k g r p q =
           let z : t (suc j) .image .names p ≢ 0 = λ u. not-zero i k (sym q ∙ u) in
           elim (ℕ-discrete (dirOf p) l) [
             | yes d ↦
                 let a = new-name e p d z in
                 let c : t j .copied (t j .store .names p) ≡ true = ap (t j .copied) (sym a ∙ q) ∙ sym (copied-before e i g) ∙ k in
-                s .old p (new-unmarked e p d z c) (λ u. z (a ∙ u)) (r .0) (omega arith) (r .1) ∙ sym a ∙ q
-            | no d ↦ r .3 p (sym (same-name e p d) ∙ q)
+                s .old p (new-unmarked e p d z c) (λ u. z (a ∙ u)) (r .at) (omega arith) (r .past) ∙ sym a ∙ q
+            | no d ↦ r .links p (sym (same-name e p d) ∙ q)
           ]
 
       since-closed : Since t (suc j)
@@ -146,8 +158,25 @@ module _ (t : ℕ → View) where
             let a : t (suc j) .store .names p ≡ t j .store .names p = cc (e .store) in
             names-more (rw a (s .old p (sym (e .marked p) ∙ m) (λ u. z (a ∙ u)))) refl;
         seen = λ i k. elim (ℕ-discrete i l) [
-          | yes g ↦ (j, omega arith, rw g (e .whole), λ p q. names-closed i k g p q)
-          | no g ↦ let r = s .seen i (sym (copied-before e i g) ∙ k) in (r .0, omega (arith, r .1), alike-on (r .2) (e .others i g), λ p q. names-before i k g r p q)
+          | yes g ↦ record {
+            at = j;
+            past = omega arith;
+            inode = rw g (e .whole);
+            links = names-closed i k g;
+            slots = λ p d z. (sym (new-name e p (d ∙ g) z), new-entry e p (d ∙ g) z);
+          }
+          | no g ↦
+              let r = s .seen i (sym (copied-before e i g) ∙ k) in
+              record {
+                at = r .at;
+                past = omega (arith, r .past);
+                inode = alike-on (r .inode) (e .others i g);
+                links = names-before i k g r;
+                slots = λ p d z.
+                    let o : dirOf p ≢ l = λ u. g (sym d ∙ u) in
+                    let a = same-name e p o in
+                    slots-on a (same-entry e p o (λ u. z (a ∙ u))) z (r .slots p d);
+              }
         ];
         waits = λ p z k. elim (ℕ-discrete (dirOf p) l) [
           | yes d ↦ record {

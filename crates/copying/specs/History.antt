@@ -42,12 +42,19 @@ module _ (t : ℕ → View) where
     pub names : Names from j p (t j .image .names p)
     pub entry : t j .image .entry p ≡ t from .store .entry p
 
+  -- inode i of the image at moment j is that of one moment: as it was then; wherever the image names it, the store named it then; and whatever the image has in it, a directory, stood in it then
+  pub record Seen (j i : ℕ) : Type 0 where
+    pub at : ℕ
+    pub past : at ≤ j
+    pub inode : Alike (t at .store) (t j .image) i
+    pub links : (p : ℕ) → t j .image .names p ≡ i → t at .store .names p ≡ i
+    pub slots : (p : ℕ) → dirOf p ≡ i → t j .image .names p ≢ 0 → (t at .store .names p ≡ t j .image .names p) × (t j .image .entry p ≡ t at .store .entry p)
+
   -- at moment j
   pub record Since (j : ℕ) : Type 0 where
     -- an unmarked entry has stood since the start
     pub old : (p : ℕ) → t j .marked p ≡ false → t j .store .names p ≢ 0 → Names 0 j p (t j .store .names p)
-    -- a copied inode is that of one moment, at which the store named it wherever the image does
-    pub seen : (i : ℕ) → t j .copied i ≡ true → (m : ℕ) × (m ≤ j) × Alike (t m .store) (t j .image) i × ((p : ℕ) → t j .image .names p ≡ i → t m .store .names p ≡ i)
+    pub seen : (i : ℕ) → t j .copied i ≡ true → Seen j i
     pub waits : (p : ℕ) → t j .image .names p ≢ 0 → t j .copied (t j .image .names p) ≡ false → Waits j p
     pub spells : (p : ℕ) → t j .image .names p ≢ 0 → t j .copied (t j .image .names p) ≡ true → Spell j p
 

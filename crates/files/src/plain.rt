@@ -140,11 +140,11 @@ fn do_shorten(s: &mut [u8], n: usize, i: usize, z: usize) -> Answer
     }
 }
 
-pub fn shorten(store: &mut [u8], inode: usize, length: usize) -> Answer
-    ensures { λ r. ⌜ shown (left r (now (store .exit)) []) ≡ shown (plain (shorten inode length) (now (store .entry))) ⌝ }
+pub fn shorten(store: &mut [u8], inode: usize, size: usize) -> Answer
+    ensures { λ r. ⌜ shown (left r (now (store .exit)) []) ≡ shown (plain (shorten inode size) (now (store .entry))) ⌝ }
 {
     match guard(store) {
-        Guard::Pass(n, _) => do_shorten(&mut *store, n, inode, length),
+        Guard::Pass(n, _) => do_shorten(&mut *store, n, inode, size),
         Guard::Stop(why) => Answer::Refused(why),
     }
 }

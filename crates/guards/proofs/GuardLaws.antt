@@ -18,7 +18,7 @@ use Rattle.files.specs.declared.Guard.{Guard}
 use Rattle.files.specs.declared.Guard.the-variants.{Pass, Stop}
 use Rattle.checkpoint.specs.declared.Status.the-variants.{Is, NoStatus}
 use Rattle.checkpoint.specs.Fit.{deskFramed, notesFit}
-use Rattle.checkpoint.specs.Live.{threeGuards, guarded, ask, status}
+use Rattle.checkpoint.specs.Live.{threeGuards, status}
 use Rattle.guards.specs.Fit.{notesRight}
 
 -- ---- the guards in code
@@ -79,9 +79,9 @@ passed s m d n b e =
 -- ---- the state question: g is what the guards have answered
 module _ (s m d : List ℕ) (g : Guard) (e : g ≡ threeGuards s m d) where
   pub state-through : (n b : ℕ) (h : Desk) → g ≡ Pass n b → h ≡ deskOf d → Is (h .state) (h .locked) (h .steps) ≡ status s m d
-  unfolding status ask guarded
+  unfolding status
   state-through n b h p q = let z = sym e ∙ p in rw z (ap (λ (y : Desk). Is (y .state) (y .locked) (y .steps)) q)
 
   pub state-stopped : (w : Refusal) → g ≡ Stop w → NoStatus w ≡ status s m d
-  unfolding status ask guarded
+  unfolding status
   state-stopped w p = let z = sym e ∙ p in rw z

@@ -13,10 +13,11 @@ use Rattle.answers.specs.Refusal.{refusalNumber}
 use Rattle.answers.specs.Told.{Told, told}
 use Rattle.answers.proofs.RefusalLaws.{number-range}
 use Rattle.files.specs.Effect.{lookUp, read, create, write, shorten, link, unlink, rename}
-use Rattle.checkpoint.specs.Live.{World, Outcome, asStatus}
+use Rattle.checkpoint.specs.Live.{World, Outcome}
 use Rattle.checkpoint.specs.Shown.{toldStatus}
 use Rattle.checkpoint.specs.Table.{Row, firstOf, ascendsFrom, askTable}
 use Rattle.checkpoint.specs.List.{Event, call, steps, asks, starts, outcome}
+use Rattle.checkpoint.proofs.DecisionLaws.{asStatus}
 use Rattle.checkpoint.proofs.TableLaws.{look-up-table, read-table, create-table, write-table, shorten-table, link-table, unlink-table, rename-table, look-up-alone, read-alone}
 use Rattle.checkpoint.proofs.CopierTables.{start-table, step-table, status-table}
 use Rattle.checkpoint.proofs.RowLaws.{look-up-ascends, read-ascends, create-ascends, write-ascends, shorten-ascends, link-ascends, unlink-ascends, rename-ascends, start-ascends, step-ascends, status-ascends}

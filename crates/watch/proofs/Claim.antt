@@ -2,14 +2,15 @@
 use Prim.Native.Nat.{ℕ, suc}
 use mathlib.Core.Path.{_≡_, refl, sym, ap, _∙_}
 use mathlib.Core.Bool.{Bool, true, false}
-use mathlib.Core.List.{List, [], _∷_}
+use mathlib.Core.List.{List, [], _∷_, _++_}
 use borrow.Author.Tests.{eqb-true, eq-eqb}
 use Rattle.bounded.specs.Search.{pick}
 use Rattle.answers.specs.Told.{told}
 use Rattle.files.specs.Effect.{Call}
 use Rattle.files.specs.Plain.{plain}
 use Rattle.checkpoint.specs.Live.{World}
-use Rattle.checkpoint.specs.List.{Event, call, steps, asks, starts, outcome, next, accepted, run, acceptedSteps, isBusy, Reply, replies, heard, plainReplies}
+use Rattle.checkpoint.specs.List.{Event, call, steps, asks, starts, outcome, next, accepted, run, Finish, acceptedSteps, isBusy, Reply, replies, heard, plainReplies}
+use Rattle.checkpoint.specs.Progress.{noRestart}
 use Rattle.checkpoint.specs.Demand.{Demand}
 use Rattle.checkpoint.proofs.Demands.{demands}
 use Rattle.watch.specs.Made.{Received, got, Did}
@@ -56,16 +57,27 @@ unfolding plainReplies plainReplied
 plain-numbers [] s = refl
 plain-numbers (c ∷ cs) s = ap (λ (ys : List Received). got (told (plain c s .answer)) (plain c s .out) ∷ ys) (plain-numbers cs (plain c s .store))
 
+-- ---- a list goes on
+run-on : (fs gs : List Event) (w : World) → run (fs ++ gs) w ≡ run gs (run fs w)
+unfolding run
+run-on [] gs w = refl
+run-on (e ∷ fs) gs w = run-on fs gs (next e w)
+
+-- the copy that was finished by fs stays
+image-stays : (es fs gs : List Event) (w : World) → Demand fs w → es ≡ fs ++ gs → Finish fs w → noRestart gs (run fs w) ≡ true → run es w .image ≡ run fs w .image
+image-stays es fs gs w d e f h = ap (λ (xs : List Event). run xs w .image) e ∙ ap (λ (v : World). v .image) (run-on fs gs w) ∙ d .stays .copy f gs h .0
+
 -- ---- the run of the definitions delivers
-run-delivers : (es : List Event) (w : World) → Demand es w → Delivered es w (received es w) (run es w)
-run-delivers es w d =
+run-delivers : (es : List Event) (w : World) → ((fs : List Event) → Demand fs w) → Delivered es w (received es w) (run es w)
+run-delivers es w ds =
+    let d = ds es in
     let count = steps-told es w 0 in
     let calls = fed-heard es w in
     record {
       world = refl;
       got = refl;
-      entries = λ f. d .finished f .entries;
-      sound = λ f. d .finished f .sound;
+      entries = λ fs gs e f h p k. rw (image-stays es fs gs w (ds fs) e f h) (ds fs .finished f .entries p k);
+      sound = λ fs gs e f h. rw (image-stays es fs gs w (ds fs) e f h) (ds fs .finished f .sound);
       reports = λ q. ap (λ (a : Received). a .answer) (did q .got) ∙ rw count (d .reported .reports);
       bound = rw count (d .reported .bound);
       store = rw calls (d .as-plain .store);
@@ -74,7 +86,7 @@ run-delivers es w d =
     }
 
 -- and so does the code
-delivers : {es : List Event} {w u : World} {rs : List Received} → AllDefined es w rs u → Demand es w → Delivered es w rs u
+delivers : {es : List Event} {w u : World} {rs : List Received} → AllDefined es w rs u → ((fs : List Event) → Demand fs w) → Delivered es w rs u
 delivers {es} {w} {u} {rs} h d = rw (h .world, h .got) (run-delivers es w d)
 
 -- ---- the opening start
@@ -93,7 +105,7 @@ module _ {v w : World} {a : Received} (s : Did starts v a w) where
 
 pub claim : Claim
 claim = record {
-  lists = λ {es = es} s h m. delivers (made m) (after-start s h es);
+  lists = λ s h m. delivers (made m) (after-start s h);
   opens = λ {v = v} s r i m. zero-if s (demands .opens v .accepts r i m);
   store = λ s. store-stays s;
 }

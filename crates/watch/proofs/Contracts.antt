@@ -7,6 +7,7 @@ use contract.Lifetimes.{Lfts}
 use denote.Ref.{now}
 use denote.Triple.Clauses.{AtExit}
 use borrow.Fn.Kinds.{PK, RK, Out, Dens, resT, endedOf}
+use Rattle.sound.specs.Sound.{isSound}
 use Rattle.answers.specs.Told.{told}
 use Rattle.format.specs.Format.{left, layOutStore, layOutDesk}
 use Rattle.files.specs.Effect.{lookUp, read, create, write, shorten, link, unlink, rename}
@@ -35,6 +36,8 @@ use Rattle.copystep.proofs.step.Kinds as step-kinds
 use Rattle.copystep.proofs.step.Reads as step-reads
 use Rattle.guards.proofs.state.state.Kinds as state-kinds
 use Rattle.guards.proofs.state.state.Reads as state-reads
+use Rattle.checker.proofs.check.check.Kinds as check-kinds
+use Rattle.checker.proofs.check.check.Reads as check-reads
 use Rattle.format.proofs.lay_out_store.Kinds as lay-store-kinds
 use Rattle.format.proofs.lay_out_store.Reads as lay-store-reads
 use Rattle.format.proofs.lay_out_desk.Kinds as lay-desk-kinds
@@ -97,3 +100,7 @@ lay-store-made κs a z e h = h
 
 pub lay-desk-made : Gives 1 lay-desk-kinds.ps lay-desk-kinds.r lay-desk-reads.Learnt (λ κs a z e. left z (now (e .0)) ≡ layOutDesk (now (a .0)) (a .1 .0))
 lay-desk-made κs a z e h = h
+
+-- ---- the check, of which it has the same too
+pub check-made : Gives 1 check-kinds.ps check-kinds.r check-reads.Learnt (λ κs a z e. z ≡ isSound (a .0) (now (a .1 .0)))
+check-made κs a z e h = h

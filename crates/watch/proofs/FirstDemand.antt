@@ -5,6 +5,7 @@ use mathlib.Core.Bool.{Bool, true, false, not}
 use mathlib.Core.List.{List, [], _∷_}
 use lib.ListN.{length}
 use Rattle.bounded.specs.Search.{pick}
+use Rattle.sound.proofs.SoundLaws.{is-sound}
 use Rattle.answers.specs.declared.Refusal.the-variants.{BadBuffer}
 use Rattle.answers.specs.declared.Answer.{Answer}
 use Rattle.answers.specs.declared.Answer.the-variants.{Done, Refused}
@@ -44,4 +45,5 @@ first-demand = record {
   calls = λ d. calls d;
   lays-store = λ {s} {t} r n b h. lays (storeAllowed n b (length s)) s (freshStore n b) t r h;
   lays-desk = λ {d} {t} r n h. lays (deskAllowed n (length d)) d (freshDesk n) t r h;
+  checks = λ f s r h. rw h (is-sound f s);
 }

@@ -2,13 +2,15 @@
 -- "A refusal changes no lent buffer, save that 16 marks the copy stopped and unlocks what was being copied."
 use Prim.Native.Nat.{ℕ, _+_, _-_, _≤_, min, max}
 use mathlib.Core.Path.{_≡_}
-use mathlib.Core.Bool.{true, false, not}
+use mathlib.Core.Bool.{Bool, true, false, not}
 use mathlib.Core.List.{List, [], _∷_}
 use lib.ListN.{length}
 use Rattle.layout.specs.Inode.{sizeOf}
 use Rattle.layout.specs.Free.{freeInode}
 use Rattle.desk.specs.Desk.{deskOf}
-use Rattle.sound.specs.Sound.{inodesIn}
+use Rattle.bounded.specs.Reflect.{Reflects}
+use Rattle.sound.specs.declared.Form.{Form}
+use Rattle.sound.specs.Sound.{Sound, inodesIn, limitOf, blankOf, isSound}
 use Rattle.answers.specs.declared.Answer.{Answer}
 use Rattle.answers.specs.declared.Refusal.the-variants.{BadBuffer, ImageFull}
 use Rattle.answers.specs.Refusal.{refusalNumber}
@@ -91,8 +93,9 @@ pub record LayAnswers (rs : List Row) (s : List ℕ) (r : Answer) (t : List ℕ)
   pub answered : Answered (0 ∷ []) rs (told r)
   pub keeps : (told r .number ≡ 0 → ⊥) → t ≡ s
 
--- ---- demand 1: each call as its contract promises it. (The check refuses nothing: it "takes any bytes and answers yes or no".)
+-- ---- demand 1: each call as its contract promises it. The check refuses nothing: it "takes any bytes and answers yes or no"; demand 2: "The soundness check says yes to a store that meets its conditions and no to every other."
 pub record FirstDemand : Type 0 where
   pub calls : {e : Event} {w v : World} {a : Received} → Did e w a v → Answers e w a v
   pub lays-store : {s t : List ℕ} (r : Answer) (inodes blocks : ℕ) → left r t ≡ layOutStore s inodes blocks → LayAnswers (storeLayTable s inodes blocks) s r t
   pub lays-desk : {d t : List ℕ} (r : Answer) (inodes : ℕ) → left r t ≡ layOutDesk d inodes → LayAnswers (deskLayTable d inodes) d r t
+  pub checks : (f : Form) (s : List ℕ) (r : Bool) → r ≡ isSound f s → Reflects r (Sound (limitOf f) (blankOf f) s)

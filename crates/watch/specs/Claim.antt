@@ -2,7 +2,7 @@
 use Prim.Native.Nat.{ℕ, suc, _+_, _*_, _≤_}
 use mathlib.Core.Path.{_≡_}
 use mathlib.Core.Bool.{Bool, true, false}
-use mathlib.Core.List.{List, [], _∷_}
+use mathlib.Core.List.{List, [], _∷_, _++_}
 use lib.Dec.{eqb}
 use lib.ListN.{length}
 use Rattle.bounded.specs.Search.{pick}
@@ -21,6 +21,7 @@ use Rattle.checkpoint.specs.Live.{World, outOf}
 use Rattle.checkpoint.specs.Shown.{toldStatus}
 use Rattle.checkpoint.specs.List.{Ready, Event, call, steps, asks, starts, outcome, next, run, Finish, Kept, stateAfter, plainRun}
 use Rattle.checkpoint.specs.Finished.{countOf, Copied}
+use Rattle.checkpoint.specs.Progress.{noRestart}
 use Rattle.checkpoint.specs.Demand.{Demand}
 use Rattle.watch.specs.Made.{Received, got, Did, Made}
 
@@ -76,10 +77,11 @@ pub record Delivered (es : List Event) (w : World) (rs : List Received) (u : Wor
   -- the buffers, and what the callers got, are those of the definitions
   pub world : u ≡ run es w
   pub got : rs ≡ received es w
+  -- The list may go on after the finish: fs are its events up to the finish, and until a start is accepted the copy stays.
   -- "If the copy finishes, every entry that stood at its start, and that was not unlinked or moved before the finish, nor any entry above it, is in the finished copy"
-  pub entries : Finish es w → (p : ℕ) → Kept es w p → Copied es w (u .image) p
+  pub entries : (fs gs : List Event) → es ≡ fs ++ gs → Finish fs w → noRestart gs (run fs w) ≡ true → (p : ℕ) → Kept fs w p → Copied fs w (u .image) p
   -- "A copy finished as under 3 is sound."
-  pub sound : Finish es w → Sound mostImageBlocks true (u .image)
+  pub sound : (fs gs : List Event) → es ≡ fs ++ gs → Finish fs w → noRestart gs (run fs w) ≡ true → Sound mostImageBlocks true (u .image)
   -- "Finished or not, the copy's accepted steps are the number that the state question reports"
   pub reports : {a : Received} {x : World} → Did asks u a x → a .answer ≡ toldStatus (Is (stateAfter es w running) (deskOf (u .desk) .locked) (stepsTold es rs 0))
   -- "and at most 14 times the inode count, plus 1"

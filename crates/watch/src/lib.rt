@@ -66,12 +66,12 @@ pub fn shorten(
     image: &mut [u8],
     desk: &mut [u8],
     inode: usize,
-    length: usize,
+    size: usize,
 ) -> Answer
-    ensures { λ r. ⌜ shown (left r (now (store .exit)) (now (image .exit)) (now (desk .exit))) ≡ shown (live (shorten inode length) (world (now (store .entry)) (now (image .entry)) (now (desk .entry)))) ⌝ }
+    ensures { λ r. ⌜ shown (left r (now (store .exit)) (now (image .exit)) (now (desk .exit))) ≡ shown (live (shorten inode size) (world (now (store .entry)) (now (image .entry)) (now (desk .entry)))) ⌝ }
 {
     match three_guards(store, image, desk) {
-        Guard::Pass(n, _) => work::shorten(&mut *store, desk, n, inode, length),
+        Guard::Pass(n, _) => work::shorten(&mut *store, desk, n, inode, size),
         Guard::Stop(why) => Answer::Refused(why),
     }
 }

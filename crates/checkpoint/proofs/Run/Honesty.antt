@@ -10,7 +10,7 @@ use Rattle.bounded.proofs.BoolLaws.{holds}
 use Rattle.layout.specs.Inode.{kindOf, freeKind, fileKind}
 use Rattle.directory.specs.Slot.{mostSlots}
 use Rattle.sound.specs.Entry.{EntrySound}
-use Rattle.sound.specs.Place.{filled, naming}
+use Rattle.sound.specs.Place.{entryAt, filled, naming}
 use Rattle.sound.proofs.PlaceLaws.{naming-filled}
 use Rattle.copying.specs.View.{View}
 use Rattle.copying.specs.Deed.{Alike}
@@ -46,6 +46,13 @@ module _ (b : ℕ) (es : List Event) (w : World) (r : Running (countOf w) b w) (
   -- at every moment as many inodes
   count-at : (j : ℕ) → n ≡ countOf (at es w j)
   count-at j = counted (going-at n b es w (at es w j) (runs r) (moment-at es w j))
+
+  -- the store's slot names i at moment j
+  names-at : (j p i : ℕ) → 1 ≤ i → naming (at es w j .store) n p ≡ i → Names (at es w j) p i
+  names-at j p i o h = record {
+    stands = subst (λ (c : ℕ). filled (at es w j .store) c p ≡ true) (count-at j) (naming-filled (at es w j .store) n p (omega arith));
+    inode = ap (λ (c : ℕ). naming (at es w j .store) c p) (sym (count-at j)) ∙ h;
+  }
 
   -- ---- a kept entry
   module _ (p : ℕ) (kept : Kept es w p) where
@@ -152,11 +159,7 @@ module _ (b : ℕ) (es : List Event) (w : World) (r : Running (countOf w) b w) (
     names-then j a c = sym (store-names n (at es w j) p l) ∙ spell .names j a c ∙ fin .names p l
 
     then-names : (j : ℕ) → spell .from ≤ j → j ≤ spell .to → Names (at es w j) p (naming (v .image) n p)
-    then-names j a c =
-        let e = names-then j a c in
-        let o = low in
-        let h = naming-filled (at es w j .store) n p (omega arith) in
-        record { stands = subst (λ (m : ℕ). filled (at es w j .store) m p ≡ true) (count-at j) h; inode = ap (λ (m : ℕ). naming (at es w j .store) m p) (sym (count-at j)) ∙ e }
+    then-names j a c = names-at j p (naming (v .image) n p) low (names-then j a c)
 
     throughout : Throughout (cuts .during) start p (naming (v .image) n p)
     throughout = each-moment (cuts .during) start p (naming (v .image) n p) (λ j h.
@@ -196,19 +199,18 @@ module _ (b : ℕ) (es : List Event) (w : World) (r : Running (countOf w) b w) (
     moment-of : OneMoment es w (v .image) i
     moment-of =
         let m = told-holds t n k (fin .tells) k (omega arith) .1 .seen i copied-then in
-        let j = m .0 in
-        let a = fin .alike j i lo hi (m .2) in
+        let j = m .at in
+        let a = fin .alike j i lo hi (m .inode) in
         record {
           moment = at es w j;
           in-time = moment-at es w j;
           kind = a .kind;
           file = λ e. same-content n n (countOf (at es w j)) v (at es w j) i refl (count-at j) a (sym (a .kind) ∙ e);
-          links = λ p l f e.
-              let h : naming (at es w j .store) n p ≡ i = sym (store-names n (at es w j) p l) ∙ m .3 p (fin .names p l ∙ e) in
-              record {
-                stands = subst (λ (c : ℕ). filled (at es w j .store) c p ≡ true) (count-at j) (naming-filled (at es w j .store) n p (omega arith));
-                inode = ap (λ (c : ℕ). naming (at es w j .store) c p) (sym (count-at j)) ∙ h;
-              };
+          links = λ p l f e. names-at j p i lo (sym (store-names n (at es w j) p l) ∙ m .links p (fin .names p l ∙ e));
+          slots = λ p l f d.
+              let x = m .slots p d (seen-there p l f) in
+              (names-at j p (naming (v .image) n p) (low p l f) (sym (store-names n (at es w j) p l) ∙ x .0 ∙ fin .names p l),
+              fin .entry j p (x .1) ∙ ap (λ (c : ℕ). entryAt (at es w j .store) c p) (count-at j));
         }
 
   pub finished : Finished es w

@@ -16,7 +16,8 @@ use Rattle.answers.specs.Told.{Told, told}
 use Rattle.checkpoint.specs.declared.Status.the-variants.{Is}
 use Rattle.layout.specs.Free.{named}
 use Rattle.files.specs.Effect.{Call}
-use Rattle.checkpoint.specs.Live.{World, Outcome, refuse, live, ask, asStatus, status}
+use Rattle.checkpoint.proofs.DecisionLaws.{asStatus, status-is}
+use Rattle.checkpoint.specs.Live.{World, Outcome, refuse, live}
 use Rattle.checkpoint.specs.Shown.{numberOf, Shown, shown, toldStatus}
 use Rattle.checkpoint.specs.List.{Event, call, steps, asks, starts, outcome, next, refusalOf}
 use Rattle.checkpoint.specs.Progress.{ImageTaken, Stopped}
@@ -94,8 +95,8 @@ module _ (n b : ℕ) (w : World) where
 
   -- the state question tells what the desk says
   pub asked : Going n b w → outcome asks w .answer ≡ toldStatus (Is (deskOf (w .desk) .state) (deskOf (w .desk) .locked) (deskOf (w .desk) .steps))
-  unfolding outcome status ask
-  asked g = ap (λ (o : Outcome). toldStatus (asStatus (o .answer) (w .desk))) (going.guards-pass w (fit g) _)
+  unfolding outcome
+  asked g = ap toldStatus (status-is (w .store) (w .image) (w .desk)) ∙ ap (λ (o : Outcome). toldStatus (asStatus (o .answer) (w .desk))) (going.guards-pass w (fit g) _)
 
   pub result : (e : Event) → Going n b w → Result e w
   result (call c) g = call-result n b w g c

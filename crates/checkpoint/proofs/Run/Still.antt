@@ -139,7 +139,7 @@ module _ (b : ℕ) (es : List Event) (w : World) (r : Running (countOf w) b w) (
   unfolding at
   copied-same i l h c =
       let x = told-holds t n k (fin .tells) k (omega arith) .1 .seen i c in
-      fin .alike 0 i l h (subst (λ (y : Shelf). Alike y (t k .image) i) (shelf-at (x .0)) (x .2))
+      fin .alike 0 i l h (subst (λ (y : Shelf). Alike y (t k .image) i) (shelf-at (x .at)) (x .inode))
 
   free-copy : (i : ℕ) → 1 ≤ i → i ≤ n → t k .copied i ≡ false → kindOf m i ≡ freeKind
   free-copy i l h c = sym (fin .kind i l h) ∙ told-holds t n k (fin .tells) k (omega arith) .0 .blank i c

@@ -32,7 +32,7 @@ returns : tie.Need-returns
 returns c =
     let x = c .before .before .before .before .before .before in
     let a = x .before .before .before .before .before .before .before .before .before .args in
-    call-through (shorten (a .inode) (a .length)) refl _ _ _ _ (x .before .before .three-guards .ensures) _ _ _ (x .n .given .1) (c .before .before .shorten .ensures _)
+    call-through (shorten (a .inode) (a .size)) refl _ _ _ _ (x .before .before .three-guards .ensures) _ _ _ (x .n .given .1) (c .before .before .shorten .ensures _)
 
 same-length-4 : tie.Need-same-length-4
 same-length-4 c = search needs
@@ -46,7 +46,7 @@ same-length-6 c = search needs
 returns-2 : tie.Need-returns-2
 returns-2 c =
     let a = c .before .before .before .before .before .before .before .before .before .before .args in
-    call-stopped (shorten (a .inode) (a .length)) refl _ _ _ _ (c .before .before .before .three-guards .ensures) _ (c .before .why .given .1)
+    call-stopped (shorten (a .inode) (a .size)) refl _ _ _ _ (c .before .before .before .three-guards .ensures) _ (c .before .why .given .1)
 
 pub shorten-spec : {M : Type 1} → statement M
 shorten-spec =

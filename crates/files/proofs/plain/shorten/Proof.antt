@@ -21,13 +21,13 @@ same-length : tie.Need-same-length
 same-length c = search needs
 
 returns : tie.Need-returns
-returns c = let a = c .before .before .before .before .before .before .before .before .before .before .args in call-through (shorten (a .inode) (a .length)) _ _ (c .before .before .before .before .before .before .before .guard .ensures) _ _ _ (c .before .before .before .before .before .n .given .1) (c .before .before .do-shorten .ensures)
+returns c = let a = c .before .before .before .before .before .before .before .before .before .before .args in call-through (shorten (a .inode) (a .size)) _ _ (c .before .before .before .before .before .before .before .guard .ensures) _ _ _ (c .before .before .before .before .before .n .given .1) (c .before .before .do-shorten .ensures)
 
 same-length-2 : tie.Need-same-length-2
 same-length-2 c = search needs
 
 returns-2 : tie.Need-returns-2
-returns-2 c = let a = c .before .before .before .before .before .before .args in call-stopped (shorten (a .inode) (a .length)) _ _ (c .before .before .before .guard .ensures) _ (c .before .why .given .1)
+returns-2 c = let a = c .before .before .before .before .before .before .args in call-stopped (shorten (a .inode) (a .size)) _ _ (c .before .before .before .guard .ensures) _ (c .before .why .given .1)
 
 pub shorten-spec : {M : Type 1} → statement M
 shorten-spec =
