@@ -1,4 +1,4 @@
-// The copier and the public calls over the three buffers: their answers that the plain store does not have.
+// The copier is definitions here; of code there is what the state question answers.
 use answers::Refusal;
 
 // What the state question answers: state, locked inode and steps.

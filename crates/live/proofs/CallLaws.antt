@@ -26,7 +26,7 @@ use Rattle.checkpoint.specs.Live.{World, left, refuse, threeGuards, leavesIn}
 use Rattle.checkpoint.proofs.Copy.FitLaws.{desk-framed-is, desk-fits-is, image-fits-is, notes-fit-is}
 use Rattle.tallies.specs.Addressed.{Addressed}
 use Rattle.guards.proofs.GuardLaws.{passed}
-use Rattle.live.specs.Fits.{Fits, Seen}
+use Rattle.live.specs.Fits.{Fits, Readable}
 
 -- ---- what the guards let through
 few-blocks : (d : List ℕ) → deskFits d ≡ true → deskOf d .blocks ≤ mostImageBlocks
@@ -48,7 +48,7 @@ image-addressed m d l w f =
       inside = λ x h. let a = k .1 .1 .1 .1 .1 x h in omega arith;
     }
 
-pub let-through : (s m d : List ℕ) (n b : ℕ) → threeGuards s m d ≡ Pass n b → Fits s d n × (b ≡ blocksIn s) × Seen m d n
+pub let-through : (s m d : List ℕ) (n b : ℕ) → threeGuards s m d ≡ Pass n b → Fits s d n × (b ≡ blocksIn s) × Readable m d n
 let-through s m d n b g =
     let p = passed s m d n b g in
     let f = desk-framed-is d .to (p .desk) in

@@ -16,6 +16,6 @@ pub record Fits (s d : List ℕ) (n : ℕ) : Type 0 where
   pub inodes : n ≡ inodesIn s
   pub long : deskLength n ≤ length d
 
--- "unless the copy runs they don't read it"
-abbrev pub Seen : List ℕ → List ℕ → ℕ → Type 0
-Seen m d n = isRunning d ≡ true → Addressed m n
+-- the image, which the calls read only while the copy runs: its addresses name blocks of it
+abbrev pub Readable : List ℕ → List ℕ → ℕ → Type 0
+Readable m d n = isRunning d ≡ true → Addressed m n

@@ -11,7 +11,7 @@ ghost use Rattle.checkpoint.specs.Image.{slotNames};
 ghost use Rattle.checkpoint.specs.Busy.{isLocked, anyLocked};
 ghost use Rattle.checkpoint.specs.Notes.{noteMade, noteTaken, cutImage};
 ghost use Rattle.tallies.specs.Addressed.{Addressed};
-ghost use Rattle.live.specs.Fits.{Seen};
+ghost use Rattle.live.specs.Fits.{Readable};
 use desk::Desk;
 use directory::SLOTS_IN_BLOCK;
 use layout::block;
@@ -108,7 +108,7 @@ fn slot_names(m: &[u8], n: usize, e: usize, t: usize) -> usize
 
 // Inode i was taken from slot t of directory e: if e is copied and i is not, the entry that names i in the same slot of the image goes too.
 pub fn cut_image(m: &mut [u8], d: &[u8], n: usize, e: usize, t: usize, i: usize)
-    requires { ⌜ Seen (now m) (now d) n × (deskLength n ≤ length (now d)) × (1 ≤ e) × (e ≤ n) × (t < mostSlots) × (1 ≤ i) ⌝ }
+    requires { ⌜ Readable (now m) (now d) n × (deskLength n ≤ length (now d)) × (1 ≤ e) × (e ≤ n) × (t < mostSlots) × (1 ≤ i) ⌝ }
     ensures { λ _. ⌜ now (m .exit) ≡ cutImage (now (m .entry)) (now (d .entry)) n e t i ⌝ }
 {
     if !is_running(d) {

@@ -10,7 +10,7 @@ ghost use Rattle.files.specs.Effect.{doCreate, doWrite, doShorten, doLink, doUn
 ghost use Rattle.checkpoint.specs.Busy.{unlessBusy};
 ghost use Rattle.checkpoint.specs.Live.{left, leavesIn};
 ghost use Rattle.checkpoint.specs.Shown.{world};
-ghost use Rattle.live.specs.Fits.{Fits, Seen};
+ghost use Rattle.live.specs.Fits.{Fits, Readable};
 use crate::notes;
 use answers::Answer;
 use answers::Refusal;
@@ -108,7 +108,7 @@ pub fn shorten(s: &mut [u8], d: &[u8], n: usize, i: usize, z: usize) -> Answer
 
 // ---- calls that take an entry out
 pub fn unlink(s: &mut [u8], m: &mut [u8], d: &mut [u8], n: usize, dir: usize, name: &[u8]) -> Answer
-    requires { ⌜ Fits (now s) (now d) n × Seen (now m) (now d) n ⌝ }
+    requires { ⌜ Fits (now s) (now d) n × Readable (now m) (now d) n ⌝ }
     ensures { λ r. ⌜ left r (now (s .exit)) (now (m .exit)) (now (d .exit)) ≡ leavesIn (world (now (s .entry)) (now (m .entry)) (now (d .entry))) (unlessBusy (now (d .entry)) (doUnlink (now (s .entry)) n dir (unlinkPlan (now (s .entry)) n dir (now (name .entry))))) ⌝ }
 {
     match entries::plan::unlink_plan(s, n, dir, name) {
@@ -136,7 +136,7 @@ pub fn rename(
     to: usize,
     other: &[u8],
 ) -> Answer
-    requires { ⌜ Fits (now s) (now d) n × (b ≡ blocksIn (now s)) × Seen (now m) (now d) n ⌝ }
+    requires { ⌜ Fits (now s) (now d) n × (b ≡ blocksIn (now s)) × Readable (now m) (now d) n ⌝ }
     ensures { λ r. ⌜ left r (now (s .exit)) (now (m .exit)) (now (d .exit)) ≡ leavesIn (world (now (s .entry)) (now (m .entry)) (now (d .entry))) (unlessBusy (now (d .entry)) (doRename (now (s .entry)) n from to (now (other .entry)) (renamePlan (now (s .entry)) n b from (now (name .entry)) to (now (other .entry))))) ⌝ }
 {
     match entries::plan::rename_plan(s, n, b, from, name, to, other) {

@@ -29,7 +29,7 @@ use layout::sizes::DIRECTORY;
 use layout::sizes::MOST_INODES;
 use names::ENTRY_BYTES;
 
-// The inode that the 16 bytes at o name is counted; 0 and a number of no inode are passed over.
+// The inode that the 16 bytes at o name is counted; 0 and numbers above 256 are passed over.
 fn count_entry(m: &[u8], o: usize, counts: &mut [u16])
     requires { ⌜ (o + entryBytes ≤ length (now m)) × (length (now counts) ≡ mostInodes + 1) × ((v : ℕ) → 1 ≤ v → v ≤ mostInodes → getD (now counts) v 0 < 65535) ⌝ }
     ensures { λ _. ⌜ ((f : ℕ → ℕ) (p : ℕ) → f p ≡ entryInode (part (now (m .entry)) o entryBytes) → Tallied f 1 (mostInodes + 1) p (now (counts .entry)) → Tallied f 1 (mostInodes + 1) (p + 1) (now (counts .exit))) ⌝ }
