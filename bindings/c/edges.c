@@ -1,0 +1,212 @@
+/*
+ * What include/honecerise.h says of buffers, tried on the library.
+ *
+ * - A buffer of length 0 may be NULL: each slice of each call in turn, with no copy running and
+ *   with one.
+ * - Nothing outside of a buffer is touched: buffers that begin or end at a page that may not be
+ *   touched, with a whole copy taken on them.
+ */
+#define _GNU_SOURCE
+#include <stdio.h>
+#include <stdlib.h>
+#include <string.h>
+#include <sys/mman.h>
+#include <unistd.h>
+
+#include "honecerise.h"
+
+static uint8_t *store, *image, *desk;
+static size_t store_length, image_length, desk_length;
+
+#define STORE store, store_length
+#define IMAGE image, image_length
+#define DESK desk, desk_length
+#define NONE NULL, 0
+static const uint8_t lap[200] = "71.2 70.8 72.0 69.9";
+#define NAME(text) (const uint8_t *)(text), strlen(text)
+
+static unsigned tried;
+
+static void same(const char *what, int32_t expected, int32_t answer)
+{
+    tried++;
+    if (answer != expected) {
+        printf("%s: answered %d, not %d\n", what, (int)answer, (int)expected);
+        exit(1);
+    }
+}
+#define IS(expected, call) same(#call, expected, call)
+
+static void accepted(const char *what, int32_t answer)
+{
+    same(what, 0, answer < 0 ? answer : 0);
+}
+#define TAKEN(call) accepted(#call, call)
+
+/* ---- empty buffers without an address */
+
+static void null_store(size_t *n)
+{
+    IS(-1, honecerise_lay_out_store(NONE, 16, 64));
+    IS(-1, honecerise_lay_out_desk(NONE, 16));
+    IS(0, honecerise_check(0, NONE));
+    IS(0, honecerise_check(1, NONE));
+    IS(-1, honecerise_look_up(NONE, 1, NAME("a")));
+    IS(-1, honecerise_read(NONE, 2, 0, NONE));
+    IS(-1, honecerise_create_file(NONE, IMAGE, DESK, 1, NAME("z")));
+    IS(-1, honecerise_create_directory(NONE, IMAGE, DESK, 1, NAME("z")));
+    IS(-1, honecerise_write(NONE, IMAGE, DESK, 2, 0, NAME("z")));
+    IS(-1, honecerise_shorten(NONE, IMAGE, DESK, 2, 0));
+    IS(-1, honecerise_link(NONE, IMAGE, DESK, 1, NAME("z"), 2));
+    IS(-1, honecerise_unlink(NONE, IMAGE, DESK, 1, NAME("a")));
+    IS(-1, honecerise_rename(NONE, IMAGE, DESK, 1, NAME("a"), 1, NAME("z")));
+    IS(-1, honecerise_start(NONE, IMAGE, DESK));
+    IS(-1, honecerise_step(NONE, IMAGE, DESK));
+    IS(-1, honecerise_state(NONE, IMAGE, DESK, n, n + 1, n + 2));
+    IS(-1, honecerise_state(NONE, NONE, NONE, n, n + 1, n + 2));
+}
+
+static void null_desk(size_t *n)
+{
+    IS(-1, honecerise_create_file(STORE, IMAGE, NONE, 1, NAME("z")));
+    IS(-1, honecerise_create_directory(STORE, IMAGE, NONE, 1, NAME("z")));
+    IS(-1, honecerise_write(STORE, IMAGE, NONE, 2, 0, NAME("z")));
+    IS(-1, honecerise_shorten(STORE, IMAGE, NONE, 2, 0));
+    IS(-1, honecerise_link(STORE, IMAGE, NONE, 1, NAME("z"), 2));
+    IS(-1, honecerise_unlink(STORE, IMAGE, NONE, 1, NAME("a")));
+    IS(-1, honecerise_rename(STORE, IMAGE, NONE, 1, NAME("a"), 1, NAME("z")));
+    IS(-1, honecerise_start(STORE, IMAGE, NONE));
+    IS(-1, honecerise_step(STORE, IMAGE, NONE));
+    IS(-1, honecerise_state(STORE, IMAGE, NONE, n, n + 1, n + 2));
+}
+
+/* While a copy runs an empty image is not the one that it began on; else no call but start looks. */
+static void null_image(size_t *n, int running)
+{
+    const int32_t off = running ? -3 : 0;
+    IS(running ? -3 : 4, honecerise_create_file(STORE, NONE, DESK, 1, NAME("x")));
+    IS(running ? -3 : 5, honecerise_create_directory(STORE, NONE, DESK, 1, NAME("y")));
+    IS(running ? -3 : 3, honecerise_write(STORE, NONE, DESK, 4, 0, NAME("abc")));
+    IS(running ? -3 : 2, honecerise_shorten(STORE, NONE, DESK, 4, 2));
+    IS(off, honecerise_link(STORE, NONE, DESK, 1, NAME("l"), 4));
+    IS(off, honecerise_rename(STORE, NONE, DESK, 1, NAME("l"), 5, NAME("m")));
+    IS(off, honecerise_unlink(STORE, NONE, DESK, 5, NAME("m")));
+    IS(off, honecerise_unlink(STORE, NONE, DESK, 1, NAME("y")));
+    IS(off, honecerise_unlink(STORE, NONE, DESK, 1, NAME("x")));
+    IS(-1, honecerise_start(STORE, NONE, DESK));
+    IS(running ? -3 : -15, honecerise_step(STORE, NONE, DESK));
+    IS(off, honecerise_state(STORE, NONE, DESK, n, n + 1, n + 2));
+}
+
+static void null_names(int32_t size)
+{
+    IS(-4, honecerise_look_up(STORE, 1, NONE));
+    IS(0, honecerise_read(STORE, 2, 0, NONE));
+    IS(0, honecerise_read(STORE, 2, (size_t)size, NONE));
+    IS(-4, honecerise_create_file(STORE, IMAGE, DESK, 1, NONE));
+    IS(-4, honecerise_create_directory(STORE, IMAGE, DESK, 1, NONE));
+    IS(size, honecerise_write(STORE, IMAGE, DESK, 2, 0, NONE));
+    IS(size, honecerise_write(STORE, IMAGE, DESK, 2, (size_t)size, NONE));
+    IS(-4, honecerise_link(STORE, IMAGE, DESK, 1, NONE, 2));
+    IS(-4, honecerise_unlink(STORE, IMAGE, DESK, 1, NONE));
+    IS(-4, honecerise_rename(STORE, IMAGE, DESK, 1, NONE, 1, NAME("z")));
+    IS(-4, honecerise_rename(STORE, IMAGE, DESK, 1, NAME("a"), 1, NONE));
+    IS(-4, honecerise_rename(STORE, IMAGE, DESK, 1, NONE, 1, NONE));
+}
+
+static void nulls(void)
+{
+    size_t n[3] = { 7, 7, 7 };
+    int running;
+    TAKEN(honecerise_lay_out_store(STORE, 16, 64));
+    TAKEN(honecerise_lay_out_desk(DESK, 16));
+    IS(2, honecerise_create_file(STORE, IMAGE, DESK, 1, NAME("a")));
+    IS(70, honecerise_write(STORE, IMAGE, DESK, 2, 0, lap, 70));
+    IS(3, honecerise_create_directory(STORE, IMAGE, DESK, 1, NAME("d")));
+    for (running = 0; running < 2; running++) {
+        if (running)
+            TAKEN(honecerise_start(STORE, IMAGE, DESK));
+        n[0] = n[1] = n[2] = 7;
+        null_store(n);
+        null_desk(n);
+        if (n[0] != 7 || n[1] != 7 || n[2] != 7)
+            same("a refused state leaves its numbers", 0, 1);
+        null_image(n, running);
+        null_names(70);
+    }
+}
+
+/* ---- buffers between pages that may not be touched */
+
+static uint8_t *fenced(size_t length, int at_end)
+{
+    const size_t page = (size_t)sysconf(_SC_PAGESIZE);
+    const size_t room = (length + page - 1) / page * page;
+    uint8_t *all = (uint8_t *)mmap(NULL, room + 2 * page, PROT_READ | PROT_WRITE,
+                                   MAP_PRIVATE | MAP_ANONYMOUS, -1, 0);
+    if (all == MAP_FAILED || mprotect(all, page, PROT_NONE) || mprotect(all + page + room, page, PROT_NONE)) {
+        printf("no memory\n");
+        exit(1);
+    }
+    return all + page + (at_end ? room - length : 0);
+}
+
+static void lend(size_t inodes, size_t blocks, size_t image_blocks, int at_end)
+{
+    store_length = HONECERISE_STORE_LENGTH(inodes, blocks);
+    image_length = HONECERISE_IMAGE_LENGTH(inodes, image_blocks);
+    desk_length = HONECERISE_DESK_LENGTH(inodes);
+    store = fenced(store_length, at_end);
+    image = fenced(image_length, at_end);
+    desk = fenced(desk_length, at_end);
+}
+
+/* Files until the store is full, in the root and a folder, then a copy with changes in between. */
+static void copy_all(size_t inodes, size_t blocks)
+{
+    uint8_t *name = fenced(14, 1), *bytes = fenced(768, 1), *out = fenced(768, 1);
+    size_t n[3], i, folder = 1;
+    int32_t made;
+    memset(bytes, 'b', 768);
+    TAKEN(honecerise_lay_out_store(STORE, inodes, blocks));
+    TAKEN(honecerise_lay_out_desk(DESK, inodes));
+    for (i = 0; i < inodes; i++) {
+        memcpy(name, "run 0000000000", 14);
+        name[12] = (uint8_t)('A' + i / 16);
+        name[13] = (uint8_t)('A' + i % 16);
+        made = i % 20 == 0 ? honecerise_create_directory(STORE, IMAGE, DESK, 1, name, 14)
+                           : honecerise_create_file(STORE, IMAGE, DESK, folder, name, 14);
+        if (made > 0 && i % 20 == 0)
+            folder = (size_t)made;
+        else if (made > 0)
+            honecerise_write(STORE, IMAGE, DESK, (size_t)made, 0, bytes, 1 + 48 * i % 768);
+    }
+    TAKEN(honecerise_start(STORE, IMAGE, DESK));
+    for (i = 0; honecerise_step(STORE, IMAGE, DESK) > 0; i++) {
+        honecerise_rename(STORE, IMAGE, DESK, folder, name, 14, 1, NAME("moved"));
+        honecerise_write(STORE, IMAGE, DESK, 1 + i % inodes, 0, bytes, 768);
+        honecerise_read(STORE, 1 + i % inodes, 0, out, 768);
+        honecerise_rename(STORE, IMAGE, DESK, 1, NAME("moved"), folder, name, 14);
+    }
+    IS(0, honecerise_state(STORE, IMAGE, DESK, n, n + 1, n + 2));
+    IS(2, (int32_t)n[0]);
+    IS(1, honecerise_check(0, STORE));
+    IS(1, honecerise_check(1, IMAGE));
+}
+
+int main(void)
+{
+    int at_end;
+    for (at_end = 0; at_end < 2; at_end++) {
+        lend(1, 1, 1, at_end);
+        copy_all(1, 1);
+        lend(21, 100, 252, at_end);
+        copy_all(21, 100);
+        lend(256, 1024, 4096, at_end);
+        copy_all(256, 1024);
+        lend(16, 64, 192, at_end);
+        nulls();
+    }
+    printf("edges: %u answers as expected\n", tried);
+    return 0;
+}

@@ -1,0 +1,88 @@
+/*
+ * How deep the library's calls go: all of them on a painted stack, with no copy running and with
+ * one. Fails if they go deeper than include/honecerise.h says.
+ */
+#include <stdio.h>
+#include <string.h>
+#include <ucontext.h>
+
+#include "honecerise.h"
+
+enum { INODES = 16, BLOCKS = 64, IMAGE_BLOCKS = 192, STACK = 1 << 18, PAINT = 0xa5 };
+
+static uint8_t store[HONECERISE_STORE_LENGTH(INODES, BLOCKS)];
+static uint8_t image[HONECERISE_IMAGE_LENGTH(INODES, IMAGE_BLOCKS)];
+static uint8_t desk[HONECERISE_DESK_LENGTH(INODES)];
+static const uint8_t laps[200] = "71.2 70.8 72.0 69.9";
+
+#define WATCH store, sizeof store, image, sizeof image, desk, sizeof desk
+#define NAME(text) (const uint8_t *)(text), strlen(text)
+
+static uint8_t stack[STACK];
+static ucontext_t here, there;
+static int copied;
+
+/* Each call where it goes deepest: past its guards, on a store with files that end inside a block. */
+static void calls(void)
+{
+    static uint8_t out[16];
+    size_t n[3];
+    if (copied) {
+        honecerise_start(WATCH);
+        honecerise_step(WATCH);
+        honecerise_step(WATCH);
+    }
+    honecerise_check(0, store, sizeof store);
+    honecerise_look_up(store, sizeof store, 1, NAME("a"));
+    honecerise_read(store, sizeof store, 2, 0, out, sizeof out);
+    honecerise_create_file(WATCH, 1, NAME("f"));
+    honecerise_create_directory(WATCH, 1, NAME("g"));
+    honecerise_write(WATCH, 4, 0, laps, sizeof laps);
+    honecerise_shorten(WATCH, 4, 10);
+    honecerise_link(WATCH, 3, NAME("l"), 4);
+    honecerise_rename(WATCH, 3, NAME("l"), 1, NAME("m"));
+    honecerise_rename(WATCH, 1, NAME("m"), 1, NAME("n"));
+    honecerise_unlink(WATCH, 1, NAME("n"));
+    honecerise_unlink(WATCH, 1, NAME("g"));
+    honecerise_unlink(WATCH, 1, NAME("f"));
+    while (honecerise_step(WATCH) > 0)
+        honecerise_state(WATCH, n, n + 1, n + 2);
+    honecerise_check(1, image, sizeof image);
+}
+
+static void nothing(void)
+{
+}
+
+/* How many bytes of a painted stack are no longer paint. */
+static size_t depth(void (*what)(void))
+{
+    size_t clean = 0;
+    memset(stack, PAINT, sizeof stack);
+    getcontext(&there);
+    there.uc_stack.ss_sp = stack;
+    there.uc_stack.ss_size = sizeof stack;
+    there.uc_link = &here;
+    makecontext(&there, what, 0);
+    swapcontext(&here, &there);
+    while (clean < sizeof stack && stack[clean] == PAINT)
+        clean++;
+    return sizeof stack - clean;
+}
+
+int main(void)
+{
+    size_t most = 0;
+    honecerise_lay_out_store(store, sizeof store, INODES, BLOCKS);
+    honecerise_lay_out_desk(desk, sizeof desk, INODES);
+    honecerise_create_file(WATCH, 1, NAME("a"));
+    honecerise_write(WATCH, 2, 0, laps, 70);
+    honecerise_create_directory(WATCH, 1, NAME("d"));
+    calls(); /* the loader looks up memset on the first call: not on the painted stack */
+    for (copied = 0; copied < 2; copied++) {
+        const size_t used = depth(calls) - depth(nothing);
+        most = used > most ? used : most;
+    }
+    printf("stack: %u bytes at the deepest, of %u\n", (unsigned)most, HONECERISE_STACK);
+    return most <= HONECERISE_STACK ? 0 : 1;
+}

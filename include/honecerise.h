@@ -1,0 +1,221 @@
+/*
+ * Honecerise: the file store of a running watch, and a copy of it that is taken while the watch
+ * goes on recording. Every function below is proved: it is safe on any bytes and numbers, it
+ * returns, and it does to every byte what its definition says.
+ *
+ * Three byte buffers, all yours:
+ *
+ *     store   the live files
+ *     image   the copy
+ *     desk    the copier's notes
+ *
+ * The library allocates nothing, has no globals, keeps no pointer after a call returns, and does
+ * no input or output. A buffer may lie anywhere and needs no alignment. You may move or save a
+ * buffer between two calls; its bytes are the same on every machine.
+ *
+ * Buffers
+ *     A buffer is a pointer and a length in bytes. The buffers, names and out-buffers of one call
+ *     must not overlap, and nothing else may write them until it returns: no interrupt, no other
+ *     thread. Calls on different buffers may run at the same time.
+ *     Where a length is 0, the pointer may be anything, NULL included: an empty name is refused
+ *     with 4, a write of no bytes is a write of no bytes. An empty image will do as long as no copy
+ *     is started. The three pointers that honecerise_state takes must not be NULL.
+ *
+ * Numbers
+ *     Inodes are numbered from 1, and 1 is the root directory. Numbers are never cut: one that is
+ *     too large is refused.
+ *
+ * Answers
+ *     An int32_t: the result if it is not negative, else minus the number of the refusal (below).
+ *     0 where no result is named. A refused call has changed nothing, save that 16 marks the copy
+ *     stopped in the desk.
+ *
+ * Stack
+ *     No call takes more than HONECERISE_STACK bytes.
+ *
+ * To link: libapi.a, and memcpy, memset and strlen from any C library.
+ */
+#ifndef HONECERISE_H
+#define HONECERISE_H
+
+#include <stddef.h>
+#include <stdint.h>
+
+#ifdef __cplusplus
+extern "C" {
+#endif
+
+/* ---- limits -------------------------------------------------------------------------------- */
+
+#define HONECERISE_ROOT             1u /* the root directory's inode                            */
+#define HONECERISE_MAX_INODES     256u /* a store, its image and its desk: 1 to 256             */
+#define HONECERISE_MAX_BLOCKS    1024u /* of a store: 1 to 1,024                                */
+#define HONECERISE_MAX_IMAGE     4096u /* blocks of an image: 1 to 4,096                        */
+#define HONECERISE_MAX_NAME        14u /* bytes of a name: 1 to 14, none 0 or '/', not . or ..  */
+#define HONECERISE_MAX_FILE       768u /* bytes of a file                                       */
+#define HONECERISE_MAX_SLOTS       48u /* entries of a directory                                */
+
+/*
+ * The deepest stack of any call, below its caller's frame, with room to spare. By the frames in the
+ * disassembly along the deepest path of calls, step takes 10,472 bytes, write 9,976 and every other
+ * call less than 6,000; memset, memcpy and strlen come on top. bindings/c/stack.c paints a stack,
+ * makes all calls on it and looks how far they came.
+ */
+#define HONECERISE_STACK        12288u
+
+/* ---- lengths in bytes: exact, and constant where the arguments are ------------------------- */
+
+#define HONECERISE_STORE_LENGTH(inodes, blocks) (16u + 32u * (inodes) + 64u * (blocks))
+#define HONECERISE_IMAGE_LENGTH(inodes, blocks) (16u + 32u * (inodes) + 64u * (blocks))
+#define HONECERISE_DESK_LENGTH(inodes)          (16u + 9u * (inodes))
+
+/* With this many blocks in the image a copy always finishes: 16 never comes. With fewer it depends
+ * on how many blocks the files and directories have when they are copied. */
+#define HONECERISE_ENOUGH_IMAGE(inodes)         (12u * (inodes))
+
+/* A copy finishes, or is stopped by 16, within this many steps. */
+#define HONECERISE_MOST_STEPS(inodes)           (14u * (inodes) + 1u)
+
+/* ---- refusals, by who causes them ----------------------------------------------------------
+ * Where several apply, the lowest is answered. A call answers one when, and only when, its
+ * condition holds for that call. */
+
+enum honecerise_refusal {
+    /* whoever wires the buffers */
+    HONECERISE_BAD_BUFFER    =  1, /* no length or count allowed: a store or desk by its own counts, a
+                                      layout call's by the numbers told, at start the image           */
+    HONECERISE_UNSOUND_STORE =  2, /* the store is not sound: something else wrote to it              */
+    HONECERISE_BAD_DESK      =  3, /* the desk breaks its layout or is of another inode count; or,
+                                      while a copy runs, the image is not the one that it began on    */
+    /* the app that names things */
+    HONECERISE_ILLEGAL_NAME  =  4, /* not 1 to 14 bytes, a byte that is 0 or '/', or . or ..          */
+    HONECERISE_WRONG_INODE   =  5, /* a number that is not the file or directory needed               */
+    HONECERISE_NAME_ABSENT   =  6, /* no entry of that name                                           */
+    HONECERISE_NAME_TAKEN    =  7, /* the new name is another entry's                                 */
+    HONECERISE_NOT_EMPTY     =  8, /* a directory to be unlinked has entries                          */
+    HONECERISE_PAST_END      =  9, /* offset or new length past the size, or a write ending past 768  */
+    HONECERISE_INTO_ITSELF   = 10, /* a directory moved into itself or below                          */
+    /* a full watch */
+    HONECERISE_NO_INODE      = 11, /* no free inode                                                   */
+    HONECERISE_NO_BLOCKS     = 12, /* too few free blocks                                             */
+    HONECERISE_NO_SLOT       = 13, /* all 48 slots of the directory are used                          */
+    /* the copy's timing */
+    HONECERISE_BUSY          = 14, /* the copier has what the call would change locked: step, and try
+                                      again                                                           */
+    HONECERISE_WRONG_STATE   = 15, /* a start while a copy runs, or a step while none does            */
+    HONECERISE_IMAGE_FULL    = 16  /* a step had a block to copy and no image block for it: the copy
+                                      is stopped, and what was locked is free again                   */
+};
+
+/* ---- laying out ----------------------------------------------------------------------------
+ * Zeroes the buffer and writes a store with an empty root, or an idle desk. The length must be
+ * HONECERISE_STORE_LENGTH or HONECERISE_DESK_LENGTH of the numbers told. An image needs no laying
+ * out: a start does it. Refused with 1. */
+
+int32_t honecerise_lay_out_store(uint8_t *store, size_t store_length, size_t inodes, size_t blocks);
+
+int32_t honecerise_lay_out_desk(uint8_t *desk, size_t desk_length, size_t inodes);
+
+/* ---- the check -----------------------------------------------------------------------------
+ * 1 if the bytes are a sound store (image 0) or a sound finished image (image not 0), else 0. It
+ * takes any bytes, and is the call for what came over the air. */
+
+uint8_t honecerise_check(uint8_t image, const uint8_t *bytes, size_t length);
+
+/* ---- looking and reading: the store alone, at any time -------------------------------------
+ * Both refuse with 1 and 2. */
+
+/* The inode that a name stands for. 4, 5, 6. */
+int32_t honecerise_look_up(const uint8_t *store, size_t store_length,
+                           size_t directory, const uint8_t *name, size_t name_length);
+
+/* Bytes of a file from offset on, as many as there are and fit: answers how many. At the size it
+ * answers 0. Bytes of out beyond that stay as they were. 5, 9. */
+int32_t honecerise_read(const uint8_t *store, size_t store_length,
+                        size_t inode, size_t offset, uint8_t *out, size_t out_length);
+
+/* ---- changing the store --------------------------------------------------------------------
+ * With a copy running or not, always with all three buffers, so that the copier learns of it: a
+ * change that went past it would spoil the copy. While no copy runs the image is neither read nor
+ * written, and may be empty. All refuse with 1, 2 and 3, and with 14 while a copy runs. */
+
+/* A new empty file or directory: answers its inode, the lowest that is free. 4, 5, 7, 11 to 14. */
+int32_t honecerise_create_file(uint8_t *store, size_t store_length,
+                               uint8_t *image, size_t image_length,
+                               uint8_t *desk, size_t desk_length,
+                               size_t directory, const uint8_t *name, size_t name_length);
+
+int32_t honecerise_create_directory(uint8_t *store, size_t store_length,
+                                    uint8_t *image, size_t image_length,
+                                    uint8_t *desk, size_t desk_length,
+                                    size_t directory, const uint8_t *name, size_t name_length);
+
+/* Lays bytes over a file from offset, which is at most its size, and grows it as needed: answers
+ * the new size. 5, 9, 12, 14. */
+int32_t honecerise_write(uint8_t *store, size_t store_length,
+                         uint8_t *image, size_t image_length,
+                         uint8_t *desk, size_t desk_length,
+                         size_t inode, size_t offset, const uint8_t *bytes, size_t length);
+
+/* Cuts a file to length, which is at most its size: answers the new size. 5, 9, 14. */
+int32_t honecerise_shorten(uint8_t *store, size_t store_length,
+                           uint8_t *image, size_t image_length,
+                           uint8_t *desk, size_t desk_length,
+                           size_t inode, size_t length);
+
+/* A further name for a file. 4, 5, 7, 12, 13, 14. */
+int32_t honecerise_link(uint8_t *store, size_t store_length,
+                        uint8_t *image, size_t image_length,
+                        uint8_t *desk, size_t desk_length,
+                        size_t directory, const uint8_t *name, size_t name_length, size_t inode);
+
+/* Takes a name out: of a file, which is freed with its last name, or of an empty directory.
+ * 4, 5, 6, 8, 14. */
+int32_t honecerise_unlink(uint8_t *store, size_t store_length,
+                          uint8_t *image, size_t image_length,
+                          uint8_t *desk, size_t desk_length,
+                          size_t directory, const uint8_t *name, size_t name_length);
+
+/* Another name, another directory, or both. It replaces nothing: a taken name refuses.
+ * 4 to 7, 10, 12, 13, 14. */
+int32_t honecerise_rename(uint8_t *store, size_t store_length,
+                          uint8_t *image, size_t image_length,
+                          uint8_t *desk, size_t desk_length,
+                          size_t directory, const uint8_t *name, size_t name_length,
+                          size_t to_directory, const uint8_t *to_name, size_t to_name_length);
+
+/* ---- the copier ----------------------------------------------------------------------------
+ * Start once, then step until the state is finished, with any calls in between: a step is short,
+ * and copies one block at most. All refuse with 1, 2 and 3. */
+
+enum honecerise_copy_state {
+    HONECERISE_IDLE     = 0, /* no copy since the desk was laid out        */
+    HONECERISE_RUNNING  = 1,
+    HONECERISE_FINISHED = 2, /* the image is a sound copy                  */
+    HONECERISE_STOPPED  = 3  /* refusal 16 ended it; the image is no copy  */
+};
+
+/* Begins a copy and writes over the whole image, of 1 to HONECERISE_MAX_IMAGE blocks and as many
+ * inodes as the store has. 15. */
+int32_t honecerise_start(const uint8_t *store, size_t store_length,
+                         uint8_t *image, size_t image_length,
+                         uint8_t *desk, size_t desk_length);
+
+/* One step: answers the steps of this copy so far. 15, 16. */
+int32_t honecerise_step(const uint8_t *store, size_t store_length,
+                        uint8_t *image, size_t image_length,
+                        uint8_t *desk, size_t desk_length);
+
+/* Puts the state (enum honecerise_copy_state), the locked inode (0: none) and the accepted steps
+ * since the latest start through the three pointers, which are three different ones, and answers
+ * 0. A refusal leaves the three as they were. */
+int32_t honecerise_state(const uint8_t *store, size_t store_length,
+                         const uint8_t *image, size_t image_length,
+                         const uint8_t *desk, size_t desk_length,
+                         size_t *state, size_t *locked, size_t *steps);
+
+#ifdef __cplusplus
+}
+#endif
+
+#endif
