@@ -1,0 +1,112 @@
+//! Why a call was refused.
+use core::fmt;
+
+/// The sixteen refusals, by who causes them. Where several apply, the lowest is answered.
+///
+/// ```
+/// use honecerise::Refusal;
+/// assert_eq!(Refusal::NameTaken.number(), 7);
+/// assert_eq!(Refusal::from_number(7), Some(Refusal::NameTaken));
+/// assert_eq!(Refusal::NameTaken.to_string(), "the new name is taken by another entry (7)");
+/// ```
+#[derive(Clone, Copy, Debug, PartialEq, Eq, Hash)]
+#[repr(u8)]
+pub enum Refusal {
+    /// Wiring: a buffer has no length or count that is allowed.
+    BadBuffer = 1,
+    /// Wiring: the store is not sound; something else wrote to it.
+    UnsoundStore = 2,
+    /// Wiring: the desk breaks its layout or is of another inode count; or, while a copy runs, the image is not the one that it
+    /// began on.
+    BadDesk = 3,
+    /// Naming: not 1 to 14 bytes, a byte that is 0 or `/`, or `.` or `..`.
+    IllegalName = 4,
+    /// Naming: a number that is not the file or directory needed.
+    WrongInode = 5,
+    /// Naming: no entry of that name.
+    NameAbsent = 6,
+    /// Naming: the new name is taken by another entry.
+    NameTaken = 7,
+    /// Naming: a directory to be unlinked has entries.
+    NotEmpty = 8,
+    /// Naming: offset or new length past the size, or a write that ends past 768.
+    PastEnd = 9,
+    /// Naming: a directory moved into itself or below.
+    IntoItself = 10,
+    /// A full watch: no free inode.
+    NoInode = 11,
+    /// A full watch: too few free blocks.
+    NoBlocks = 12,
+    /// A full watch: all 48 slots of the directory are used.
+    NoSlot = 13,
+    /// Timing: the copier has what the call would change locked. Step, and try again.
+    Busy = 14,
+    /// Timing: a start while a copy runs, or a step while none does.
+    WrongState = 15,
+    /// Timing: a step had a block to copy and no image block for it. The copy is stopped, and what was locked is free again.
+    ImageFull = 16,
+}
+
+impl Refusal {
+    /// All sixteen, in order.
+    pub const ALL: [Refusal; 16] = [
+        Refusal::BadBuffer,
+        Refusal::UnsoundStore,
+        Refusal::BadDesk,
+        Refusal::IllegalName,
+        Refusal::WrongInode,
+        Refusal::NameAbsent,
+        Refusal::NameTaken,
+        Refusal::NotEmpty,
+        Refusal::PastEnd,
+        Refusal::IntoItself,
+        Refusal::NoInode,
+        Refusal::NoBlocks,
+        Refusal::NoSlot,
+        Refusal::Busy,
+        Refusal::WrongState,
+        Refusal::ImageFull,
+    ];
+
+    /// Its number, 1 to 16.
+    pub const fn number(self) -> u8 {
+        self as u8
+    }
+
+    /// The refusal of a number, if there is one.
+    pub const fn from_number(number: u8) -> Option<Refusal> {
+        match number {
+            1..=16 => Some(Refusal::ALL[number as usize - 1]),
+            _ => None,
+        }
+    }
+
+    const fn reason(self) -> &'static str {
+        match self {
+            Refusal::BadBuffer => "a buffer has no length or count that is allowed",
+            Refusal::UnsoundStore => "the store is not sound",
+            Refusal::BadDesk => "the desk, or the image of the running copy, does not fit",
+            Refusal::IllegalName => "the name is not legal",
+            Refusal::WrongInode => "the number is not the file or directory needed",
+            Refusal::NameAbsent => "there is no entry of that name",
+            Refusal::NameTaken => "the new name is taken by another entry",
+            Refusal::NotEmpty => "the directory is not empty",
+            Refusal::PastEnd => "it lies past the size, or ends past 768 bytes",
+            Refusal::IntoItself => "a directory cannot move into itself or below",
+            Refusal::NoInode => "no inode is free",
+            Refusal::NoBlocks => "too few blocks are free",
+            Refusal::NoSlot => "all 48 slots of the directory are used",
+            Refusal::Busy => "the copier has it locked",
+            Refusal::WrongState => "a copy runs already, or none does",
+            Refusal::ImageFull => "the image has no block left",
+        }
+    }
+}
+
+impl fmt::Display for Refusal {
+    fn fmt(&self, f: &mut fmt::Formatter<'_>) -> fmt::Result {
+        write!(f, "{} ({})", self.reason(), self.number())
+    }
+}
+
+impl core::error::Error for Refusal {}

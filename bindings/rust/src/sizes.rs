@@ -1,0 +1,52 @@
+//! Limits, and the lengths of buffers in bytes.
+
+/// The most inodes of a store; its image and desk have as many.
+pub const MAX_INODES: usize = 256;
+/// The most blocks of a store.
+pub const MAX_BLOCKS: usize = 1024;
+/// The most blocks of an image.
+pub const MAX_IMAGE: usize = 4096;
+/// The most bytes of a name. None is 0 or `/`, and the name is not `.` or `..`.
+pub const MAX_NAME: usize = 14;
+/// The most bytes of a file.
+pub const MAX_FILE: usize = 768;
+/// The most entries of a directory.
+pub const MAX_SLOTS: usize = 48;
+
+/// The length of a store of so many inodes (1 to [`MAX_INODES`]) and blocks (1 to [`MAX_BLOCKS`]).
+///
+/// ```
+/// let store = [0; honecerise::store_len(16, 64)];
+/// assert_eq!(store.len(), 4624);
+/// ```
+pub const fn store_len(inodes: usize, blocks: usize) -> usize {
+    16 + 32 * inodes + 64 * blocks
+}
+
+/// The length of an image of so many inodes, which are the store's, and blocks (1 to [`MAX_IMAGE`]).
+///
+/// ```
+/// assert_eq!(honecerise::image_len(16, honecerise::enough_image(16)), 12816);
+/// ```
+pub const fn image_len(inodes: usize, blocks: usize) -> usize {
+    16 + 32 * inodes + 64 * blocks
+}
+
+/// The length of a desk for so many inodes, which are the store's.
+///
+/// ```
+/// assert_eq!(honecerise::desk_len(16), 160);
+/// ```
+pub const fn desk_len(inodes: usize) -> usize {
+    16 + 9 * inodes
+}
+
+/// So many blocks in the image let every copy finish: [`ImageFull`](crate::Refusal::ImageFull) never comes.
+pub const fn enough_image(inodes: usize) -> usize {
+    12 * inodes
+}
+
+/// A copy is finished, or stopped by [`ImageFull`](crate::Refusal::ImageFull), within so many steps.
+pub const fn most_steps(inodes: usize) -> usize {
+    14 * inodes + 1
+}

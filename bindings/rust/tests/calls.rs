@@ -1,0 +1,163 @@
+//! The wrapper's calls, one by one: what each answers, and every refusal that a caller can bring about.
+use honecerise::*;
+
+/// Buffers for so many inodes, blocks and image blocks.
+struct Buffers {
+    store: Vec<u8>,
+    image: Vec<u8>,
+    desk: Vec<u8>,
+}
+
+impl Buffers {
+    fn new(inodes: usize, blocks: usize, image_blocks: usize) -> Self {
+        Buffers {
+            store: vec![0; store_len(inodes, blocks)],
+            image: vec![0; image_len(inodes, image_blocks)],
+            desk: vec![0; desk_len(inodes)],
+        }
+    }
+
+    fn lay_out(&mut self, inodes: usize, blocks: usize) -> Watch<'_> {
+        Watch::lay_out(&mut self.store, &mut self.image, &mut self.desk, inodes, blocks).unwrap()
+    }
+}
+
+fn copied(watch: &mut Watch) -> usize {
+    watch.start().unwrap();
+    while watch.status().unwrap().state == CopyState::Running {
+        watch.step().unwrap();
+    }
+    watch.status().unwrap().steps
+}
+
+#[test]
+fn numbers_and_reasons() {
+    for (refusal, number) in Refusal::ALL.into_iter().zip(1..) {
+        assert_eq!(refusal.number(), number);
+        assert_eq!(Refusal::from_number(number), Some(refusal));
+        assert!(refusal.to_string().ends_with(&format!("({number})")));
+    }
+    assert_eq!(Refusal::from_number(0), None);
+    assert_eq!(Refusal::from_number(17), None);
+}
+
+#[test]
+fn a_refused_layout_leaves_both_buffers() {
+    for (inodes, blocks, desk_length) in
+        [(0, 4, 16), (257, 4, desk_len(257)), (4, 0, desk_len(4)), (4, 4, desk_len(5)), (usize::MAX, 4, 16)]
+    {
+        let (mut store, mut desk) = (vec![7; store_len(4, 4)], vec![7; desk_length]);
+        assert_eq!(Watch::lay_out(&mut store, &mut [], &mut desk, inodes, blocks).unwrap_err(), Refusal::BadBuffer);
+        assert!(store.iter().chain(&desk).all(|&b| b == 7));
+    }
+}
+
+#[test]
+fn naming() {
+    let mut buffers = Buffers::new(8, 16, 96);
+    let mut w = buffers.lay_out(8, 16);
+    let root = Inode::ROOT;
+    let a = w.create_directory(root, "a").unwrap();
+    let b = w.create_directory(a, "b").unwrap();
+    let f = w.create_file(b, "fourteen bytes").unwrap();
+    assert_eq!(w.look_up(b, "fourteen bytes"), Ok(f));
+    assert_eq!(w.create_file(b, "fifteen bytes !"), Err(Refusal::IllegalName));
+    for name in ["", ".", "..", "a/b", "a\0"] {
+        assert_eq!(w.look_up(root, name), Err(Refusal::IllegalName));
+    }
+    assert_eq!(w.look_up(f, "x"), Err(Refusal::WrongInode));
+    assert_eq!(w.look_up(Inode(usize::MAX), "x"), Err(Refusal::WrongInode));
+    assert_eq!(w.unlink(root, "x"), Err(Refusal::NameAbsent));
+    assert_eq!(w.rename(b, "fourteen bytes", root, "a"), Err(Refusal::NameTaken));
+    assert_eq!(w.unlink(root, "a"), Err(Refusal::NotEmpty));
+    assert_eq!(w.rename(root, "a", b, "c"), Err(Refusal::IntoItself));
+    assert_eq!(w.link(root, [0xff], f), Ok(()));
+    assert_eq!(w.look_up(root, [0xff]), Ok(f));
+    assert_eq!(w.rename(root, [0xff], a, "g"), Ok(()));
+    let links: Vec<_> = w.files().unwrap().all().filter(|e| e.inode == f).map(|e| (e.directory, e.slot, e.links)).collect();
+    assert_eq!(links, [(a, 1, 2), (b, 0, 2)]);
+}
+
+#[test]
+fn bytes() {
+    let mut buffers = Buffers::new(4, 16, 48);
+    let mut w = buffers.lay_out(4, 16);
+    let f = w.create_file(Inode::ROOT, "f").unwrap();
+    let all: Vec<u8> = (0..768).map(|i| i as u8).collect();
+    assert_eq!(w.write(f, 0, &all), Ok(768));
+    assert_eq!(w.write(f, 768, b"x"), Err(Refusal::PastEnd));
+    assert_eq!(w.write(f, 768, &[]), Ok(768));
+    assert_eq!(w.shorten(f, 769), Err(Refusal::PastEnd));
+    let steps = copied(&mut w);
+    assert_eq!(steps, w.status().unwrap().steps);
+    let copy = w.copy().unwrap();
+    assert_eq!(copy.contents(f).unwrap().len(), 12);
+    assert_eq!(copy.contents(f).unwrap().collect::<Vec<_>>().concat(), all);
+    for (offset, room) in [(0, 768), (0, 1000), (1, 63), (63, 66), (64, 64), (700, 1), (767, 9), (768, 5), (5, 0)] {
+        let (mut live, mut kept) = (vec![0xaa; room], vec![0xaa; room]);
+        assert_eq!(w.read(f, offset, &mut live), copy.read(f, offset, &mut kept), "read at {offset} into {room}");
+        assert_eq!(live, kept);
+    }
+    assert_eq!(copy.read(f, 769, &mut []), Err(Refusal::PastEnd));
+    assert_eq!(copy.read(Inode::ROOT, 0, &mut []), Err(Refusal::WrongInode));
+    assert_eq!(w.shorten(f, 70), Ok(70));
+    assert_eq!(w.files().unwrap().contents(f).unwrap().map(<[u8]>::len).collect::<Vec<_>>(), [64, 6]);
+}
+
+#[test]
+fn a_full_watch() {
+    let mut buffers = Buffers::new(3, 13, 36);
+    let mut w = buffers.lay_out(3, 13);
+    let f = w.create_file(Inode::ROOT, "f").unwrap();
+    for i in 1..48 {
+        w.link(Inode::ROOT, format!("link {i}"), f).unwrap();
+    }
+    assert_eq!(w.link(Inode::ROOT, "one more", f), Err(Refusal::NoSlot));
+    assert_eq!(w.files().unwrap().entries(Inode::ROOT).unwrap().count(), MAX_SLOTS);
+    assert_eq!(w.write(f, 0, &[1; 65]), Err(Refusal::NoBlocks));
+    w.unlink(Inode::ROOT, "link 7").unwrap();
+    w.create_directory(Inode::ROOT, "d").unwrap();
+    w.unlink(Inode::ROOT, "link 8").unwrap();
+    assert_eq!(w.create_file(Inode::ROOT, "g"), Err(Refusal::NoInode));
+}
+
+#[test]
+fn a_copy_and_its_timing() {
+    let mut buffers = Buffers::new(4, 8, 1);
+    let mut w = buffers.lay_out(4, 8);
+    assert!(w.copy().is_none());
+    assert_eq!(w.step(), Err(Refusal::WrongState));
+    let f = w.create_file(Inode::ROOT, "f").unwrap();
+    w.write(f, 0, b"abc").unwrap();
+    w.start().unwrap();
+    assert_eq!(w.start(), Err(Refusal::WrongState));
+    assert_eq!(w.step(), Ok(1));
+    assert_eq!(w.status(), Ok(Status { state: CopyState::Running, locked: Some(Inode::ROOT), steps: 1 }));
+    assert_eq!(w.unlink(Inode::ROOT, "f"), Err(Refusal::Busy));
+    assert_eq!((w.step(), w.step(), w.step()), (Ok(2), Ok(3), Ok(4)));
+    assert_eq!(w.step(), Err(Refusal::ImageFull));
+    assert_eq!(w.status(), Ok(Status { state: CopyState::Stopped, locked: None, steps: 4 }));
+    assert!(w.copy().is_none());
+    assert_eq!(w.unlink(Inode::ROOT, "f"), Ok(()));
+    assert!(copied(&mut w) <= most_steps(4));
+    assert_eq!(w.copy().unwrap().all().count(), 0);
+}
+
+#[test]
+fn wiring() {
+    let mut buffers = Buffers::new(4, 8, 48);
+    buffers.lay_out(4, 8).start().unwrap();
+    // another image than the copy began on
+    let mut other = vec![0; image_len(4, 47)];
+    let w = Watch::over(&mut buffers.store, &mut other, &mut buffers.desk);
+    assert_eq!(w.status(), Err(Refusal::BadDesk));
+    // a byte that nobody may write
+    buffers.store[9] = 1;
+    let mut w = Watch::over(&mut buffers.store, &mut buffers.image, &mut buffers.desk);
+    assert_eq!(w.step(), Err(Refusal::UnsoundStore));
+    assert!(w.files().is_none());
+    let mut w = Watch::over(&mut [], &mut [], &mut []);
+    assert_eq!(w.start(), Err(Refusal::BadBuffer));
+    assert_eq!(w.create_file(Inode::ROOT, "f"), Err(Refusal::BadBuffer));
+    assert_eq!(w.status(), Err(Refusal::BadBuffer));
+}
