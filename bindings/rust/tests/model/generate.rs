@@ -1,0 +1,195 @@
+//! Calls at random, aimed so that copies overlap changes: on small stores, among few names, and while a copy runs at what it has
+//! locked, and between what it has copied and what not.
+use crate::call::{Call, Kind, Name, Sizes};
+use crate::copier::State;
+use crate::random::Random;
+use crate::session::Session;
+use crate::store::{Body, Entry, Store};
+
+/// What a list is after.
+#[derive(Clone, Copy, PartialEq, Eq)]
+enum Mood {
+    /// Everything in turn.
+    Mixed,
+    /// Long files and few blocks.
+    Bytes,
+    /// One directory with all its slots used.
+    Slots,
+    /// Directories moved about.
+    Moves,
+}
+
+pub struct Aim {
+    mood: Mood,
+    names: usize,
+    /// Steps in a hundred calls, while a copy runs.
+    pace: usize,
+}
+
+pub fn sizes(random: &mut Random) -> (Sizes, Aim) {
+    let mood = [Mood::Mixed, Mood::Bytes, Mood::Slots, Mood::Moves][random.below(4)];
+    let inodes = match random.below(10) {
+        0 => random.between(1, 3),
+        1 => random.between(12, 24),
+        _ => random.between(4, 10),
+    };
+    let blocks = match mood {
+        Mood::Slots => random.between(12, 24),
+        Mood::Bytes => random.between(4, 30),
+        _ => random.between(inodes, 4 * inodes + 8),
+    };
+    let image_blocks = if random.percent(70) { 12 * inodes } else { random.between(1, blocks + 4) };
+    let names = if mood == Mood::Slots { 60 } else { random.between(3, 12) };
+    (Sizes { inodes, blocks, image_blocks }, Aim { mood, names, pace: random.between(15, 60) })
+}
+
+/// Calls before the first random one: a directory with nearly all its slots used.
+pub fn prelude(random: &mut Random, aim: &Aim) -> Vec<Call> {
+    if aim.mood != Mood::Slots {
+        return vec![];
+    }
+    let first = Call::Create(1, b"first".to_vec(), Kind::File);
+    let links = (0..random.between(30, 50)).map(|k| Call::Link(1, short(k), 2));
+    std::iter::once(first).chain(links).collect()
+}
+
+fn short(k: usize) -> Name {
+    format!("n{k}").into_bytes()
+}
+
+fn name(random: &mut Random, aim: &Aim) -> Name {
+    match random.below(60) {
+        0 => [&b""[..], b".", b"..", b"a/b", b"a\0b", b"fifteen bytes !"][random.below(6)].to_vec(),
+        1 => b"fourteen bytes".to_vec(),
+        _ => short(random.below(aim.names)),
+    }
+}
+
+/// Numbers of a kind in the model's store, at times any number.
+fn number(random: &mut Random, store: &Store, kind: Kind) -> usize {
+    if random.percent(3) {
+        return [0, store.inodes + 1, usize::MAX, random.below(store.inodes + 1)][random.below(4)];
+    }
+    let all: Vec<usize> = store.nodes.iter().filter(|(_, node)| node.kind() == kind).map(|(&i, _)| i).collect();
+    random.pick(&all).unwrap_or(2)
+}
+
+/// An entry of the store as directory, name and inode, of those that suit.
+fn entry(random: &mut Random, store: &Store, suits: impl Fn(usize, &Entry) -> bool) -> Option<(usize, Name, usize)> {
+    let mut all = vec![];
+    for (&directory, node) in &store.nodes {
+        if let Body::Directory(slots) = &node.body {
+            all.extend(slots.iter().flatten().filter(|e| suits(directory, e)).map(|e| (directory, e)));
+        }
+    }
+    random.pick(&all).map(|(directory, e)| (directory, e.name.clone(), e.inode))
+}
+
+pub fn next(random: &mut Random, aim: &Aim, session: &Session) -> Call {
+    let running = session.copier.state == State::Running;
+    match random.below(100) {
+        n if running && n < aim.pace => Call::Step,
+        n if !running && n < 12 => Call::Start,
+        97 => Call::Start,
+        98 => Call::Step,
+        99 => Call::Ask,
+        _ if running && random.percent(40) => aimed(random, aim, session),
+        _ => file_call(random, aim, &session.store),
+    }
+}
+
+/// A file call that crosses the copy.
+fn aimed(random: &mut Random, aim: &Aim, session: &Session) -> Call {
+    let (store, copied) = (&session.store, &session.copier.copied);
+    let directories = |copied_ones: bool| -> Vec<usize> {
+        let all = store.nodes.iter().filter(|(_, node)| node.kind() == Kind::Directory).map(|(&i, _)| i);
+        all.filter(|i| copied.contains(i) == copied_ones).collect()
+    };
+    let call = match (random.below(7), session.copier.locked) {
+        // what is locked, in every way that 14 names
+        (0, Some(locked)) => match random.below(6) {
+            0 => Some(Call::Write(locked, 0, vec![1; random.between(0, 70)])),
+            1 => Some(Call::Shorten(locked, 0)),
+            2 => Some(Call::Create(locked, name(random, aim), Kind::File)),
+            3 => Some(Call::Link(number(random, store, Kind::Directory), name(random, aim), locked)),
+            4 => entry(random, store, |d, e| d == locked || e.inode == locked).map(|(d, n, _)| Call::Unlink(d, n)),
+            _ => entry(random, store, |d, e| d == locked || e.inode == locked)
+                .map(|(d, n, _)| Call::Rename(d, n, number(random, store, Kind::Directory), name(random, aim))),
+        },
+        // out of a copied directory into an uncopied one, and back
+        (1 | 2, _) => {
+            let from_copied = random.percent(50);
+            let to = random.pick(&directories(!from_copied));
+            let from = entry(random, store, |d, _| copied.contains(&d) == from_copied);
+            from.zip(to).map(|((d, n, _), to)| Call::Rename(d, n, to, name(random, aim)))
+        }
+        // an uncopied inode out of a copied directory
+        (3, _) => {
+            entry(random, store, |d, e| copied.contains(&d) && !copied.contains(&e.inode)).map(|(d, n, _)| Call::Unlink(d, n))
+        }
+        // a copied inode freed, and its number taken again
+        (4, _) => entry(random, store, |_, e| copied.contains(&e.inode)).map(|(d, n, _)| Call::Unlink(d, n)),
+        (5, _) => {
+            let to = random.pick(&directories(false)).unwrap_or(1);
+            Some(Call::Create(to, name(random, aim), kind(random)))
+        }
+        // a copied file linked into what is not copied yet
+        _ => {
+            let to = random.pick(&directories(false)).unwrap_or(1);
+            entry(random, store, |_, e| copied.contains(&e.inode)).map(|(_, _, i)| Call::Link(to, name(random, aim), i))
+        }
+    };
+    call.unwrap_or_else(|| file_call(random, aim, store))
+}
+
+fn kind(random: &mut Random) -> Kind {
+    if random.percent(60) { Kind::File } else { Kind::Directory }
+}
+
+fn file_call(random: &mut Random, aim: &Aim, store: &Store) -> Call {
+    let directory = number(random, store, Kind::Directory);
+    let (what, weight) = (random.below(100), |mood| if aim.mood == mood { 15 } else { 0 });
+    // bounds in a hundred: create, write, shorten, link, unlink, rename, read, and the rest look up
+    let writes = 18 + 18 + weight(Mood::Bytes);
+    match what {
+        n if n < 18 => Call::Create(directory, name(random, aim), kind(random)),
+        n if n < writes => {
+            let file = number(random, store, Kind::File);
+            let size = store.bytes(file).map_or(0, Vec::len);
+            let offset = match random.below(20) {
+                0 => size + 1,
+                1..10 => size,
+                _ => random.below(size + 1),
+            };
+            let length = if random.percent(70) { random.below(100) } else { random.below(800) };
+            Call::Write(file, offset, bytes(random, length))
+        }
+        n if n < writes + 8 => {
+            let file = number(random, store, Kind::File);
+            let size = store.bytes(file).map_or(0, Vec::len);
+            Call::Shorten(file, random.below(size + 2))
+        }
+        n if n < writes + 16 => Call::Link(directory, name(random, aim), number(random, store, Kind::File)),
+        n if n < writes + 26 => match entry(random, store, |_, _| true) {
+            Some((d, n, _)) if random.percent(90) => Call::Unlink(d, n),
+            _ => Call::Unlink(directory, name(random, aim)),
+        },
+        n if n < writes + 40 => match entry(random, store, |_, e| aim.mood != Mood::Moves || store.slots(e.inode).is_ok()) {
+            Some((d, n, _)) if random.percent(90) => Call::Rename(d, n, directory, name(random, aim)),
+            _ => Call::Rename(directory, name(random, aim), number(random, store, Kind::Directory), name(random, aim)),
+        },
+        n if n < writes + 46 => {
+            let file = number(random, store, Kind::File);
+            let size = store.bytes(file).map_or(0, Vec::len);
+            Call::Read(file, random.below(size + 2), random.below(200))
+        }
+        _ => Call::LookUp(directory, name(random, aim)),
+    }
+}
+
+/// No two writes look alike.
+fn bytes(random: &mut Random, length: usize) -> Vec<u8> {
+    let mut bytes = random.next().to_le_bytes().repeat(length.div_ceil(8));
+    bytes.truncate(length);
+    bytes
+}

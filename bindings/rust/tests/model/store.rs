@@ -1,0 +1,286 @@
+//! The store as records, by the paper's rules ("File calls", "Refusals"): inodes with names and bytes. Of the layout it has
+//! only what the rules choose by: numbers of inodes, of blocks and of slots, the lowest free one first.
+use std::collections::{BTreeMap, BTreeSet};
+
+use crate::call::{Call, Kind, Name};
+
+const BLOCK: usize = 64;
+const SLOTS_IN_BLOCK: usize = 4;
+const MAX_BLOCKS: usize = 12;
+const MAX_FILE: usize = 768;
+
+#[derive(Clone, Debug, PartialEq, Eq)]
+pub struct Entry {
+    pub inode: usize,
+    pub name: Name,
+}
+
+#[derive(Clone, Debug)]
+pub enum Body {
+    File(Vec<u8>),
+    Directory(Vec<Option<Entry>>),
+}
+
+#[derive(Clone, Debug)]
+pub struct Node {
+    pub links: usize,
+    /// Of a directory; 0 for files and the root.
+    pub parent: usize,
+    pub body: Body,
+    /// The numbers of its blocks, in their order.
+    pub blocks: Vec<usize>,
+}
+
+impl Node {
+    pub fn kind(&self) -> Kind {
+        match self.body {
+            Body::File(_) => Kind::File,
+            Body::Directory(_) => Kind::Directory,
+        }
+    }
+
+    pub fn size(&self) -> usize {
+        match &self.body {
+            Body::File(bytes) => bytes.len(),
+            Body::Directory(_) => BLOCK * self.blocks.len(),
+        }
+    }
+}
+
+/// An entry that a call took out.
+#[derive(Clone, Copy, Debug)]
+pub struct Taken {
+    pub directory: usize,
+    pub slot: usize,
+    pub inode: usize,
+}
+
+/// What an accepted file call did, beside changing the store.
+#[derive(Clone, Debug, Default)]
+pub struct Done {
+    pub answer: usize,
+    /// Bytes that a read puts at the front of its out-buffer.
+    pub out: Vec<u8>,
+    /// The entry that an unlink or a move emptied.
+    pub taken: Option<Taken>,
+    /// Directory and slot of the entry that a create, a link or a move made.
+    pub made: Option<(usize, usize)>,
+    /// Directory and slot of an entry with a new name.
+    pub renamed: Option<(usize, usize)>,
+    /// The file that a write or a shortening changed.
+    pub written: Option<usize>,
+}
+
+#[derive(Clone, Debug)]
+pub struct Store {
+    pub inodes: usize,
+    pub blocks: usize,
+    pub nodes: BTreeMap<usize, Node>,
+    used: BTreeSet<usize>,
+}
+
+/// A condition for a refusal of that number.
+fn refuse(number: u8, condition: bool) -> Result<(), u8> {
+    if condition { Err(number) } else { Ok(()) }
+}
+
+/// "A name is 1 to 14 bytes, none 0 or `/`, and is not `.` or `..`."
+fn legal(name: &[u8]) -> Result<(), u8> {
+    let good = (1..=14).contains(&name.len()) && !name.contains(&0) && !name.contains(&b'/') && name != b"." && name != b"..";
+    refuse(4, !good)
+}
+
+impl Store {
+    pub fn new(inodes: usize, blocks: usize) -> Self {
+        let root = Node { links: 0, parent: 0, body: Body::Directory(vec![]), blocks: vec![] };
+        Store { inodes, blocks, nodes: BTreeMap::from([(1, root)]), used: BTreeSet::new() }
+    }
+
+    pub fn free_inodes(&self) -> usize {
+        self.inodes - self.nodes.len()
+    }
+
+    pub fn free_blocks(&self) -> usize {
+        self.blocks - self.used.len()
+    }
+
+    /// 5, unless it is a directory.
+    pub fn slots(&self, directory: usize) -> Result<&Vec<Option<Entry>>, u8> {
+        match self.nodes.get(&directory).map(|node| &node.body) {
+            Some(Body::Directory(slots)) => Ok(slots),
+            _ => Err(5),
+        }
+    }
+
+    /// 5, unless it is a file.
+    pub fn bytes(&self, inode: usize) -> Result<&Vec<u8>, u8> {
+        match self.nodes.get(&inode).map(|node| &node.body) {
+            Some(Body::File(bytes)) => Ok(bytes),
+            _ => Err(5),
+        }
+    }
+
+    fn find(&self, directory: usize, name: &[u8]) -> Option<(usize, usize)> {
+        let slots = self.slots(directory).ok()?;
+        let slot = slots.iter().position(|entry| entry.as_ref().is_some_and(|e| e.name == name))?;
+        Some((slot, slots[slot].as_ref()?.inode))
+    }
+
+    /// 12: no empty slot, fewer than twelve blocks, no free block. 13: no empty slot and twelve blocks.
+    fn room(&self, directory: usize) -> Result<(), u8> {
+        let full = self.slots(directory)?.iter().all(Option::is_some);
+        let blocks = self.nodes[&directory].blocks.len();
+        refuse(12, full && blocks < MAX_BLOCKS && self.free_blocks() == 0)?;
+        refuse(13, full && blocks == MAX_BLOCKS)
+    }
+
+    fn take_block(&mut self, inode: usize) {
+        let lowest = (1..=self.blocks).find(|b| !self.used.contains(b)).expect("a free block was found before");
+        self.used.insert(lowest);
+        self.nodes.get_mut(&inode).expect("in use").blocks.push(lowest);
+    }
+
+    fn free_blocks_from(&mut self, inode: usize, place: usize) {
+        for block in self.nodes.get_mut(&inode).expect("in use").blocks.split_off(place) {
+            self.used.remove(&block);
+        }
+    }
+
+    /// The lowest empty slot; "a directory takes a block only when it has no empty slot".
+    fn put_entry(&mut self, directory: usize, entry: Entry) -> usize {
+        if self.slots(directory).is_ok_and(|slots| slots.iter().all(Option::is_some)) {
+            self.take_block(directory);
+            if let Body::Directory(slots) = &mut self.nodes.get_mut(&directory).expect("in use").body {
+                slots.extend([const { None }; SLOTS_IN_BLOCK]);
+            }
+        }
+        let Body::Directory(slots) = &mut self.nodes.get_mut(&directory).expect("in use").body else { unreachable!() };
+        let slot = slots.iter().position(Option::is_none).expect("room was made");
+        slots[slot] = Some(entry);
+        slot
+    }
+
+    fn entry_mut(&mut self, directory: usize, slot: usize) -> &mut Option<Entry> {
+        let Body::Directory(slots) = &mut self.nodes.get_mut(&directory).expect("in use").body else { unreachable!() };
+        &mut slots[slot]
+    }
+
+    /// Whether a directory is another one or lies below it.
+    fn within(&self, mut directory: usize, above: usize) -> bool {
+        while directory != above {
+            if directory == 1 {
+                return false;
+            }
+            directory = self.nodes[&directory].parent;
+        }
+        true
+    }
+
+    /// A file call, while a copy has an inode locked or not. A refused one changes nothing.
+    pub fn call(&mut self, call: &Call, locked: Option<usize>) -> Result<Done, u8> {
+        let busy = |inodes: &[usize]| refuse(14, locked.is_some_and(|l| inodes.contains(&l)));
+        match call {
+            Call::LookUp(directory, name) => {
+                legal(name)?;
+                self.slots(*directory)?;
+                let (_, inode) = self.find(*directory, name).ok_or(6)?;
+                Ok(Done { answer: inode, ..Done::default() })
+            }
+            Call::Create(directory, name, kind) => {
+                legal(name)?;
+                self.slots(*directory)?;
+                refuse(7, self.find(*directory, name).is_some())?;
+                let inode = (1..=self.inodes).find(|i| !self.nodes.contains_key(i)).ok_or(11)?;
+                self.room(*directory)?;
+                busy(&[*directory])?;
+                let slot = self.put_entry(*directory, Entry { inode, name: name.clone() });
+                let (parent, body) = match kind {
+                    Kind::File => (0, Body::File(vec![])),
+                    Kind::Directory => (*directory, Body::Directory(vec![])),
+                };
+                self.nodes.insert(inode, Node { links: 1, parent, body, blocks: vec![] });
+                Ok(Done { answer: inode, made: Some((*directory, slot)), ..Done::default() })
+            }
+            Call::Read(inode, offset, length) => {
+                let bytes = self.bytes(*inode)?;
+                refuse(9, *offset > bytes.len())?;
+                let out: Vec<u8> = bytes.iter().skip(*offset).take(*length).copied().collect();
+                Ok(Done { answer: out.len(), out, ..Done::default() })
+            }
+            Call::Write(inode, offset, bytes) => {
+                let old = self.bytes(*inode)?.len();
+                refuse(9, *offset > old || offset + bytes.len() > MAX_FILE)?;
+                let new = old.max(offset + bytes.len());
+                let wanted = new.div_ceil(BLOCK) - old.div_ceil(BLOCK);
+                refuse(12, wanted > self.free_blocks())?;
+                busy(&[*inode])?;
+                for _ in 0..wanted {
+                    self.take_block(*inode);
+                }
+                let Body::File(held) = &mut self.nodes.get_mut(inode).expect("in use").body else { unreachable!() };
+                held.resize(new, 0);
+                held[*offset..offset + bytes.len()].copy_from_slice(bytes);
+                Ok(Done { answer: new, written: Some(*inode), ..Done::default() })
+            }
+            Call::Shorten(inode, length) => {
+                refuse(9, *length > self.bytes(*inode)?.len())?;
+                busy(&[*inode])?;
+                self.free_blocks_from(*inode, length.div_ceil(BLOCK));
+                let Body::File(held) = &mut self.nodes.get_mut(inode).expect("in use").body else { unreachable!() };
+                held.truncate(*length);
+                Ok(Done { answer: *length, written: Some(*inode), ..Done::default() })
+            }
+            Call::Link(directory, name, inode) => {
+                legal(name)?;
+                self.slots(*directory)?;
+                self.bytes(*inode)?;
+                refuse(7, self.find(*directory, name).is_some())?;
+                self.room(*directory)?;
+                busy(&[*directory, *inode])?;
+                let slot = self.put_entry(*directory, Entry { inode: *inode, name: name.clone() });
+                self.nodes.get_mut(inode).expect("in use").links += 1;
+                Ok(Done { made: Some((*directory, slot)), ..Done::default() })
+            }
+            Call::Unlink(directory, name) => {
+                legal(name)?;
+                self.slots(*directory)?;
+                let (slot, inode) = self.find(*directory, name).ok_or(6)?;
+                refuse(8, self.slots(inode).is_ok_and(|slots| slots.iter().any(Option::is_some)))?;
+                busy(&[*directory, inode])?;
+                *self.entry_mut(*directory, slot) = None;
+                let node = self.nodes.get_mut(&inode).expect("in use");
+                node.links -= 1;
+                if node.links == 0 {
+                    self.free_blocks_from(inode, 0);
+                    self.nodes.remove(&inode);
+                }
+                Ok(Done { taken: Some(Taken { directory: *directory, slot, inode }), ..Done::default() })
+            }
+            Call::Rename(directory, name, to, to_name) => {
+                legal(name)?;
+                legal(to_name)?;
+                self.slots(*directory)?;
+                self.slots(*to)?;
+                let (slot, inode) = self.find(*directory, name).ok_or(6)?;
+                let holder = self.find(*to, to_name).map(|(held, _)| (*to, held));
+                refuse(7, holder.is_some_and(|place| place != (*directory, slot)))?;
+                if directory == to {
+                    busy(&[*directory])?;
+                    self.entry_mut(*directory, slot).as_mut().expect("found").name = to_name.clone();
+                    return Ok(Done { renamed: Some((*directory, slot)), ..Done::default() });
+                }
+                let a_directory = self.slots(inode).is_ok();
+                refuse(10, a_directory && self.within(*to, inode))?;
+                self.room(*to)?;
+                busy(&[*directory, *to, inode])?;
+                *self.entry_mut(*directory, slot) = None;
+                let made = self.put_entry(*to, Entry { inode, name: to_name.clone() });
+                if a_directory {
+                    self.nodes.get_mut(&inode).expect("in use").parent = *to;
+                }
+                Ok(Done { taken: Some(Taken { directory: *directory, slot, inode }), made: Some((*to, made)), ..Done::default() })
+            }
+            Call::Start | Call::Step | Call::Ask => unreachable!("no file call"),
+        }
+    }
+}
