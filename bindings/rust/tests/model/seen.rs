@@ -1,11 +1,13 @@
 //! What a store or an image holds, in one form for the library's bytes and the model's records.
+use std::fmt;
+
 use honecerise::Files;
 
 use crate::call::{Kind, Name};
 use crate::copier::{Image, Piece};
 use crate::store::{Body, Store};
 
-#[derive(Debug, PartialEq, Eq)]
+#[derive(PartialEq, Eq)]
 pub struct Row {
     directory: usize,
     slot: usize,
@@ -16,7 +18,6 @@ pub struct Row {
     links: usize,
 }
 
-#[derive(Debug, PartialEq, Eq)]
 pub struct Seen {
     free_inodes: usize,
     free_blocks: usize,
@@ -26,6 +27,25 @@ pub struct Seen {
     files: Vec<(usize, Vec<u8>)>,
     /// Inodes with the numbers of their blocks, those that have some.
     blocks: Vec<(usize, Vec<usize>)>,
+}
+
+impl Seen {
+    /// Where two of them differ first.
+    pub fn same_as(&self, expected: &Seen) -> Result<(), String> {
+        differ("free inodes", &[self.free_inodes], &[expected.free_inodes])?;
+        differ("entries", &self.rows, &expected.rows)?;
+        differ("files", &self.files, &expected.files)?;
+        differ("numbers of blocks", &self.blocks, &expected.blocks)?;
+        differ("free blocks", &[self.free_blocks], &[expected.free_blocks])
+    }
+}
+
+fn differ<T: PartialEq + fmt::Debug>(what: &str, library: &[T], model: &[T]) -> Result<(), String> {
+    if library == model {
+        return Ok(());
+    }
+    let k = library.iter().zip(model).take_while(|(a, b)| a == b).count();
+    Err(format!("{what}: the library has {:?}, expected was {:?}", library.get(k), model.get(k)))
 }
 
 /// By the listing iterators; the numbers of blocks by the paper's layout ("Bytes").
@@ -45,6 +65,13 @@ pub fn of_bytes(files: &Files, bytes: &[u8]) -> Seen {
             .map(|inode| (inode, addresses(inode).collect()))
             .filter(|(_, blocks): &(_, Vec<_>)| !blocks.is_empty())
             .collect(),
+    }
+}
+
+impl fmt::Debug for Row {
+    fn fmt(&self, f: &mut fmt::Formatter<'_>) -> fmt::Result {
+        let Row { directory, slot, inode, name, kind, size, links } = self;
+        write!(f, "{directory} {slot} {inode} {kind:?} {size} {links} {}", name.escape_ascii())
     }
 }
 

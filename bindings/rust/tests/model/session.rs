@@ -222,7 +222,8 @@ impl Session {
     /// What the store holds.
     pub fn contents(&self) -> Result<(), String> {
         let files = Files::of_store(&self.buffers.store).ok_or("the store is not sound")?;
-        agree("the store", seen::of_bytes(&files, &self.buffers.store), seen::of_store(&self.store))
+        let held = seen::of_bytes(&files, &self.buffers.store);
+        held.same_as(&seen::of_store(&self.store)).map_err(|why| format!("the store's {why}"))
     }
 
     /// What demand 3 says of a finished copy, and what the rules say of every entry and byte of it.
@@ -234,6 +235,7 @@ impl Session {
         self.tally.claimed += history.claim(&copy)?;
         self.tally.finishes += 1;
         agree("the image's inodes and blocks", (copy.inodes(), copy.blocks()), (self.sizes.inodes, self.sizes.image_blocks))?;
-        agree("the image", seen::of_bytes(&copy, &self.buffers.image), seen::of_image(&self.copier.image, self.sizes.inodes))
+        let held = seen::of_bytes(&copy, &self.buffers.image);
+        held.same_as(&seen::of_image(&self.copier.image, self.sizes.inodes)).map_err(|why| format!("the copy's {why}"))
     }
 }

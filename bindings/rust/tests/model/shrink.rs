@@ -14,28 +14,53 @@ pub fn failure(list: &List) -> Option<(usize, String)> {
 }
 
 pub fn shrink(mut list: List) -> List {
-    let mut part = list.calls.len().div_ceil(2).max(1);
+    let mut part = list.calls.len();
+    while part > 4 {
+        list = pass(list, part);
+        part = part.div_ceil(2);
+    }
     loop {
         let before = list.calls.len();
-        let mut at = 0;
-        while at < list.calls.len() {
-            let mut shorter = list.clone();
-            shorter.calls.drain(at..(at + part).min(list.calls.len()));
-            match failure(&shorter) {
-                Some((k, _)) => {
-                    shorter.calls.truncate(k + 1);
-                    list = shorter;
-                }
-                None => at += part,
-            }
+        for part in [4, 2, 1] {
+            list = pass(list, part);
         }
-        if part > 1 {
-            part = part.div_ceil(2);
-        } else if list.calls.len() == before {
-            break;
+        if list.calls.len() == before {
+            return fewer_bytes(list);
         }
     }
-    fewer_bytes(list)
+}
+
+/// Leaves out parts of that length, from the front on.
+fn pass(mut list: List, part: usize) -> List {
+    let mut at = 0;
+    while at < list.calls.len() {
+        match without(&list, at, part) {
+            Some(shorter) => list = shorter,
+            None => at += part,
+        }
+    }
+    list
+}
+
+/// The list less a part, if it still fails. What a copier comes to depends on how many steps it had: so a small part is tried
+/// together with a step out of each row of steps, too.
+fn without(list: &List, at: usize, part: usize) -> Option<List> {
+    let end = (at + part).min(list.calls.len());
+    let rest = [&list.calls[..at], &list.calls[end..]].concat();
+    let is_step = |k: usize| rest[k] == Call::Step;
+    let steps = (0..rest.len()).filter(|&k| part <= 4 && is_step(k) && (k == 0 || !is_step(k - 1)));
+    std::iter::once(None).chain(steps.map(Some)).find_map(|step| {
+        let mut calls = rest.clone();
+        step.map(|k| calls.remove(k));
+        failing(List { sizes: list.sizes, calls })
+    })
+}
+
+/// The list up to the call that fails.
+fn failing(mut list: List) -> Option<List> {
+    let (k, _) = failure(&list)?;
+    list.calls.truncate(k + 1);
+    Some(list)
 }
 
 fn fewer_bytes(mut list: List) -> List {
@@ -43,10 +68,10 @@ fn fewer_bytes(mut list: List) -> List {
         while let Call::Write(inode, offset, bytes) = &list.calls[k] {
             let mut shorter = list.clone();
             shorter.calls[k] = Call::Write(*inode, *offset, bytes[..bytes.len() / 2].to_vec());
-            if bytes.is_empty() || failure(&shorter).is_none() {
-                break;
+            match failing(shorter) {
+                Some(shorter) if !bytes.is_empty() => list = shorter,
+                _ => break,
             }
-            list = shorter;
         }
     }
     list
