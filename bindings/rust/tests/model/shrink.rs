@@ -64,14 +64,20 @@ fn failing(mut list: List) -> Option<List> {
 }
 
 fn fewer_bytes(mut list: List) -> List {
-    for k in 0..list.calls.len() {
-        while let Call::Write(inode, offset, bytes) = &list.calls[k] {
-            let mut shorter = list.clone();
-            shorter.calls[k] = Call::Write(*inode, *offset, bytes[..bytes.len() / 2].to_vec());
-            match failing(shorter) {
-                Some(shorter) if !bytes.is_empty() => list = shorter,
-                _ => break,
+    let mut k = 0;
+    // a shorter write may fail earlier, and then the list ends there
+    while let Some(call) = list.calls.get(k) {
+        let shorter = match call {
+            Call::Write(inode, offset, bytes) if !bytes.is_empty() => {
+                let mut calls = list.calls.clone();
+                calls[k] = Call::Write(*inode, *offset, bytes[..bytes.len() / 2].to_vec());
+                failing(List { sizes: list.sizes, calls })
             }
+            _ => None,
+        };
+        match shorter {
+            Some(shorter) => list = shorter,
+            None => k += 1,
         }
     }
     list
