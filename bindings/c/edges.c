@@ -6,7 +6,7 @@
  * - Nothing outside of a buffer is touched: buffers that begin or end at a page that may not be
  *   touched, with a whole copy taken on them.
  */
-#define _GNU_SOURCE
+#define _DEFAULT_SOURCE
 #include <stdio.h>
 #include <stdlib.h>
 #include <string.h>

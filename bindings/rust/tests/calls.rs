@@ -151,6 +151,9 @@ fn wiring() {
     let mut other = vec![0; image_len(4, 47)];
     let w = Watch::over(&mut buffers.store, &mut other, &mut buffers.desk);
     assert_eq!(w.status(), Err(Refusal::BadDesk));
+    // an image whose length is no image's
+    let mut w = Watch::over(&mut buffers.store, &mut other[1..], &mut buffers.desk);
+    assert_eq!(w.start(), Err(Refusal::BadBuffer));
     // a byte that nobody may write
     buffers.store[9] = 1;
     let mut w = Watch::over(&mut buffers.store, &mut buffers.image, &mut buffers.desk);
