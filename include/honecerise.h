@@ -57,9 +57,9 @@ extern "C" {
 
 /*
  * The deepest stack of any call, below its caller's frame, with room to spare. By the frames in the
- * disassembly along the deepest path of calls, step takes 10,472 bytes, write 9,976 and every other
- * call less than 6,000; memset, memcpy and strlen come on top. bindings/c/stack.c paints a stack,
- * makes all calls on it and looks how far they came.
+ * disassembly along the deepest path of calls, step takes about 10,500 bytes, write 10,000 and every
+ * other call less than 6,000; memset, memcpy and strlen come on top. bindings/c/stack.c paints a
+ * stack, makes all calls on it and looks how far they came.
  */
 #define HONECERISE_STACK        12288u
 

@@ -6,6 +6,7 @@
 use crate::Refusal;
 
 mod c {
+    // SAFETY: these are the functions of include/honecerise.h, with the same parameters in the same order.
     unsafe extern "C" {
         pub fn honecerise_lay_out_store(store: *mut u8, store_len: usize, inodes: usize, blocks: usize) -> i32;
         pub fn honecerise_lay_out_desk(desk: *mut u8, desk_len: usize, inodes: usize) -> i32;

@@ -6,7 +6,7 @@ use crate::call::{Answer, Call, Kind, Sizes};
 use crate::copier::{Copier, State};
 use crate::history::History;
 use crate::seen;
-use crate::store::Store;
+use crate::store::{Body, Store};
 
 /// How often the whole store is listed and compared, beside every finish.
 const LIST_EVERY: usize = 8;
@@ -219,11 +219,27 @@ impl Session {
         agree("steps are at most 14 for each inode, and 1", self.steps <= most_steps(self.sizes.inodes), true)
     }
 
-    /// What the store holds.
-    pub fn contents(&self) -> Result<(), String> {
+    /// What the store holds: by the listing, and by look up and read.
+    pub fn contents(&mut self) -> Result<(), String> {
         let files = Files::of_store(&self.buffers.store).ok_or("the store is not sound")?;
         let held = seen::of_bytes(&files, &self.buffers.store);
-        held.same_as(&seen::of_store(&self.store)).map_err(|why| format!("the store's {why}"))
+        held.same_as(&seen::of_store(&self.store)).map_err(|why| format!("the store's {why}"))?;
+        let watch = self.buffers.watch();
+        for (&inode, node) in &self.store.nodes {
+            match &node.body {
+                Body::File(bytes) => {
+                    let mut out = vec![0; bytes.len() + 1];
+                    agree("a file's size by a read", watch.read(Inode(inode), 0, &mut out), Ok(bytes.len()))?;
+                    agree("a file's bytes by a read", &out[..bytes.len()], bytes)?;
+                }
+                Body::Directory(slots) => {
+                    for entry in slots.iter().flatten() {
+                        agree("an entry looked up", watch.look_up(Inode(inode), &entry.name), Ok(Inode(entry.inode)))?;
+                    }
+                }
+            }
+        }
+        Ok(())
     }
 
     /// What demand 3 says of a finished copy, and what the rules say of every entry and byte of it.
