@@ -183,6 +183,9 @@ impl Session {
             agree("answer of a plain store", (answer, &out), (plainly.0, &plainly.1))?;
         }
         agree("the store's bytes are a plain store's", self.buffers.store == self.plain.store, true)?;
+        if self.copier.state != State::Running {
+            agree("while no copy runs the desk stays", self.buffers.desk == self.before.desk, true)?;
+        }
         let mut image_changed = false;
         if let Call::Read(_, _, length) = call {
             let mut read = expected.as_ref().map_or(vec![], |done| done.out.clone());

@@ -1,0 +1,99 @@
+/*
+ * include/honecerise_list.h against the library: every entry that it lists is the one that look up
+ * finds, every file has the bytes that read gives, on a store and on its finished image.
+ */
+#include <stdio.h>
+#include <stdlib.h>
+#include <string.h>
+
+#include "honecerise.h"
+#include "honecerise_list.h"
+
+enum { INODES = 40, BLOCKS = 300, IMAGE_BLOCKS = HONECERISE_ENOUGH_IMAGE(INODES) };
+
+static uint8_t store[HONECERISE_STORE_LENGTH(INODES, BLOCKS)];
+static uint8_t image[HONECERISE_IMAGE_LENGTH(INODES, IMAGE_BLOCKS)];
+static uint8_t desk[HONECERISE_DESK_LENGTH(INODES)];
+
+#define WATCH store, sizeof store, image, sizeof image, desk, sizeof desk
+
+static void expect(const char *what, int holds)
+{
+    if (!holds) {
+        printf("list: %s\n", what);
+        exit(1);
+    }
+}
+
+/* Directories and files of all sizes, with a gap among the slots. */
+static void fill(void)
+{
+    uint8_t bytes[HONECERISE_MAX_FILE];
+    char name[] = "fourteen bytes";
+    size_t k, directory = HONECERISE_ROOT;
+    for (k = 0; k < sizeof bytes; k++)
+        bytes[k] = (uint8_t)(k * 7 + 1);
+    expect("lay out", honecerise_lay_out_store(store, sizeof store, INODES, BLOCKS) == 0);
+    expect("lay out", honecerise_lay_out_desk(desk, sizeof desk, INODES) == 0);
+    for (k = 0; k + 1 < INODES; k++) {
+        const uint8_t *at = (const uint8_t *)name;
+        int32_t made;
+        name[0] = (char)('A' + k);
+        if (k % 9 == 0) {
+            made = honecerise_create_directory(WATCH, directory, at, 14 - k % 14);
+            expect("create", made > 0);
+            directory = (size_t)made;
+        } else {
+            made = honecerise_create_file(WATCH, directory, at, 14 - k % 14);
+            expect("create", made > 0);
+            expect("write", honecerise_write(WATCH, (size_t)made, 0, bytes, k * 61 % 769) >= 0);
+        }
+    }
+    name[0] = 'C';
+    expect("unlink", honecerise_unlink(WATCH, 2, (const uint8_t *)name, 12) == 0);
+}
+
+static unsigned compare(const uint8_t *bytes)
+{
+    uint8_t listed[800], read[800];
+    struct honecerise_entry e;
+    size_t directory, slot, offset, count = 0;
+    expect("counts", honecerise_inodes(bytes) == INODES && honecerise_free_inodes(bytes) == 1);
+    for (directory = 0; directory <= INODES + 1; directory++)
+        for (slot = 0; slot <= HONECERISE_MAX_SLOTS; slot++) {
+            if (!honecerise_entry_at(bytes, directory, slot, &e))
+                continue;
+            count++;
+            expect("look up finds another inode",
+                   honecerise_look_up(store, sizeof store, directory, (const uint8_t *)e.name, strlen(e.name))
+                       == (int32_t)e.inode);
+            expect("links", e.links == 1);
+            if (e.kind == HONECERISE_DIRECTORY)
+                expect("bytes of a directory", honecerise_file_bytes(bytes, e.inode, 0, listed, 9) == 0);
+            for (offset = 0; e.kind == HONECERISE_FILE && offset <= e.size; offset += 1 + offset % 50) {
+                const size_t room = offset * 13 % sizeof listed;
+                const int32_t had = honecerise_read(store, sizeof store, e.inode, offset, read, room);
+                expect("read gives another count",
+                       honecerise_file_bytes(bytes, e.inode, offset, listed, room) == (size_t)had);
+                expect("read gives other bytes", memcmp(read, listed, (size_t)had) == 0);
+            }
+        }
+    expect("past the size", honecerise_file_bytes(bytes, 3, 1 << 20, listed, 9) == 0);
+    expect("an entry is missing", count == INODES - 2);
+    return (unsigned)count;
+}
+
+int main(void)
+{
+    unsigned count;
+    fill();
+    expect("start", honecerise_start(WATCH) == 0);
+    while (honecerise_step(WATCH) > 0)
+        ;
+    expect("the store is not sound", honecerise_check(0, store, sizeof store));
+    expect("the image is not sound", honecerise_check(1, image, sizeof image));
+    expect("blocks", honecerise_blocks(store) == BLOCKS && honecerise_blocks(image) == IMAGE_BLOCKS);
+    count = compare(store) + compare(image);
+    printf("list: %u entries as looked up and read\n", count);
+    return 0;
+}
