@@ -5,138 +5,55 @@
 //! write inside these slices alone, whatever their bytes and the numbers are, and keeps none of them.
 use crate::Refusal;
 
+#[rustfmt::skip]
 mod c {
     // SAFETY: these are the functions of include/honecerise.h, with the same parameters in the same order.
     unsafe extern "C" {
         pub fn honecerise_lay_out_store(store: *mut u8, store_len: usize, inodes: usize, blocks: usize) -> i32;
         pub fn honecerise_lay_out_desk(desk: *mut u8, desk_len: usize, inodes: usize) -> i32;
+
         pub fn honecerise_check(image: u8, bytes: *const u8, len: usize) -> u8;
         pub fn honecerise_look_up(store: *const u8, store_len: usize, directory: usize, name: *const u8, name_len: usize) -> i32;
-        pub fn honecerise_read(
-            store: *const u8,
-            store_len: usize,
-            inode: usize,
-            offset: usize,
-            out: *mut u8,
-            out_len: usize,
-        ) -> i32;
-        #[rustfmt::skip]
+        pub fn honecerise_read(store: *const u8, store_len: usize, inode: usize, offset: usize, out: *mut u8, out_len: usize) -> i32;
+
         pub fn honecerise_create_file(
-            store: *mut u8,
-            store_len: usize,
-            image: *mut u8,
-            image_len: usize,
-            desk: *mut u8,
-            desk_len: usize,
-            directory: usize,
-            name: *const u8,
-            name_len: usize,
+            store: *mut u8, store_len: usize, image: *mut u8, image_len: usize, desk: *mut u8, desk_len: usize,
+            directory: usize, name: *const u8, name_len: usize,
         ) -> i32;
-        #[rustfmt::skip]
         pub fn honecerise_create_directory(
-            store: *mut u8,
-            store_len: usize,
-            image: *mut u8,
-            image_len: usize,
-            desk: *mut u8,
-            desk_len: usize,
-            directory: usize,
-            name: *const u8,
-            name_len: usize,
+            store: *mut u8, store_len: usize, image: *mut u8, image_len: usize, desk: *mut u8, desk_len: usize,
+            directory: usize, name: *const u8, name_len: usize,
         ) -> i32;
-        #[rustfmt::skip]
         pub fn honecerise_write(
-            store: *mut u8,
-            store_len: usize,
-            image: *mut u8,
-            image_len: usize,
-            desk: *mut u8,
-            desk_len: usize,
-            inode: usize,
-            offset: usize,
-            bytes: *const u8,
-            len: usize,
+            store: *mut u8, store_len: usize, image: *mut u8, image_len: usize, desk: *mut u8, desk_len: usize,
+            inode: usize, offset: usize, bytes: *const u8, len: usize,
         ) -> i32;
-        #[rustfmt::skip]
         pub fn honecerise_shorten(
-            store: *mut u8,
-            store_len: usize,
-            image: *mut u8,
-            image_len: usize,
-            desk: *mut u8,
-            desk_len: usize,
-            inode: usize,
-            length: usize,
+            store: *mut u8, store_len: usize, image: *mut u8, image_len: usize, desk: *mut u8, desk_len: usize,
+            inode: usize, length: usize,
         ) -> i32;
-        #[rustfmt::skip]
         pub fn honecerise_link(
-            store: *mut u8,
-            store_len: usize,
-            image: *mut u8,
-            image_len: usize,
-            desk: *mut u8,
-            desk_len: usize,
-            directory: usize,
-            name: *const u8,
-            name_len: usize,
-            inode: usize,
+            store: *mut u8, store_len: usize, image: *mut u8, image_len: usize, desk: *mut u8, desk_len: usize,
+            directory: usize, name: *const u8, name_len: usize, inode: usize,
         ) -> i32;
-        #[rustfmt::skip]
         pub fn honecerise_unlink(
-            store: *mut u8,
-            store_len: usize,
-            image: *mut u8,
-            image_len: usize,
-            desk: *mut u8,
-            desk_len: usize,
-            directory: usize,
-            name: *const u8,
-            name_len: usize,
+            store: *mut u8, store_len: usize, image: *mut u8, image_len: usize, desk: *mut u8, desk_len: usize,
+            directory: usize, name: *const u8, name_len: usize,
         ) -> i32;
-        #[rustfmt::skip]
         pub fn honecerise_rename(
-            store: *mut u8,
-            store_len: usize,
-            image: *mut u8,
-            image_len: usize,
-            desk: *mut u8,
-            desk_len: usize,
-            directory: usize,
-            name: *const u8,
-            name_len: usize,
-            to_directory: usize,
-            to_name: *const u8,
-            to_name_len: usize,
+            store: *mut u8, store_len: usize, image: *mut u8, image_len: usize, desk: *mut u8, desk_len: usize,
+            directory: usize, name: *const u8, name_len: usize, to_directory: usize, to_name: *const u8, to_name_len: usize,
         ) -> i32;
-        #[rustfmt::skip]
+
         pub fn honecerise_start(
-            store: *const u8,
-            store_len: usize,
-            image: *mut u8,
-            image_len: usize,
-            desk: *mut u8,
-            desk_len: usize,
+            store: *const u8, store_len: usize, image: *mut u8, image_len: usize, desk: *mut u8, desk_len: usize,
         ) -> i32;
-        #[rustfmt::skip]
         pub fn honecerise_step(
-            store: *const u8,
-            store_len: usize,
-            image: *mut u8,
-            image_len: usize,
-            desk: *mut u8,
-            desk_len: usize,
+            store: *const u8, store_len: usize, image: *mut u8, image_len: usize, desk: *mut u8, desk_len: usize,
         ) -> i32;
-        #[rustfmt::skip]
         pub fn honecerise_state(
-            store: *const u8,
-            store_len: usize,
-            image: *const u8,
-            image_len: usize,
-            desk: *const u8,
-            desk_len: usize,
-            state: *mut usize,
-            locked: *mut usize,
-            steps: *mut usize,
+            store: *const u8, store_len: usize, image: *const u8, image_len: usize, desk: *const u8, desk_len: usize,
+            state: *mut usize, locked: *mut usize, steps: *mut usize,
         ) -> i32;
     }
 }

@@ -84,6 +84,11 @@ fn refuse(number: u8, condition: bool) -> Result<(), u8> {
     if condition { Err(number) } else { Ok(()) }
 }
 
+/// 14, if one of the inodes that the call would change is locked.
+fn busy(locked: Option<usize>, inodes: &[usize]) -> Result<(), u8> {
+    refuse(14, locked.is_some_and(|l| inodes.contains(&l)))
+}
+
 /// "A name is 1 to 14 bytes, none 0 or `/`, and is not `.` or `..`."
 fn legal(name: &[u8]) -> Result<(), u8> {
     let good = (1..=14).contains(&name.len()) && !name.contains(&0) && !name.contains(&b'/') && name != b"." && name != b"..";
@@ -134,35 +139,46 @@ impl Store {
         refuse(13, full && blocks == MAX_BLOCKS)
     }
 
+    fn node(&mut self, inode: usize) -> &mut Node {
+        self.nodes.get_mut(&inode).expect("in use")
+    }
+
+    fn slots_mut(&mut self, directory: usize) -> &mut Vec<Option<Entry>> {
+        match &mut self.node(directory).body {
+            Body::Directory(slots) => slots,
+            Body::File(_) => unreachable!("a directory"),
+        }
+    }
+
+    fn bytes_mut(&mut self, inode: usize) -> &mut Vec<u8> {
+        match &mut self.node(inode).body {
+            Body::File(bytes) => bytes,
+            Body::Directory(_) => unreachable!("a file"),
+        }
+    }
+
     fn take_block(&mut self, inode: usize) {
         let lowest = (1..=self.blocks).find(|b| !self.used.contains(b)).expect("a free block was found before");
         self.used.insert(lowest);
-        self.nodes.get_mut(&inode).expect("in use").blocks.push(lowest);
+        self.node(inode).blocks.push(lowest);
     }
 
     fn free_blocks_from(&mut self, inode: usize, place: usize) {
-        for block in self.nodes.get_mut(&inode).expect("in use").blocks.split_off(place) {
+        for block in self.node(inode).blocks.split_off(place) {
             self.used.remove(&block);
         }
     }
 
     /// The lowest empty slot; "a directory takes a block only when it has no empty slot".
     fn put_entry(&mut self, directory: usize, entry: Entry) -> usize {
-        if self.slots(directory).is_ok_and(|slots| slots.iter().all(Option::is_some)) {
+        if self.slots_mut(directory).iter().all(Option::is_some) {
             self.take_block(directory);
-            if let Body::Directory(slots) = &mut self.nodes.get_mut(&directory).expect("in use").body {
-                slots.extend([const { None }; SLOTS_IN_BLOCK]);
-            }
+            self.slots_mut(directory).extend([const { None }; SLOTS_IN_BLOCK]);
         }
-        let Body::Directory(slots) = &mut self.nodes.get_mut(&directory).expect("in use").body else { unreachable!() };
+        let slots = self.slots_mut(directory);
         let slot = slots.iter().position(Option::is_none).expect("room was made");
         slots[slot] = Some(entry);
         slot
-    }
-
-    fn entry_mut(&mut self, directory: usize, slot: usize) -> &mut Option<Entry> {
-        let Body::Directory(slots) = &mut self.nodes.get_mut(&directory).expect("in use").body else { unreachable!() };
-        &mut slots[slot]
     }
 
     /// Whether a directory is another one or lies below it.
@@ -178,109 +194,124 @@ impl Store {
 
     /// A file call, while a copy has an inode locked or not. A refused one changes nothing.
     pub fn call(&mut self, call: &Call, locked: Option<usize>) -> Result<Done, u8> {
-        let busy = |inodes: &[usize]| refuse(14, locked.is_some_and(|l| inodes.contains(&l)));
         match call {
-            Call::LookUp(directory, name) => {
-                legal(name)?;
-                self.slots(*directory)?;
-                let (_, inode) = self.find(*directory, name).ok_or(6)?;
-                Ok(Done { answer: inode, ..Done::default() })
-            }
-            Call::Create(directory, name, kind) => {
-                legal(name)?;
-                self.slots(*directory)?;
-                refuse(7, self.find(*directory, name).is_some())?;
-                let inode = (1..=self.inodes).find(|i| !self.nodes.contains_key(i)).ok_or(11)?;
-                self.room(*directory)?;
-                busy(&[*directory])?;
-                let slot = self.put_entry(*directory, Entry { inode, name: name.clone() });
-                let (parent, body) = match kind {
-                    Kind::File => (0, Body::File(vec![])),
-                    Kind::Directory => (*directory, Body::Directory(vec![])),
-                };
-                self.nodes.insert(inode, Node { links: 1, parent, body, blocks: vec![] });
-                Ok(Done { answer: inode, made: Some((*directory, slot)), ..Done::default() })
-            }
-            Call::Read(inode, offset, length) => {
-                let bytes = self.bytes(*inode)?;
-                refuse(9, *offset > bytes.len())?;
-                let out: Vec<u8> = bytes.iter().skip(*offset).take(*length).copied().collect();
-                Ok(Done { answer: out.len(), out, ..Done::default() })
-            }
-            Call::Write(inode, offset, bytes) => {
-                let old = self.bytes(*inode)?.len();
-                refuse(9, *offset > old || offset + bytes.len() > MAX_FILE)?;
-                let new = old.max(offset + bytes.len());
-                let wanted = new.div_ceil(BLOCK) - old.div_ceil(BLOCK);
-                refuse(12, wanted > self.free_blocks())?;
-                busy(&[*inode])?;
-                for _ in 0..wanted {
-                    self.take_block(*inode);
-                }
-                let Body::File(held) = &mut self.nodes.get_mut(inode).expect("in use").body else { unreachable!() };
-                held.resize(new, 0);
-                held[*offset..offset + bytes.len()].copy_from_slice(bytes);
-                Ok(Done { answer: new, written: Some(*inode), ..Done::default() })
-            }
-            Call::Shorten(inode, length) => {
-                refuse(9, *length > self.bytes(*inode)?.len())?;
-                busy(&[*inode])?;
-                self.free_blocks_from(*inode, length.div_ceil(BLOCK));
-                let Body::File(held) = &mut self.nodes.get_mut(inode).expect("in use").body else { unreachable!() };
-                held.truncate(*length);
-                Ok(Done { answer: *length, written: Some(*inode), ..Done::default() })
-            }
-            Call::Link(directory, name, inode) => {
-                legal(name)?;
-                self.slots(*directory)?;
-                self.bytes(*inode)?;
-                refuse(7, self.find(*directory, name).is_some())?;
-                self.room(*directory)?;
-                busy(&[*directory, *inode])?;
-                let slot = self.put_entry(*directory, Entry { inode: *inode, name: name.clone() });
-                self.nodes.get_mut(inode).expect("in use").links += 1;
-                Ok(Done { made: Some((*directory, slot)), ..Done::default() })
-            }
-            Call::Unlink(directory, name) => {
-                legal(name)?;
-                self.slots(*directory)?;
-                let (slot, inode) = self.find(*directory, name).ok_or(6)?;
-                refuse(8, self.slots(inode).is_ok_and(|slots| slots.iter().any(Option::is_some)))?;
-                busy(&[*directory, inode])?;
-                *self.entry_mut(*directory, slot) = None;
-                let node = self.nodes.get_mut(&inode).expect("in use");
-                node.links -= 1;
-                if node.links == 0 {
-                    self.free_blocks_from(inode, 0);
-                    self.nodes.remove(&inode);
-                }
-                Ok(Done { taken: Some(Taken { directory: *directory, slot, inode }), ..Done::default() })
-            }
-            Call::Rename(directory, name, to, to_name) => {
-                legal(name)?;
-                legal(to_name)?;
-                self.slots(*directory)?;
-                self.slots(*to)?;
-                let (slot, inode) = self.find(*directory, name).ok_or(6)?;
-                let holder = self.find(*to, to_name).map(|(held, _)| (*to, held));
-                refuse(7, holder.is_some_and(|place| place != (*directory, slot)))?;
-                if directory == to {
-                    busy(&[*directory])?;
-                    self.entry_mut(*directory, slot).as_mut().expect("found").name = to_name.clone();
-                    return Ok(Done { renamed: Some((*directory, slot)), ..Done::default() });
-                }
-                let a_directory = self.slots(inode).is_ok();
-                refuse(10, a_directory && self.within(*to, inode))?;
-                self.room(*to)?;
-                busy(&[*directory, *to, inode])?;
-                *self.entry_mut(*directory, slot) = None;
-                let made = self.put_entry(*to, Entry { inode, name: to_name.clone() });
-                if a_directory {
-                    self.nodes.get_mut(&inode).expect("in use").parent = *to;
-                }
-                Ok(Done { taken: Some(Taken { directory: *directory, slot, inode }), made: Some((*to, made)), ..Done::default() })
-            }
+            Call::LookUp(directory, name) => self.look_up(*directory, name),
+            Call::Create(directory, name, kind) => self.create(*directory, name, *kind, locked),
+            Call::Read(inode, offset, length) => self.read(*inode, *offset, *length),
+            Call::Write(inode, offset, bytes) => self.write(*inode, *offset, bytes, locked),
+            Call::Shorten(inode, length) => self.shorten(*inode, *length, locked),
+            Call::Link(directory, name, inode) => self.link(*directory, name, *inode, locked),
+            Call::Unlink(directory, name) => self.unlink(*directory, name, locked),
+            Call::Rename(directory, name, to, to_name) => self.rename(*directory, name, *to, to_name, locked),
             Call::Start | Call::Step | Call::Ask => unreachable!("no file call"),
         }
+    }
+
+    fn look_up(&self, directory: usize, name: &[u8]) -> Result<Done, u8> {
+        legal(name)?;
+        self.slots(directory)?;
+        let (_, inode) = self.find(directory, name).ok_or(6)?;
+        Ok(Done { answer: inode, ..Done::default() })
+    }
+
+    fn create(&mut self, directory: usize, name: &[u8], kind: Kind, locked: Option<usize>) -> Result<Done, u8> {
+        legal(name)?;
+        self.slots(directory)?;
+        refuse(7, self.find(directory, name).is_some())?;
+        let inode = (1..=self.inodes).find(|i| !self.nodes.contains_key(i)).ok_or(11)?;
+        self.room(directory)?;
+        busy(locked, &[directory])?;
+        let slot = self.put_entry(directory, Entry { inode, name: name.to_vec() });
+        let (parent, body) = match kind {
+            Kind::File => (0, Body::File(vec![])),
+            Kind::Directory => (directory, Body::Directory(vec![])),
+        };
+        self.nodes.insert(inode, Node { links: 1, parent, body, blocks: vec![] });
+        Ok(Done { answer: inode, made: Some((directory, slot)), ..Done::default() })
+    }
+
+    fn read(&self, inode: usize, offset: usize, length: usize) -> Result<Done, u8> {
+        let bytes = self.bytes(inode)?;
+        refuse(9, offset > bytes.len())?;
+        let out: Vec<u8> = bytes.iter().skip(offset).take(length).copied().collect();
+        Ok(Done { answer: out.len(), out, ..Done::default() })
+    }
+
+    fn write(&mut self, inode: usize, offset: usize, bytes: &[u8], locked: Option<usize>) -> Result<Done, u8> {
+        let old = self.bytes(inode)?.len();
+        refuse(9, offset > old || offset + bytes.len() > MAX_FILE)?;
+        let end = offset + bytes.len();
+        let new = old.max(end);
+        let wanted = new.div_ceil(BLOCK) - old.div_ceil(BLOCK);
+        refuse(12, wanted > self.free_blocks())?;
+        busy(locked, &[inode])?;
+        for _ in 0..wanted {
+            self.take_block(inode);
+        }
+        let held = self.bytes_mut(inode);
+        held.resize(new, 0);
+        held[offset..end].copy_from_slice(bytes);
+        Ok(Done { answer: new, written: Some(inode), ..Done::default() })
+    }
+
+    fn shorten(&mut self, inode: usize, length: usize, locked: Option<usize>) -> Result<Done, u8> {
+        refuse(9, length > self.bytes(inode)?.len())?;
+        busy(locked, &[inode])?;
+        self.free_blocks_from(inode, length.div_ceil(BLOCK));
+        self.bytes_mut(inode).truncate(length);
+        Ok(Done { answer: length, written: Some(inode), ..Done::default() })
+    }
+
+    fn link(&mut self, directory: usize, name: &[u8], inode: usize, locked: Option<usize>) -> Result<Done, u8> {
+        legal(name)?;
+        self.slots(directory)?;
+        self.bytes(inode)?;
+        refuse(7, self.find(directory, name).is_some())?;
+        self.room(directory)?;
+        busy(locked, &[directory, inode])?;
+        let slot = self.put_entry(directory, Entry { inode, name: name.to_vec() });
+        self.node(inode).links += 1;
+        Ok(Done { made: Some((directory, slot)), ..Done::default() })
+    }
+
+    fn unlink(&mut self, directory: usize, name: &[u8], locked: Option<usize>) -> Result<Done, u8> {
+        legal(name)?;
+        self.slots(directory)?;
+        let (slot, inode) = self.find(directory, name).ok_or(6)?;
+        refuse(8, self.slots(inode).is_ok_and(|slots| slots.iter().any(Option::is_some)))?;
+        busy(locked, &[directory, inode])?;
+        self.slots_mut(directory)[slot] = None;
+        self.node(inode).links -= 1;
+        if self.nodes[&inode].links == 0 {
+            self.free_blocks_from(inode, 0);
+            self.nodes.remove(&inode);
+        }
+        Ok(Done { taken: Some(Taken { directory, slot, inode }), ..Done::default() })
+    }
+
+    fn rename(&mut self, directory: usize, name: &[u8], to: usize, to_name: &[u8], locked: Option<usize>) -> Result<Done, u8> {
+        legal(name)?;
+        legal(to_name)?;
+        self.slots(directory)?;
+        self.slots(to)?;
+        let (slot, inode) = self.find(directory, name).ok_or(6)?;
+        let holder = self.find(to, to_name).map(|(held, _)| (to, held));
+        refuse(7, holder.is_some_and(|place| place != (directory, slot)))?;
+        let entry = Entry { inode, name: to_name.to_vec() };
+        if directory == to {
+            busy(locked, &[directory])?;
+            self.slots_mut(directory)[slot] = Some(entry);
+            return Ok(Done { renamed: Some((directory, slot)), ..Done::default() });
+        }
+        let a_directory = self.slots(inode).is_ok();
+        refuse(10, a_directory && self.within(to, inode))?;
+        self.room(to)?;
+        busy(locked, &[directory, to, inode])?;
+        self.slots_mut(directory)[slot] = None;
+        let made = self.put_entry(to, entry);
+        if a_directory {
+            self.node(inode).parent = to;
+        }
+        Ok(Done { taken: Some(Taken { directory, slot, inode }), made: Some((to, made)), ..Done::default() })
     }
 }
