@@ -44,7 +44,7 @@ use Rattle.format.proofs.lay_out_desk.Kinds as lay-desk-kinds
 use Rattle.format.proofs.lay_out_desk.Reads as lay-desk-reads
 
 -- what a caller learns of a function gives D; n lifetimes, parameters ps, result r
-abbrev Gives : (n : ℕ) (ps : List (PK n)) (r : RK n) → Out n ps r → ((κs : Lfts n) → Dens κs ps → resT r κs .Denot → AtExit (endedOf n ps r) κs → Type 0) → Type 0
+abbrev pub Gives : (n : ℕ) (ps : List (PK n)) (r : RK n) → Out n ps r → ((κs : Lfts n) → Dens κs ps → resT r κs .Denot → AtExit (endedOf n ps r) κs → Type 0) → Type 0
 Gives n ps r learnt D = (κs : Lfts n) (a : Dens κs ps) (z : resT r κs .Denot) (e : AtExit (endedOf n ps r) κs) → learnt κs a z e → D κs a z e
 
 -- ---- the calls on the store alone

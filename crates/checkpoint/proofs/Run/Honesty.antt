@@ -208,9 +208,10 @@ module _ (b : ℕ) (es : List Event) (w : World) (r : Running (countOf w) b w) (
           file = λ e. same-content n n (countOf (at es w j)) v (at es w j) i refl (count-at j) a (sym (a .kind) ∙ e);
           links = λ p l f e. names-at j p i lo (sym (store-names n (at es w j) p l) ∙ m .links p (fin .names p l ∙ e));
           slots = λ p l f d.
-              let x = m .slots p d (seen-there p l f) in
-              (names-at j p (naming (v .image) n p) (low p l f) (sym (store-names n (at es w j) p l) ∙ x .0 ∙ fin .names p l),
-              fin .entry j p (x .1) ∙ ap (λ (c : ℕ). entryAt (at es w j .store) c p) (count-at j));
+              let x = m .slots p d (seen-there p l f) in (
+                names-at j p (naming (v .image) n p) (low p l f) (sym (store-names n (at es w j) p l) ∙ x .0 ∙ fin .names p l),
+                fin .entry j p (x .1) ∙ ap (λ (c : ℕ). entryAt (at es w j .store) c p) (count-at j),
+              );
         }
 
   pub finished : Finished es w

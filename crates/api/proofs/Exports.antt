@@ -1,0 +1,166 @@
+-- Each export is the public call of its name: from what a caller learns by its contract, whatever the arguments, follows that the call was made, and what its caller is told.
+-- a are the arguments, z is the result, e the parameters at exit; m and d are an image and a desk that the call does not have.
+use Prim.Native.Nat.{ℕ}
+use mathlib.Core.Path.{_≡_, refl, sym, ap}
+use mathlib.Core.List.{List, [], _∷_}
+use lib.Dec.{eqb}
+use lib.IntN.{ℤ}
+use denote.Ref.{now}
+use Rattle.bounded.specs.Search.{pick}
+use Rattle.entries.specs.declared.Kind.the-variants.{File, Directory}
+use Rattle.answers.specs.Told.{Told, told}
+use Rattle.files.specs.Effect.{Call, lookUp, read, create, write, shorten, link, unlink, rename}
+use Rattle.files.specs.Plain as alone
+use Rattle.checkpoint.specs.Live.{World, Outcome, left, live, start, step, status}
+use Rattle.checkpoint.specs.Shown.{world, shown, toldStatus}
+use Rattle.checkpoint.specs.List.{call, steps, asks, starts}
+use Rattle.watch.specs.Made.{got, looked-up, has-read, created, written, shortened, linked, unlinked, renamed, started, stepped, asked}
+use Rattle.watch.proofs.Contracts.{Gives}
+use Rattle.api.specs.Api.{Sent, codeOf, sends, sentAlone, sent, SentState, sendsState, sentState}
+use Rattle.api.specs.Exported.{Exported, Asked}
+use Rattle.api.proofs.honecerise_look_up.Kinds as look-up-kinds
+use Rattle.api.proofs.honecerise_look_up.Reads as look-up-reads
+use Rattle.api.proofs.honecerise_read.Kinds as read-kinds
+use Rattle.api.proofs.honecerise_read.Reads as read-reads
+use Rattle.api.proofs.honecerise_create_file.Kinds as create-file-kinds
+use Rattle.api.proofs.honecerise_create_file.Reads as create-file-reads
+use Rattle.api.proofs.honecerise_create_directory.Kinds as create-directory-kinds
+use Rattle.api.proofs.honecerise_create_directory.Reads as create-directory-reads
+use Rattle.api.proofs.honecerise_write.Kinds as write-kinds
+use Rattle.api.proofs.honecerise_write.Reads as write-reads
+use Rattle.api.proofs.honecerise_shorten.Kinds as shorten-kinds
+use Rattle.api.proofs.honecerise_shorten.Reads as shorten-reads
+use Rattle.api.proofs.honecerise_link.Kinds as link-kinds
+use Rattle.api.proofs.honecerise_link.Reads as link-reads
+use Rattle.api.proofs.honecerise_unlink.Kinds as unlink-kinds
+use Rattle.api.proofs.honecerise_unlink.Reads as unlink-reads
+use Rattle.api.proofs.honecerise_rename.Kinds as rename-kinds
+use Rattle.api.proofs.honecerise_rename.Reads as rename-reads
+use Rattle.api.proofs.honecerise_start.Kinds as start-kinds
+use Rattle.api.proofs.honecerise_start.Reads as start-reads
+use Rattle.api.proofs.honecerise_step.Kinds as step-kinds
+use Rattle.api.proofs.honecerise_step.Reads as step-reads
+use Rattle.api.proofs.honecerise_state.Kinds as state-kinds
+use Rattle.api.proofs.honecerise_state.Reads as state-reads
+
+-- ---- the buffers that an equation tells
+abbrev first : List (List ℕ) → List ℕ
+first [] = []
+first (b ∷ bs) = b
+
+abbrev after : List (List ℕ) → List (List ℕ)
+after [] = []
+after (b ∷ bs) = bs
+
+module _ (v : World) (z : ℤ) (o : Outcome) (h : sends z (v .store ∷ v .image ∷ v .desk ∷ []) ≡ sent (shown o)) where
+  same-buffers : shown (left (o .answer) (v .store) (v .image) (v .desk)) ≡ shown o
+  same-buffers =
+      let s = ap (λ (x : Sent). first (x .buffers)) h in
+      let m = ap (λ (x : Sent). first (after (x .buffers))) h in
+      let d = ap (λ (x : Sent). first (after (after (x .buffers)))) h in
+      rw (s, m, d) refl
+
+  same-code : z ≡ codeOf (told (o .answer))
+  same-code = ap (λ (x : Sent). x .code) h
+
+module _ (s out : List ℕ) (z : ℤ) (o : alone.Outcome) (h : sends z (s ∷ out ∷ []) ≡ sentAlone (alone.shown o)) where
+  alone-buffers : alone.shown (alone.left (o .answer) s out) ≡ alone.shown o
+  alone-buffers =
+      let a = ap (λ (x : Sent). first (x .buffers)) h in
+      let b = ap (λ (x : Sent). first (after (x .buffers))) h in
+      rw (a, b) refl
+
+  alone-code : z ≡ codeOf (told (o .answer))
+  alone-code = ap (λ (x : Sent). x .code) h
+
+-- ---- the calls on the store alone
+pub look-up-exported : (m d : List ℕ) → Gives 2 look-up-kinds.ps look-up-kinds.r look-up-reads.Learnt (λ κs a z e.
+    Exported (call (lookUp (a .1 .0) (now (a .1 .1 .0)))) (world (now (a .0)) m d) z [] (world (now (a .0)) m d))
+look-up-exported m d κs a z e h =
+    let o = alone.plain (lookUp (a .1 .0) (now (a .1 .1 .0))) (now (a .0)) in
+    record { received = got (told (o .answer)) []; made = looked-up (o .answer) (alone-buffers (now (a .0)) [] z o h); code = alone-code (now (a .0)) [] z o h; shown = refl }
+
+pub read-exported : (m d : List ℕ) → Gives 2 read-kinds.ps read-kinds.r read-reads.Learnt (λ κs a z e.
+    Exported (call (read (a .1 .0) (a .1 .1 .0) (now (a .1 .1 .1 .0)))) (world (now (a .0)) m d) z (now (e .1 .1 .1 .0)) (world (now (a .0)) m d))
+read-exported m d κs a z e h =
+    let o = alone.plain (read (a .1 .0) (a .1 .1 .0) (now (a .1 .1 .1 .0))) (now (a .0)) in
+    record { received = got (told (o .answer)) (now (e .1 .1 .1 .0)); made = has-read (o .answer) (alone-buffers (now (a .0)) (now (e .1 .1 .1 .0)) z o h); code = alone-code (now (a .0)) (now (e .1 .1 .1 .0)) z o h; shown = refl }
+
+-- ---- the file calls over the three buffers
+pub create-file-exported : Gives 4 create-file-kinds.ps create-file-kinds.r create-file-reads.Learnt (λ κs a z e.
+    Exported (call (create (a .1 .1 .1 .0) (now (a .1 .1 .1 .1 .0)) File)) (world (now (a .0)) (now (a .1 .0)) (now (a .1 .1 .0))) z [] (world (now (e .0)) (now (e .1 .0)) (now (e .1 .1 .0))))
+create-file-exported κs a z e h =
+    let v = (world (now (e .0)) (now (e .1 .0)) (now (e .1 .1 .0))) in
+    let o = live (create (a .1 .1 .1 .0) (now (a .1 .1 .1 .1 .0)) File) (world (now (a .0)) (now (a .1 .0)) (now (a .1 .1 .0))) in
+    record { received = got (told (o .answer)) []; made = created (o .answer) (same-buffers v z o h); code = same-code v z o h; shown = refl }
+
+pub create-directory-exported : Gives 4 create-directory-kinds.ps create-directory-kinds.r create-directory-reads.Learnt (λ κs a z e.
+    Exported (call (create (a .1 .1 .1 .0) (now (a .1 .1 .1 .1 .0)) Directory)) (world (now (a .0)) (now (a .1 .0)) (now (a .1 .1 .0))) z [] (world (now (e .0)) (now (e .1 .0)) (now (e .1 .1 .0))))
+create-directory-exported κs a z e h =
+    let v = (world (now (e .0)) (now (e .1 .0)) (now (e .1 .1 .0))) in
+    let o = live (create (a .1 .1 .1 .0) (now (a .1 .1 .1 .1 .0)) Directory) (world (now (a .0)) (now (a .1 .0)) (now (a .1 .1 .0))) in
+    record { received = got (told (o .answer)) []; made = created (o .answer) (same-buffers v z o h); code = same-code v z o h; shown = refl }
+
+pub write-exported : Gives 4 write-kinds.ps write-kinds.r write-reads.Learnt (λ κs a z e.
+    Exported (call (write (a .1 .1 .1 .0) (a .1 .1 .1 .1 .0) (now (a .1 .1 .1 .1 .1 .0)))) (world (now (a .0)) (now (a .1 .0)) (now (a .1 .1 .0))) z [] (world (now (e .0)) (now (e .1 .0)) (now (e .1 .1 .0))))
+write-exported κs a z e h =
+    let v = (world (now (e .0)) (now (e .1 .0)) (now (e .1 .1 .0))) in
+    let o = live (write (a .1 .1 .1 .0) (a .1 .1 .1 .1 .0) (now (a .1 .1 .1 .1 .1 .0))) (world (now (a .0)) (now (a .1 .0)) (now (a .1 .1 .0))) in
+    record { received = got (told (o .answer)) []; made = written (o .answer) (same-buffers v z o h); code = same-code v z o h; shown = refl }
+
+pub shorten-exported : Gives 3 shorten-kinds.ps shorten-kinds.r shorten-reads.Learnt (λ κs a z e.
+    Exported (call (shorten (a .1 .1 .1 .0) (a .1 .1 .1 .1 .0))) (world (now (a .0)) (now (a .1 .0)) (now (a .1 .1 .0))) z [] (world (now (e .0)) (now (e .1 .0)) (now (e .1 .1 .0))))
+shorten-exported κs a z e h =
+    let v = (world (now (e .0)) (now (e .1 .0)) (now (e .1 .1 .0))) in
+    let o = live (shorten (a .1 .1 .1 .0) (a .1 .1 .1 .1 .0)) (world (now (a .0)) (now (a .1 .0)) (now (a .1 .1 .0))) in
+    record { received = got (told (o .answer)) []; made = shortened (o .answer) (same-buffers v z o h); code = same-code v z o h; shown = refl }
+
+pub link-exported : Gives 4 link-kinds.ps link-kinds.r link-reads.Learnt (λ κs a z e.
+    Exported (call (link (a .1 .1 .1 .0) (now (a .1 .1 .1 .1 .0)) (a .1 .1 .1 .1 .1 .0))) (world (now (a .0)) (now (a .1 .0)) (now (a .1 .1 .0))) z [] (world (now (e .0)) (now (e .1 .0)) (now (e .1 .1 .0))))
+link-exported κs a z e h =
+    let v = (world (now (e .0)) (now (e .1 .0)) (now (e .1 .1 .0))) in
+    let o = live (link (a .1 .1 .1 .0) (now (a .1 .1 .1 .1 .0)) (a .1 .1 .1 .1 .1 .0)) (world (now (a .0)) (now (a .1 .0)) (now (a .1 .1 .0))) in
+    record { received = got (told (o .answer)) []; made = linked (o .answer) (same-buffers v z o h); code = same-code v z o h; shown = refl }
+
+pub unlink-exported : Gives 4 unlink-kinds.ps unlink-kinds.r unlink-reads.Learnt (λ κs a z e.
+    Exported (call (unlink (a .1 .1 .1 .0) (now (a .1 .1 .1 .1 .0)))) (world (now (a .0)) (now (a .1 .0)) (now (a .1 .1 .0))) z [] (world (now (e .0)) (now (e .1 .0)) (now (e .1 .1 .0))))
+unlink-exported κs a z e h =
+    let v = (world (now (e .0)) (now (e .1 .0)) (now (e .1 .1 .0))) in
+    let o = live (unlink (a .1 .1 .1 .0) (now (a .1 .1 .1 .1 .0))) (world (now (a .0)) (now (a .1 .0)) (now (a .1 .1 .0))) in
+    record { received = got (told (o .answer)) []; made = unlinked (o .answer) (same-buffers v z o h); code = same-code v z o h; shown = refl }
+
+pub rename-exported : Gives 5 rename-kinds.ps rename-kinds.r rename-reads.Learnt (λ κs a z e.
+    Exported (call (rename (a .1 .1 .1 .0) (now (a .1 .1 .1 .1 .0)) (a .1 .1 .1 .1 .1 .0) (now (a .1 .1 .1 .1 .1 .1 .0)))) (world (now (a .0)) (now (a .1 .0)) (now (a .1 .1 .0))) z [] (world (now (e .0)) (now (e .1 .0)) (now (e .1 .1 .0))))
+rename-exported κs a z e h =
+    let v = (world (now (e .0)) (now (e .1 .0)) (now (e .1 .1 .0))) in
+    let o = live (rename (a .1 .1 .1 .0) (now (a .1 .1 .1 .1 .0)) (a .1 .1 .1 .1 .1 .0) (now (a .1 .1 .1 .1 .1 .1 .0))) (world (now (a .0)) (now (a .1 .0)) (now (a .1 .1 .0))) in
+    record { received = got (told (o .answer)) []; made = renamed (o .answer) (same-buffers v z o h); code = same-code v z o h; shown = refl }
+
+-- ---- start, step and state
+pub start-exported : Gives 3 start-kinds.ps start-kinds.r start-reads.Learnt (λ κs a z e.
+    Exported starts (world (now (a .0)) (now (a .1 .0)) (now (a .1 .1 .0))) z [] (world (now (a .0)) (now (e .1 .0)) (now (e .1 .1 .0))))
+start-exported κs a z e h =
+    let v = (world (now (a .0)) (now (e .1 .0)) (now (e .1 .1 .0))) in
+    let o = start (now (a .0)) (now (a .1 .0)) (now (a .1 .1 .0)) in
+    record { received = got (told (o .answer)) []; made = started (o .answer) (same-buffers v z o h); code = same-code v z o h; shown = refl }
+
+pub step-exported : Gives 3 step-kinds.ps step-kinds.r step-reads.Learnt (λ κs a z e.
+    Exported steps (world (now (a .0)) (now (a .1 .0)) (now (a .1 .1 .0))) z [] (world (now (a .0)) (now (e .1 .0)) (now (e .1 .1 .0))))
+step-exported κs a z e h =
+    let v = (world (now (a .0)) (now (e .1 .0)) (now (e .1 .1 .0))) in
+    let o = step (now (a .0)) (now (a .1 .0)) (now (a .1 .1 .0)) in
+    record { received = got (told (o .answer)) []; made = stepped (o .answer) (same-buffers v z o h); code = same-code v z o h; shown = refl }
+
+state-numbers : (t : Told) (ns ms : List ℕ) → t .number ≡ 0 → ns ≡ sentState t ms .numbers → ns ≡ t .values
+state-numbers t ns ms e h = rw e at h
+
+pub state-exported : Gives 6 state-kinds.ps state-kinds.r state-reads.Learnt (λ κs a z e.
+    Asked (world (now (a .0)) (now (a .1 .0)) (now (a .1 .1 .0))) z (now (e .1 .1 .1 .0) ∷ now (e .1 .1 .1 .1 .0) ∷ now (e .1 .1 .1 .1 .1 .0) ∷ []))
+state-exported κs a z e h =
+    let r = status (now (a .0)) (now (a .1 .0)) (now (a .1 .1 .0)) in
+    record {
+      received = got (toldStatus r) [];
+      made = asked r refl;
+      code = ap (λ (x : SentState). x .code) h;
+      numbers = λ n. state-numbers (toldStatus r) _ _ n (ap (λ (x : SentState). x .numbers) h);
+    }
