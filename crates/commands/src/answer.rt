@@ -1,9 +1,8 @@
 // The line that answers a command.
 ghost use mathlib.Core.Path.{_≡_};
-ghost use mathlib.Core.List.{_++_};
 ghost use Prim.Native.Nat.{_+_, _*_, _≤_};
 ghost use lib.ListN.{length, take};
-ghost use Rattle.text.specs.Put.{Put, decimalText};
+ghost use Rattle.text.specs.Put.{Put};
 ghost use Rattle.commands.specs.Line.{replyOf, laidText, shownText, askedText, replyText, sumText, sumsText, isError, ending, lineText};
 use crate::Reply;
 use crate::Sums;
@@ -12,8 +11,8 @@ use answers::refusal_number;
 use text::pieces::front;
 use text::put::put;
 use text::put::put_bytes;
-use text::put::put_decimal;
 use text::put::put_hex;
+use text::put::put_numbered;
 
 // What a call answered.
 pub fn reply(a: Answer) -> Reply
@@ -23,16 +22,6 @@ pub fn reply(a: Answer) -> Reply
         Answer::Done(n) => Reply::Done(n),
         Answer::Refused(e) => Reply::Refused(refusal_number(e)),
     }
-}
-
-// A word, and a number after it.
-fn put_numbered(out: &mut [u8], o: usize, word: &[u8], n: usize) -> usize
-    requires { ⌜ o + length (now word) + 20 ≤ length (now out) ⌝ }
-    ensures { λ r. ⌜ Put (now (out .entry)) o (now (word .entry) ++ decimalText n) r (now (out .exit)) ⌝ }
-    ensures { λ r. ⌜ r ≤ o + length (now (word .entry)) + 20 ⌝ }
-{
-    let e = put(&mut *out, o, word);
-    put_decimal(out, e, n)
 }
 
 fn put_laid(out: &mut [u8], o: usize, a: usize, d: usize) -> usize

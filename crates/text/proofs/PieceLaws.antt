@@ -7,13 +7,13 @@ use native.Mathlib.Omega.{arith}
 use native.Mathlib.Numerals.{add-one}
 use borrow.Author.Tests.{eq-eqb, ne-eqb}
 use lib.Dec.{eqb}
-use lib.ListN.{length, getD, take, drop}
+use lib.ListN.{length, getD, take, drop, length-drop, drop-of-length-le}
 use lib.Seq.{take-all}
 use Rattle.bounded.specs.Count.{count}
 use Rattle.bounded.proofs.CountLaws.{count-hit, count-miss}
 use Rattle.bounded.proofs.SearchLaws.{first-turn, first-found, first-end}
 use Rattle.octets.specs.Octets.{part}
-use Rattle.text.specs.Pieces.{placeFrom, placeOf, pieceStart, piece, pieces}
+use Rattle.text.specs.Pieces.{placeFrom, placeOf, pieceStart, piece, rest, pieces}
 
 -- ---- a loop's turns
 module _ (f : ℕ → Bool) (c n : ℕ) where
@@ -46,6 +46,16 @@ piece-is s x k a e p q = rw (q, p) refl
 -- one that ends where it starts, or before
 pub piece-empty : (s : List ℕ) (x k a e : ℕ) → a ≡ pieceStart s x k → e ≡ placeOf s x a → e ≤ a → [] ≡ piece s x k
 piece-empty s x k a e p q h = let z : e - a ≡ 0 = omega arith in sym (ap (λ (m : ℕ). take m (drop a s)) z) ∙ piece-is s x k a e p q
+
+-- all from a piece on, from its start
+pub rest-is : (s : List ℕ) (x k a n : ℕ) → a ≡ pieceStart s x k → n ≡ length s → take (n - a) (drop a s) ≡ rest s x k
+unfolding rest
+rest-is s x k a n p q = take-all (n - a) (drop a s) (omega (arith, length-drop a s)) ∙ ap (λ (o : ℕ). drop o s) p
+
+-- none, past the end
+pub rest-none : (s : List ℕ) (x k a : ℕ) → a ≡ pieceStart s x k → length s ≤ a → [] ≡ rest s x k
+unfolding rest
+rest-none s x k a p q = sym (drop-of-length-le s q) ∙ ap (λ (o : ℕ). drop o s) p
 
 -- the count of pieces, byte by byte
 unfoldable pub piecesTo : List ℕ → ℕ → ℕ → ℕ

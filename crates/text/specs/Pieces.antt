@@ -3,7 +3,7 @@ use Prim.Native.Nat.{ℕ, zero, suc, _+_, _-_}
 use mathlib.Core.Bool.{Bool, _&&_}
 use mathlib.Core.List.{List}
 use lib.Dec.{eqb}
-use lib.ListN.{length, getD}
+use lib.ListN.{length, getD, drop}
 use Rattle.bounded.specs.Below.{allBelow}
 use Rattle.bounded.specs.Count.{count}
 use Rattle.bounded.specs.Search.{firstFrom, onFound}
@@ -25,6 +25,10 @@ pieceStart s x (suc k) = placeOf s x (pieceStart s x k) + 1
 -- piece k; empty if there are fewer
 unfoldable pub piece : List ℕ → ℕ → ℕ → List ℕ
 piece s x k = part s (pieceStart s x k) (placeOf s x (pieceStart s x k) - pieceStart s x k)
+
+-- all from piece k on, with the bytes that part the pieces; empty if there are fewer
+unfoldable pub rest : List ℕ → ℕ → ℕ → List ℕ
+rest s x k = drop (pieceStart s x k) s
 
 -- how many pieces there are
 unfoldable pub pieces : List ℕ → ℕ → ℕ

@@ -2,7 +2,7 @@
 ghost use mathlib.Core.Path.{_≡_};
 ghost use Prim.Native.Nat.{_≤_};
 ghost use lib.ListN.{length, take};
-ghost use Rattle.text.specs.Pieces.{placeOf, pieceStart, piece, pieces, isWord};
+ghost use Rattle.text.specs.Pieces.{placeOf, pieceStart, piece, rest, pieces, isWord};
 
 // The place of the first x from o on, or the end.
 pub fn find(s: &[u8], x: u8, o: usize) -> usize
@@ -34,6 +34,17 @@ pub fn piece(s: &[u8], x: u8, k: usize) -> &[u8]
     let end = find(s, x, start);
     if start < end {
         return &s[start..end];
+    }
+    &s[0..0]
+}
+
+// All of s from piece k on; empty if there are fewer.
+pub fn rest(s: &[u8], x: u8, k: usize) -> &[u8]
+    ensures { λ r. ⌜ now r ≡ rest (now (s .entry)) x k ⌝ }
+{
+    let start = piece_start(s, x, k);
+    if start < s.len() {
+        return &s[start..];
     }
     &s[0..0]
 }

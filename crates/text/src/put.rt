@@ -1,5 +1,6 @@
 // Text into a buffer: words, numbers and bytes.
 ghost use mathlib.Core.Path.{_≡_};
+ghost use mathlib.Core.List.{_++_};
 ghost use Prim.Native.Nat.{_+_, _*_, _^_, _<_, _≤_};
 ghost use lib.ListN.{length};
 ghost use Rattle.io.specs.Digits.{digits};
@@ -22,6 +23,16 @@ pub fn put_decimal(out: &mut [u8], o: usize, n: usize) -> usize
     let mut digits = [0u8; 20];
     let k = io::decimal(n as u64, &mut digits);
     put(out, o, &digits[..k])
+}
+
+// A word, and a number after it.
+pub fn put_numbered(out: &mut [u8], o: usize, word: &[u8], n: usize) -> usize
+    requires { ⌜ o + length (now word) + 20 ≤ length (now out) ⌝ }
+    ensures { λ r. ⌜ Put (now (out .entry)) o (now (word .entry) ++ decimalText n) r (now (out .exit)) ⌝ }
+    ensures { λ r. ⌜ r ≤ o + length (now (word .entry)) + 20 ⌝ }
+{
+    let e = put(&mut *out, o, word);
+    put_decimal(out, e, n)
 }
 
 // A number in k hex digits.

@@ -1,8 +1,8 @@
 use Rattle.text.proofs.PutLaws.{put-on}
 use native.Mathlib.Omega.{arith}
 use borrow.Author.Needs.{needs}
-use Rattle.commands.proofs.answer.put_numbered.Statement.{statement}
-use Rattle.commands.proofs.answer.put_numbered.Tie as tie
+use Rattle.text.proofs.put.put_numbered.Statement.{statement}
+use Rattle.text.proofs.put.put_numbered.Tie as tie
 
 put-requires : tie.Need-put-requires
 put-requires c κs = search needs
