@@ -1,0 +1,171 @@
+// The text that a line of a script prints: its answer, and the listing of a finished copy, entry by entry. m is the image, d the desk, n the count of inodes.
+ghost use mathlib.Core.Path.{_≡_};
+ghost use mathlib.Core.Bool.{true};
+ghost use Prim.Native.Nat.{_+_, _*_, _-_, _<_, _≤_};
+ghost use lib.ListN.{length};
+ghost use Rattle.bounded.specs.Search.{firstFrom};
+ghost use Rattle.layout.specs.Sizes.{headerBytes, mostImageBlocks};
+ghost use Rattle.layout.specs.Inode.{InodeFits};
+ghost use Rattle.names.specs.Entry.{entryBytes};
+ghost use Rattle.directory.specs.Slot.{mostSlots};
+ghost use Rattle.desk.specs.Sizes.{deskHeaderBytes};
+ghost use Rattle.sound.specs.Sound.{Sound, inodesIn};
+ghost use Rattle.sound.specs.Place.{filled};
+ghost use Rattle.text.specs.Put.{Put};
+ghost use Rattle.listing.specs.Listing.{wordText, replyText, pairText, countsText, headText, placeText, kindText, inodeText, nameText, entryText};
+use bounded::Found;
+use desk::Desk;
+use layout::header::Header;
+use layout::inode;
+use layout::sizes::DIRECTORY;
+use names::ENTRY_BYTES;
+use text::put::put;
+use text::put::put_decimal;
+use text::put::put_numbered;
+
+const MOST_SLOTS: usize = 48;
+
+const NAME_AT: usize = 2;
+
+fn put_word(out: &mut [u8], o: usize, ok: bool, n: usize) -> usize
+    requires { ⌜ o + 23 ≤ length (now out) ⌝ }
+    ensures { λ r. ⌜ Put (now (out .entry)) o (wordText ok n) r (now (out .exit)) ⌝ }
+    ensures { λ r. ⌜ r ≤ o + 23 ⌝ }
+{
+    if ok {
+        return put_numbered(out, o, b"ok ", n);
+    }
+    put_numbered(out, o, b"no ", n)
+}
+
+// The line's answer at o of out; where it ends.
+pub fn put_reply(out: &mut [u8], o: usize, ok: bool, n: usize) -> usize
+    requires { ⌜ o + 24 ≤ length (now out) ⌝ }
+    ensures { λ r. ⌜ Put (now (out .entry)) o (replyText ok n) r (now (out .exit)) ⌝ }
+{
+    let e = put_word(&mut *out, o, ok, n);
+    put(out, e, b"\n")
+}
+
+// Two numbers, the first after a word.
+fn put_pair(out: &mut [u8], o: usize, word: &[u8], a: usize, b: usize) -> usize
+    requires { ⌜ o + length (now word) + 41 ≤ length (now out) ⌝ }
+    ensures { λ r. ⌜ Put (now (out .entry)) o (pairText (now (word .entry)) a b) r (now (out .exit)) ⌝ }
+    ensures { λ r. ⌜ r ≤ o + length (now (word .entry)) + 41 ⌝ }
+{
+    let e = put_numbered(&mut *out, o, word, a);
+    put_numbered(out, e, b" ", b)
+}
+
+fn put_counts(out: &mut [u8], o: usize, m: &[u8]) -> usize
+    requires { ⌜ (o + 89 ≤ length (now out)) × (headerBytes ≤ length (now m)) ⌝ }
+    ensures { λ r. ⌜ Put (now (out .entry)) o (countsText (now (m .entry))) r (now (out .exit)) ⌝ }
+    ensures { λ r. ⌜ r ≤ o + 89 ⌝ }
+{
+    let h = Header::read(m);
+    let e = put_pair(
+        &mut *out,
+        o,
+        b"image ",
+        h.inodes as usize,
+        h.blocks as usize,
+    );
+    put_pair(out, e, b" ", h.free_inodes as usize, h.free_blocks as usize)
+}
+
+// The first line of a listing.
+pub fn put_head(out: &mut [u8], o: usize, m: &[u8], d: &[u8]) -> usize
+    requires { ⌜ (o + 111 ≤ length (now out)) × (headerBytes ≤ length (now m)) × (deskHeaderBytes ≤ length (now d)) ⌝ }
+    ensures { λ r. ⌜ Put (now (out .entry)) o (headText (now (m .entry)) (now (d .entry))) r (now (out .exit)) ⌝ }
+{
+    let h = Desk::read(d);
+    let e = put_counts(&mut *out, o, m);
+    let f = put_numbered(&mut *out, e, b" ", h.steps as usize);
+    put(out, f, b"\n")
+}
+
+fn put_place(out: &mut [u8], o: usize, e: usize, t: usize, i: usize) -> usize
+    requires { ⌜ o + 62 ≤ length (now out) ⌝ }
+    ensures { λ r. ⌜ Put (now (out .entry)) o (placeText e t i) r (now (out .exit)) ⌝ }
+    ensures { λ r. ⌜ r ≤ o + 62 ⌝ }
+{
+    let a = put_decimal(&mut *out, o, e);
+    put_pair(out, a, b" ", t, i)
+}
+
+fn put_kind(out: &mut [u8], o: usize, kind: u8) -> usize
+    requires { ⌜ o + 2 ≤ length (now out) ⌝ }
+    ensures { λ r. ⌜ Put (now (out .entry)) o (kindText kind) r (now (out .exit)) ⌝ }
+    ensures { λ r. ⌜ r ≤ o + 2 ⌝ }
+{
+    if kind == DIRECTORY {
+        return put(out, o, b" d");
+    }
+    put(out, o, b" f")
+}
+
+fn put_inode(out: &mut [u8], o: usize, m: &[u8], n: usize, i: usize) -> usize
+    requires { ⌜ (o + 44 ≤ length (now out)) × InodeFits (now m) n i ⌝ }
+    ensures { λ r. ⌜ Put (now (out .entry)) o (inodeText (now (m .entry)) i) r (now (out .exit)) ⌝ }
+    ensures { λ r. ⌜ r ≤ o + 44 ⌝ }
+{
+    let size = inode::size(m, n, i) as usize;
+    let links = inode::links(m, n, i) as usize;
+    let a = put_kind(&mut *out, o, inode::kind(m, n, i));
+    put_pair(out, a, b" ", size, links)
+}
+
+fn put_name(out: &mut [u8], o: usize, entry: &[u8]) -> usize
+    requires { ⌜ (o + 16 ≤ length (now out)) × (entryBytes ≤ length (now entry)) ⌝ }
+    ensures { λ r. ⌜ Put (now (out .entry)) o (nameText (now (entry .entry))) r (now (out .exit)) ⌝ }
+{
+    let k = names::name_length(entry);
+    let a = put(&mut *out, o, b" ");
+    let b = put(&mut *out, a, &entry[NAME_AT..NAME_AT + k]);
+    put(out, b, b"\n")
+}
+
+// An entry stands at place p of the image.
+fn is_filled(m: &[u8], n: usize, p: usize) -> bool
+    requires { ⌜ Sound mostImageBlocks true (now m) × (n ≡ inodesIn (now m)) × (p < mostSlots * n) ⌝ }
+    ensures { λ r. ⌜ r ≡ filled (now (m .entry)) n p ⌝ }
+{
+    let e = p / MOST_SLOTS + 1;
+    let t = p % MOST_SLOTS;
+    if inode::kind(m, n, e) != DIRECTORY {
+        return false;
+    }
+    if directory::slot_count(m, n, e) <= t {
+        return false;
+    }
+    let o = directory::slot_at(m, n, e, t);
+    !names::is_empty(&m[o..o + ENTRY_BYTES])
+}
+
+// The next place at which an entry stands, by directory and slot.
+pub fn next_entry(m: &[u8], n: usize, from: usize) -> Found
+    requires { ⌜ Sound mostImageBlocks true (now m) × (n ≡ inodesIn (now m)) ⌝ }
+    ensures { λ r. ⌜ r ≡ firstFrom (filled (now (m .entry)) n) from (mostSlots * n - from) ⌝ }
+{
+    for p in from..MOST_SLOTS * n {
+        if is_filled(m, n, p) {
+            return Found::At(p);
+        }
+    }
+    Found::Absent
+}
+
+// The line of the entry that stands at place p.
+pub fn put_entry(out: &mut [u8], o: usize, m: &[u8], n: usize, p: usize) -> usize
+    requires { ⌜ (o + 122 ≤ length (now out)) × Sound mostImageBlocks true (now m) × (n ≡ inodesIn (now m)) × (p < mostSlots * n) × (filled (now m) n p ≡ true) ⌝ }
+    ensures { λ r. ⌜ Put (now (out .entry)) o (entryText (now (m .entry)) n p) r (now (out .exit)) ⌝ }
+{
+    let e = p / MOST_SLOTS + 1;
+    let t = p % MOST_SLOTS;
+    let at = directory::slot_at(m, n, e, t);
+    let entry = &m[at..at + ENTRY_BYTES];
+    let i = names::entry_inode(entry) as usize;
+    let a = put_place(&mut *out, o, e, t, i);
+    let b = put_inode(&mut *out, a, m, n, i);
+    put_name(out, b, entry)
+}
