@@ -112,7 +112,7 @@ abbrev pub NoneBelow : ℕ → ℕ → Type 0
 NoneBelow zero j = Unit
 NoneBelow (suc k) j = NoneBelow k j × (j ≡ k → ⊥)
 
-above : (k j : ℕ) → NoneBelow k j → k ≤ j
+pub above : (k j : ℕ) → NoneBelow k j → k ≤ j
 above zero j h = omega arith
 above (suc k) j h = let l = above k j (h .0) in let n = h .1 in omega arith
 
