@@ -1,0 +1,45 @@
+-- Laws of a script's lines: each is run on what the one before it left.
+use Prim.Native.Nat.{ℕ, _+_, _-_, _≤_, _<_}
+use mathlib.Core.Path.{_≡_, refl, sym, ap, _∙_}
+use mathlib.Core.Bool.{true}
+use mathlib.Core.List.{List, []}
+use lib.ListN.{length, take, drop}
+use Rattle.octets.specs.Octets.{part}
+use Rattle.layout.specs.Sizes.{mostImageBlocks}
+use Rattle.layout.specs.Header.{headerOf}
+use Rattle.layout.specs.declared.header.Header.{Header}
+use Rattle.sound.specs.Sound.{Sound, inodesIn, isSound}
+use Rattle.sound.specs.declared.Form.the-variants.{Image}
+use Rattle.sound.proofs.SoundLaws.{is-sound}
+use Rattle.text.specs.Pieces.{placeOf}
+use Rattle.checkpoint.specs.Live.{World}
+use Rattle.checkpoint.specs.Shown.{world}
+use Rattle.lines.specs.Lines.{linesIn}
+use Rattle.lines.proofs.LineLaws.{line-splits, lines-end}
+use Rattle.session.specs.Reply.{Ran, ran, lineRuns, worldAfter}
+use Rattle.session.specs.Script.{linesRun}
+use Rattle.session.specs.declared.Reply.{Reply}
+
+pub checked : (m : List ℕ) → isSound Image m ≡ true → Sound mostImageBlocks true m
+checked m e = is-sound Image m .to e
+
+pub count-is : (m : List ℕ) (h : Header) → h ≡ headerOf m → h .inodes ≡ inodesIn m
+count-is m h e = ap (λ (x : Header). x .inodes) e
+
+pub after-line : (l : List ℕ) (w : World) (r : Reply) (s m d : List ℕ) → ran r (world s m d) ≡ lineRuns l w → world s m d ≡ worldAfter l w
+after-line l w r s m d e = ap (λ (x : Ran). world (x .store) (x .image) (x .desk)) e
+
+-- the line that was found at a place
+pub cut-line : (s : List ℕ) (at e : ℕ) (w v : World) → e ≡ placeOf s 10 at → v ≡ worldAfter (take (e - at) (drop at s)) w → v ≡ worldAfter (part s at (placeOf s 10 at - at)) w
+unfolding part
+cut-line s at e w v q h = h ∙ rw q refl
+
+-- a line in its turn
+pub line-turn : (s : List ℕ) (at next : ℕ) (w v : World) → at < length s → next ≡ placeOf s 10 at + 1 → v ≡ worldAfter (part s at (placeOf s 10 at - at)) w
+    → linesRun (linesIn (drop at s)) w ≡ linesRun (linesIn (drop next s)) v
+unfolding linesRun
+line-turn s at next w v l e h = rw (line-splits s at l .lines, e, h) refl
+
+pub all-run : (s : List ℕ) (at : ℕ) (w : World) → length s ≤ at → linesRun (linesIn (drop at s)) w ≡ w
+unfolding linesRun
+all-run s at w l = rw (lines-end s at l) refl
