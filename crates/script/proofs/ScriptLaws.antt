@@ -1,33 +1,43 @@
 -- Laws of a script's lines: each is run on what the one before it left.
 use Prim.Native.Nat.{ℕ, _+_, _-_, _≤_, _<_}
-use mathlib.Core.Path.{_≡_, refl, sym, ap, _∙_}
-use mathlib.Core.Bool.{true}
-use mathlib.Core.List.{List, []}
+use mathlib.Core.Path.{_≡_, refl, sym, ap, _∙_, subst}
+use mathlib.Core.Bool.{true, false}
+use mathlib.Core.List.{List, [], _∷_}
+use native.Mathlib.Omega.{arith}
 use lib.ListN.{length, take, drop}
 use Rattle.octets.specs.Octets.{part}
 use Rattle.layout.specs.Sizes.{mostImageBlocks}
 use Rattle.layout.specs.Header.{headerOf}
 use Rattle.layout.specs.declared.header.Header.{Header}
-use Rattle.sound.specs.Sound.{Sound, inodesIn, isSound}
-use Rattle.sound.specs.declared.Form.the-variants.{Image}
-use Rattle.sound.proofs.SoundLaws.{is-sound}
+use Rattle.sound.specs.Sound.{Sound, inodesIn}
+use Rattle.answers.specs.declared.Answer.{Answer}
+use Rattle.format.specs.Format.{Outcome, left, layOutDesk}
 use Rattle.text.specs.Pieces.{placeOf}
+use Rattle.checkpoint.specs.Fit.{isRunning}
 use Rattle.checkpoint.specs.Live.{World}
 use Rattle.checkpoint.specs.Shown.{world}
 use Rattle.lines.specs.Lines.{linesIn}
 use Rattle.lines.proofs.LineLaws.{line-splits, lines-end}
 use Rattle.session.specs.Reply.{Ran, ran, lineRuns, worldAfter}
-use Rattle.session.specs.Script.{linesRun}
+use Rattle.session.specs.Script.{linesRun, FinishesSound}
+use Rattle.session.proofs.FinishLaws.{laid-idle}
 use Rattle.session.specs.declared.Reply.{Reply}
-
-pub checked : (m : List ℕ) → isSound Image m ≡ true → Sound mostImageBlocks true m
-checked m e = is-sound Image m .to e
 
 pub count-is : (m : List ℕ) (h : Header) → h ≡ headerOf m → h .inodes ≡ inodesIn m
 count-is m h e = ap (λ (x : Header). x .inodes) e
 
 pub after-line : (l : List ℕ) (w : World) (r : Reply) (s m d : List ℕ) → ran r (world s m d) ≡ lineRuns l w → world s m d ≡ worldAfter l w
 after-line l w r s m d e = ap (λ (x : Ran). world (x .store) (x .image) (x .desk)) e
+
+-- a copy that has finished in the line is sound
+pub finished-sound : (l : List ℕ) (w : World) (r : Reply) (s m d : List ℕ) → FinishesSound w → ran r (world s m d) ≡ lineRuns l w → r .finished ≡ true → Sound mostImageBlocks true m
+unfolding linesRun
+finished-sound l w r s m d h e f = subst (λ (x : Ran). x .reply .finished ≡ true → Sound mostImageBlocks true (x .image)) (sym e) (h [] l) f
+
+-- and so it is for the lines after it
+pub later-sound : (l : List ℕ) (w v : World) → v ≡ worldAfter l w → FinishesSound w → FinishesSound v
+unfolding linesRun
+later-sound l w v e h = rw e (λ ls. h (l ∷ ls))
 
 -- the line that was found at a place
 pub cut-line : (s : List ℕ) (at e : ℕ) (w v : World) → e ≡ placeOf s 10 at → v ≡ worldAfter (take (e - at) (drop at s)) w → v ≡ worldAfter (part s at (placeOf s 10 at - at)) w
@@ -43,3 +53,7 @@ line-turn s at next w v l e h = rw (line-splits s at l .lines, e, h) refl
 pub all-run : (s : List ℕ) (at : ℕ) (w : World) → length s ≤ at → linesRun (linesIn (drop at s)) w ≡ w
 unfolding linesRun
 all-run s at w l = rw (lines-end s at l) refl
+
+-- a desk that was laid out
+pub laid-desk : (d t : List ℕ) (a : Answer) → left a t ≡ layOutDesk d 16 → length d ≡ 160 → isRunning t ≡ false
+laid-desk d t a e l = ap (λ (o : Outcome). isRunning (o .buffer)) e ∙ laid-idle d 16 l (omega arith) (omega arith)

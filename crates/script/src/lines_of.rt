@@ -1,22 +1,24 @@
 // The lines of a script, one after the other.
 ghost use mathlib.Core.Path.{_≡_};
+ghost use mathlib.Core.Bool.{false};
 ghost use Prim.Native.Nat.{_+_, _-_, _<_, _≤_};
 ghost use lib.ListN.{length};
 ghost use Rattle.octets.specs.Octets.{part};
 ghost use Rattle.layout.specs.Sizes.{headerBytes};
 ghost use Rattle.desk.specs.Sizes.{deskHeaderBytes};
 ghost use Rattle.text.specs.Pieces.{placeOf};
+ghost use Rattle.checkpoint.specs.Fit.{isRunning};
 ghost use Rattle.checkpoint.specs.Shown.{world};
 ghost use Rattle.lines.specs.Lines.{linesIn};
 ghost use Rattle.session.specs.Reply.{worldAfter};
-ghost use Rattle.session.specs.Script.{linesRun};
+ghost use Rattle.session.specs.Script.{linesRun, FinishesSound};
 use crate::print;
 use lines::Next;
 use lines::line_from;
 
 // Runs one line, and prints what it is answered.
 fn answer(line: &[u8], store: &mut [u8], image: &mut [u8], desk: &mut [u8])
-    requires { ⌜ (headerBytes ≤ length (now image)) × (deskHeaderBytes ≤ length (now desk)) ⌝ }
+    requires { ⌜ (headerBytes ≤ length (now image)) × (deskHeaderBytes ≤ length (now desk)) × FinishesSound (world (now store) (now image) (now desk)) ⌝ }
     ensures { λ _. ⌜ world (now (store .exit)) (now (image .exit)) (now (desk .exit)) ≡ worldAfter (now (line .entry)) (world (now (store .entry)) (now (image .entry)) (now (desk .entry))) ⌝ }
 {
     let r = session::run::run(line, &mut *store, &mut *image, &mut *desk);
@@ -25,7 +27,7 @@ fn answer(line: &[u8], store: &mut [u8], image: &mut [u8], desk: &mut [u8])
 
 // The line that starts at a place; where the next one starts.
 fn one(script: &[u8], at: usize, store: &mut [u8], image: &mut [u8], desk: &mut [u8]) -> usize
-    requires { ⌜ (at < length (now script)) × (headerBytes ≤ length (now image)) × (deskHeaderBytes ≤ length (now desk)) ⌝ }
+    requires { ⌜ (at < length (now script)) × (headerBytes ≤ length (now image)) × (deskHeaderBytes ≤ length (now desk)) × FinishesSound (world (now store) (now image) (now desk)) ⌝ }
     ensures { λ r. ⌜ r ≡ placeOf (now (script .entry)) 10 at + 1 ⌝ }
     ensures { λ _. ⌜ world (now (store .exit)) (now (image .exit)) (now (desk .exit)) ≡ worldAfter (part (now (script .entry)) at (placeOf (now (script .entry)) 10 at - at)) (world (now (store .entry)) (now (image .entry)) (now (desk .entry))) ⌝ }
 {
@@ -36,9 +38,9 @@ fn one(script: &[u8], at: usize, store: &mut [u8], image: &mut [u8], desk: &mut 
     end + 1
 }
 
-// All lines, in order.
+// All lines, in order; before the first no copy runs.
 pub fn run(script: &[u8], store: &mut [u8], image: &mut [u8], desk: &mut [u8])
-    requires { ⌜ (headerBytes ≤ length (now image)) × (deskHeaderBytes ≤ length (now desk)) × (length (now script) ≤ 65536) ⌝ }
+    requires { ⌜ (headerBytes ≤ length (now image)) × (deskHeaderBytes ≤ length (now desk)) × (length (now script) ≤ 65536) × (isRunning (now desk) ≡ false) ⌝ }
     ensures { λ _. ⌜ world (now (store .exit)) (now (image .exit)) (now (desk .exit)) ≡ linesRun (linesIn (now (script .entry))) (world (now (store .entry)) (now (image .entry)) (now (desk .entry))) ⌝ }
 {
     let mut at = 0;

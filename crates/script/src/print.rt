@@ -16,7 +16,6 @@ use listing::put_entry;
 use listing::put_head;
 use listing::put_reply;
 use session::Reply;
-use sound::Form;
 use text::pieces::front;
 
 const MOST_SLOTS: usize = 48;
@@ -56,19 +55,17 @@ fn entries(m: &[u8], n: usize)
     }
 }
 
-// A finished copy is sound, so the check says yes.
 fn listing(m: &[u8], d: &[u8])
-    requires { ⌜ (headerBytes ≤ length (now m)) × (deskHeaderBytes ≤ length (now d)) ⌝ }
+    requires { ⌜ Sound mostImageBlocks true (now m) × (headerBytes ≤ length (now m)) × (deskHeaderBytes ≤ length (now d)) ⌝ }
 {
     head(m, d);
-    if checker::check::check(Form::Image, m) {
-        let h = Header::read(m);
-        entries(m, h.inodes as usize);
-    }
+    let h = Header::read(m);
+    entries(m, h.inodes as usize);
 }
 
+// The reply, and the listing of a copy that has finished in the line.
 pub fn line(r: Reply, m: &[u8], d: &[u8])
-    requires { ⌜ (headerBytes ≤ length (now m)) × (deskHeaderBytes ≤ length (now d)) ⌝ }
+    requires { ⌜ (r .finished ≡ true → Sound mostImageBlocks true (now m)) × (headerBytes ≤ length (now m)) × (deskHeaderBytes ≤ length (now d)) ⌝ }
 {
     reply(r.ok, r.number);
     if r.finished {

@@ -1,4 +1,4 @@
-use Rattle.script.proofs.ScriptLaws.{after-line}
+use Rattle.script.proofs.ScriptLaws.{finished-sound, after-line}
 use borrow.Author.Needs.{needs}
 use Rattle.script.proofs.lines_of.answer.Statement.{statement}
 use Rattle.script.proofs.lines_of.answer.Tie as tie
@@ -7,7 +7,7 @@ run-requires : tie.Need-run-requires
 run-requires c κs = search needs
 
 line-requires : tie.Need-line-requires
-line-requires c κs = search needs
+line-requires c κs = (finished-sound _ _ _ _ _ _ (c .before .before .before .before .before .before .before .before .before .before .before .before .before .before .before .before .pre .2) (c .before .before .before .before .before .before .before .before .run .ensures), search needs, search needs)
 
 same-length : tie.Need-same-length
 same-length c = search needs

@@ -1,9 +1,10 @@
 use borrow.Author.Needs.{needs}
 use native.Mathlib.Omega.{arith}
-use Rattle.script.proofs.ScriptLaws.{line-turn, all-run}
+use Rattle.script.proofs.ScriptLaws.{line-turn, all-run, later-sound}
 use Rattle.lines.specs.Lines.{linesIn}
 use Rattle.lines.proofs.LineLaws.{line-splits}
-use Rattle.session.specs.Script.{linesRun}
+use Rattle.session.specs.Script.{linesRun, FinishesSound}
+use Rattle.session.proofs.FinishLaws.{finishes-sound}
 use Rattle.checkpoint.specs.Shown.{world}
 use lib.ListN.{length, drop}
 use Prim.Native.Nat.{_+_, _-_, _≤_}
@@ -13,22 +14,22 @@ use Rattle.script.proofs.lines_of.run.Statement.{statement}
 use Rattle.script.proofs.lines_of.run.Tie as tie
 
 abbrev Inv-loop : tie.InvT-loop
-Inv-loop script store₀ image₀ desk₀ at₀ store image desk at = (at ≤ length script + 1) × (length store ≡ length store₀) × (length image ≡ length image₀) × (length desk ≡ length desk₀) × (linesRun (linesIn script) (world store₀ image₀ desk₀) ≡ linesRun (linesIn (drop at script)) (world store image desk))
+Inv-loop script store₀ image₀ desk₀ at₀ store image desk at = (at ≤ length script + 1) × (length store ≡ length store₀) × (length image ≡ length image₀) × (length desk ≡ length desk₀) × (linesRun (linesIn script) (world store₀ image₀ desk₀) ≡ linesRun (linesIn (drop at script)) (world store image desk)) × FinishesSound (world store image desk)
 
 abbrev μ-loop : tie.MeasureT-loop
 μ-loop script store₀ image₀ desk₀ at₀ store image desk at = length script + 1 - at
 
 loop-holds : tie.Need-loop-holds Inv-loop μ-loop
-loop-holds c = (omega arith, refl, refl, refl, refl)
+loop-holds c = (omega arith, refl, refl, refl, refl, finishes-sound _ (c .before .before .before .before .pre .3))
 
 one-requires : tie.Need-one-requires Inv-loop μ-loop
-one-requires c κs = search needs
+one-requires c κs = (omega arith, search needs, search needs, c .before .before .before .before .loop .inv .5)
 
 loop-less : tie.Need-loop-less Inv-loop μ-loop
 loop-less c = let x = line-splits (now (c .before .before .before .before .before .before .before .before .before .before .before .before .before .before .before .before .args .script)) (c .before .before .before .before .before .before .before .before .before .before .before .loop .at) (omega arith) in omega (arith, c .before .before .before .before .before .before .one .ensures .0, x .from, x .to)
 
 loop-again : tie.Need-loop-again Inv-loop μ-loop
-loop-again c = let i = c .before .before .before .before .before .before .before .before .before .before .before .loop in let x = line-splits (now (c .before .before .before .before .before .before .before .before .before .before .before .before .before .before .before .before .args .script)) (i .at) (omega arith) in (omega (arith, c .before .before .before .before .before .before .one .ensures .0, x .to), search needs, search needs, search needs, i .inv .4 ∙ line-turn _ (i .at) _ _ _ (omega arith) (c .before .before .before .before .before .before .one .ensures .0) (c .before .before .before .before .before .before .one .ensures .1))
+loop-again c = let i = c .before .before .before .before .before .before .before .before .before .before .before .loop in let x = line-splits (now (c .before .before .before .before .before .before .before .before .before .before .before .before .before .before .before .before .args .script)) (i .at) (omega arith) in (omega (arith, c .before .before .before .before .before .before .one .ensures .0, x .to), search needs, search needs, search needs, i .inv .4 ∙ line-turn _ (i .at) _ _ _ (omega arith) (c .before .before .before .before .before .before .one .ensures .0) (c .before .before .before .before .before .before .one .ensures .1), later-sound _ _ _ (c .before .before .before .before .before .before .one .ensures .1) (i .inv .5))
 
 same-length : tie.Need-same-length Inv-loop μ-loop
 same-length c = search needs

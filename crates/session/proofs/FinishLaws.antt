@@ -1,0 +1,157 @@
+-- Whatever the lines of a script, a copy that a line finishes is sound, so that a listing always has what it asks for.
+use Prim.Native.Nat.{ℕ, zero, suc, _≤_}
+use mathlib.Core.Path.{_≡_, refl, sym, ap, _∙_, subst}
+use mathlib.Core.Bool.{Bool, true, false, _||_, _&&_}
+use mathlib.Core.List.{List, [], _∷_}
+use native.Mathlib.Omega.{arith}
+use borrow.Author.Tests.{le-leb, eq-eqb}
+use lib.Dec.{eqb}
+use lib.ListN.{length, replicate, length-replicate}
+use Rattle.bounded.specs.Search.{pick}
+use Rattle.bounded.proofs.BoolLaws.{clash, and-right}
+use Rattle.layout.specs.Sizes.{mostInodes, mostImageBlocks, isComplete}
+use Rattle.layout.specs.Header.{headerOf}
+use Rattle.desk.specs.Sizes.{deskLength, running}
+use Rattle.desk.specs.Desk.{deskOf}
+use Rattle.desk.specs.declared.Desk.{Desk}
+use Rattle.sound.specs.Sound.{Sound, inodesIn}
+use Rattle.answers.specs.declared.Answer.{Answer}
+use Rattle.answers.specs.declared.Answer.the-variants.{Done, Refused}
+use Rattle.answers.specs.declared.Refusal.{Refusal}
+use Rattle.answers.specs.declared.Refusal.the-variants.{WrongState}
+use Rattle.answers.specs.Told.{Told, told}
+use Rattle.answers.proofs.RefusalLaws.{not-none}
+use Rattle.files.specs.declared.Guard.{Guard}
+use Rattle.files.specs.declared.Guard.the-variants.{Pass, Stop}
+use Rattle.files.specs.Guard.{onGuard}
+use Rattle.format.specs.Format.{deskAllowed, layOutDesk}
+use Rattle.format.proofs.FreshLaws.{desk-fresh}
+use Rattle.checkpoint.specs.Fit.{isRunning, imageBlocks}
+use Rattle.checkpoint.specs.Live.{World, Outcome, refuse, threeGuards, guarded, start, step}
+use Rattle.checkpoint.specs.Shown.{Shown, shown}
+use Rattle.checkpoint.specs.List.{Event, call, steps, asks, starts, outcome, next, accepted, completes}
+use Rattle.checkpoint.proofs.RefusedLaws.{start-refused}
+use Rattle.checkpoint.proofs.Run.Going.{Running, incomplete, next-is}
+use Rattle.checkpoint.proofs.Run.Turned.{Stepped, on, ends, halts, stepped}
+use Rattle.checkpoint.proofs.Run.Calls.{call-goes, asks-goes, starts-goes, asks-same}
+use Rattle.checkpoint.proofs.Run.Starts.{opens, opened-runs}
+use Rattle.checkpoint.proofs.Run.Rests.{idle}
+use Rattle.checkpoint.proofs.Run.Ends.{finals, halted}
+use Rattle.checkpoint.proofs.Run.Counts.{call-head}
+use Rattle.lines.specs.Ask.{Ask, event, stepping, none, askOf}
+use Rattle.session.specs.Reply as the
+use Rattle.session.specs.Reply.{Ran, ran, reply, replyTo, answered, lineRuns, worldAfter}
+use Rattle.session.specs.Script.{linesRun, FinishesSound, scriptInodes, fresh}
+
+-- ---- where no copy runs, a step is refused and changes nothing
+module _ (w : World) (i : isRunning (w .desk) ≡ false) where
+  refusing : (g : Guard) → (e : Refusal) × (onGuard {A = Outcome} g (λ n b. refuse WrongState (w .store) (w .image) (w .desk)) (λ e. refuse e (w .store) (w .image) (w .desk)) ≡ refuse e (w .store) (w .image) (w .desk))
+  refusing (Pass n b) = (WrongState, refl)
+  refusing (Stop e) = (e, refl)
+
+  idle-step : (e : Refusal) × (outcome steps w ≡ shown (refuse e (w .store) (w .image) (w .desk)))
+  unfolding outcome step guarded
+  idle-step = let r = refusing (threeGuards (w .store) (w .image) (w .desk)) in (r .0, rw i (ap shown (r .1)))
+
+  idle-not : accepted steps w ≡ false
+  idle-not = let r = idle-step in ap (λ (o : Shown). eqb (o .answer .number) 0) (r .1) ∙ not-none (r .0)
+
+  idle-same : next steps w ≡ w
+  idle-same = let r = idle-step in next-is steps w _ (r .1)
+
+-- ---- a script's worlds: no copy runs, or one runs as the theory of lists has it
+data Reached (w : World) : Type 0 where
+  asleep : isRunning (w .desk) ≡ false → Reached w
+  awake : (n b : ℕ) → Running n b w → Reached w
+
+same-running : (w v : World) → deskOf (v .desk) ≡ deskOf (w .desk) → isRunning (w .desk) ≡ false → isRunning (v .desk) ≡ false
+unfolding isRunning
+same-running w v e i = ap (λ (h : Desk). eqb (h .state) running) e ∙ i
+
+started : (w : World) → isRunning (w .desk) ≡ false → (b : Bool) → accepted starts w ≡ b → Reached (next starts w)
+unfolding outcome
+started w i true a = awake _ _ (opened-runs (inodesIn (w .store)) (imageBlocks (inodesIn (w .store)) (length (w .image))) w (opens w a) refl refl .runs)
+started w i false a = go (start (w .store) (w .image) (w .desk) .answer) refl
+  where
+    go : (x : Answer) → start (w .store) (w .image) (w .desk) .answer ≡ x → Reached (next starts w)
+    go (Done x) e = absurd (clash (accepted starts w) (ap (λ (y : Answer). eqb (told y .number) 0) e) a)
+    go (Refused e) h = subst Reached (sym (next-is starts w _ (ap shown (start-refused (w .store) (w .image) (w .desk) e h)))) (asleep i)
+
+step-reached : (n b : ℕ) (w : World) → Running n b w → Stepped n b w → Reached (next steps w)
+step-reached n b w r (on g q a) = awake n b (g .still)
+step-reached n b w r (ends f) = asleep (idle (finals n b w r f .rest))
+step-reached n b w r (halts f) = asleep (idle (halted n b w r f .rest))
+
+reached-next : (e : Event) (w : World) → Reached w → Reached (next e w)
+reached-next (call c) w (asleep i) = asleep (same-running w (next (call c) w) (call-head c w) i)
+reached-next steps w (asleep i) = subst Reached (sym (idle-same w i)) (asleep i)
+reached-next asks w (asleep i) = subst Reached (sym (asks-same w)) (asleep i)
+reached-next starts w (asleep i) = started w i (accepted starts w) refl
+reached-next (call c) w (awake n b r) = awake n b (call-goes n b w r c .still)
+reached-next steps w (awake n b r) = step-reached n b w r (stepped n b w r)
+reached-next asks w (awake n b r) = awake n b (asks-goes n b w r .still)
+reached-next starts w (awake n b r) = awake n b (starts-goes n b w r .still)
+
+-- ---- a step that finishes, and the steps after it
+record Finished (w : World) : Type 0 where
+  sound : Sound mostImageBlocks true (w .image)
+  idle : isRunning (w .desk) ≡ false
+
+finishing : (w : World) → Reached w → accepted steps w ≡ true → completes steps w ≡ true → Finished (next steps w)
+finishing w (asleep i) a c = absurd (clash (accepted steps w) a (idle-not w i))
+finishing w (awake n b r) a c = go (stepped n b w r)
+  where
+    go : Stepped n b w → Finished (next steps w)
+    go (on g q h) = absurd (clash (eqb (headerOf (next steps w .image) .complete) isComplete) (and-right (accepted steps w) _ c) (incomplete (g .still)))
+    go (ends f) = let x = finals n b w r f in record { sound = subst (Sound mostImageBlocks true) (sym (x .image)) (x .sound); idle = idle (x .rest) }
+    go (halts f) = absurd (clash (accepted steps w) a (ap (λ (t : Told). eqb (t .number) 0) (halted n b w r f .answer)))
+
+carried : (w : World) (f : Bool) → Reached w → (f ≡ true → Finished w) → accepted steps w ≡ true → (f || completes steps w) ≡ true → Finished (next steps w)
+carried w true h q a e = absurd (clash (accepted steps w) a (idle-not w (q refl .idle)))
+carried w false h q a e = finishing w h a e
+
+-- what a line leaves
+record Left (r : Ran) : Type 0 where
+  sound : r .reply .finished ≡ true → Sound mostImageBlocks true (r .image)
+  reached : Reached (record { store = r .store; image = r .image; desk = r .desk })
+
+steps-left : (k : ℕ) (w : World) (f : Bool) → Reached w → (f ≡ true → Finished w) → Left (the.stepped k w f)
+unfolding the.stepped
+steps-left zero w f h q = record { sound = λ e. q e .sound; reached = h }
+steps-left (suc k) w f h q = go (accepted steps w) refl (λ a. steps-left k (next steps w) (f || completes steps w) (reached-next steps w h) (carried w f h q a))
+  where
+    go : (b : Bool) → accepted steps w ≡ b → (accepted steps w ≡ true → Left (the.stepped k (next steps w) (f || completes steps w)))
+        → Left (pick b (the.stepped k (next steps w) (f || completes steps w)) (ran (reply false (outcome steps w .answer .number) f) (next steps w)))
+    go true a more = more a
+    go false a more = record { sound = λ e. subst (λ (v : World). Sound mostImageBlocks true (v .image)) (sym (idle-same w (q e .idle))) (q e .sound); reached = reached-next steps w h }
+
+never : (t : Told) → replyTo t .finished ≡ true → ⊥
+never t e = go (eqb (t .number) 0) e
+  where
+    go : (b : Bool) → pick b (reply true (the.valueIn (t .values)) false) (reply false (t .number) false) .finished ≡ true → ⊥
+    go true e = clash false e refl
+    go false e = clash false e refl
+
+line-left : (a : Ask) (w : World) → Reached w → Left (answered a w)
+line-left (event e) w h = record { sound = λ q. absurd (never (outcome e w .answer) q); reached = reached-next e w h }
+line-left (stepping k) w h = steps-left k w false h (λ e. absurd (clash false e refl))
+line-left none w h = record { sound = λ q. absurd (clash false q refl); reached = h }
+
+-- ---- lines
+reached-lines : (ls : List (List ℕ)) (w : World) → Reached w → Reached (linesRun ls w)
+unfolding linesRun lineRuns
+reached-lines [] w h = h
+reached-lines (l ∷ ls) w h = reached-lines ls (worldAfter l w) (line-left (askOf l) w h .reached)
+
+pub finishes-sound : (w : World) → isRunning (w .desk) ≡ false → FinishesSound w
+unfolding lineRuns
+finishes-sound w i ls l e = line-left (askOf l) (linesRun ls w) (reached-lines ls w (asleep i)) .sound e
+
+-- ---- a desk that was laid out
+pub laid-idle : (d : List ℕ) (n : ℕ) → length d ≡ deskLength n → 1 ≤ n → n ≤ mostInodes → isRunning (layOutDesk d n .buffer) ≡ false
+unfolding layOutDesk deskAllowed isRunning
+laid-idle d n e l m = rw (le-leb 1 n l, le-leb n mostInodes m, eq-eqb (length d) (deskLength n) e) (ap (λ (h : Desk). eqb (h .state) running) (desk-fresh n))
+
+pub fresh-finishes : FinishesSound fresh
+unfolding fresh
+fresh-finishes = finishes-sound fresh (laid-idle (replicate (deskLength scriptInodes) 0) scriptInodes (length-replicate {A = ℕ} (deskLength scriptInodes) 0) (omega arith) (omega arith))
