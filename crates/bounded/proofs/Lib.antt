@@ -8,3 +8,4 @@ pub mod ReflectLaws
 pub mod TableLaws
 pub mod SeenLaws
 pub mod SumLaws
+pub mod MostLaws

@@ -2,7 +2,7 @@
 use mathlib.Core.Path.{_≡_, refl, sym, ap, _∙_}
 use mathlib.Core.Bool.{Bool, true, false, not}
 use mathlib.Core.List.{List}
-use Prim.Native.Nat.{ℕ, _+_, _<_}
+use Prim.Native.Nat.{ℕ, zero, suc, _+_, _<_}
 use native.Mathlib.Decide.{ℕ-discrete}
 use native.Mathlib.Omega.{arith}
 use borrow.Author.Tests.{eq-eqb, ne-eqb}
@@ -29,6 +29,13 @@ some-skip p m e =
 pub some-here : (p : ℕ → Bool) (m : ℕ) → p m ≡ true → someBelow p (m + 1) ≡ true
 some-here p m e = some-of p (m + 1) m (omega arith) e
 
+-- nor one that fails at the w numbers from m on
+pub some-skips : (p : ℕ → Bool) (m w : ℕ) → ((k : ℕ) → k < w → p (m + k) ≡ false) → someBelow p (m + w) ≡ someBelow p m
+some-skips p m zero h = ap (someBelow p) (omega arith)
+some-skips p m (suc w) h =
+    let e : m + suc w ≡ m + w + 1 = omega arith in
+    ap (someBelow p) e ∙ some-skip p (m + w) (h w (omega arith)) ∙ some-skips p m w (λ k l. h k (omega arith))
+
 module _ (f : ℕ → ℕ) (n : ℕ) where
   pub seen-start : Seen f n 0 (replicate n 0)
   seen-start = record {
@@ -45,6 +52,18 @@ module _ (f : ℕ → ℕ) (n : ℕ) where
           ∙ sym (ap one (some-here (λ k. eqb (f k) v) m (eq-eqb (f m) v (sym e ∙ sym q))))
       at v b (no q) =
           getD-set-other l a v 1 0 q ∙ s .each v b ∙ sym (ap one (some-skip (λ k. eqb (f k) v) m (ne-eqb (f m) v (λ z. q (sym z ∙ sym e)))))
+
+  -- one value at the w numbers from m on
+  pub seen-run : (m w a : ℕ) (l : List ℕ) → 0 < w → ((k : ℕ) → k < w → f (m + k) ≡ a) → a < n → Seen f n m l → Seen f n (m + w) (set l a 1)
+  seen-run m w a l z e h s = record { long = length-set l a 1 ∙ s .long; each = λ v b. at v b (ℕ-discrete v a) }
+    where
+      at : (v : ℕ) → v < n → Dec (v ≡ a) → getD (set l a 1) v 0 ≡ one (someBelow (λ k. eqb (f k) v) (m + w))
+      at v b (yes q) =
+          ap (λ (j : ℕ). getD (set l a 1) j 0) q ∙ getD-set-same l a 1 0 (omega (arith, s .long))
+          ∙ sym (ap one (some-of (λ k. eqb (f k) v) (m + w) (m + 0) (omega arith) (eq-eqb (f (m + 0)) v (e 0 z ∙ sym q))))
+      at v b (no q) =
+          getD-set-other l a v 1 0 q ∙ s .each v b
+          ∙ sym (ap one (some-skips (λ k. eqb (f k) v) m w (λ k c. ne-eqb (f (m + k)) v (λ y. q (sym y ∙ e k c)))))
 
 -- what a place of the list says
 one-zero : (b : Bool) → one b ≡ 0 → b ≡ false

@@ -7,3 +7,4 @@ pub mod Reflect
 pub mod Table
 pub mod Seen
 pub mod Sum
+pub mod Most
