@@ -1,6 +1,6 @@
 -- A directory entry: its 16 bytes, starting anywhere in a block.
 use Prim.Native.Nat.{ℕ, _+_}
-use mathlib.Core.Bool.{Bool, _&&_}
+use mathlib.Core.Bool.{Bool, _&&_, _||_}
 use mathlib.Core.List.{List, _++_}
 use lib.Dec.{eqb}
 use lib.ListN.{getD}
@@ -8,7 +8,7 @@ use Rattle.bounded.specs.Below.{allBelow}
 use Rattle.bounded.specs.Search.{first, onFound}
 use Rattle.bounded.specs.Table.{table}
 use Rattle.octets.specs.Octets.{part, numAt, toBytes}
-use Rattle.names.specs.Name.{nameBytes, legalName}
+use Rattle.names.specs.Name.{nameBytes, dot, legalName}
 use Rattle.names.specs.declared.Name.{Name}
 
 -- "entries of 16 bytes: inode number (2), then the name in 14 bytes"
@@ -44,6 +44,10 @@ entryName e = part e nameAt (nameLength e)
 -- e holds a legal name, zero-filled
 unfoldable pub legalEntry : List ℕ → Bool
 legalEntry e = legalName (entryName e) && sameName e (entryName e)
+
+-- "is not `.` or `..`": one dot or two and then a zero byte, as the code reads it
+unfoldable pub hasDots : List ℕ → Bool
+hasDots e = eqb (getD e nameAt 0) dot && (eqb (getD e (nameAt + 1) 0) 0 || (eqb (getD e (nameAt + 1) 0) dot && eqb (getD e (nameAt + 2) 0) 0))
 
 -- the entry that names the inode i by name
 unfoldable pub entryFor : ℕ → List ℕ → List ℕ

@@ -4,7 +4,7 @@ ghost use Prim.Native.Nat.{_+_, _≤_};
 ghost use lib.ListN.{length};
 ghost use Rattle.names.specs.Name.{nameBytes, plainByte, isDots, legalName};
 ghost use Rattle.bounded.specs.Below.{allBelow};
-ghost use Rattle.names.specs.Entry.{entryBytes, entryInode, isEmpty, nameLength, legalEntry, entryFor, wordsAt, sameWords};
+ghost use Rattle.names.specs.Entry.{entryBytes, entryInode, isEmpty, hasDots, legalEntry, entryFor, wordsAt, sameWords};
 
 pub const ENTRY_BYTES: usize = 16;
 
@@ -128,30 +128,44 @@ pub fn legal_name(name: &[u8]) -> bool
     !is_dots(name)
 }
 
-// How many bytes the entry's name has.
-pub fn name_length(entry: &[u8]) -> usize
+// The entry's name is `.` or `..`.
+fn has_dots(entry: &[u8]) -> bool
     requires { ⌜ entryBytes ≤ length (now entry) ⌝ }
-    ensures { λ r. ⌜ (r ≡ nameLength (now (entry .entry))) × (r ≤ nameBytes) ⌝ }
+    ensures { λ r. ⌜ r ≡ hasDots (now (entry .entry)) ⌝ }
 {
-    for k in 0..NAME_BYTES {
-        if entry[NAME_AT + k] == 0 {
-            return k;
-        }
+    if entry[NAME_AT] != b'.' {
+        return false;
     }
-    NAME_BYTES
+    if entry[NAME_AT + 1] == 0 {
+        return true;
+    }
+    if entry[NAME_AT + 1] != b'.' {
+        return false;
+    }
+    entry[NAME_AT + 2] == 0
 }
 
-// The entry holds a legal name, and zero bytes after it.
+// The entry holds a legal name, and zero bytes after it. The 14 bytes are looked at eight at once, some of them twice.
 pub fn legal_entry(entry: &[u8]) -> bool
     requires { ⌜ entryBytes ≤ length (now entry) ⌝ }
     ensures { λ r. ⌜ r ≡ legalEntry (now (entry .entry)) ⌝ }
 {
-    let k = name_length(entry);
-    let name = &entry[NAME_AT..NAME_AT + k];
-    if !legal_name(name) {
+    if entry[NAME_AT] == 0 {
         return false;
     }
-    same_name(entry, Name::of(name))
+    if !octets::without(entry, NAME_AT, b'/') {
+        return false;
+    }
+    if !octets::without(entry, NAME_AT + 6, b'/') {
+        return false;
+    }
+    if !octets::zeros_last(entry, NAME_AT) {
+        return false;
+    }
+    if !octets::zeros_last(entry, NAME_AT + 5) {
+        return false;
+    }
+    !has_dots(entry)
 }
 
 pub fn put_entry(entry: &mut [u8], inode: u16, name: &[u8])

@@ -1,3 +1,5 @@
 pub mod PartLaws
 pub mod NumLaws
 pub mod WordLaws
+pub mod ZeroLaws
+pub mod FlagLaws

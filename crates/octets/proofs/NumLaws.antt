@@ -108,7 +108,7 @@ num-bound (suc k) s o h =
     rw (num-suc k s o, pow-succ' 256 k) (omega arith)
 
 -- what holds of the lowest byte and of the others holds of all
-each-byte : (P : ℕ → Type 0) (k : ℕ) → P 0 → ((i : ℕ) → i < k → P (suc i)) → (j : ℕ) → j < suc k → P j
+pub each-byte : (P : ℕ → Type 0) (k : ℕ) → P 0 → ((i : ℕ) → i < k → P (suc i)) → (j : ℕ) → j < suc k → P j
 each-byte P k z f zero l = z
 each-byte P k z f (suc j) l = f j (omega arith)
 

@@ -1,8 +1,19 @@
-// Bytes of a slice: numbers low byte first, ranges zeroed and copied.
+// Bytes of a slice: numbers low byte first, ranges zeroed and copied, bytes tested eight at once.
 ghost use mathlib.Core.Path.{_≡_};
-ghost use Prim.Native.Nat.{_+_, _<_, _≤_};
-ghost use lib.ListN.{length};
+ghost use mathlib.Core.Bool.{not, _||_};
+ghost use Prim.Native.Nat.{_+_, _*_, _<_, _≤_};
+ghost use lib.Dec.{eqb};
+ghost use lib.ListN.{length, getD};
+ghost use Rattle.bounded.specs.Below.{allBelow};
 ghost use Rattle.octets.specs.Octets.{Apart, numAt, putNum, zeroed, copied};
+ghost use Rattle.octets.specs.Flags.{flags};
+
+// Eight bytes, each 1, 127 or 128.
+const ONES: u64 = 0x0101_0101_0101_0101;
+
+const LOWS: u64 = 0x7f7f_7f7f_7f7f_7f7f;
+
+const HIGHS: u64 = 0x8080_8080_8080_8080;
 
 fn wide_8(x: u8) -> u16
     ensures { λ r. ⌜ (r ≡ x) × (r < 256) ⌝ }
@@ -115,4 +126,68 @@ pub fn copy_inside(s: &mut [u8], o: usize, p: usize, k: usize)
     for j in 0..k {
         s[o + j] = s[p + j];
     }
+}
+
+// ---- zero bytes
+// The m words of eight bytes from o on are 0.
+pub fn words_zero(s: &[u8], o: usize, m: usize) -> bool
+    requires { ⌜ o + 8 * m ≤ length (now s) ⌝ }
+    ensures { λ r. ⌜ r ≡ allBelow (λ j. eqb (getD (now (s .entry)) (o + j) 0) 0) (8 * m) ⌝ }
+{
+    for j in 0..m {
+        if get_64(s, o + 8 * j) != 0 {
+            return false;
+        }
+    }
+    true
+}
+
+// The k bytes from o on are 0, one by one.
+fn bytes_zero(s: &[u8], o: usize, k: usize) -> bool
+    requires { ⌜ o + k ≤ length (now s) ⌝ }
+    ensures { λ r. ⌜ r ≡ allBelow (λ j. eqb (getD (now (s .entry)) (o + j) 0) 0) k ⌝ }
+{
+    for j in 0..k {
+        if s[o + j] != 0 {
+            return false;
+        }
+    }
+    true
+}
+
+// The k bytes from o on are 0: as words, then those that are left.
+pub fn all_zero(s: &[u8], o: usize, k: usize) -> bool
+    requires { ⌜ o + k ≤ length (now s) ⌝ }
+    ensures { λ r. ⌜ r ≡ allBelow (λ j. eqb (getD (now (s .entry)) (o + j) 0) 0) k ⌝ }
+{
+    if !words_zero(s, o, k / 8) {
+        return false;
+    }
+    bytes_zero(s, o + 8 * (k / 8), k % 8)
+}
+
+// ---- eight bytes at once
+// 128 for each byte of w that is not 0, and 0 for one that is. A byte's low bits and 127 make less than 256, so no sum reaches the next byte.
+fn nonzero(w: u64) -> u64
+    ensures { λ r. ⌜ r ≡ flags 8 w ⌝ }
+{
+    (((w & LOWS) + LOWS) | w) & HIGHS
+}
+
+// None of the eight bytes from o on is x.
+pub fn without(s: &[u8], o: usize, x: u8) -> bool
+    requires { ⌜ o + 8 ≤ length (now s) ⌝ }
+    ensures { λ r. ⌜ r ≡ allBelow (λ j. not (eqb (getD (now (s .entry)) (o + j) 0) x)) 8 ⌝ }
+{
+    let y = wide_32(wide_16(wide_8(x)));
+    nonzero(get_64(s, o) ^ (ONES * y)) == HIGHS
+}
+
+// Where one of the eight bytes from o on is 0, the next is.
+pub fn zeros_last(s: &[u8], o: usize) -> bool
+    requires { ⌜ o + 9 ≤ length (now s) ⌝ }
+    ensures { λ r. ⌜ r ≡ allBelow (λ j. not (eqb (getD (now (s .entry)) (o + j) 0) 0) || eqb (getD (now (s .entry)) (o + 1 + j) 0) 0) 8 ⌝ }
+{
+    let a = nonzero(get_64(s, o));
+    a | nonzero(get_64(s, o + 1)) == a
 }

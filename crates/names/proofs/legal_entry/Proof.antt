@@ -1,68 +1,77 @@
-use Prim.Native.Nat.{ℕ}
-use mathlib.Core.Path.{ap, _∙_}
-use mathlib.Core.List.{List}
-use denote.Ref.{now}
-use Rattle.bounded.proofs.BoolLaws.{chain-stop, chain-on, chain-end}
-use Rattle.octets.specs.Octets.{Octets}
-use Rattle.names.specs.declared.Name.{Name}
-use Rattle.names.specs.Name.{legalName}
-use Rattle.names.specs.Entry.{entryName, legalEntry, wordsAt, sameWords}
-use Rattle.names.proofs.EntryLaws.{name-cut, octets-name, same-words}
+use mathlib.Core.Path.{sym, ap, _∙_}
+use mathlib.Core.Bool.{not}
+use native.Mathlib.Omega.{arith}
+use Rattle.bounded.proofs.BoolLaws.{clash, chain-on, chain-off}
+use Rattle.bounded.proofs.ReflectLaws.{r-fails}
+use Rattle.names.proofs.LegalLaws.{legal-is, proper-plain, proper-zeros, legal-dots}
 use borrow.Author.Needs.{needs}
 use Rattle.names.proofs.legal_entry.Statement.{statement}
 use Rattle.names.proofs.legal_entry.Tie as tie
 
-name-length-requires : tie.Need-name-length-requires
-name-length-requires c κs = search needs
-
-add-name : tie.Need-add-name
-add-name c = search needs
-
-sub-name : tie.Need-sub-name
-sub-name c = search needs
-
-part-name-start : tie.Need-part-name-start
-part-name-start c = search needs
-
-part-name-end : tie.Need-part-name-end
-part-name-end c = search needs
-
-legal-name-requires : tie.Need-legal-name-requires
-legal-name-requires c κs = search needs
+shared-slice-read-if1 : tie.Need-shared-slice-read-if1
+shared-slice-read-if1 c = search needs
 
 returns : tie.Need-returns
-unfolding legalEntry
-returns c =
-    let n = name-cut _ _ (c .before .before .before .name-length .ensures .0) in
-    chain-stop _ _ _ (c .before .legal-name .ensures ∙ ap legalName n) (c .if1 .taken)
+returns c = sym (r-fails (legal-is _ (search needs)) (λ p. p .begins (c .if1 .taken)))
 
-of-requires : tie.Need-of-requires
-of-requires c κs = search needs
-
-same-name-requires : tie.Need-same-name-requires
-same-name-requires c κs = search needs
+without-requires : tie.Need-without-requires
+without-requires c κs = search needs
 
 returns-2 : tie.Need-returns-2
-unfolding legalEntry
-returns-2 c =
-    let b = c .before .before .before in
-    let e = now (b .before .before .before .before .args .entry) in
-    let n = name-cut e _ (b .before .before .name-length .ensures .0) in
-    let o : Octets e = λ i. b .before .before .before .shared-slice-known .given i .fits in
-    chain-end _ _ _ (chain-on _ _ (b .legal-name .ensures ∙ ap legalName n) (c .before .before .if1 .left))
-    (c .same-name .ensures ∙ ap (λ (x : Name). sameWords (wordsAt e 2) x) (c .before .of .ensures ∙ ap (λ (x : List ℕ). wordsAt x 0) n) ∙ same-words e (entryName e) o (octets-name e o))
+returns-2 c = sym (r-fails (legal-is _ (search needs)) (λ p. clash _ (proper-plain _ p 2 (omega arith) (omega arith)) (chain-off _ _ (c .before .without .ensures) (c .if2 .taken))))
+
+add-without : tie.Need-add-without
+add-without c = search needs
+
+without-requires-2 : tie.Need-without-requires-2
+without-requires-2 c κs = search needs
+
+returns-3 : tie.Need-returns-3
+returns-3 c = sym (r-fails (legal-is _ (search needs)) (λ p. clash _ (proper-plain _ p 8 (omega arith) (omega arith)) (chain-off _ _ (c .before .without2 .ensures) (c .if3 .taken))))
+
+zeros-last-requires : tie.Need-zeros-last-requires
+zeros-last-requires c κs = search needs
+
+returns-4 : tie.Need-returns-4
+returns-4 c = sym (r-fails (legal-is _ (search needs)) (λ p. clash _ (proper-zeros _ p 2 (omega arith) (omega arith)) (chain-off _ _ (c .before .zeros-last .ensures) (c .if4 .taken))))
+
+add-zeros-last : tie.Need-add-zeros-last
+add-zeros-last c = search needs
+
+zeros-last-requires-2 : tie.Need-zeros-last-requires-2
+zeros-last-requires-2 c κs = search needs
+
+returns-5 : tie.Need-returns-5
+returns-5 c = sym (r-fails (legal-is _ (search needs)) (λ p. clash _ (proper-zeros _ p 7 (omega arith) (omega arith)) (chain-off _ _ (c .before .zeros-last2 .ensures) (c .if5 .taken))))
+
+has-dots-requires : tie.Need-has-dots-requires
+has-dots-requires c κs = search needs
+
+returns-6 : tie.Need-returns-6
+returns-6 c =
+    let e = c .before in
+    let d = e .before .before in
+    let b = d .before .before in
+    let a = b .before .before in
+    ap not (c .has-dots .ensures)
+    ∙ legal-dots _ (a .before .before .if1 .left) (chain-on _ _ (a .before .without .ensures) (a .if2 .left)) (chain-on _ _ (b .before .without2 .ensures) (b .if3 .left))
+    (chain-on _ _ (d .before .zeros-last .ensures) (d .if4 .left)) (chain-on _ _ (e .before .zeros-last2 .ensures) (e .if5 .left)) (search needs)
 
 pub legal-entry-spec : {M : Type 1} → statement M
 legal-entry-spec =
     tie.close
     (tie.spec
-    name-length-requires
-    add-name
-    sub-name
-    part-name-start
-    part-name-end
-    legal-name-requires
+    shared-slice-read-if1
     returns
-    of-requires
-    same-name-requires
-    returns-2)
+    without-requires
+    returns-2
+    add-without
+    without-requires-2
+    returns-3
+    zeros-last-requires
+    returns-4
+    add-zeros-last
+    zeros-last-requires-2
+    returns-5
+    has-dots-requires
+    returns-6)
