@@ -14,15 +14,14 @@ use Rattle.bounded.specs.Reflect.{Reflects}
 use Rattle.bounded.proofs.BoolLaws.{clash, fails, same-test, chain-stop, chain-on, chain-off, and-true, and-left, and-right, and-false-l, and-false-r, or-l, or-r}
 use Rattle.bounded.proofs.BelowLaws.{all-at, all-of, all-ext, all-split, all-chunk, some-at, some-none}
 use Rattle.bounded.proofs.CountLaws.{count-none, count-pos, new-zero}
-use Rattle.bounded.proofs.SeenLaws.{seen-more, seen-not, seen-some}
+use Rattle.bounded.proofs.SeenLaws.{seen-more, seen-run, seen-not, seen-some}
 use Rattle.bounded.proofs.ReflectLaws.{r-eq, r-le, r-lt, r-and, r-imp, r-fails, r-says, reflects-ext}
-use Rattle.octets.specs.Octets.{numAt}
-use Rattle.octets.proofs.NumLaws.{num-zero, zero-num}
 use Rattle.octets.proofs.PartLaws.{getD-part}
 use Rattle.layout.specs.Sizes.{addressCount, blockBytes, mostFileBytes, mostImageBlocks}
-use Rattle.layout.specs.Inode.{kindOf, spareOf, linksOf, sizeOf, parentOf, addressOf, place, freeKind, fileKind, directoryKind}
+use Rattle.layout.specs.Inode.{kindOf, spareOf, linksOf, sizeOf, parentOf, addressOf, place, freeKind, fileKind, directoryKind, attributesZero, addressesZero}
 use Rattle.layout.specs.Block.{blockAt, blockOf, blocksUsed, kthBlock}
 use Rattle.layout.specs.Free.{named}
+use Rattle.layout.proofs.InodeLaws.{attributes-none, addresses-none}
 use Rattle.sound.specs.Inode.{tailByte, usedB, restB, tailB, attributesB, addressesB, zeroTailB, inodeB}
 use Rattle.sound.specs.Sound.{unnamedB, zeroBlockB}
 use Rattle.sound.proofs.SoundLaws.{attributes}
@@ -200,34 +199,6 @@ inodes-are s n b =
     ∙ sym (all-chunk (newAt (addressOf s n)) addressCount n))
 
 -- ---- zero bytes
-abbrev zeroAt : List ℕ → ℕ → ℕ → Bool
-zeroAt s o j = eqb (getD s (o + j) 0) 0
-
-from-start : (s : List ℕ) (o a j : ℕ) → zeroAt s (o + a) j ≡ zeroAt s o (a + j)
-from-start s o a j = let e : o + a + j ≡ o + (a + j) = omega arith in ap (λ (x : ℕ). eqb (getD s x 0) 0) e
-
--- a word of eight bytes, and m of them
-word-zero : (s : List ℕ) (o : ℕ) → eqb (numAt 8 s o) 0 ≡ allBelow (zeroAt s o) 8
-word-zero s o =
-    same-test (eqb (numAt 8 s o) 0) (allBelow (zeroAt s o) 8)
-    (λ t. all-of (zeroAt s o) 8 (λ j l. eq-eqb (getD s (o + j) 0) 0 (num-zero 8 s o (eqb-true (numAt 8 s o) 0 t) j l)))
-    (λ t. eq-eqb (numAt 8 s o) 0 (zero-num 8 s o (λ j l. eqb-true (getD s (o + j) 0) 0 (all-at (zeroAt s o) 8 t j l))))
-
-pub words-are : (s : List ℕ) (o m : ℕ) → allBelow (λ j. eqb (numAt 8 s (o + 8 * j)) 0) m ≡ allBelow (λ j. eqb (getD s (o + j) 0) 0) (8 * m)
-words-are s o m =
-    all-ext (λ j. eqb (numAt 8 s (o + 8 * j)) 0) (λ j. allBelow (λ k. zeroAt s o (8 * j + k)) 8) m
-    (λ j l. word-zero s (o + 8 * j) ∙ all-ext (zeroAt s (o + 8 * j)) (λ k. zeroAt s o (8 * j + k)) 8 (λ k h. from-start s o (8 * j) k))
-    ∙ sym (all-chunk (zeroAt s o) 8 m)
-
--- k bytes are the words and what is left
-pub bytes-are : (s : List ℕ) (o k : ℕ) →
-    allBelow (λ j. eqb (getD s (o + j) 0) 0) k ≡ allBelow (λ j. eqb (getD s (o + j) 0) 0) (8 * (k / 8)) && allBelow (λ j. eqb (getD s (o + 8 * (k / 8) + j) 0) 0) (k % 8)
-bytes-are s o k =
-    let e : k ≡ 8 * (k / 8) + k % 8 = omega arith in
-    ap (allBelow (zeroAt s o)) e ∙ all-split (zeroAt s o) (8 * (k / 8)) (k % 8)
-    ∙ ap (λ (x : Bool). allBelow (zeroAt s o) (8 * (k / 8)) && x)
-    (all-ext (λ j. zeroAt s o (8 * (k / 8) + j)) (zeroAt s (o + 8 * (k / 8))) (k % 8) (λ j h. sym (from-start s o (8 * (k / 8)) j)))
-
 -- a range inside of a block, from byte o of it on
 block-byte : (s : List ℕ) (n c o : ℕ) → o < 64 → getD (blockOf s n c) o 0 ≡ getD s (blockAt n c + o) 0
 unfolding blockOf
@@ -306,3 +277,40 @@ module _ (s : List ℕ) (n k : ℕ) (map : List ℕ) (h : Seen (addressOf s n) 4
   blank-tested a z e =
       zero-block-is s n k a e
       ∙ sym (ap (λ (x : Bool). not (not x) || zeroBlockB s n k) (seen-not (addressOf s n) 4097 (addressCount * n) (k + 1) map h (omega arith) z))
+
+-- ---- an inode that is all zero
+module _ (s : List ℕ) (n b i : ℕ) (h : attributesZero s i && addressesZero s n i ≡ true) where
+  a : attributesZero s i ≡ true
+  a = and-left (attributesZero s i) (addressesZero s n i) h
+
+  d : addressesZero s n i ≡ true
+  d = and-right (attributesZero s i) (addressesZero s n i) h
+
+  no-size : sizeOf s i ≡ 0
+  no-size = attributes-none s i a .1 .1 .1 .0
+
+  none-used : 0 ≡ blocksUsed (sizeOf s i)
+  unfolding blocksUsed
+  none-used = let z = no-size in omega arith
+
+  blank-address : (k : ℕ) → k < addressCount → addressB s n b i k ≡ true
+  unfolding kthBlock
+  blank-address k l =
+      let e : place i 0 + k ≡ place i k = omega arith in
+      sym (address-rest s n b i k 0 0 none-used (sym (addresses-none s n i d k l) ∙ ap (addressOf s n) e) (omega arith))
+
+  pub blank-right : true ≡ inodeB s n b i && newBlocksB s n i
+  unfolding inodeB
+  blank-right =
+      let f = attributes-none s i a in
+      let x : addressesB s n b i && newBlocksB s n i ≡ true = sym (addresses-are s n b i) ∙ all-of (addressB s n b i) addressCount blank-address in
+      let t : attributesB s i ≡ true = sym (attr-free s i 0 (f .0) (f .1 .0) (f .1 .1 .0) (f .1 .1 .1 .0) (sym (f .1 .1 .1 .1))) in
+      let y : zeroTailB s n i ≡ true = sym (tail-none s n i (λ z. omega (arith, f .0, z))) in
+      sym
+      (and-true (inodeB s n b i) (newBlocksB s n i)
+      (and-true (attributesB s i) (addressesB s n b i && zeroTailB s n i) t
+      (and-true (addressesB s n b i) (zeroTailB s n i) (and-left (addressesB s n b i) (newBlocksB s n i) x) y))
+      (and-right (addressesB s n b i) (newBlocksB s n i) x))
+
+  pub blank-noted : (map : List ℕ) → 1 ≤ i → Seen (addressOf s n) 4097 (place i 0) map → Seen (addressOf s n) 4097 (addressCount * i) (set map 0 1)
+  blank-noted map l g = seen-as (addressOf s n) (set map 0 1) (omega arith) (seen-run (addressOf s n) 4097 (place i 0) 12 0 map (omega arith) (addresses-none s n i d) (omega arith) g)

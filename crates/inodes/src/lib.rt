@@ -8,7 +8,7 @@ ghost use Rattle.bounded.specs.Below.{allBelow};
 ghost use Rattle.bounded.specs.Count.{count, differB};
 ghost use Rattle.bounded.specs.Seen.{Seen};
 ghost use Rattle.layout.specs.Sizes.{headerBytes, mostInodes, mostImageBlocks, addressCount, inodeBytes};
-ghost use Rattle.layout.specs.Inode.{InodeFits, sizeOf, addressOf, place};
+ghost use Rattle.layout.specs.Inode.{InodeFits, sizeOf, addressOf, place, attributesZero, addressesZero};
 ghost use Rattle.layout.specs.Block.{Sized, blocksUsed};
 ghost use Rattle.sound.specs.Inode.{attributesB, addressesB, zeroTailB, inodeB};
 ghost use Rattle.sound.specs.Sound.{freeB, unnamedB, zeroBlockB};
@@ -21,6 +21,7 @@ use layout::sizes::DIRECTORY;
 use layout::sizes::FILE;
 use layout::sizes::FREE;
 use layout::sizes::MOST_FILE_BYTES;
+use octets::all_zero;
 
 // The attributes of inode i.
 fn attributes_right(s: &[u8], n: usize, i: usize) -> bool
@@ -99,43 +100,6 @@ fn addresses_right(s: &[u8], n: usize, b: usize, i: usize, map: &mut [u8]) -> bo
     true
 }
 
-// The m words of eight bytes from o on are 0.
-fn words_zero(s: &[u8], o: usize, m: usize) -> bool
-    requires { ⌜ o + 8 * m ≤ length (now s) ⌝ }
-    ensures { λ r. ⌜ r ≡ allBelow (λ j. eqb (getD (now (s .entry)) (o + j) 0) 0) (8 * m) ⌝ }
-{
-    for j in 0..m {
-        if octets::get_64(s, o + 8 * j) != 0 {
-            return false;
-        }
-    }
-    true
-}
-
-// The k bytes from o on are 0, one by one.
-fn bytes_zero(s: &[u8], o: usize, k: usize) -> bool
-    requires { ⌜ o + k ≤ length (now s) ⌝ }
-    ensures { λ r. ⌜ r ≡ allBelow (λ j. eqb (getD (now (s .entry)) (o + j) 0) 0) k ⌝ }
-{
-    for j in 0..k {
-        if s[o + j] != 0 {
-            return false;
-        }
-    }
-    true
-}
-
-// The k bytes from o on are 0: as words, then those that are left.
-pub fn all_zero(s: &[u8], o: usize, k: usize) -> bool
-    requires { ⌜ o + k ≤ length (now s) ⌝ }
-    ensures { λ r. ⌜ r ≡ allBelow (λ j. eqb (getD (now (s .entry)) (o + j) 0) 0) k ⌝ }
-{
-    if !words_zero(s, o, k / 8) {
-        return false;
-    }
-    bytes_zero(s, o + 8 * (k / 8), k % 8)
-}
-
 // The bytes of a file past its size in its last block.
 fn zero_tail(s: &[u8], n: usize, b: usize, i: usize) -> bool
     requires { ⌜ Sized (now s) n b × InodeFits (now s) n i × (attributesB (now s) i ≡ true) × (addressesB (now s) n b i ≡ true) ⌝ }
@@ -153,10 +117,25 @@ fn zero_tail(s: &[u8], n: usize, b: usize, i: usize) -> bool
     all_zero(s, block::block_at(n, last) + past, BLOCK_BYTES - past)
 }
 
+// Attributes and addresses are all zero, as a free inode's must be: four words.
+fn is_blank(s: &[u8], n: usize, i: usize) -> bool
+    requires { ⌜ InodeFits (now s) n i ⌝ }
+    ensures { λ r. ⌜ r ≡ attributesZero (now (s .entry)) i && addressesZero (now (s .entry)) n i ⌝ }
+{
+    if !inode::attributes_zero(s, n, i) {
+        return false;
+    }
+    inode::addresses_zero(s, n, i)
+}
+
 fn inode_right(s: &[u8], n: usize, b: usize, i: usize, map: &mut [u8]) -> bool
     requires { ⌜ Sized (now s) n b × InodeFits (now s) n i × Seen (addressOf (now s) n) (mostImageBlocks + 1) (place i 0) (now map) ⌝ }
     ensures { λ r. ⌜ (r ≡ inodeB (now (s .entry)) n b i && newBlocksB (now (s .entry)) n i) × (r ≡ true → Seen (addressOf (now (s .entry)) n) (mostImageBlocks + 1) (addressCount * i) (now (map .exit))) ⌝ }
 {
+    if is_blank(s, n, i) {
+        map[0] = 1;
+        return true;
+    }
     if !attributes_right(s, n, i) {
         return false;
     }
@@ -179,18 +158,18 @@ pub fn inodes_right(s: &[u8], n: usize, b: usize, map: &mut [u8]) -> bool
     true
 }
 
-// How many inodes are free.
+// How many inodes are free. A count of 16 bits, since a vector has more of them.
 pub fn free_inodes(s: &[u8], n: usize) -> usize
     requires { ⌜ (n ≤ mostInodes) × (headerBytes + inodeBytes * n ≤ length (now s)) ⌝ }
     ensures { λ r. ⌜ r ≡ count (freeB (now (s .entry))) n ⌝ }
 {
-    let mut free = 0;
+    let mut free = 0u16;
     for k in 0..n {
         if inode::kind(s, n, k + 1) == FREE {
             free += 1;
         }
     }
-    free
+    free as usize
 }
 
 // How many of the b blocks the map does not have.
@@ -198,13 +177,13 @@ pub fn free_blocks(map: &[u8], b: usize) -> usize
     requires { ⌜ (length (now map) ≡ mostImageBlocks + 1) × (b ≤ mostImageBlocks) ⌝ }
     ensures { λ r. ⌜ r ≡ count (λ k. eqb (getD (now (map .entry)) (k + 1) 0) 0) b ⌝ }
 {
-    let mut free = 0;
+    let mut free = 0u16;
     for k in 0..b {
         if map[k + 1] == 0 {
             free += 1;
         }
     }
-    free
+    free as usize
 }
 
 // The blocks that the map does not have are zero.

@@ -1,12 +1,21 @@
 -- Inodes: what the code's single writes make.
-use Prim.Native.Nat.{ℕ, _+_, _*_, _-_}
-use mathlib.Core.Path.{_≡_, ap}
+use Prim.Native.Nat.{ℕ, _+_, _*_, _-_, _<_}
+use mathlib.Core.Path.{_≡_, sym, ap, _∙_}
+use mathlib.Core.Bool.{true}
 use mathlib.Core.List.{List}
 use native.Mathlib.Nat.{add-assoc}
 use native.Mathlib.Omega.{arith}
-use Rattle.octets.specs.Octets.{splice, toBytes, putNum, wordBytes}
+use borrow.Author.Tests.{eqb-true}
+use lib.Dec.{eqb}
+use lib.ListN.{getD}
+use Rattle.bounded.specs.Below.{allBelow}
+use Rattle.bounded.proofs.BelowLaws.{all-at, all-ext}
+use Rattle.bounded.proofs.ReflectLaws.{r-eq, r-and, r-says, reflects-ext}
+use Rattle.octets.specs.Octets.{splice, numAt, toBytes, putNum, wordBytes}
+use Rattle.octets.proofs.NumLaws.{num-join}
+use Rattle.octets.proofs.ZeroLaws.{numbers-zero}
 use Rattle.layout.specs.declared.inode.Inode.{Inode}
-use Rattle.layout.specs.Inode.{attributeEntry, addressAt, place, putAddresses}
+use Rattle.layout.specs.Inode.{attributesAt, kindOf, spareOf, linksOf, sizeOf, parentOf, attributesZero, attributeEntry, addressAt, place, addressOf, addressesZero, putAddresses}
 
 -- the attributes, field by field
 pub attribute-chain : (s : List ℕ) (o : ℕ) (v : Inode) →
@@ -20,3 +29,45 @@ unfolding putAddresses
 addresses-put s n i o vs e =
     let g : o ≡ addressAt n (place i 0) = omega arith in
     ap (λ (p : ℕ). splice s p (wordBytes vs)) g
+
+-- ---- zero bytes, as words
+-- the word is its fields
+fields : (s : List ℕ) (o : ℕ) → numAt 8 s o ≡ numAt 1 s o + 256 * (numAt 1 s (o + 1) + 256 * (numAt 2 s (o + 2) + 65536 * (numAt 2 s (o + 4) + 65536 * numAt 2 s (o + 6))))
+fields s o =
+    let a : o + 1 + 1 ≡ o + 2 = omega arith in
+    let b : o + 2 + 2 ≡ o + 4 = omega arith in
+    let d : o + 4 + 2 ≡ o + 6 = omega arith in
+    num-join 1 7 s o
+    ∙ ap (λ (x : ℕ). numAt 1 s o + 256 * x)
+    (num-join 1 6 s (o + 1) ∙ ap (λ (x : ℕ). numAt 1 s (o + 1) + 256 * x)
+    (ap (numAt 6 s) a ∙ num-join 2 4 s (o + 2) ∙ ap (λ (x : ℕ). numAt 2 s (o + 2) + 65536 * x)
+    (ap (numAt 4 s) b ∙ num-join 2 2 s (o + 4) ∙ ap (λ (x : ℕ). numAt 2 s (o + 4) + 65536 * x) (ap (numAt 2 s) d))))
+
+pub attributes-word : (s : List ℕ) (i o : ℕ) → o ≡ attributesAt i → eqb (numAt 8 s o) 0 ≡ attributesZero s i
+unfolding attributesZero kindOf spareOf linksOf sizeOf parentOf
+attributes-word s i o e =
+    let f = fields s (attributesAt i) in
+    ap (λ (x : ℕ). eqb (numAt 8 s x) 0) e
+    ∙ reflects-ext (r-eq (numAt 8 s (attributesAt i)) 0)
+    (r-says (λ t. let a = t .0 in let b = t .1 .0 in let c = t .1 .1 .0 in let d = t .1 .1 .1 .0 in let g = t .1 .1 .1 .1 in omega arith)
+    (λ z. (omega arith, (omega arith, (omega arith, (omega arith, omega arith)))))
+    (r-and (r-eq (numAt 1 s (attributesAt i)) 0) (r-and (r-eq (numAt 1 s (attributesAt i + 1)) 0) (r-and (r-eq (numAt 2 s (attributesAt i + 2)) 0)
+    (r-and (r-eq (numAt 2 s (attributesAt i + 4)) 0) (r-eq (numAt 2 s (attributesAt i + 6)) 0))))))
+
+pub addresses-words : (s : List ℕ) (n i o : ℕ) → o ≡ addressAt n (12 * (i - 1)) → allBelow (λ j. eqb (getD s (o + j) 0) 0) 24 ≡ addressesZero s n i
+unfolding addressesZero addressOf
+addresses-words s n i o e =
+    sym (numbers-zero 2 s o 12)
+    ∙ all-ext (λ k. eqb (numAt 2 s (o + 2 * k)) 0) (λ k. eqb (numAt 2 s (addressAt n (place i k))) 0) 12
+    (λ k l. let g : o + 2 * k ≡ addressAt n (place i k) = omega arith in ap (λ (x : ℕ). eqb (numAt 2 s x) 0) g)
+
+-- what they say
+pub attributes-none : (s : List ℕ) (i : ℕ) → attributesZero s i ≡ true → (kindOf s i ≡ 0) × ((spareOf s i ≡ 0) × ((linksOf s i ≡ 0) × ((sizeOf s i ≡ 0) × (parentOf s i ≡ 0))))
+unfolding attributesZero
+attributes-none s i = r-and (r-eq (kindOf s i) 0) (r-and (r-eq (spareOf s i) 0) (r-and (r-eq (linksOf s i) 0) (r-and (r-eq (sizeOf s i) 0) (r-eq (parentOf s i) 0)))) .to
+
+pub addresses-none : (s : List ℕ) (n i : ℕ) → addressesZero s n i ≡ true → (k : ℕ) → k < 12 → addressOf s n (place i 0 + k) ≡ 0
+unfolding addressesZero
+addresses-none s n i h k l =
+    let e : place i 0 + k ≡ place i k = omega arith in
+    ap (addressOf s n) e ∙ eqb-true (addressOf s n (place i k)) 0 (all-at (λ j. eqb (addressOf s n (place i j)) 0) 12 h k l)

@@ -5,6 +5,7 @@ use mathlib.Core.List.{List, _++_}
 use lib.Dec.{eqb, leb}
 use lib.ListN.{length, replicate}
 use Rattle.octets.specs.Octets.{splice, numAt, toBytes, putNum, wordBytes}
+use Rattle.bounded.specs.Below.{allBelow}
 use Rattle.bounded.specs.Table.{table}
 use Rattle.layout.specs.Sizes.{headerBytes, attributeBytes, addressCount, inodeBytes, mostInodes}
 use Rattle.layout.specs.declared.inode.Inode.{Inode}
@@ -99,6 +100,13 @@ isFile s n i = isKind s n fileKind i
 
 abbrev pub isDirectory : List ℕ → ℕ → ℕ → Bool
 isDirectory s n i = isKind s n directoryKind i
+
+-- "all-zero attributes and addresses": both, each by itself
+unfoldable pub attributesZero : List ℕ → ℕ → Bool
+attributesZero s i = eqb (kindOf s i) 0 && (eqb (spareOf s i) 0 && (eqb (linksOf s i) 0 && (eqb (sizeOf s i) 0 && eqb (parentOf s i) 0)))
+
+unfoldable pub addressesZero : List ℕ → ℕ → ℕ → Bool
+addressesZero s n i = allBelow (λ k. eqb (addressOf s n (place i k)) 0) addressCount
 
 -- "attributes and addresses become zero"
 unfoldable pub zeroInode : Inode

@@ -6,9 +6,10 @@ ghost use lib.Dec.{eqb};
 ghost use Rattle.bounded.specs.Search.{firstFrom};
 ghost use Rattle.bounded.specs.Seen.{Seen};
 ghost use Rattle.layout.specs.Sizes.{headerBytes, inodeBytes, addressCount, mostInodes, mostImageBlocks};
-ghost use Rattle.layout.specs.Inode.{addressOf};
+ghost use Rattle.layout.specs.Inode.{InodeFits, addressOf, place};
 ghost use Rattle.layout.specs.Free.{freeInode, freeBlock};
 use crate::inode::address;
+use crate::inode::addresses_zero;
 use crate::inode::kind;
 use crate::sizes::ADDRESS_COUNT;
 use crate::sizes::FREE;
@@ -26,6 +27,23 @@ pub fn free_inode(s: &[u8], n: usize) -> Found
     Found::Absent
 }
 
+// The addresses of inode i are noted in the map. Most inodes have none.
+fn note_blocks(s: &[u8], n: usize, i: usize, map: &mut [u8; 4097])
+    requires { ⌜ InodeFits (now s) n i × Seen (addressOf (now s) n) (mostImageBlocks + 1) (place i 0) (now map) ⌝ }
+    requires { ⌜ ((x : ℕ) → x < addressCount * n → addressOf (now s) n x ≤ mostImageBlocks) ⌝ }
+    ensures { λ _. ⌜ Seen (addressOf (now (s .entry)) n) (mostImageBlocks + 1) (addressCount * i) (now (map .exit)) ⌝ }
+{
+    if addresses_zero(s, n, i) {
+        map[0] = 1;
+        return;
+    }
+    let x = ADDRESS_COUNT * (i - 1);
+    for k in 0..ADDRESS_COUNT {
+        let b = address(s, n, x + k) as usize;
+        map[b] = 1;
+    }
+}
+
 // A byte for each block, 1 where an address names the block: one pass over the addresses. Place 0 stands for no block.
 pub fn named_blocks(s: &[u8], n: usize) -> [u8; 4097]
     requires { ⌜ (n ≤ mostInodes) × (headerBytes + inodeBytes * n ≤ length (now s)) ⌝ }
@@ -33,9 +51,8 @@ pub fn named_blocks(s: &[u8], n: usize) -> [u8; 4097]
     ensures { λ r. ⌜ Seen (addressOf (now (s .entry)) n) (mostImageBlocks + 1) (addressCount * n) r ⌝ }
 {
     let mut map = [0u8; 4097];
-    for x in 0..ADDRESS_COUNT * n {
-        let b = address(s, n, x) as usize;
-        map[b] = 1;
+    for k in 0..n {
+        note_blocks(s, n, k + 1, &mut map);
     }
     map
 }

@@ -4,7 +4,7 @@ ghost use Prim.Native.Nat.{_+_, _*_, _<_, _≤_};
 ghost use lib.ListN.{length};
 ghost use Rattle.octets.specs.Octets.{splice, wordBytes};
 ghost use Rattle.layout.specs.Sizes.{headerBytes, inodeBytes, addressCount, mostInodes};
-ghost use Rattle.layout.specs.Inode.{InodeFits, attributesAt, addressAt, kindOf, spareOf, linksOf, sizeOf, parentOf, putLinks, putAttributes, addressOf, putAddress, addressesOf, inodeOf, putInode};
+ghost use Rattle.layout.specs.Inode.{InodeFits, attributesAt, addressAt, kindOf, spareOf, linksOf, sizeOf, parentOf, attributesZero, addressesZero, putLinks, putAttributes, addressOf, putAddress, addressesOf, inodeOf, putInode};
 use crate::sizes::ADDRESS_COUNT;
 use crate::sizes::ATTRIBUTE_BYTES;
 use crate::sizes::HEADER_BYTES;
@@ -66,6 +66,22 @@ pub fn parent(s: &[u8], n: usize, i: usize) -> u16
     ensures { λ r. ⌜ r ≡ parentOf (now (s .entry)) i ⌝ }
 {
     octets::get_16(s, attributes_at(i) + 6)
+}
+
+// The eight bytes of the attributes are 0: one word.
+pub fn attributes_zero(s: &[u8], n: usize, i: usize) -> bool
+    requires { ⌜ InodeFits (now s) n i ⌝ }
+    ensures { λ r. ⌜ r ≡ attributesZero (now (s .entry)) i ⌝ }
+{
+    octets::get_64(s, attributes_at(i)) == 0
+}
+
+// The twelve addresses are 0: three words.
+pub fn addresses_zero(s: &[u8], n: usize, i: usize) -> bool
+    requires { ⌜ InodeFits (now s) n i ⌝ }
+    ensures { λ r. ⌜ r ≡ addressesZero (now (s .entry)) n i ⌝ }
+{
+    octets::words_zero(s, address_at(n, ADDRESS_COUNT * (i - 1)), 3)
 }
 
 pub fn put_links(s: &mut [u8], n: usize, i: usize, v: u16)

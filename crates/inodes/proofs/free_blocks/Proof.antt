@@ -43,6 +43,9 @@ loop-again c =
     (λ w. (omega arith, w .1 ∙ i .inv .1 ∙ sym (count-miss _ (i .k) (ne-eqb _ 0 (w .0 .left)))))
     (c .if1 .came)
 
+cast-result : tie.Need-cast-result Inv-loop μ-loop
+cast-result c = omega (arith, count-le (λ x. eqb (getD (c .before .before .args .map .now) (x + 1) 0) 0) (c .before .loop .k))
+
 returns : tie.Need-returns Inv-loop μ-loop
 returns c = let e : c .before .loop .k ≡ c .before .before .args .b = omega arith in rw e at (c .before .loop .inv .1)
 
@@ -59,4 +62,5 @@ free-blocks-spec =
     add-k
     loop-less
     loop-again
+    cast-result
     returns)

@@ -44,6 +44,9 @@ loop-again c =
     (λ w. (omega arith, w .1 ∙ i .inv .1 ∙ sym (count-miss _ (i .k) (ne-eqb _ 0 (λ z. w .0 .left (e ∙ z))))))
     (c .if1 .came)
 
+cast-result : tie.Need-cast-result Inv-loop μ-loop
+cast-result c = omega (arith, count-le (freeB (c .before .before .before .args .s .now)) (c .before .loop .k))
+
 returns : tie.Need-returns Inv-loop μ-loop
 returns c = let e : c .before .loop .k ≡ c .before .before .before .args .n = omega arith in rw e at (c .before .loop .inv .1)
 
@@ -60,4 +63,5 @@ free-inodes-spec =
     add-k
     loop-less
     loop-again
+    cast-result
     returns)

@@ -1,50 +1,70 @@
+use mathlib.Core.Path.{sym, _∙_}
 use borrow.Author.Tests.{not-false}
-use borrow.Author.Needs.{needs}
 use Rattle.bounded.proofs.BoolLaws.{chain-on, never}
-use Rattle.inodes.proofs.InodeLaws.{inode-stop, inode-named, inode-addresses, inode-end}
+use Rattle.inodes.proofs.InodeLaws.{inode-stop, inode-named, inode-addresses, inode-end, blank-right, blank-noted}
+use borrow.Author.Needs.{needs}
 use Rattle.inodes.proofs.inode_right.Statement.{statement}
 use Rattle.inodes.proofs.inode_right.Tie as tie
 
-attributes-right-requires : tie.Need-attributes-right-requires
-attributes-right-requires c κs = c .before .before .pre .1
+is-blank-requires : tie.Need-is-blank-requires
+is-blank-requires c κs = search needs
 
-returns : tie.Need-returns
-returns c = (inode-stop _ _ _ _ _ (c .before .attributes-right .ensures) (c .if1 .taken), never)
-
-addresses-right-requires : tie.Need-addresses-right-requires
-addresses-right-requires c κs = let p = c .before .before .before .before .before .pre in (p .1, p .0 .blocks, p .2)
+slice-write-map : tie.Need-slice-write-map
+slice-write-map c = search needs
 
 same-length : tie.Need-same-length
 same-length c = search needs
 
-returns-2 : tie.Need-returns-2
-returns-2 c =
-    (inode-named _ _ _ _ _ (chain-on _ _ (c .before .before .before .before .before .before .attributes-right .ensures) (c .before .before .before .before .before .if1 .left)) (c .before .before .before .addresses-right .ensures .0) (c .if2 .taken), never)
+returns : tie.Need-returns
+returns c =
+    let p = c .before .before .before .before .pre in
+    let e = sym (c .before .is-blank .ensures) ∙ c .if1 .taken in
+    (blank-right _ _ _ _ e, λ q. blank-noted _ _ 0 _ e _ (p .1 .low) (p .2))
 
-zero-tail-requires : tie.Need-zero-tail-requires
-zero-tail-requires c κs =
-    let p = c .before .before .before .before .before .before .before .before .before .pre in
-    let a = chain-on _ _ (c .before .before .before .before .before .before .attributes-right .ensures) (c .before .before .before .before .before .if1 .left) in
-    (p .0, p .1, a, inode-addresses _ _ _ _ _ a (c .before .before .before .addresses-right .ensures .0) (c .if2 .left))
+attributes-right-requires : tie.Need-attributes-right-requires
+attributes-right-requires c κs = search needs
+
+returns-2 : tie.Need-returns-2
+returns-2 c = (inode-stop _ _ _ _ _ (c .before .attributes-right .ensures) (c .if2 .taken), never)
+
+addresses-right-requires : tie.Need-addresses-right-requires
+addresses-right-requires c κs = search needs
 
 same-length-2 : tie.Need-same-length-2
 same-length-2 c = search needs
 
 returns-3 : tie.Need-returns-3
 returns-3 c =
-    let a = chain-on _ _ (c .before .before .before .before .before .before .before .attributes-right .ensures) (c .before .before .before .before .before .before .if1 .left) in
+    (inode-named _ _ _ _ _ (chain-on _ _ (c .before .before .before .before .before .before .attributes-right .ensures) (c .before .before .before .before .before .if2 .left)) (c .before .before .before .addresses-right .ensures .0) (c .if3 .taken), never)
+
+zero-tail-requires : tie.Need-zero-tail-requires
+zero-tail-requires c κs =
+    let p = c .before .before .before .before .before .before .before .before .before .before .before .pre in
+    let a = chain-on _ _ (c .before .before .before .before .before .before .attributes-right .ensures) (c .before .before .before .before .before .if2 .left) in
+    (p .0, p .1, a, inode-addresses _ _ _ _ _ a (c .before .before .before .addresses-right .ensures .0) (c .if3 .left))
+
+same-length-3 : tie.Need-same-length-3
+same-length-3 c = search needs
+
+returns-4 : tie.Need-returns-4
+returns-4 c =
+    let a = chain-on _ _ (c .before .before .before .before .before .before .before .attributes-right .ensures) (c .before .before .before .before .before .before .if2 .left) in
     let y = c .before .before .before .before .addresses-right in
-    (inode-end _ _ _ _ _ a (y .ensures .0) (c .before .if2 .left) _ (c .zero-tail .ensures), λ q. y .ensures .1 (not-false _ (c .before .if2 .left)))
+    (inode-end _ _ _ _ _ a (y .ensures .0) (c .before .if3 .left) _ (c .zero-tail .ensures), λ q. y .ensures .1 (not-false _ (c .before .if3 .left)))
 
 pub inode-right-spec : {M : Type 1} → statement M
 inode-right-spec =
     tie.close
     (tie.spec
-    attributes-right-requires
-    returns
-    addresses-right-requires
+    is-blank-requires
+    slice-write-map
     same-length
+    returns
+    attributes-right-requires
     returns-2
-    zero-tail-requires
+    addresses-right-requires
     same-length-2
-    returns-3)
+    returns-3
+    zero-tail-requires
+    same-length-3
+    returns-4)

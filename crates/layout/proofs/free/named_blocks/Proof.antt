@@ -1,45 +1,43 @@
-use Prim.Native.Nat.{_≤_, _-_, _*_}
+use Prim.Native.Nat.{_+_, _≤_, _-_, _*_}
 use mathlib.Core.Path.{_≡_}
 use native.Mathlib.Omega.{arith}
 use Rattle.bounded.specs.Seen.{Seen}
-use Rattle.bounded.proofs.SeenLaws.{seen-start, seen-more}
-use Rattle.layout.specs.Inode.{addressOf}
+use Rattle.bounded.proofs.SeenLaws.{seen-start}
+use Rattle.layout.specs.Inode.{addressOf, place}
 use borrow.Author.Needs.{needs}
 use Rattle.layout.proofs.free.named_blocks.Statement.{statement}
 use Rattle.layout.proofs.free.named_blocks.Tie as tie
 
 abbrev Inv-loop : tie.InvT-loop
-Inv-loop s n map₀ x₀ x-end map x = (x ≤ 12 * n) × Seen (addressOf s n) 4097 x map
+Inv-loop s n map₀ k₀ map k = (k ≤ n) × Seen (addressOf s n) 4097 (12 * k) map
 
 abbrev μ-loop : tie.MeasureT-loop
-μ-loop s n map₀ x₀ x-end map x = 12 * n - x
-
-mul-x-end : tie.Need-mul-x-end Inv-loop μ-loop
-mul-x-end c = search needs
+μ-loop s n map₀ k₀ map k = n - k
 
 loop-holds : tie.Need-loop-holds Inv-loop μ-loop
 loop-holds c = (omega arith, seen-start _ 4097)
 
-address-requires : tie.Need-address-requires Inv-loop μ-loop
-address-requires c κs = search needs
+add-note-blocks : tie.Need-add-note-blocks Inv-loop μ-loop
+add-note-blocks c = search needs
 
-cast-b : tie.Need-cast-b Inv-loop μ-loop
-cast-b c = search needs
+note-blocks-requires : tie.Need-note-blocks-requires Inv-loop μ-loop
+note-blocks-requires c κs =
+    let p = c .before .before .before .before .pre in
+    let l = c .before .before .loop in
+    let e : 12 * l .k ≡ place (l .k + 1) 0 = omega arith in
+    ((record { low = omega arith; high = omega arith; few = p .0 .0; area = p .0 .1 }, rw e at (l .inv .1)), p .1)
 
-array-write-map : tie.Need-array-write-map Inv-loop μ-loop
-array-write-map c = omega (arith, c .address .ensures, c .before .before .before .before .pre .1 (c .before .before .loop .x) (omega arith))
-
-add-x : tie.Need-add-x Inv-loop μ-loop
-add-x c = search needs
+add-k : tie.Need-add-k Inv-loop μ-loop
+add-k c = search needs
 
 loop-less : tie.Need-loop-less Inv-loop μ-loop
 loop-less c = search needs
 
 loop-again : tie.Need-loop-again Inv-loop μ-loop
-loop-again c = let i = c .before .before .loop in let b = c .before .before .before .before .pre .1 (i .x) (omega arith) in (omega arith, seen-more _ 4097 (i .x) _ _ (c .address .ensures) (omega (arith, c .address .ensures, b)) (i .inv .1))
+loop-again c = (omega arith, c .note-blocks .ensures)
 
 returns : tie.Need-returns Inv-loop μ-loop
-returns c = let e : c .before .loop .x ≡ 12 * c .before .before .before .args .n = omega arith in rw e at (c .before .loop .inv .1)
+returns c = let e : c .before .loop .k ≡ c .before .before .before .args .n = omega arith in rw e at (c .before .loop .inv .1)
 
 pub named-blocks-spec : {M : Type 1} → statement M
 named-blocks-spec =
@@ -47,12 +45,10 @@ named-blocks-spec =
     (tie.spec
     Inv-loop
     μ-loop
-    mul-x-end
     loop-holds
-    address-requires
-    cast-b
-    array-write-map
-    add-x
+    add-note-blocks
+    note-blocks-requires
+    add-k
     loop-less
     loop-again
     returns)

@@ -1,0 +1,97 @@
+use Prim.Native.Nat.{_+_, _≤_, _-_, _*_}
+use mathlib.Core.Path.{_≡_, refl, sym, _∙_}
+use native.Mathlib.Omega.{arith}
+use Rattle.bounded.specs.Seen.{Seen}
+use Rattle.bounded.proofs.SeenLaws.{seen-more, seen-run}
+use Rattle.layout.specs.Inode.{addressOf, place}
+use Rattle.layout.proofs.InodeLaws.{addresses-none}
+use borrow.Author.Needs.{needs}
+use Rattle.layout.proofs.free.note_blocks.Statement.{statement}
+use Rattle.layout.proofs.free.note_blocks.Tie as tie
+
+abbrev Inv-loop : tie.InvT-loop
+Inv-loop s n i map₀ x k₀ map k = (k ≤ 12) × (x ≡ 12 * (i - 1)) × Seen (addressOf s n) 4097 (place i k) map
+
+abbrev μ-loop : tie.MeasureT-loop
+μ-loop s n i map₀ x k₀ map k = 12 - k
+
+addresses-zero-requires : tie.Need-addresses-zero-requires Inv-loop μ-loop
+addresses-zero-requires c κs = search needs
+
+element-write-map : tie.Need-element-write-map Inv-loop μ-loop
+element-write-map c = search needs
+
+returns : tie.Need-returns Inv-loop μ-loop
+returns c =
+    let b = c .before .before .before in
+    let p = b .pre .0 in
+    let i = b .args .i in
+    let e : place i 0 + 12 ≡ 12 * i = omega (arith, p .0 .low) in
+    rw e at (seen-run _ 4097 (place i 0) 12 0 _ (omega arith) (addresses-none _ _ i (sym (c .before .addresses-zero .ensures) ∙ c .if1 .taken)) (omega arith) (p .1))
+
+sub-x : tie.Need-sub-x Inv-loop μ-loop
+sub-x c = search needs
+
+mul-x : tie.Need-mul-x Inv-loop μ-loop
+mul-x c = search needs
+
+loop-holds : tie.Need-loop-holds Inv-loop μ-loop
+loop-holds c = (omega arith, refl, c .before .before .before .pre .0 .1)
+
+add-address : tie.Need-add-address Inv-loop μ-loop
+add-address c = search needs
+
+address-requires : tie.Need-address-requires Inv-loop μ-loop
+address-requires c κs = search needs
+
+cast-b : tie.Need-cast-b Inv-loop μ-loop
+cast-b c = search needs
+
+element-write-map-2 : tie.Need-element-write-map-2 Inv-loop μ-loop
+element-write-map-2 c =
+    let b = c .before .before .before .before .before .before in
+    let k = c .before .before .loop .k in
+    omega (arith, c .address .ensures, b .pre .1 (place (b .args .i) k) (omega (arith, b .pre .0 .0 .low, b .pre .0 .0 .high)))
+
+add-k : tie.Need-add-k Inv-loop μ-loop
+add-k c = search needs
+
+loop-less : tie.Need-loop-less Inv-loop μ-loop
+loop-less c = search needs
+
+loop-again : tie.Need-loop-again Inv-loop μ-loop
+loop-again c =
+    let b = c .before .before .before .before .before .before in
+    let l = c .before .before .loop in
+    let i = b .args .i in
+    let y = b .pre .1 (place i (l .k)) (omega (arith, b .pre .0 .0 .low, b .pre .0 .0 .high)) in
+    let e : place i (l .k) + 1 ≡ place i (l .k + 1) = omega arith in
+    (omega arith, refl, rw e at (seen-more _ 4097 (place i (l .k)) _ _ (c .address .ensures) (omega (arith, c .address .ensures, y)) (l .inv .2)))
+
+returns-2 : tie.Need-returns-2 Inv-loop μ-loop
+returns-2 c =
+    let b = c .before .before .before .before .before in
+    let l = c .before .loop in
+    let e : place (b .args .i) (l .k) ≡ 12 * b .args .i = omega (arith, b .pre .0 .0 .low) in
+    rw e at (l .inv .2)
+
+pub note-blocks-spec : {M : Type 1} → statement M
+note-blocks-spec =
+    tie.close
+    (tie.spec
+    Inv-loop
+    μ-loop
+    addresses-zero-requires
+    element-write-map
+    returns
+    sub-x
+    mul-x
+    loop-holds
+    add-address
+    address-requires
+    cast-b
+    element-write-map-2
+    add-k
+    loop-less
+    loop-again
+    returns-2)
