@@ -23,13 +23,6 @@ use Rattle.checkpoint.proofs.Copy.FitLaws.{desk-framed-is, desk-fits-is, image-
 use Rattle.checkpoint.proofs.Step.StartLaws.{image-allowed-is}
 use Rattle.guards.specs.Fit.{blocksRight, copiedRight, countsRight, addressesRight, notesRight}
 
--- ---- a number x that the code has read, against a bound
-pub within : (x y b : ℕ) → x ≡ y → x ≤ b → leb y b ≡ true
-within x y b e l = le-leb y b (omega arith)
-
-pub above : (x y b : ℕ) → x ≡ y → b < x → leb y b ≡ false
-above x y b e l = lt-leb y b (omega arith)
-
 -- ---- the desk's frame
 pub read-inodes : (d : List ℕ) → numAt 2 d 0 ≡ deskOf d .inodes
 unfolding deskOf

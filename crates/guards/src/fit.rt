@@ -1,7 +1,7 @@
 // Whether desk and image fit: refusals 1 and 3. Any bytes may be lent.
 ghost use mathlib.Core.Path.{_≡_};
 ghost use mathlib.Core.Bool.{true};
-ghost use Prim.Native.Nat.{_+_, _*_, _≤_};
+ghost use Prim.Native.Nat.{_+_, _*_, _<_, _≤_, max};
 ghost use lib.ListN.{length};
 ghost use Rattle.layout.specs.Sizes.{headerBytes, inodeBytes, mostInodes};
 ghost use Rattle.desk.specs.Sizes.{deskHeaderBytes};
@@ -29,6 +29,25 @@ pub const NOT_COMPLETE: u8 = 0;
 
 // A finished copy has at most so many steps for each inode, and one more.
 const STEPS_AN_INODE: u32 = 14;
+
+// ---- the larger of two: a loop that keeps the largest has no early exit, and is made of vectors
+fn larger_byte(x: u8, y: u8) -> u8
+    ensures { λ r. ⌜ r ≡ max x y ⌝ }
+{
+    if x < y {
+        return y;
+    }
+    x
+}
+
+fn larger(x: u16, y: u16) -> u16
+    ensures { λ r. ⌜ (r ≡ max x y) × (r < 65536) ⌝ }
+{
+    if x < y {
+        return y;
+    }
+    x
+}
 
 // ---- the desk
 // Its count of inodes is allowed, and the length is theirs.
@@ -61,17 +80,16 @@ fn blocks_fit(h: Desk) -> bool
     h.blocks as usize <= MOST_IMAGE_BLOCKS
 }
 
-// Copied bytes are 0 or 1.
+// Copied bytes are 0 or 1: the largest is.
 fn copied_fit(d: &[u8], n: usize) -> bool
     requires { ⌜ deskHeaderBytes + n ≤ length (now d) ⌝ }
     ensures { λ r. ⌜ r ≡ copiedRight (now (d .entry)) n ⌝ }
 {
+    let mut most = 0u8;
     for k in 0..n {
-        if 1 < desk::copied_byte(d, k + 1) {
-            return false;
-        }
+        most = larger_byte(most, desk::copied_byte(d, k + 1));
     }
-    true
+    most <= 1
 }
 
 // The locked inode, its blocks copied so far, and the steps.
@@ -147,17 +165,16 @@ pub fn image_allowed(n: usize, k: usize) -> bool
     k == store_length(n, b)
 }
 
-// No address is above b.
+// No address is above b: the largest is not.
 fn addresses_fit(m: &[u8], n: usize, b: usize) -> bool
     requires { ⌜ (n ≤ mostInodes) × (headerBytes + inodeBytes * n ≤ length (now m)) ⌝ }
     ensures { λ r. ⌜ r ≡ addressesRight (now (m .entry)) n b ⌝ }
 {
+    let mut most = 0u16;
     for x in 0..ADDRESS_COUNT * n {
-        if b < inode::address(m, n, x) as usize {
-            return false;
-        }
+        most = larger(most, inode::address(m, n, x));
     }
-    true
+    most as usize <= b
 }
 
 // The image is the one that the desk's running copy fills.

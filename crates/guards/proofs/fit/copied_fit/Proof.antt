@@ -1,21 +1,23 @@
-use Prim.Native.Nat.{_≤_, _-_}
-use mathlib.Core.Path.{_≡_}
-use mathlib.Core.Bool.{true}
+use Prim.Native.Nat.{ℕ, _+_, _≤_, _-_}
+use mathlib.Core.Path.{_≡_, ap, _∙_}
 use native.Mathlib.Omega.{arith}
-use Rattle.bounded.proofs.BelowLaws.{all-none, all-more, all-stopped, all-done}
-use Rattle.guards.specs.Fit.{copiedRight}
-use Rattle.guards.proofs.FitLaws.{within, above}
+use denote.Ref.{now}
+use lib.Dec.{leb}
+use Rattle.bounded.specs.Most.{most}
+use Rattle.bounded.proofs.MostLaws.{most-none, most-more, most-within}
+use Rattle.desk.specs.Desk.{copiedOf}
+use borrow.Author.Needs.{needs}
 use Rattle.guards.proofs.fit.copied_fit.Statement.{statement}
 use Rattle.guards.proofs.fit.copied_fit.Tie as tie
 
 abbrev Inv-loop : tie.InvT-loop
-Inv-loop d n k₀ k = (k ≤ n) × (copiedRight d k ≡ true)
+Inv-loop d n most₀ k₀ top k = (k ≤ n) × (top ≡ most (λ x. copiedOf d (x + 1)) k)
 
 abbrev μ-loop : tie.MeasureT-loop
-μ-loop d n k₀ k = n - k
+μ-loop d n most₀ k₀ top k = n - k
 
 loop-holds : tie.Need-loop-holds Inv-loop μ-loop
-loop-holds c = (omega arith, all-none _)
+loop-holds c = (omega arith, most-none _)
 
 add-copied-byte : tie.Need-add-copied-byte Inv-loop μ-loop
 add-copied-byte c = omega arith
@@ -23,8 +25,8 @@ add-copied-byte c = omega arith
 copied-byte-requires : tie.Need-copied-byte-requires Inv-loop μ-loop
 copied-byte-requires c κs = (omega arith, omega arith)
 
-returns : tie.Need-returns Inv-loop μ-loop
-returns c = all-stopped _ _ (c .before .before .before .loop .k) (omega arith) (above _ _ _ (c .before .copied-byte .ensures) (c .if1 .taken))
+larger-byte-requires : tie.Need-larger-byte-requires Inv-loop μ-loop
+larger-byte-requires c κs = search needs
 
 add-k : tie.Need-add-k Inv-loop μ-loop
 add-k c = omega arith
@@ -33,10 +35,16 @@ loop-less : tie.Need-loop-less Inv-loop μ-loop
 loop-less c = omega arith
 
 loop-again : tie.Need-loop-again Inv-loop μ-loop
-loop-again c = (omega arith, all-more _ _ (c .before .before .before .loop .inv .1) (within _ _ _ (c .before .copied-byte .ensures) (c .if1 .left)))
+loop-again c =
+    let l = c .before .before .before .loop in
+    (omega arith, c .larger-byte .ensures ∙ most-more _ (l .k) _ _ (l .inv .1) (c .before .copied-byte .ensures))
 
-returns-2 : tie.Need-returns-2 Inv-loop μ-loop
-returns-2 c = all-done _ _ (c .before .loop .k) (omega arith) (omega arith) (c .before .loop .inv .1)
+returns : tie.Need-returns Inv-loop μ-loop
+returns c =
+    let l = c .before .loop in
+    let a = c .before .before .before .args in
+    let e : l .k ≡ a .n = omega arith in
+    ap (λ (t : ℕ). leb t 1) (l .inv .1 ∙ ap (most (λ x. copiedOf (now (a .d)) (x + 1))) e) ∙ most-within (λ x. copiedOf (now (a .d)) (x + 1)) (a .n) 1
 
 pub copied-fit-spec : {M : Type 1} → statement M
 copied-fit-spec =
@@ -47,8 +55,8 @@ copied-fit-spec =
     loop-holds
     add-copied-byte
     copied-byte-requires
-    returns
+    larger-byte-requires
     add-k
     loop-less
     loop-again
-    returns-2)
+    returns)
