@@ -6,20 +6,21 @@ use mathlib.Core.List.{List}
 use native.Mathlib.Nat.{add-zero}
 use native.Mathlib.Numerals.{add-one}
 use native.Mathlib.Omega.{arith}
-use borrow.Author.Tests.{eq-eqb, ne-eqb, leb-true, le-leb, lt-leb, not-true, not-false}
+use borrow.Author.Tests.{eq-eqb, ne-eqb, eqb-true, le-leb, lt-leb, not-true, not-false}
 use borrow.Rule.Slice.PartMut.{putMid}
 use lib.Dec.{eqb, leb}
-use lib.ListN.{length, getD, take, drop, replicate}
-use Rattle.bounded.specs.Search.{pick, firstFrom}
-use Rattle.bounded.specs.Seen.{Seen}
+use lib.ListN.{length, take, drop, replicate}
+use Rattle.bounded.specs.Search.{pick}
+use Rattle.bounded.specs.Below.{someBelow}
+use Rattle.bounded.specs.Count.{count, tally}
 use Rattle.bounded.specs.declared.Found.{Found}
 use Rattle.bounded.specs.declared.Found.the-variants.{At}
-use Rattle.bounded.proofs.BoolLaws.{chain-end, and-false-l, and-false-r, and-true}
-use Rattle.bounded.proofs.SearchLaws.{first-ext}
-use Rattle.bounded.proofs.SeenLaws.{seen-test}
+use Rattle.bounded.proofs.BoolLaws.{fails, same-test, chain-end, and-false-l, and-false-r, and-true}
+use Rattle.bounded.proofs.BelowLaws.{none-some, some-none}
+use Rattle.bounded.proofs.CountLaws.{count-none, count-pos}
 use Rattle.octets.specs.Octets.{part, splice, zeroed, copied}
 use Rattle.octets.proofs.PartLaws.{length-splice, length-inside, part-all, part-same, cut, lent}
-use Rattle.layout.specs.Sizes.{addressCount, mostImageBlocks}
+use Rattle.layout.specs.Sizes.{addressCount}
 use Rattle.layout.specs.Inode.{kindOf, directoryKind, addressOf, sizeOf, place, putAddress}
 use Rattle.layout.specs.Block.{blockAt, blockOf, putInBlock, kthBlock, blocksUsed}
 use Rattle.layout.specs.Free.{named, freeBlock}
@@ -30,38 +31,33 @@ use Rattle.checkpoint.specs.Notes.{isCopied}
 use Rattle.checkpoint.specs.Copier.{copy, targetBlock, copiedEntry, copiedEntries, copiedBlock, stepImage}
 use Rattle.checkpoint.proofs.Copy.NoteLaws.{length-copied-block}
 
--- ---- the image block: the map has the blocks that are named
-module _ (map : List ℕ) (b c : ℕ) where
-  pub test-low : c < 1 → false ≡ leb 1 c && (leb c b && eqb (getD map c 0) 0)
-  test-low h = sym (and-false-l _ _ (lt-leb 1 c h))
+-- ---- the image block
+count-none-is : (p : ℕ → Bool) (m : ℕ) → eqb (count p m) 0 ≡ not (someBelow p m)
+count-none-is p m =
+    same-test (eqb (count p m) 0) (not (someBelow p m))
+    (λ t. ap not (none-some p m (λ k l. fails (p k) (λ h. omega (arith, count-pos p m k l h, eqb-true (count p m) 0 t)))))
+    (λ t. eq-eqb (count p m) 0 (count-none p m (some-none p m (not-true (someBelow p m) t))))
 
-  pub test-high : 1 ≤ c → b < c → false ≡ leb 1 c && (leb c b && eqb (getD map c 0) 0)
-  test-high l h = chain-end _ _ _ (le-leb 1 c l) (sym (and-false-l _ _ (lt-leb c b h)))
+module _ (m : List ℕ) (n b c : ℕ) where
+  pub own-low : c < 1 → false ≡ leb 1 c && (leb c b && not (named m n c))
+  own-low h = sym (and-false-l _ _ (lt-leb 1 c h))
 
-  pub test-read : 1 ≤ c → c ≤ b → eqb (getD map c 0) 0 ≡ leb 1 c && (leb c b && eqb (getD map c 0) 0)
-  test-read l h = chain-end _ _ _ (le-leb 1 c l) (chain-end _ _ _ (le-leb c b h) refl)
+  pub own-high : 1 ≤ c → b < c → false ≡ leb 1 c && (leb c b && not (named m n c))
+  own-high l h = chain-end _ _ _ (le-leb 1 c l) (sym (and-false-l _ _ (lt-leb c b h)))
 
-module _ (m map : List ℕ) (n b c : ℕ) (few : b ≤ mostImageBlocks) (s : Seen (addressOf m n) (mostImageBlocks + 1) (addressCount * n) map) where
-  unnamed-test : (x : ℕ) → x ≤ b → eqb (getD map x 0) 0 ≡ not (named m n x)
+  pub own-counted : (r : ℕ) → r ≡ tally (addressOf m n) (addressCount * n) c → 1 ≤ c → c ≤ b → eqb r 0 ≡ leb 1 c && (leb c b && not (named m n c))
   unfolding named
-  unnamed-test x l = seen-test (addressOf m n) (mostImageBlocks + 1) (addressCount * n) x map s (omega arith)
+  own-counted r e l h =
+      chain-end _ _ _ (le-leb 1 c l) (chain-end _ _ _ (le-leb c b h) (ap (λ (x : ℕ). eqb x 0) e ∙ count-none-is (λ x. eqb (addressOf m n x) c) (addressCount * n)))
 
-  own-test : (r : Bool) → r ≡ leb 1 c && (leb c b && eqb (getD map c 0) 0) → leb 1 c && (leb c b && not (named m n c)) ≡ r
-  own-test r e = ap (λ (x : Bool). leb 1 c && x) (go (leb c b) refl) ∙ sym e
-    where
-      go : (t : Bool) → leb c b ≡ t → t && not (named m n c) ≡ t && eqb (getD map c 0) 0
-      go true q = sym (unnamed-test c (leb-true c b q))
-      go false q = refl
+  module _ (r : Bool) (e : r ≡ leb 1 c && (leb c b && not (named m n c))) where
+    pub target-own : r ≡ true → At c ≡ targetBlock m n b c
+    unfolding targetBlock
+    target-own q = sym (ap (λ (t : Bool). pick t (At c) (freeBlock m n b)) (sym e ∙ q))
 
-  pub target-own : (r : Bool) → r ≡ leb 1 c && (leb c b && eqb (getD map c 0) 0) → r ≡ true → At c ≡ targetBlock m n b c
-  unfolding targetBlock
-  target-own r e q = sym (ap (λ (t : Bool). pick t (At c) (freeBlock m n b)) (own-test r e ∙ q))
-
-  pub target-other : (r : Bool) (f : Found) → r ≡ leb 1 c && (leb c b && eqb (getD map c 0) 0) → r ≡ false → f ≡ firstFrom (λ x. eqb (getD map x 0) 0) 1 b → f ≡ targetBlock m n b c
-  unfolding targetBlock freeBlock
-  target-other r f e q g =
-      g ∙ first-ext (λ x. eqb (getD map x 0) 0) (λ x. not (named m n x)) 1 b (λ x l h. unnamed-test x (omega arith))
-      ∙ sym (ap (λ (t : Bool). pick t (At c) (firstFrom (λ x. not (named m n x)) 1 b)) (own-test r e ∙ q))
+    pub target-other : (f : Found) → r ≡ false → f ≡ freeBlock m n b → f ≡ targetBlock m n b c
+    unfolding targetBlock
+    target-other f q g = g ∙ sym (ap (λ (t : Bool). pick t (At c) (freeBlock m n b)) (sym e ∙ q))
 
 -- ---- the entries
 module _ (d : List ℕ) (n i k : ℕ) (x : List ℕ) (j : ℕ) (a : Bool) (e : a ≡ markOf d n i (4 * k + j)) where

@@ -1,12 +1,14 @@
 // A block of the store on its way into the image: where it goes, and its bytes as they are copied. s is the store, m the image, d the desk, n the count of inodes.
 ghost use mathlib.Core.Path.{_≡_};
-ghost use mathlib.Core.Bool.{_&&_};
-ghost use Prim.Native.Nat.{_<_, _≤_};
-ghost use lib.Dec.{eqb, leb};
-ghost use lib.ListN.{length, getD};
+ghost use mathlib.Core.Bool.{not, _&&_};
+ghost use Prim.Native.Nat.{_*_, _<_, _≤_};
+ghost use lib.Dec.{leb};
+ghost use lib.ListN.{length};
+ghost use Rattle.bounded.specs.Count.{tally};
 ghost use Rattle.layout.specs.Sizes.{mostImageBlocks, addressCount, blockBytes};
-ghost use Rattle.layout.specs.Inode.{sizeOf};
+ghost use Rattle.layout.specs.Inode.{sizeOf, addressOf};
 ghost use Rattle.layout.specs.Block.{blocksUsed};
+ghost use Rattle.layout.specs.Free.{named};
 ghost use Rattle.directory.specs.Slot.{DirFits, slotsInBlock};
 ghost use Rattle.desk.specs.Sizes.{deskLength};
 ghost use Rattle.checkpoint.specs.Copier.{targetBlock, copiedEntry, copiedEntries, copiedBlock};
@@ -16,14 +18,29 @@ use directory::SLOTS_IN_BLOCK;
 use layout::block;
 use layout::free;
 use layout::inode;
+use layout::sizes::ADDRESS_COUNT;
 use layout::sizes::BLOCK_BYTES;
 use layout::sizes::DIRECTORY;
 use names::ENTRY_BYTES;
 
-// Block c is one of the b blocks of the image, and the map does not have it.
-fn is_unnamed(map: &[u8; 4097], b: usize, c: usize) -> bool
-    requires { ⌜ b ≤ mostImageBlocks ⌝ }
-    ensures { λ r. ⌜ r ≡ leb 1 c && (leb c b && eqb (getD (now (map .entry)) c 0) 0) ⌝ }
+// How many of the image's addresses are c.
+fn times_named(m: &[u8], n: usize, c: u16) -> u16
+    requires { ⌜ Addressed (now m) n ⌝ }
+    ensures { λ r. ⌜ r ≡ tally (addressOf (now (m .entry)) n) (addressCount * n) c ⌝ }
+{
+    let mut times = 0u16;
+    for x in 0..ADDRESS_COUNT * n {
+        if inode::address(m, n, x) == c {
+            times += 1;
+        }
+    }
+    times
+}
+
+// Block c is one of the b blocks of the image, and no address names it.
+fn is_unnamed(m: &[u8], n: usize, b: usize, c: usize) -> bool
+    requires { ⌜ Addressed (now m) n × (b ≤ mostImageBlocks) ⌝ }
+    ensures { λ r. ⌜ r ≡ leb 1 c && (leb c b && not (named (now (m .entry)) n c)) ⌝ }
 {
     if c < 1 {
         return false;
@@ -31,19 +48,18 @@ fn is_unnamed(map: &[u8; 4097], b: usize, c: usize) -> bool
     if b < c {
         return false;
     }
-    map[c] == 0
+    times_named(m, n, c as u16) == 0
 }
 
-// Where block c of the store goes in an image of b blocks: one pass over the image's addresses.
+// Where block c of the store goes in an image of b blocks: the map of those named is made only if c is.
 pub fn target_block(m: &[u8], n: usize, b: usize, c: usize) -> Found
     requires { ⌜ Addressed (now m) n × (b ≤ mostImageBlocks) ⌝ }
     ensures { λ r. ⌜ r ≡ targetBlock (now (m .entry)) n b c ⌝ }
 {
-    let map = free::named_blocks(m, n);
-    if is_unnamed(&map, b, c) {
+    if is_unnamed(m, n, b, c) {
         return Found::At(c);
     }
-    free::lowest_unnamed(&map, b)
+    free::free_block(m, n, b)
 }
 
 // Entry j of the k-th block of directory i, whose bytes x are: a marked one that names a copied inode is zeroed.
