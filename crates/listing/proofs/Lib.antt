@@ -1,3 +1,4 @@
 pub mod TextLaws
 pub mod PlaceLaws
 pub mod WalkLaws
+pub mod PartLaws

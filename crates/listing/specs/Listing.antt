@@ -1,9 +1,11 @@
 -- What a line of a script prints: its answer, and the listing of a finished copy. m is the image, d the desk, n the inode count, p a place of all slots in a row.
-use Prim.Native.Nat.{ℕ, zero, suc, _*_}
-use mathlib.Core.Bool.{Bool}
+use Prim.Native.Nat.{ℕ, zero, suc, _+_, _*_, _-_, _<_, _≤_}
+use mathlib.Core.Path.{_≡_}
+use mathlib.Core.Bool.{Bool, true, false}
 use mathlib.Core.List.{List, [], _++_}
 use lib.Dec.{eqb}
 use Rattle.bounded.specs.Search.{pick}
+use Rattle.layout.specs.Sizes.{mostInodes}
 use Rattle.layout.specs.Header.{headerOf}
 use Rattle.layout.specs.Inode.{kindOf, sizeOf, linksOf, directoryKind}
 use Rattle.names.specs.Entry.{entryInode, entryName}
@@ -12,7 +14,8 @@ use Rattle.desk.specs.Desk.{deskOf}
 use Rattle.sound.specs.Sound.{inodesIn}
 use Rattle.sound.specs.Place.{dirOf, slotOf, entryAt, filled}
 use Rattle.text.specs.Letters.{letters}
-use Rattle.text.specs.Put.{decimalText}
+use Rattle.text.specs.Put.{Put, decimalText}
+use Rattle.listing.specs.declared.Part.{Part}
 
 -- two numbers, the first after a word
 unfoldable pub pairText : List ℕ → ℕ → ℕ → List ℕ
@@ -58,3 +61,25 @@ entriesFrom m n p (suc k) = pick (filled m n p) (entryText m n p) [] ++ entriesF
 
 unfoldable pub listing : List ℕ → List ℕ → List ℕ
 listing m d = headText m d ++ entriesFrom m (inodesIn m) 0 (mostSlots * inodesIn m)
+
+-- "The `st` line in which a copy finishes .. is followed by its listing": the answer o and v and, if f, the listing
+unfoldable pub printedText : Bool → ℕ → Bool → List ℕ → List ℕ → List ℕ
+printedText o v f m d = replyText o v ++ pick f (listing m d) []
+
+-- ---- printed part by part: what is left at k is all at 0, the listing at 1, and from 2 on the entries from place k - 2 on
+unfoldable pub entriesLeft : List ℕ → ℕ → List ℕ
+entriesLeft m k = entriesFrom m (inodesIn m) (k - 2) (mostSlots * inodesIn m - (k - 2))
+
+unfoldable pub leftText : Bool → ℕ → Bool → List ℕ → List ℕ → ℕ → List ℕ
+leftText o v f m d zero = printedText o v f m d
+leftText o v f m d (suc zero) = pick f (listing m d) []
+leftText o v f m d (suc (suc p)) = pick f (entriesLeft m (suc (suc p))) []
+
+-- a part was put at the start of s: it is what comes next, and what is left after it is what is left at another k; or nothing is left
+pub record Printed (left : ℕ → List ℕ) (k : ℕ) (s : List ℕ) (r : Part) (t : List ℕ) : Type 0 where
+  pub text : List ℕ
+  pub put : Put s 0 text (r .end) t
+  pub splits : r .more ≡ true → left k ≡ text ++ left (r .next)
+  pub onward : r .more ≡ true → k < r .next
+  pub bounded : r .more ≡ true → r .next ≤ mostSlots * mostInodes + 2
+  pub done : r .more ≡ false → left k ≡ []

@@ -12,7 +12,7 @@ ghost use Rattle.desk.specs.Sizes.{deskHeaderBytes};
 ghost use Rattle.sound.specs.Sound.{Sound, inodesIn};
 ghost use Rattle.sound.specs.Place.{filled};
 ghost use Rattle.text.specs.Put.{Put};
-ghost use Rattle.listing.specs.Listing.{wordText, replyText, pairText, countsText, headText, placeText, kindText, inodeText, nameText, entryText};
+ghost use Rattle.listing.specs.Listing.{wordText, replyText, pairText, countsText, headText, placeText, kindText, inodeText, nameText, entryText, entriesLeft, leftText, Printed};
 use bounded::Found;
 use desk::Desk;
 use layout::header::Header;
@@ -24,6 +24,13 @@ use text::put::put_decimal;
 use text::put::put_numbered;
 
 const MOST_SLOTS: usize = 48;
+
+// A part of what a line prints: where it ends in the buffer, where the printing goes on, and whether there was one.
+pub struct Part {
+    pub end: usize,
+    pub next: usize,
+    pub more: bool,
+}
 
 const NAME_AT: usize = 2;
 
@@ -39,7 +46,7 @@ fn put_word(out: &mut [u8], o: usize, ok: bool, n: usize) -> usize
 }
 
 // The line's answer at o of out; where it ends.
-pub fn put_reply(out: &mut [u8], o: usize, ok: bool, n: usize) -> usize
+fn put_reply(out: &mut [u8], o: usize, ok: bool, n: usize) -> usize
     requires { ⌜ o + 24 ≤ length (now out) ⌝ }
     ensures { λ r. ⌜ Put (now (out .entry)) o (replyText ok n) r (now (out .exit)) ⌝ }
 {
@@ -74,7 +81,7 @@ fn put_counts(out: &mut [u8], o: usize, m: &[u8]) -> usize
 }
 
 // The first line of a listing.
-pub fn put_head(out: &mut [u8], o: usize, m: &[u8], d: &[u8]) -> usize
+fn put_head(out: &mut [u8], o: usize, m: &[u8], d: &[u8]) -> usize
     requires { ⌜ (o + 111 ≤ length (now out)) × (headerBytes ≤ length (now m)) × (deskHeaderBytes ≤ length (now d)) ⌝ }
     ensures { λ r. ⌜ Put (now (out .entry)) o (headText (now (m .entry)) (now (d .entry))) r (now (out .exit)) ⌝ }
 {
@@ -143,7 +150,7 @@ fn is_filled(m: &[u8], n: usize, p: usize) -> bool
 }
 
 // The next place at which an entry stands, by directory and slot.
-pub fn next_entry(m: &[u8], n: usize, from: usize) -> Found
+fn next_entry(m: &[u8], n: usize, from: usize) -> Found
     requires { ⌜ Sound mostImageBlocks true (now m) × (n ≡ inodesIn (now m)) ⌝ }
     ensures { λ r. ⌜ r ≡ firstFrom (filled (now (m .entry)) n) from (mostSlots * n - from) ⌝ }
 {
@@ -156,7 +163,7 @@ pub fn next_entry(m: &[u8], n: usize, from: usize) -> Found
 }
 
 // The line of the entry that stands at place p.
-pub fn put_entry(out: &mut [u8], o: usize, m: &[u8], n: usize, p: usize) -> usize
+fn put_entry(out: &mut [u8], o: usize, m: &[u8], n: usize, p: usize) -> usize
     requires { ⌜ (o + 122 ≤ length (now out)) × Sound mostImageBlocks true (now m) × (n ≡ inodesIn (now m)) × (p < mostSlots * n) × (filled (now m) n p ≡ true) ⌝ }
     ensures { λ r. ⌜ Put (now (out .entry)) o (entryText (now (m .entry)) n p) r (now (out .exit)) ⌝ }
 {
@@ -168,4 +175,65 @@ pub fn put_entry(out: &mut [u8], o: usize, m: &[u8], n: usize, p: usize) -> usiz
     let a = put_place(&mut *out, o, e, t, i);
     let b = put_inode(&mut *out, a, m, n, i);
     put_name(out, b, entry)
+}
+
+// The next entry from place k - 2 on.
+fn put_listed(out: &mut [u8], m: &[u8], k: usize) -> Part
+    requires { ⌜ (122 ≤ length (now out)) × Sound mostImageBlocks true (now m) × (2 ≤ k) ⌝ }
+    ensures { λ r. ⌜ Printed (entriesLeft (now (m .entry))) k (now (out .entry)) r (now (out .exit)) ⌝ }
+{
+    let h = Header::read(m);
+    let n = h.inodes as usize;
+    let Found::At(p) = next_entry(m, n, k - 2) else {
+        return Part {
+            end: 0,
+            next: k,
+            more: false,
+        };
+    };
+    let end = put_entry(&mut *out, 0, m, n, p);
+    Part {
+        end,
+        next: p + 3,
+        more: true,
+    }
+}
+
+// The part of a line's text that comes at k, at the start of out: from 0 on, each goes on where the one before it says.
+pub fn put_part(
+    out: &mut [u8],
+    ok: bool,
+    number: usize,
+    finished: bool,
+    m: &[u8],
+    d: &[u8],
+    k: usize,
+) -> Part
+    requires { ⌜ (122 ≤ length (now out)) × (finished ≡ true → Sound mostImageBlocks true (now m)) × (headerBytes ≤ length (now m)) × (deskHeaderBytes ≤ length (now d)) ⌝ }
+    ensures { λ r. ⌜ Printed (leftText ok number finished (now (m .entry)) (now (d .entry))) k (now (out .entry)) r (now (out .exit)) ⌝ }
+{
+    if k == 0 {
+        let end = put_reply(&mut *out, 0, ok, number);
+        return Part {
+            end,
+            next: 1,
+            more: true,
+        };
+    }
+    if !finished {
+        return Part {
+            end: 0,
+            next: k,
+            more: false,
+        };
+    }
+    if k == 1 {
+        let end = put_head(&mut *out, 0, m, d);
+        return Part {
+            end,
+            next: 2,
+            more: true,
+        };
+    }
+    put_listed(out, m, k)
 }

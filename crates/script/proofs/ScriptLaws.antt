@@ -7,9 +7,7 @@ use native.Mathlib.Omega.{arith}
 use lib.ListN.{length, take, drop}
 use Rattle.octets.specs.Octets.{part}
 use Rattle.layout.specs.Sizes.{mostImageBlocks}
-use Rattle.layout.specs.Header.{headerOf}
-use Rattle.layout.specs.declared.header.Header.{Header}
-use Rattle.sound.specs.Sound.{Sound, inodesIn}
+use Rattle.sound.specs.Sound.{Sound}
 use Rattle.answers.specs.declared.Answer.{Answer}
 use Rattle.format.specs.Format.{Outcome, left, layOutDesk}
 use Rattle.text.specs.Pieces.{placeOf}
@@ -22,9 +20,6 @@ use Rattle.session.specs.Reply.{Ran, ran, lineRuns, worldAfter}
 use Rattle.session.specs.Script.{linesRun, FinishesSound}
 use Rattle.session.proofs.FinishLaws.{laid-idle}
 use Rattle.session.specs.declared.Reply.{Reply}
-
-pub count-is : (m : List ℕ) (h : Header) → h ≡ headerOf m → h .inodes ≡ inodesIn m
-count-is m h e = ap (λ (x : Header). x .inodes) e
 
 pub after-line : (l : List ℕ) (w : World) (r : Reply) (s m d : List ℕ) → ran r (world s m d) ≡ lineRuns l w → world s m d ≡ worldAfter l w
 after-line l w r s m d e = ap (λ (x : Ran). world (x .store) (x .image) (x .desk)) e

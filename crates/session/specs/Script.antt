@@ -4,7 +4,6 @@ use mathlib.Core.Path.{_≡_}
 use mathlib.Core.Bool.{true}
 use mathlib.Core.List.{List, [], _∷_, _++_}
 use lib.ListN.{replicate}
-use Rattle.bounded.specs.Search.{pick}
 use Rattle.layout.specs.Sizes.{mostImageBlocks}
 use Rattle.layout.specs.Block.{storeLength}
 use Rattle.desk.specs.Sizes.{deskLength}
@@ -12,15 +11,15 @@ use Rattle.sound.specs.Sound.{Sound}
 use Rattle.format.specs.Format.{layOutStore, layOutDesk}
 use Rattle.checkpoint.specs.Live.{World}
 use Rattle.checkpoint.specs.Shown.{world}
-use Rattle.listing.specs.Listing.{replyText, listing}
+use Rattle.listing.specs.Listing.{printedText}
 use Rattle.lines.specs.Lines.{scriptLines}
 use Rattle.session.specs.Reply.{lineRuns, worldAfter}
 
--- "The `st` line in which a copy finishes, also one that ends in `no 15`, is followed by its listing"
+-- "The `st` line in which a copy finishes, also one that ends in `no 15`, is followed by its listing": its answer, and the listing of what it leaves
 unfoldable pub printed : List ℕ → World → List ℕ
 printed l w =
     let r = lineRuns l w in
-    replyText (r .reply .ok) (r .reply .number) ++ pick (r .reply .finished) (listing (r .image) (r .desk)) []
+    printedText (r .reply .ok) (r .reply .number) (r .reply .finished) (r .image) (r .desk)
 
 -- ---- a script, line by line: the buffers after it, and all that it prints
 unfoldable pub linesRun : List (List ℕ) → World → World
