@@ -9,7 +9,7 @@ use Rattle.answers.specs.Refusal.{refusalNumber}
 use Rattle.bounded.specs.Search.{pick}
 use Rattle.io.specs.Digits.{digits}
 use Rattle.text.specs.Letters.{letters}
-use Rattle.text.specs.Put.{decimalText, bytesText}
+use Rattle.text.specs.Put.{decimalText, pairText, bytesText}
 use Rattle.commands.specs.declared.Reply.{Reply}
 use Rattle.commands.specs.declared.Reply.the-variants.{Error, Plain, Yes, No, Done, Refused, Laid, Shown, Asked}
 use Rattle.commands.specs.declared.Sums.{Sums}
@@ -21,7 +21,7 @@ replyOf (answer.Refused e) = Refused (refusalNumber e)
 
 -- "`ok A D`, A and D being 0 or the refusal"
 abbrev pub laidText : ℕ → ℕ → List ℕ
-laidText a d = (letters "ok " ++ decimalText a) ++ (letters " " ++ decimalText d)
+laidText a d = pairText (letters "ok ") a d
 
 -- "the count, then the whole out-buffer"
 abbrev pub shownText : ℕ → List ℕ → List ℕ

@@ -13,6 +13,7 @@ use text::put::put;
 use text::put::put_bytes;
 use text::put::put_hex;
 use text::put::put_numbered;
+use text::put::put_pair;
 
 // What a call answered.
 pub fn reply(a: Answer) -> Reply
@@ -29,8 +30,7 @@ fn put_laid(out: &mut [u8], o: usize, a: usize, d: usize) -> usize
     ensures { λ r. ⌜ Put (now (out .entry)) o (laidText a d) r (now (out .exit)) ⌝ }
     ensures { λ r. ⌜ r ≤ o + 44 ⌝ }
 {
-    let e = put_numbered(&mut *out, o, b"ok ", a);
-    put_numbered(out, e, b" ", d)
+    put_pair(out, o, b"ok ", a, d)
 }
 
 fn put_asked(out: &mut [u8], o: usize, state: usize, locked: usize, steps: usize) -> usize

@@ -12,8 +12,8 @@ use Rattle.names.specs.Entry.{entryName}
 use Rattle.desk.specs.Desk.{deskOf}
 use Rattle.desk.specs.declared.Desk.{Desk}
 use Rattle.text.specs.Letters.{letters}
-use Rattle.text.specs.Put.{decimalText}
-use Rattle.listing.specs.Listing.{pairText, wordText, countsText, headText, kindText, inodeText, nameText}
+use Rattle.text.specs.Put.{decimalText, pairText}
+use Rattle.listing.specs.Listing.{wordText, countsText, headText, kindText, inodeText, nameText}
 
 pub ok-word : (o : Bool) (v : ℕ) → o ≡ true → letters "ok " ++ decimalText v ≡ wordText o v
 unfolding wordText

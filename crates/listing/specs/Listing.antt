@@ -14,12 +14,8 @@ use Rattle.desk.specs.Desk.{deskOf}
 use Rattle.sound.specs.Sound.{inodesIn}
 use Rattle.sound.specs.Place.{dirOf, slotOf, entryAt, filled}
 use Rattle.text.specs.Letters.{letters}
-use Rattle.text.specs.Put.{Put, decimalText}
+use Rattle.text.specs.Put.{Put, decimalText, pairText}
 use Rattle.listing.specs.declared.Part.{Part}
-
--- two numbers, the first after a word
-unfoldable pub pairText : List ℕ → ℕ → ℕ → List ℕ
-pairText w a b = (w ++ decimalText a) ++ (letters " " ++ decimalText b)
 
 -- "Each prints `ok` with the new inode, new size (`wr`, `sh`), steps so far (`st`) or 0; or `no` and the number."
 unfoldable pub wordText : Bool → ℕ → List ℕ

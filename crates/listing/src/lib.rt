@@ -12,7 +12,7 @@ ghost use Rattle.desk.specs.Sizes.{deskHeaderBytes};
 ghost use Rattle.sound.specs.Sound.{Sound, inodesIn};
 ghost use Rattle.sound.specs.Place.{filled};
 ghost use Rattle.text.specs.Put.{Put};
-ghost use Rattle.listing.specs.Listing.{wordText, replyText, pairText, countsText, headText, placeText, kindText, inodeText, nameText, entryText, entriesLeft, leftText, Printed};
+ghost use Rattle.listing.specs.Listing.{wordText, replyText, countsText, headText, placeText, kindText, inodeText, nameText, entryText, entriesLeft, leftText, Printed};
 use bounded::Found;
 use desk::Desk;
 use layout::header::Header;
@@ -22,6 +22,7 @@ use names::ENTRY_BYTES;
 use text::put::put;
 use text::put::put_decimal;
 use text::put::put_numbered;
+use text::put::put_pair;
 
 const MOST_SLOTS: usize = 48;
 
@@ -52,16 +53,6 @@ fn put_reply(out: &mut [u8], o: usize, ok: bool, n: usize) -> usize
 {
     let e = put_word(&mut *out, o, ok, n);
     put(out, e, b"\n")
-}
-
-// Two numbers, the first after a word.
-fn put_pair(out: &mut [u8], o: usize, word: &[u8], a: usize, b: usize) -> usize
-    requires { ⌜ o + length (now word) + 41 ≤ length (now out) ⌝ }
-    ensures { λ r. ⌜ Put (now (out .entry)) o (pairText (now (word .entry)) a b) r (now (out .exit)) ⌝ }
-    ensures { λ r. ⌜ r ≤ o + length (now (word .entry)) + 41 ⌝ }
-{
-    let e = put_numbered(&mut *out, o, word, a);
-    put_numbered(out, e, b" ", b)
 }
 
 fn put_counts(out: &mut [u8], o: usize, m: &[u8]) -> usize

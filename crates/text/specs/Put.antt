@@ -23,6 +23,10 @@ places (suc f) n = pick (ltb n 10) 1 (suc (places f (n / 10)))
 unfoldable pub decimalText : ℕ → List ℕ
 decimalText n = digits 10 (places 19 n) n
 
+-- two numbers, the first after a word
+unfoldable pub pairText : List ℕ → ℕ → ℕ → List ℕ
+pairText w a b = (w ++ decimalText a) ++ (letters " " ++ decimalText b)
+
 -- two hex digits a byte
 unfoldable pub pairs : List ℕ → List ℕ
 pairs [] = []

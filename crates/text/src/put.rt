@@ -4,7 +4,7 @@ ghost use mathlib.Core.List.{_++_};
 ghost use Prim.Native.Nat.{_+_, _*_, _^_, _<_, _≤_};
 ghost use lib.ListN.{length};
 ghost use Rattle.io.specs.Digits.{digits};
-ghost use Rattle.text.specs.Put.{Put, decimalText, pairs, bytesText};
+ghost use Rattle.text.specs.Put.{Put, decimalText, pairText, pairs, bytesText};
 
 // The text at o; where it ends.
 pub fn put(out: &mut [u8], o: usize, text: &[u8]) -> usize
@@ -33,6 +33,16 @@ pub fn put_numbered(out: &mut [u8], o: usize, word: &[u8], n: usize) -> usize
 {
     let e = put(&mut *out, o, word);
     put_decimal(out, e, n)
+}
+
+// Two numbers, the first after a word.
+pub fn put_pair(out: &mut [u8], o: usize, word: &[u8], a: usize, b: usize) -> usize
+    requires { ⌜ o + length (now word) + 41 ≤ length (now out) ⌝ }
+    ensures { λ r. ⌜ Put (now (out .entry)) o (pairText (now (word .entry)) a b) r (now (out .exit)) ⌝ }
+    ensures { λ r. ⌜ r ≤ o + length (now (word .entry)) + 41 ⌝ }
+{
+    let e = put_numbered(&mut *out, o, word, a);
+    put_numbered(out, e, b" ", b)
 }
 
 // A number in k hex digits.

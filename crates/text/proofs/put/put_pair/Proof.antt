@@ -1,9 +1,9 @@
 use native.Mathlib.Omega.{arith}
 use Rattle.text.proofs.PutLaws.{put-on}
-use Rattle.listing.specs.Listing.{pairText}
+use Rattle.text.specs.Put.{pairText}
 use borrow.Author.Needs.{needs}
-use Rattle.listing.proofs.put_pair.Statement.{statement}
-use Rattle.listing.proofs.put_pair.Tie as tie
+use Rattle.text.proofs.put.put_pair.Statement.{statement}
+use Rattle.text.proofs.put.put_pair.Tie as tie
 
 put-numbered-requires : tie.Need-put-numbered-requires
 put-numbered-requires c κs = search needs
