@@ -13,8 +13,8 @@ fn main() {
     let mut store = [0u8; 4624];
     let mut image = [0u8; 8720];
     let mut desk = [0u8; 160];
-    format::lay_out_store(&mut store, INODES, BLOCKS);
-    format::lay_out_desk(&mut desk, INODES);
+    watch::lay_out_store(&mut store, INODES, BLOCKS);
+    watch::lay_out_desk(&mut desk, INODES);
     let mut script = io::large_buffer();
     let n = io::read_full(STDIN_FILENO, &mut script);
     lines_of::run(&script[..n], &mut store, &mut image, &mut desk);

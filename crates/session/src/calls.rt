@@ -84,6 +84,6 @@ pub fn call(j: usize, line: &[u8], store: &mut [u8], image: &mut [u8], desk: &mu
         4 => link(line, store, image, desk),
         5 => unlink(line, store, image, desk),
         6 => rename(line, store, image, desk),
-        _ => copystart::start::start(store, image, desk),
+        _ => watch::start(store, image, desk),
     }
 }

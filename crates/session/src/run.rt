@@ -15,8 +15,8 @@ use crate::Reply;
 use crate::Turn;
 use crate::calls;
 use answers::Answer;
+use answers::refusal_number;
 use bounded::Found;
-use commands::answer::refusal_number;
 use desk::Desk;
 use layout::header::Header;
 use layout::sizes::COMPLETE;
@@ -36,7 +36,7 @@ fn turn(store: &[u8], image: &mut [u8], desk: &mut [u8]) -> Turn
     requires { ⌜ headerBytes ≤ length (now image) ⌝ }
     ensures { λ r. ⌜ Turned r (world (now (store .entry)) (now (image .entry)) (now (desk .entry))) (now (image .exit)) (now (desk .exit)) ⌝ }
 {
-    match copystep::step(store, &mut *image, &mut *desk) {
+    match watch::step(store, &mut *image, &mut *desk) {
         Answer::Done(_) => Turn {
             number: 0,
             finished: is_complete(&*image),
