@@ -6,7 +6,8 @@ ghost use lib.ListN.{length};
 ghost use Rattle.bounded.specs.Search.{firstFrom};
 ghost use Rattle.layout.specs.Sizes.{headerBytes, mostImageBlocks};
 ghost use Rattle.layout.specs.Inode.{InodeFits};
-ghost use Rattle.names.specs.Entry.{entryBytes};
+ghost use Rattle.names.specs.Name.{nameBytes};
+ghost use Rattle.names.specs.Entry.{entryBytes, nameLength};
 ghost use Rattle.directory.specs.Slot.{mostSlots};
 ghost use Rattle.desk.specs.Sizes.{deskHeaderBytes};
 ghost use Rattle.sound.specs.Sound.{Sound, inodesIn};
@@ -19,6 +20,7 @@ use layout::header::Header;
 use layout::inode;
 use layout::sizes::DIRECTORY;
 use names::ENTRY_BYTES;
+use names::NAME_BYTES;
 use text::put::put;
 use text::put::put_decimal;
 use text::put::put_numbered;
@@ -113,11 +115,24 @@ fn put_inode(out: &mut [u8], o: usize, m: &[u8], n: usize, i: usize) -> usize
     put_pair(out, a, b" ", size, links)
 }
 
+// How many bytes the entry's name has.
+fn name_length(entry: &[u8]) -> usize
+    requires { ⌜ entryBytes ≤ length (now entry) ⌝ }
+    ensures { λ r. ⌜ (r ≡ nameLength (now (entry .entry))) × (r ≤ nameBytes) ⌝ }
+{
+    for k in 0..NAME_BYTES {
+        if entry[NAME_AT + k] == 0 {
+            return k;
+        }
+    }
+    NAME_BYTES
+}
+
 fn put_name(out: &mut [u8], o: usize, entry: &[u8]) -> usize
     requires { ⌜ (o + 16 ≤ length (now out)) × (entryBytes ≤ length (now entry)) ⌝ }
     ensures { λ r. ⌜ Put (now (out .entry)) o (nameText (now (entry .entry))) r (now (out .exit)) ⌝ }
 {
-    let k = names::name_length(entry);
+    let k = name_length(entry);
     let a = put(&mut *out, o, b" ");
     let b = put(&mut *out, a, &entry[NAME_AT..NAME_AT + k]);
     put(out, b, b"\n")
