@@ -5,7 +5,7 @@ ghost use Prim.Native.Nat.{_+_, _*_, _<_, _≤_};
 ghost use lib.Dec.{eqb};
 ghost use lib.ListN.{length, getD};
 ghost use Rattle.bounded.specs.Below.{allBelow};
-ghost use Rattle.octets.specs.Octets.{Apart, numAt, putNum, zeroed, copied};
+ghost use Rattle.octets.specs.Octets.{numAt, putNum, zeroed, copied};
 ghost use Rattle.octets.specs.Flags.{flags};
 
 // Eight bytes, each 1, 127 or 128.
@@ -115,16 +115,6 @@ pub fn copy_range(d: &mut [u8], o: usize, s: &[u8], p: usize, k: usize)
 {
     for j in 0..k {
         d[o + j] = s[p + j];
-    }
-}
-
-// The same within one slice, for two ranges that have no byte in common.
-pub fn copy_inside(s: &mut [u8], o: usize, p: usize, k: usize)
-    requires { ⌜ (o + k ≤ length (now s)) × (p + k ≤ length (now s)) × Apart o k p k ⌝ }
-    ensures { λ _. ⌜ now (s .exit) ≡ copied (now (s .entry)) o (now (s .entry)) p k ⌝ }
-{
-    for j in 0..k {
-        s[o + j] = s[p + j];
     }
 }
 
