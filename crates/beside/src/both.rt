@@ -1,0 +1,125 @@
+// An event done by the library and, a file call that was not answered 14, by the plain store; what they answer and leave is compared.
+ghost use Prim.Native.Nat.{_≤_};
+ghost use lib.ListN.{length};
+use crate::calls;
+use crate::calls::Got;
+use chance::event;
+use chance::event::Event;
+use chance::event::spell;
+use check::same;
+use files::plain;
+use judge::copy::note_taken;
+
+const BUSY: usize = 14;
+
+// What an out-buffer holds before a read.
+const FILLER: u8 = 170;
+
+fn same_answer(a: Got, b: Got) -> bool {
+    a.number == b.number && a.value == b.value
+}
+
+// The plain store reads the same.
+fn read_alike(e: Event, a: Got, out: &[u8], beside: &[u8]) -> bool {
+    let mut shown = [FILLER; 64];
+    let b = calls::told(plain::read(beside, e.inode, e.offset, &mut shown));
+    same_answer(a, b) && same(out, &shown)
+}
+
+// The plain store answers the same.
+fn plain_alike(
+    e: Event,
+    f: usize,
+    g: usize,
+    a: Got,
+    out: &[u8],
+    beside: &mut [u8],
+    name: &[u8],
+    other: &[u8],
+) -> bool {
+    if e.what == event::READ {
+        return read_alike(e, a, out, beside);
+    }
+    let b = calls::told(calls::plainly(calls::call(e, f, g), beside, name, other));
+    same_answer(a, b)
+}
+
+// The entries that an accepted unlink or move took out are noted, from the stores before and after it.
+fn note(e: Event, a: Got, n: usize, before: &[u8], after: &[u8], taken: &mut [u8; 384])
+    requires { ⌜ n ≤ 8 ⌝ }
+{
+    if a.number != 0 {
+        return;
+    }
+    if e.what == event::UNLINK || e.what == event::RENAME {
+        note_taken(before, after, n, taken);
+    }
+}
+
+// A file call that was not answered 14.
+fn is_plain(e: Event, a: Got) -> bool {
+    e.what <= event::READ && a.number != BUSY
+}
+
+// The plain store answers the same and, after every event, holds the same.
+fn compare(
+    e: Event,
+    f: usize,
+    g: usize,
+    a: Got,
+    out: &[u8],
+    store: &[u8],
+    beside: &mut [u8],
+    name: &[u8],
+    other: &[u8],
+) -> bool {
+    if is_plain(e, a) {
+        if !plain_alike(e, f, g, a, out, &mut *beside, name, other) {
+            return false;
+        }
+        return same(store, beside);
+    }
+    same(store, beside)
+}
+
+// A name, or the bytes that a write writes and that stand there already; answers how many.
+fn put_first(e: Event, name: &mut [u8]) -> usize
+    requires { ⌜ 2 ≤ length (now name) ⌝ }
+{
+    if e.what == event::WRITE {
+        return e.length;
+    }
+    spell(e.name, &mut *name)
+}
+
+// What the library answered, and whether the plain store does the same.
+pub struct Both {
+    pub got: Got,
+    pub alike: bool,
+}
+
+// The bytes that a write writes are all alike.
+pub fn do_both(
+    e: Event,
+    fill: u8,
+    n: usize,
+    store: &mut [u8],
+    image: &mut [u8],
+    desk: &mut [u8],
+    beside: &mut [u8],
+    taken: &mut [u8; 384],
+) -> Both
+    requires { ⌜ n ≤ 8 ⌝ }
+{
+    let mut name = [fill; 800];
+    let mut other = [0u8; 2];
+    let mut out = [FILLER; 64];
+    let f = put_first(e, &mut name);
+    let g = spell(e.other, &mut other);
+    let command = calls::command(e, f, g);
+    let reply = runner::run(command, &mut *store, image, desk, &mut out, &name, &other);
+    let a = calls::replied(reply);
+    note(e, a, n, beside, store, taken);
+    let alike = compare(e, f, g, a, &out, store, beside, &name, &other);
+    Both { got: a, alike }
+}

@@ -1,0 +1,3 @@
+// The library beside a plain store: an event is done by both.
+pub mod both;
+pub mod calls;

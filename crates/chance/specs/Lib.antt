@@ -1,0 +1,2 @@
+-- What lists keep to.
+pub mod Small

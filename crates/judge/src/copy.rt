@@ -1,0 +1,234 @@
+// A copy's moments are stores in a row, each in so many bytes; the first is the store at its start.
+ghost use Prim.Native.Nat.{_*_, _≤_};
+use crate::fields::FILE;
+use crate::fields::SLOTS;
+use crate::fields::address;
+use crate::fields::block_at;
+use crate::fields::byte;
+use crate::fields::kind;
+use crate::fields::names;
+use crate::fields::same_bytes;
+use crate::fields::size;
+use crate::fields::slot_at;
+
+pub const MOMENT_BYTES: usize = 2048;
+
+// Moment j; nothing where there is none.
+pub fn moment(moments: &[u8], j: usize) -> &[u8] {
+    if j < moments.len() / MOMENT_BYTES {
+        return &moments[MOMENT_BYTES * j..MOMENT_BYTES * j + MOMENT_BYTES];
+    }
+    &moments[0..0]
+}
+
+// The entry at place p is the same: inode and name.
+fn same_entry(s: &[u8], copy: &[u8], n: usize, p: usize) -> bool
+    requires { ⌜ (n ≤ 256) × (p ≤ 20000) ⌝ }
+{
+    if names(s, n, p) != names(copy, n, p) {
+        return false;
+    }
+    same_bytes(s, slot_at(s, n, p), copy, slot_at(copy, n, p), 16)
+}
+
+// The copy's entry at place p stood there at a moment.
+fn stood(moments: &[u8], m: usize, copy: &[u8], n: usize, p: usize) -> bool
+    requires { ⌜ (n ≤ 256) × (p ≤ 20000) ⌝ }
+{
+    for j in 0..m {
+        if same_entry(moment(moments, j), copy, n, p) {
+            return true;
+        }
+    }
+    false
+}
+
+// The k-th block of inode i is the same, or there is none.
+fn block_alike(s: &[u8], copy: &[u8], n: usize, i: usize, k: usize) -> bool
+    requires { ⌜ (n ≤ 256) × (1 ≤ i) × (i ≤ 256) × (k ≤ 12) ⌝ }
+{
+    let a = address(s, n, i, k);
+    let b = address(copy, n, i, k);
+    if a == 0 {
+        return b == 0;
+    }
+    if b == 0 {
+        return false;
+    }
+    same_bytes(s, block_at(n, a), copy, block_at(n, b), 64)
+}
+
+// Inode i has the copy's kind and, a file, its size and bytes in s.
+fn alike(s: &[u8], copy: &[u8], n: usize, i: usize) -> bool
+    requires { ⌜ (n ≤ 256) × (1 ≤ i) × (i ≤ 256) ⌝ }
+{
+    if kind(s, i) != kind(copy, i) {
+        return false;
+    }
+    if kind(copy, i) != FILE {
+        return true;
+    }
+    if size(s, i) != size(copy, i) {
+        return false;
+    }
+    for k in 0..12 {
+        if !block_alike(s, copy, n, i, k) {
+            return false;
+        }
+    }
+    true
+}
+
+// Wherever the copy names inode i, so does s.
+fn named_alike(s: &[u8], copy: &[u8], n: usize, i: usize) -> bool
+    requires { ⌜ n ≤ 256 ⌝ }
+{
+    for p in 0..SLOTS * n {
+        if names(copy, n, p) == i && names(s, n, p) != i {
+            return false;
+        }
+    }
+    true
+}
+
+// There was a moment at which inode i was what the copy has of it, and named wherever the copy names it.
+fn of_one_moment(moments: &[u8], m: usize, copy: &[u8], n: usize, i: usize) -> bool
+    requires { ⌜ (n ≤ 256) × (1 ≤ i) × (i ≤ 256) ⌝ }
+{
+    for j in 0..m {
+        let s = moment(moments, j);
+        if alike(s, copy, n, i) && named_alike(s, copy, n, i) {
+            return true;
+        }
+    }
+    false
+}
+
+// Every inode that the copy has in use is that of one moment.
+fn inodes_right(moments: &[u8], m: usize, copy: &[u8], n: usize) -> bool
+    requires { ⌜ n ≤ 256 ⌝ }
+{
+    for k in 0..n {
+        let i = k + 1;
+        if kind(copy, i) != 0 && !of_one_moment(moments, m, copy, n, i) {
+            return false;
+        }
+    }
+    true
+}
+
+// The place of the entry that names i; one past all places if there is none.
+fn entry_of(s: &[u8], n: usize, i: usize) -> usize
+    requires { ⌜ n ≤ 256 ⌝ }
+    ensures { λ r. ⌜ r ≤ 48 * n ⌝ }
+{
+    for p in 0..SLOTS * n {
+        if names(s, n, p) == i {
+            return p;
+        }
+    }
+    SLOTS * n
+}
+
+// Neither the entry at the place nor any above it was taken out; s is the store at the start.
+fn kept(s: &[u8], n: usize, taken: &[u8], place: usize) -> bool
+    requires { ⌜ (n ≤ 256) × (place ≤ 48 * n) ⌝ }
+{
+    let mut p = place;
+    for _ in 0..n {
+        if byte(taken, p) != 0 {
+            return false;
+        }
+        if p < SLOTS {
+            return true;
+        }
+        p = entry_of(s, n, 1 + p / SLOTS);
+    }
+    false
+}
+
+const THERE: usize = 1;
+
+const MISSING: usize = 2;
+
+// The entry that stood at place p at the start, s: whether it was kept and, if so, is in the copy for the same inode.
+fn owed_at(s: &[u8], copy: &[u8], n: usize, taken: &[u8], p: usize) -> usize
+    requires { ⌜ (n ≤ 256) × (p ≤ 48 * n) ⌝ }
+    ensures { λ r. ⌜ r ≤ 2 ⌝ }
+{
+    let i = names(s, n, p);
+    if i == 0 {
+        return 0;
+    }
+    if !kept(s, n, taken, p) {
+        return 0;
+    }
+    if names(copy, n, p) != i {
+        return MISSING;
+    }
+    THERE
+}
+
+// How many entries the copy owes, and whether they are in it.
+pub struct Owed {
+    pub entries: usize,
+    pub there: bool,
+}
+
+pub fn kept_entries(s: &[u8], copy: &[u8], n: usize, taken: &[u8]) -> Owed
+    requires { ⌜ n ≤ 256 ⌝ }
+    ensures { λ r. ⌜ r .entries ≤ 48 * n ⌝ }
+{
+    let mut entries = 0;
+    for p in 0..SLOTS * n {
+        let x = owed_at(s, copy, n, taken, p);
+        if x == MISSING {
+            return Owed {
+                entries,
+                there: false,
+            };
+        }
+        entries += x;
+    }
+    Owed {
+        entries,
+        there: true,
+    }
+}
+
+// Every entry of the copy stood at a moment, with that name.
+fn names_right(moments: &[u8], m: usize, copy: &[u8], n: usize) -> bool
+    requires { ⌜ n ≤ 256 ⌝ }
+{
+    for p in 0..SLOTS * n {
+        if names(copy, n, p) != 0 && !stood(moments, m, copy, n, p) {
+            return false;
+        }
+    }
+    true
+}
+
+// What the copy has is of its time.
+pub fn of_its_time(moments: &[u8], m: usize, copy: &[u8], n: usize) -> bool
+    requires { ⌜ n ≤ 256 ⌝ }
+{
+    names_right(moments, m, copy, n) && inodes_right(moments, m, copy, n)
+}
+
+// One place, if it was emptied.
+fn note_place(before: &[u8], after: &[u8], n: usize, p: usize, taken: &mut [u8])
+    requires { ⌜ (n ≤ 256) × (p ≤ 20000) ⌝ }
+{
+    if p < taken.len() && names(before, n, p) != 0 && names(after, n, p) == 0 {
+        taken[p] = 1;
+    }
+}
+
+// An accepted unlink or move led from one store to the next: the places that it emptied are noted.
+pub fn note_taken(before: &[u8], after: &[u8], n: usize, taken: &mut [u8])
+    requires { ⌜ n ≤ 256 ⌝ }
+{
+    for p in 0..SLOTS * n {
+        note_place(before, after, n, p, &mut *taken);
+    }
+}

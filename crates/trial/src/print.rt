@@ -1,0 +1,45 @@
+// What was tried, or the list that shows a difference.
+use crate::tried::BLOCKS;
+use crate::tried::ENTRIES;
+use crate::tried::EVENTS;
+use crate::tried::FINISHES;
+use crate::tried::INODES;
+use crate::tried::LISTS;
+use crate::tried::MOVES;
+use chance::print::list;
+use chance::print::number;
+use chance::print::word;
+
+// The list up to the event, after a line that `replay` has no answer to.
+pub fn difference(seed: u64, l: u64, event: u64) {
+    word(b"a difference in the last line of list");
+    number(l as usize);
+    word(b"\n");
+    list(seed, l, event);
+}
+
+fn row(what: &[u8], n: u64) {
+    word(what);
+    number(n as usize);
+    word(b"\n");
+}
+
+fn refused(tried: &[u64; 24]) {
+    for k in 1..17 {
+        word(b"refused with");
+        number(k);
+        row(b":", tried[k]);
+    }
+}
+
+pub fn all(tried: &[u64; 24]) {
+    row(b"lists", tried[LISTS]);
+    row(b"events", tried[EVENTS]);
+    row(b"copies finished", tried[FINISHES]);
+    row(b"entries they owed", tried[ENTRIES]);
+    row(b"moves during a copy", tried[MOVES]);
+    row(b"inodes used again during a copy", tried[INODES]);
+    row(b"blocks used again during a copy", tried[BLOCKS]);
+    row(b"accepted", tried[0]);
+    refused(tried);
+}
