@@ -14,9 +14,10 @@
  * buffer between two calls; its bytes are the same on every machine.
  *
  * Buffers
- *     A buffer is a pointer and a length in bytes. The buffers, names and out-buffers of one call
- *     must not overlap, and nothing else may write them until it returns: no interrupt, no other
- *     thread. Calls on different buffers may run at the same time.
+ *     A buffer is a pointer and a length in bytes. What a call may write (store, image, desk, an
+ *     out-buffer, state's three numbers) must not overlap anything else that it is lent, and nothing
+ *     else may write what it is lent until it returns: no interrupt, no other thread. A rename's two
+ *     names may be the same bytes. Calls on different buffers may run at the same time.
  *     Where a length is 0, the pointer may be anything, NULL included: an empty name is refused
  *     with 4, a write of no bytes is a write of no bytes. An empty image will do as long as no copy
  *     is started. The three pointers that honecerise_state takes must not be NULL.
@@ -86,7 +87,10 @@ enum honecerise_refusal {
                                       layout call's by the numbers told, at start the image           */
     HONECERISE_UNSOUND_STORE =  2, /* the store is not sound: something else wrote to it              */
     HONECERISE_BAD_DESK      =  3, /* the desk breaks its layout or is of another inode count; or,
-                                      while a copy runs, the image is not the one that it began on    */
+                                      while a copy runs, the image's length or counts are not the
+                                      desk's, its root is not 1, its byte 8 is not 0, or an address is
+                                      above its block count. Another image that passes these is not
+                                      noticed, and spoils the copy                                    */
     /* the app that names things */
     HONECERISE_ILLEGAL_NAME  =  4, /* not 1 to 14 bytes, a byte that is 0 or '/', or . or ..          */
     HONECERISE_WRONG_INODE   =  5, /* a number that is not the file or directory needed               */
@@ -100,8 +104,9 @@ enum honecerise_refusal {
     HONECERISE_NO_BLOCKS     = 12, /* too few free blocks                                             */
     HONECERISE_NO_SLOT       = 13, /* all 48 slots of the directory are used                          */
     /* the copy's timing */
-    HONECERISE_BUSY          = 14, /* the copier has what the call would change locked: step, and try
-                                      again                                                           */
+    HONECERISE_BUSY          = 14, /* a write or shortening of the inode that the copier has locked; a
+                                      create, link, unlink or rename in a locked directory; a link to,
+                                      unlink or move of the locked inode: step, and try again         */
     HONECERISE_WRONG_STATE   = 15, /* a start while a copy runs, or a step while none does            */
     HONECERISE_IMAGE_FULL    = 16  /* a step had a block to copy and no image block for it: the copy
                                       is stopped, and what was locked is free again                   */

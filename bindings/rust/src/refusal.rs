@@ -16,8 +16,8 @@ pub enum Refusal {
     BadBuffer = 1,
     /// Wiring: the store is not sound; something else wrote to it.
     UnsoundStore = 2,
-    /// Wiring: the desk breaks its layout or is of another inode count; or, while a copy runs, the image is not the one that it
-    /// began on.
+    /// Wiring: the desk breaks its layout or is of another inode count; or, while a copy runs, the image's length or counts are not
+    /// the desk's, its root is not 1, its byte 8 is not 0, or an address is above its block count.
     BadDesk = 3,
     /// Naming: not 1 to 14 bytes, a byte that is 0 or `/`, or `.` or `..`.
     IllegalName = 4,
@@ -39,7 +39,8 @@ pub enum Refusal {
     NoBlocks = 12,
     /// A full watch: all 48 slots of the directory are used.
     NoSlot = 13,
-    /// Timing: the copier has what the call would change locked. Step, and try again.
+    /// Timing: a write or shortening of the inode that the copier has locked; a create, link, unlink or rename in a locked
+    /// directory; a link to, unlink or move of the locked inode. Step, and try again.
     Busy = 14,
     /// Timing: a start while a copy runs, or a step while none does.
     WrongState = 15,

@@ -31,7 +31,7 @@ nothing s = record { ends = refl; holds = refl }
 -- nothing is left
 pub part-none : (left : ℕ → List ℕ) (k : ℕ) (s : List ℕ) → left k ≡ [] → Printed left k s (part 0 k false) s
 part-none left k s e =
-    record { text = []; put = nothing s; splits = λ q. absurd (clash false q refl); onward = λ q. absurd (clash false q refl); bounded = λ q. absurd (clash false q refl); done = λ _. e }
+    record { text = []; put = nothing s; splits = λ q. absurd (clash false q refl); onward = λ q. absurd (clash false q refl); bounded = λ q. absurd (clash false q refl); done = λ _. (e, refl) }
 
 module _ (o : Bool) (v : ℕ) (f : Bool) (m d s t : List ℕ) (e : ℕ) where
   pub part-reply : (k : ℕ) → k ≡ 0 → Put s 0 (replyText o v) e t → Printed (leftText o v f m d) k s (part e 1 true) t
@@ -75,7 +75,7 @@ part-listed o v f m d s t k r h l p =
       splits = λ q. listed o v m d k l ∙ p .splits q ∙ ap (_++_ (p .text)) (sym (listed o v m d (r .next) (let z = p .onward q in omega arith)));
       onward = p .onward;
       bounded = p .bounded;
-      done = λ q. listed o v m d k l ∙ p .done q;
+      done = λ q. (listed o v m d k l ∙ p .done q .0, p .done q .1);
     })
 
 module _ (m : List ℕ) (n k : ℕ) (c : n ≡ inodesIn m) (few : n ≤ mostInodes) (g : Found) (e : g ≡ firstFrom (filled m n) (k - 2) (mostSlots * n - (k - 2))) where

@@ -71,11 +71,11 @@ leftText o v f m d zero = printedText o v f m d
 leftText o v f m d (suc zero) = pick f (listing m d) []
 leftText o v f m d (suc (suc p)) = pick f (entriesLeft m (suc (suc p))) []
 
--- a part was put at the start of s: it is what comes next, and what is left after it is what is left at another k; or nothing is left
+-- a part was put at the start of s: it is what comes next, and what is left after it is what is left at another k; or nothing is left, and nothing was put
 pub record Printed (left : ℕ → List ℕ) (k : ℕ) (s : List ℕ) (r : Part) (t : List ℕ) : Type 0 where
   pub text : List ℕ
   pub put : Put s 0 text (r .end) t
   pub splits : r .more ≡ true → left k ≡ text ++ left (r .next)
   pub onward : r .more ≡ true → k < r .next
   pub bounded : r .more ≡ true → r .next ≤ mostSlots * mostInodes + 2
-  pub done : r .more ≡ false → left k ≡ []
+  pub done : r .more ≡ false → (left k ≡ []) × (text ≡ [])
