@@ -4,21 +4,20 @@ use mathlib.Core.Path.{_≡_, refl, sym, ap, _∙_, subst}
 use mathlib.Core.Bool.{true, false}
 use mathlib.Core.List.{List, [], _∷_}
 use native.Mathlib.Omega.{arith}
-use lib.ListN.{length, take, drop}
+use lib.ListN.{length, take, drop, replicate}
+use lib.Seq.{take-all}
 use Rattle.octets.specs.Octets.{part}
 use Rattle.layout.specs.Sizes.{mostImageBlocks}
 use Rattle.sound.specs.Sound.{Sound}
 use Rattle.answers.specs.declared.Answer.{Answer}
-use Rattle.format.specs.Format.{Outcome, left, layOutDesk}
+use Rattle.format.specs.Format.{Outcome, left, layOutStore, layOutDesk}
 use Rattle.text.specs.Pieces.{placeOf}
-use Rattle.checkpoint.specs.Fit.{isRunning}
 use Rattle.checkpoint.specs.Live.{World}
 use Rattle.checkpoint.specs.Shown.{world}
-use Rattle.lines.specs.Lines.{linesIn}
+use Rattle.lines.specs.Lines.{linesIn, mostBytes, scriptLines}
 use Rattle.lines.proofs.LineLaws.{line-splits, lines-end}
 use Rattle.session.specs.Reply.{Ran, ran, lineRuns, worldAfter}
-use Rattle.session.specs.Script.{linesRun, FinishesSound}
-use Rattle.session.proofs.FinishLaws.{laid-idle}
+use Rattle.session.specs.Script.{linesRun, FinishesSound, scriptInodes, scriptBlocks, fresh}
 use Rattle.session.specs.declared.Reply.{Reply}
 
 pub after-line : (l : List ℕ) (w : World) (r : Reply) (s m d : List ℕ) → ran r (world s m d) ≡ lineRuns l w → world s m d ≡ worldAfter l w
@@ -49,6 +48,13 @@ pub all-run : (s : List ℕ) (at : ℕ) (w : World) → length s ≤ at → line
 unfolding linesRun
 all-run s at w l = rw (lines-end s at l) refl
 
--- a desk that was laid out
-pub laid-desk : (d t : List ℕ) (a : Answer) → left a t ≡ layOutDesk d 16 → length d ≡ 160 → isRunning t ≡ false
-laid-desk d t a e l = ap (λ (o : Outcome). isRunning (o .buffer)) e ∙ laid-idle d 16 l (omega arith) (omega arith)
+-- all of a script that was read, on the fresh buffers
+pub whole-script : (s : List ℕ) (w : World) → length s ≤ mostBytes → w ≡ fresh → linesRun (linesIn s) w ≡ linesRun (scriptLines s) fresh
+unfolding scriptLines
+whole-script s w l e = rw (e, take-all mostBytes s l) refl
+
+-- the fresh buffers are those that were laid out
+pub laid-fresh : (s d t u : List ℕ) (a b : Answer) → s ≡ replicate 4624 0 → d ≡ replicate 160 0 → left a t ≡ layOutStore s scriptInodes scriptBlocks → left b u ≡ layOutDesk d scriptInodes
+    → world t (replicate 8720 0) u ≡ fresh
+unfolding fresh
+laid-fresh s d t u a b p q e f = rw (ap (λ (o : Outcome). o .buffer) e, ap (λ (o : Outcome). o .buffer) f, p, q) refl

@@ -1,17 +1,15 @@
 // The lines of a script, one after the other.
 ghost use mathlib.Core.Path.{_≡_};
-ghost use mathlib.Core.Bool.{false};
 ghost use Prim.Native.Nat.{_+_, _-_, _<_, _≤_};
 ghost use lib.ListN.{length};
 ghost use Rattle.octets.specs.Octets.{part};
 ghost use Rattle.layout.specs.Sizes.{headerBytes};
 ghost use Rattle.desk.specs.Sizes.{deskHeaderBytes};
 ghost use Rattle.text.specs.Pieces.{placeOf};
-ghost use Rattle.checkpoint.specs.Fit.{isRunning};
 ghost use Rattle.checkpoint.specs.Shown.{world};
-ghost use Rattle.lines.specs.Lines.{linesIn};
+ghost use Rattle.lines.specs.Lines.{mostBytes, scriptLines};
 ghost use Rattle.session.specs.Reply.{worldAfter};
-ghost use Rattle.session.specs.Script.{linesRun, FinishesSound};
+ghost use Rattle.session.specs.Script.{linesRun, FinishesSound, fresh};
 use crate::print;
 use lines::Next;
 use lines::line_from;
@@ -38,10 +36,10 @@ fn one(script: &[u8], at: usize, store: &mut [u8], image: &mut [u8], desk: &mut 
     end + 1
 }
 
-// All lines, in order; before the first no copy runs.
+// All lines, in order, from the fresh buffers on.
 pub fn run(script: &[u8], store: &mut [u8], image: &mut [u8], desk: &mut [u8])
-    requires { ⌜ (headerBytes ≤ length (now image)) × (deskHeaderBytes ≤ length (now desk)) × (length (now script) ≤ 65536) × (isRunning (now desk) ≡ false) ⌝ }
-    ensures { λ _. ⌜ world (now (store .exit)) (now (image .exit)) (now (desk .exit)) ≡ linesRun (linesIn (now (script .entry))) (world (now (store .entry)) (now (image .entry)) (now (desk .entry))) ⌝ }
+    requires { ⌜ (headerBytes ≤ length (now image)) × (deskHeaderBytes ≤ length (now desk)) × (length (now script) ≤ mostBytes) × (world (now store) (now image) (now desk) ≡ fresh) ⌝ }
+    ensures { λ _. ⌜ world (now (store .exit)) (now (image .exit)) (now (desk .exit)) ≡ linesRun (scriptLines (now (script .entry))) fresh ⌝ }
 {
     let mut at = 0;
     while at < script.len() {

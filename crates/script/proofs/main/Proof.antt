@@ -1,4 +1,5 @@
-use Rattle.script.proofs.ScriptLaws.{laid-desk}
+use mathlib.Core.Path.{refl}
+use Rattle.script.proofs.ScriptLaws.{laid-fresh}
 use borrow.Author.Needs.{needs}
 use Rattle.script.proofs.main.Statement.{statement}
 use Rattle.script.proofs.main.Tie as tie
@@ -40,7 +41,10 @@ slice-aggregate-run-4 : tie.Need-slice-aggregate-run-4
 slice-aggregate-run-4 c = search needs
 
 run-requires : tie.Need-run-requires
-run-requires c κs = (search needs, search needs, search needs, laid-desk _ _ (c .before .before .before .before .before .before .before .before .before .lay-out-desk .result) (c .before .before .before .before .before .before .before .before .before .lay-out-desk .ensures) (search needs))
+run-requires c κs =
+    let s = c .before .before .before .before .before .before .before .before .before .before .before .before .lay-out-store in
+    let d = c .before .before .before .before .before .before .before .before .before .lay-out-desk in
+    (search needs, search needs, search needs, laid-fresh _ _ _ _ (s .result) (d .result) refl refl (s .ensures) (d .ensures))
 
 returns : tie.Need-returns
 returns c = search needs

@@ -1,14 +1,14 @@
 use borrow.Author.Needs.{needs}
 use native.Mathlib.Omega.{arith}
-use Rattle.script.proofs.ScriptLaws.{line-turn, all-run, later-sound}
+use Rattle.script.proofs.ScriptLaws.{line-turn, all-run, later-sound, whole-script}
 use Rattle.lines.specs.Lines.{linesIn}
 use Rattle.lines.proofs.LineLaws.{line-splits}
 use Rattle.session.specs.Script.{linesRun, FinishesSound}
-use Rattle.session.proofs.FinishLaws.{finishes-sound}
+use Rattle.session.proofs.FinishLaws.{fresh-finishes}
 use Rattle.checkpoint.specs.Shown.{world}
 use lib.ListN.{length, drop}
 use Prim.Native.Nat.{_+_, _-_, _≤_}
-use mathlib.Core.Path.{_≡_, refl, sym, _∙_}
+use mathlib.Core.Path.{_≡_, refl, sym, _∙_, subst}
 use denote.Ref.{now}
 use Rattle.script.proofs.lines_of.run.Statement.{statement}
 use Rattle.script.proofs.lines_of.run.Tie as tie
@@ -20,7 +20,7 @@ abbrev μ-loop : tie.MeasureT-loop
 μ-loop script store₀ image₀ desk₀ at₀ store image desk at = length script + 1 - at
 
 loop-holds : tie.Need-loop-holds Inv-loop μ-loop
-loop-holds c = (omega arith, refl, refl, refl, refl, finishes-sound _ (c .before .before .before .before .pre .3))
+loop-holds c = (omega arith, refl, refl, refl, refl, subst FinishesSound (sym (c .before .before .before .before .pre .3)) fresh-finishes)
 
 one-requires : tie.Need-one-requires Inv-loop μ-loop
 one-requires c κs = (omega arith, search needs, search needs, c .before .before .before .before .loop .inv .5)
@@ -41,7 +41,7 @@ same-length-3 : tie.Need-same-length-3 Inv-loop μ-loop
 same-length-3 c = search needs
 
 returns : tie.Need-returns Inv-loop μ-loop
-returns c = let i = c .before .loop in sym (i .inv .4 ∙ all-run _ (i .at) _ (omega arith))
+returns c = let i = c .before .loop in let p = c .before .before .before .before .before .before .pre in sym (i .inv .4 ∙ all-run _ (i .at) _ (omega arith)) ∙ whole-script _ _ (p .2) (p .3)
 
 pub run-spec : {M : Type 1} → statement M
 run-spec =
