@@ -14,7 +14,7 @@ use Rattle.answers.specs.declared.Refusal.{Refusal}
 use Rattle.answers.specs.Refusal.{refusalNumber}
 use Rattle.answers.specs.Told.{Told, told}
 use Rattle.answers.proofs.RefusalLaws.{number-range}
-use Rattle.format.specs.Format.{Outcome}
+use Rattle.format.specs.Format.{LaidOut}
 use Rattle.format.specs.Format as laid
 use Rattle.files.specs.Plain as alone
 use Rattle.checkpoint.specs.declared.Status.{Status}
@@ -66,7 +66,7 @@ module _ (a : Answer) (z : ℤ) (f : z ≡ codeOf (told a)) where
   came : toZ w32 (ofZ w32 z) ≡ codeOf (told a)
   came = back f (code-fits a)
 
-  pub sent-laid : (b : List ℕ) (o : Outcome) → laid.left a b ≡ o → sends (toZ w32 (ofZ w32 z)) (b ∷ []) ≡ sentLaid o
+  pub sent-laid : (b : List ℕ) (o : LaidOut) → laid.left a b ≡ o → sends (toZ w32 (ofZ w32 z)) (b ∷ []) ≡ sentLaid o
   sent-laid b o e = ap (λ (c : ℤ). sends c (b ∷ [])) came ∙ ap sentLaid e
 
   pub sent-alone : (s out : List ℕ) (o : alone.Shown) → alone.shown (alone.left a s out) ≡ o → sends (toZ w32 (ofZ w32 z)) (s ∷ out ∷ []) ≡ sentAlone o

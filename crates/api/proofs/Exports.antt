@@ -6,14 +6,13 @@ use mathlib.Core.List.{List, [], _∷_}
 use lib.Dec.{eqb}
 use lib.IntN.{ℤ}
 use denote.Ref.{now}
-use Rattle.bounded.specs.Search.{pick}
 use Rattle.entries.specs.declared.Kind.the-variants.{File, Directory}
 use Rattle.answers.specs.Told.{Told, told}
 use Rattle.files.specs.Effect.{Call, lookUp, read, create, write, shorten, link, unlink, rename}
 use Rattle.files.specs.Plain as alone
 use Rattle.checkpoint.specs.Live.{World, Outcome, left, live, start, step, status}
 use Rattle.checkpoint.specs.Shown.{world, shown, toldStatus}
-use Rattle.checkpoint.specs.List.{call, steps, asks, starts}
+use Rattle.checkpoint.specs.List.{call, advances, asks, starts}
 use Rattle.watch.specs.Made.{got, looked-up, has-read, created, written, shortened, linked, unlinked, renamed, started, stepped, asked}
 use Rattle.watch.proofs.Contracts.{Gives}
 use Rattle.api.specs.Api.{Sent, codeOf, sends, sentAlone, sent, SentState, sendsState, sentState}
@@ -145,7 +144,7 @@ start-exported κs a z e h =
     record { received = got (told (o .answer)) []; made = started (o .answer) (same-buffers v z o h); code = same-code v z o h; shown = refl }
 
 pub step-exported : Gives 3 step-kinds.ps step-kinds.r step-reads.Learnt (λ κs a z e.
-    Exported steps (world (now (a .0)) (now (a .1 .0)) (now (a .1 .1 .0))) z [] (world (now (a .0)) (now (e .1 .0)) (now (e .1 .1 .0))))
+    Exported advances (world (now (a .0)) (now (a .1 .0)) (now (a .1 .1 .0))) z [] (world (now (a .0)) (now (e .1 .0)) (now (e .1 .1 .0))))
 step-exported κs a z e h =
     let v = (world (now (a .0)) (now (e .1 .0)) (now (e .1 .1 .0))) in
     let o = step (now (a .0)) (now (a .1 .0)) (now (a .1 .1 .0)) in

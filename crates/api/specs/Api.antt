@@ -5,11 +5,11 @@ use lib.Dec.{eqb}
 use lib.IntN.{ℤ, pos, negsuc}
 use Rattle.bounded.specs.Count.{one}
 use Rattle.bounded.specs.Search.{pick}
-use Rattle.sound.specs.Sound.{isSound}
 use Rattle.sound.specs.declared.Form.the-variants.{Store, Image}
+use Rattle.sound.specs.Test.{isSound}
 use Rattle.answers.specs.Told.{Told}
-use Rattle.format.specs.Format.{Outcome}
-use Rattle.files.specs.Plain.{Shown as Alone}
+use Rattle.format.specs.Format.{LaidOut}
+use Rattle.files.specs.Plain.{PlainShown}
 use Rattle.checkpoint.specs.Shown.{Shown}
 
 -- the largest number of 32 bits with a sign; no call's result comes near it
@@ -33,11 +33,11 @@ abbrev pub sends : ℤ → List (List ℕ) → Sent
 sends c bs = record { code = c; buffers = bs }
 
 -- a layout call
-abbrev pub sentLaid : Outcome → Sent
+abbrev pub sentLaid : LaidOut → Sent
 sentLaid o = sends (codeOf (o .answer)) (o .buffer ∷ [])
 
 -- "Look up and read take the store alone": the store, and a read's out-buffer
-abbrev pub sentAlone : Alone → Sent
+abbrev pub sentAlone : PlainShown → Sent
 sentAlone o = sends (codeOf (o .answer)) (o .store ∷ o .out ∷ [])
 
 -- the calls over store, image and desk

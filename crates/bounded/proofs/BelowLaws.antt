@@ -7,7 +7,7 @@ use native.Mathlib.Nat.{le-antisymm, not-suc-le-zero, le-of-suc-le-suc, eq-or-lt
 use native.Mathlib.Numerals.{add-one}
 use native.Mathlib.Omega.{arith}
 use borrow.Author.Tests.{not-true, not-false}
-use Rattle.bounded.specs.Below.{allBelow, someBelow}
+use Rattle.bounded.specs.Below.{allBelow, someBelow, allTo}
 use Rattle.bounded.proofs.BoolLaws.{and-true, and-left, and-right, and-false-l, and-false-r, and-cases}
 
 module _ (p : ℕ → Bool) where
@@ -61,38 +61,34 @@ module _ (p : ℕ → Bool) where
 
 -- the same for `for i in 1..=n`: i counts from 1, and the loop is left in two ways
 module _ (p : ℕ → Bool) where
-  -- p holds at each of the numbers 1 to n
-  abbrev pub allTo : ℕ → Bool
-  allTo n = allBelow (λ k. p (k + 1)) n
-
-  pub to-more : (i : ℕ) → 0 < i → allTo (i - 1) ≡ true → p i ≡ true → allTo (i + 1 - 1) ≡ true
+  pub to-more : (i : ℕ) → 0 < i → allTo p (i - 1) ≡ true → p i ≡ true → allTo p (i + 1 - 1) ≡ true
   to-more i l a h =
       let e : i - 1 + 1 ≡ i = omega arith in
       let f : i - 1 + 1 ≡ i + 1 - 1 = omega arith in
-      subst (λ (k : ℕ). allTo k ≡ true) f (all-more (λ k. p (k + 1)) (i - 1) a (subst (λ (k : ℕ). p k ≡ true) (sym e) h))
+      subst (λ (k : ℕ). allTo p k ≡ true) f (all-more (λ k. p (k + 1)) (i - 1) a (subst (λ (k : ℕ). p k ≡ true) (sym e) h))
 
-  pub to-stopped : (n i : ℕ) → 0 < i → i ≤ n → p i ≡ false → false ≡ allTo n
+  pub to-stopped : (n i : ℕ) → 0 < i → i ≤ n → p i ≡ false → false ≡ allTo p n
   to-stopped n i l m h =
       let e : i - 1 + 1 ≡ i = omega arith in
       all-stopped (λ k. p (k + 1)) n (i - 1) (omega arith) (subst (λ (k : ℕ). p k ≡ false) (sym e) h)
 
-  pub to-done : (n i : ℕ) → i ≤ n + 1 → n < i → allTo (i - 1) ≡ true → true ≡ allTo n
+  pub to-done : (n i : ℕ) → i ≤ n + 1 → n < i → allTo p (i - 1) ≡ true → true ≡ allTo p n
   to-done n i l m a = all-done (λ k. p (k + 1)) n (i - 1) (omega arith) (omega arith) a
 
   -- left after the turn at n
-  pub to-last : (n i : ℕ) → 0 < i → i ≤ n → n ≤ i → allTo (i - 1) ≡ true → p i ≡ true → true ≡ allTo n
+  pub to-last : (n i : ℕ) → 0 < i → i ≤ n → n ≤ i → allTo p (i - 1) ≡ true → p i ≡ true → true ≡ allTo p n
   to-last n i l m o a h = all-done (λ k. p (k + 1)) n (i + 1 - 1) (omega arith) (omega arith) (to-more i l a h)
 
   -- the test and what it says
-  pub to-none : allTo 0 ≡ true
+  pub to-none : allTo p 0 ≡ true
   to-none = all-none (λ k. p (k + 1))
 
-  pub to-at : (n : ℕ) → allTo n ≡ true → (i : ℕ) → 0 < i → i ≤ n → p i ≡ true
+  pub to-at : (n : ℕ) → allTo p n ≡ true → (i : ℕ) → 0 < i → i ≤ n → p i ≡ true
   to-at n a i l m =
       let e : i - 1 + 1 ≡ i = omega arith in
       subst (λ (k : ℕ). p k ≡ true) e (all-at (λ k. p (k + 1)) n a (i - 1) (omega arith))
 
-  pub to-of : (n : ℕ) → ((i : ℕ) → 0 < i → i ≤ n → p i ≡ true) → allTo n ≡ true
+  pub to-of : (n : ℕ) → ((i : ℕ) → 0 < i → i ≤ n → p i ≡ true) → allTo p n ≡ true
   to-of n h = all-of (λ k. p (k + 1)) n (λ k l. h (k + 1) (omega arith) (omega arith))
 
 -- tests that are equal below n

@@ -5,12 +5,12 @@ use mathlib.Core.Logic.{_⊎_, inl, inr, ⊎-elim}
 use Prim.Native.Nat.{ℕ, _≤_, _<_}
 use borrow.Author.Tests.{lt-ltb, le-leb, eq-eqb, ltb-true, leb-true, eqb-true, not-true}
 use lib.Dec.{leb, ltb, eqb}
-use Rattle.bounded.specs.Below.{allBelow, someBelow}
+use Rattle.bounded.specs.Below.{allBelow, someBelow, allTo}
 use Rattle.bounded.specs.Count.{differB, Differ}
 use Rattle.bounded.specs.Climb.{Leads, leadsB, Closed}
 use Rattle.bounded.specs.Reflect.{Reflects}
 use Rattle.bounded.proofs.BoolLaws.{and-true, and-left, and-right, or-l, or-r, or-right, or-cases, clash, fails, holds-or-fails, same-test}
-use Rattle.bounded.proofs.BelowLaws.{all-at, all-of, allTo, to-at, to-of, some-at, some-of}
+use Rattle.bounded.proofs.BelowLaws.{all-at, all-of, to-at, to-of, some-at, some-of}
 use Rattle.bounded.proofs.CountLaws.{differ-prop, differ-bool}
 use Rattle.bounded.proofs.ClimbLaws.{leads-prop, leads-bool}
 

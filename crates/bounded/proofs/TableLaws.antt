@@ -7,7 +7,7 @@ use native.Mathlib.Decide.{ℕ-discrete}
 use native.Mathlib.Omega.{arith}
 use lib.ListN.{length, getD, set, length-set}
 use lib.Seq.{ext-getD, getD-set-same, getD-set-other}
-use Rattle.bounded.specs.Table.{table, Filled}
+use Rattle.bounded.specs.Table.{table, Tabulated}
 
 pub length-table : (f : ℕ → ℕ) (n : ℕ) → length (table f n) ≡ n
 unfolding table
@@ -28,17 +28,17 @@ table-ext f g (suc n) h = ap₂ (λ (x : ℕ) (l : List ℕ). x ∷ l) (h 0 (ome
 
 -- a loop that fills a list: before it, a turn, after it
 module _ (f : ℕ → ℕ) (n : ℕ) where
-  pub filled-none : (l : List ℕ) → length l ≡ n → Filled f n 0 l
+  pub filled-none : (l : List ℕ) → length l ≡ n → Tabulated f n 0 l
   filled-none l e = record { long = e; each = λ i h. absurd (not-suc-le-zero h) }
 
-  pub filled-more : (k v : ℕ) (l : List ℕ) → k < n → v ≡ f k → Filled f n k l → Filled f n (k + 1) (set l k v)
+  pub filled-more : (k v : ℕ) (l : List ℕ) → k < n → v ≡ f k → Tabulated f n k l → Tabulated f n (k + 1) (set l k v)
   filled-more k v l h e t = record { long = length-set l k v ∙ t .long; each = λ i p. at i p (ℕ-discrete i k) }
     where
       at : (i : ℕ) → i < k + 1 → Dec (i ≡ k) → getD (set l k v) i 0 ≡ f i
       at i p (yes q) = ap (λ (j : ℕ). getD (set l k v) j 0) q ∙ getD-set-same l k v 0 (omega (arith, t .long)) ∙ e ∙ ap f (sym q)
       at i p (no q) = getD-set-other l k i v 0 q ∙ t .each i (omega arith)
 
-  pub filled-all : (k : ℕ) (l : List ℕ) → n ≤ k → Filled f n k l → l ≡ table f n
+  pub filled-all : (k : ℕ) (l : List ℕ) → n ≤ k → Tabulated f n k l → l ≡ table f n
   filled-all k l h t =
       ext-getD 0 l (table f n) (t .long ∙ sym (length-table f n))
       (λ i p. t .each i (omega (arith, t .long)) ∙ sym (getD-table f n i (omega (arith, t .long))))

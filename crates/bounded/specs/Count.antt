@@ -16,6 +16,10 @@ unfoldable pub count : (ℕ → Bool) → ℕ → ℕ
 count p zero = 0
 count p (suc n) = count p n + one (p n)
 
+-- how many of the numbers 1 to n pass p
+abbrev pub countTo : (ℕ → Bool) → ℕ → ℕ
+countTo p n = count (λ k. p (k + 1)) n
+
 -- how many numbers below m does f send to v
 abbrev pub tally : (ℕ → ℕ) → ℕ → ℕ → ℕ
 tally f m v = count (λ k. eqb (f k) v) m

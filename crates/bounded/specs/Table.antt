@@ -10,6 +10,6 @@ table f zero = []
 table f (suc n) = f 0 ∷ table (λ k. f (suc k)) n
 
 -- the list has n numbers, and f's values below k
-pub record Filled (f : ℕ → ℕ) (n k : ℕ) (l : List ℕ) : Type 0 where
+pub record Tabulated (f : ℕ → ℕ) (n k : ℕ) (l : List ℕ) : Type 0 where
   pub long : length l ≡ n
   pub each : (i : ℕ) → i < k → getD l i 0 ≡ f i

@@ -23,7 +23,7 @@ use Rattle.answers.specs.Told.{told}
 use Rattle.answers.specs.declared.Answer.the-variants.{Done, Refused}
 use Rattle.desk.specs.Desk.{deskOf}
 use Rattle.sound.specs.declared.Form.the-variants.{Store}
-use Rattle.sound.proofs.SoundLaws.{is-sound}
+use Rattle.sound.proofs.SoundLaws.{framed, is-sound}
 use Rattle.entries.specs.declared.Kind.{Kind}
 use Rattle.files.specs.Effect.{create, write}
 use Rattle.checkpoint.specs.Fit.{isRunning, imageAllowed, imageBlocks, blocksFit, deskFits, imageFits, notesFit}
@@ -35,6 +35,7 @@ use Rattle.checkpoint.proofs.TableLaws.{create-table, write-table}
 use Rattle.checkpoint.proofs.CopierTables.{start-table}
 use Rattle.cases.specs.Cases.{TrackCases, Writes, Creates, inodes}
 use Rattle.cases.proofs.Runs.{three-steps, finish, reused-block, moved-directory, unlinked-file, into-child}
+use Rattle.checkpoint.proofs.Run.Calls.{image-allowed}
 
 -- a create of a legal name in an empty slot
 created : (w : World) (d : ℕ) (name : List ℕ) (k : Kind) (c : Creates w d name) (t : ℕ) → legalName name ≡ true → emptySlot (w .store) (inodes w) d ≡ At t
@@ -148,13 +149,6 @@ module _ (w : World) (d : ℕ) (name : List ℕ) (k : Kind) (c : Creates w d nam
       create-table w d name k
       ∙ rw (r .framed, r .desk, r .sound, r .notes, legal-name, c .directory, c .new, c .free, none h, twelve)
 
--- the image of a running copy has a length that a start allows
-length-allowed : (n b k : ℕ) → 1 ≤ b → b ≤ 4096 → k ≡ storeLength n b → imageAllowed n k ≡ true
-unfolding imageAllowed imageBlocks
-length-allowed n b k l m e =
-    let q : (k - (16 + 32 * n)) / 64 ≡ b = omega arith in
-    rw (q, le-leb 1 b l, le-leb b 4096 m, eq-eqb k (storeLength n b) e)
-
 blocks-allowed : (d : List ℕ) → isRunning d ≡ true → blocksFit d ≡ true → (1 ≤ deskOf d .blocks) × (deskOf d .blocks ≤ 4096)
 unfolding isRunning blocksFit
 blocks-allowed d h f =
@@ -164,6 +158,7 @@ blocks-allowed d h f =
       leb-true (deskOf d .blocks) 4096 (and-right (leb 1 (deskOf d .blocks)) (leb (deskOf d .blocks) 4096) g),
     )
 
+-- the image of a running copy has a length that a start allows
 allowed : (w : World) → Ready w → isRunning (w .desk) ≡ true → imageAllowed (inodes w) (length (w .image)) ≡ true
 unfolding notesFit deskFits imageFits
 allowed w r h =
@@ -175,7 +170,8 @@ allowed w r h =
     let f : length (w .image) ≡ storeLength (deskOf d .inodes) (deskOf d .blocks) = eqb-true _ _ (and-left (eqb (length (w .image)) (storeLength (deskOf d .inodes) (deskOf d .blocks))) _ e) in
     let g : blocksFit d ≡ true = and-left (blocksFit d) _ (and-right (leb (deskOf d .state) 3) _ a) in
     let k = blocks-allowed d h g in
-    length-allowed (inodes w) (deskOf d .blocks) (length (w .image)) (k .0) (k .1) (omega arith)
+    let z = framed Store (w .store) .to (r .framed) in
+    image-allowed (inodes w) (deskOf d .blocks) (length (w .image)) (record { some-inodes = z .some-inodes; most-inodes = z .most-inodes; some-blocks = k .0; most-blocks = k .1; long = omega arith })
 
 second-start : (w : World) → Ready w → isRunning (w .desk) ≡ true → start (w .store) (w .image) (w .desk) .answer ≡ Refused WrongState
 unfolding startTable

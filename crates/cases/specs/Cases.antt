@@ -25,7 +25,7 @@ use Rattle.files.specs.Effect.{create, write, rename}
 use Rattle.checkpoint.specs.Fit.{isRunning}
 use Rattle.checkpoint.specs.Busy.{isLocked}
 use Rattle.checkpoint.specs.Live.{World}
-use Rattle.checkpoint.specs.List.{Ready, call, steps, starts, outcome, next, run, Finish}
+use Rattle.checkpoint.specs.List.{Ready, call, advances, starts, outcome, next, run, Finish}
 use Rattle.cases.specs.Worlds.{fresh, nameA, reusedBlock, movedDirectory, unlinkedFile, parentAndChild}
 
 -- the counts of the world's store
@@ -53,10 +53,10 @@ pub record Creates (w : World) (d : ℕ) (name : List ℕ) : Type 0 where
 
 pub record TrackCases : Type 0 where
   -- "N 1, empty root: three steps finish."
-  pub three-steps : (outcome steps (run (starts ∷ steps ∷ steps ∷ []) (fresh 1 1)) .answer ≡ told (Done 3))
-      × (deskOf (run (starts ∷ steps ∷ steps ∷ steps ∷ []) (fresh 1 1) .desk) .state ≡ finished)
+  pub three-steps : (outcome advances (run (starts ∷ advances ∷ advances ∷ []) (fresh 1 1)) .answer ≡ told (Done 3))
+      × (deskOf (run (starts ∷ advances ∷ advances ∷ advances ∷ []) (fresh 1 1) .desk) .state ≡ finished)
   -- so a finish is reached
-  pub finish : Finish (steps ∷ steps ∷ steps ∷ []) (next starts (fresh 1 1))
+  pub finish : Finish (advances ∷ advances ∷ advances ∷ []) (next starts (fresh 1 1))
   -- "Name of 14 bytes passes, 15 gives 4.": where the directory has an empty slot
   pub fourteen : (w : World) (d t : ℕ) (name : List ℕ) (k : Kind) (c : Creates w d name) → length name ≡ nameBytes
       → ((j : ℕ) → j < nameBytes → (getD name j 0 ≡ 0 → ⊥) × (getD name j 0 ≡ slash → ⊥))

@@ -7,7 +7,7 @@ use Rattle.format.specs.Format.{freshStore, freshDesk}
 use Rattle.entries.specs.declared.Kind.the-variants.{File, Directory}
 use Rattle.files.specs.Effect.{create, write, shorten, unlink, rename}
 use Rattle.checkpoint.specs.Live.{World}
-use Rattle.checkpoint.specs.List.{Event, call, steps, starts}
+use Rattle.checkpoint.specs.List.{Event, call, advances, starts}
 
 -- a fresh store of n inodes and b blocks, an image of as many blocks and a fresh desk
 unfoldable pub fresh : ℕ → ℕ → World
@@ -24,21 +24,21 @@ nameB = 98 ∷ []
 unfoldable pub reusedBlock : List Event
 reusedBlock =
     call (create 1 nameA File) ∷ call (create 1 nameB File) ∷ call (write 2 0 (replicate 64 7))
-    ∷ starts ∷ steps ∷ steps ∷ steps ∷ steps ∷ steps ∷ steps
+    ∷ starts ∷ advances ∷ advances ∷ advances ∷ advances ∷ advances ∷ advances
     ∷ call (shorten 2 0) ∷ call (write 3 0 (replicate 10 5))
-    ∷ steps ∷ steps ∷ steps ∷ steps ∷ []
+    ∷ advances ∷ advances ∷ advances ∷ advances ∷ []
 
 -- "Copied directory moved to an uncopied one": 2 is copied, 3 is not
 unfoldable pub movedDirectory : List Event
 movedDirectory =
     call (create 1 nameA Directory) ∷ call (create 1 nameB Directory)
-    ∷ starts ∷ steps ∷ steps ∷ steps ∷ steps ∷ steps
+    ∷ starts ∷ advances ∷ advances ∷ advances ∷ advances ∷ advances
     ∷ call (rename 1 nameA 3 nameA)
-    ∷ steps ∷ steps ∷ steps ∷ steps ∷ []
+    ∷ advances ∷ advances ∷ advances ∷ advances ∷ []
 
 -- "Uncopied file unlinked from a copied directory"
 unfoldable pub unlinkedFile : List Event
-unlinkedFile = call (create 1 nameA File) ∷ starts ∷ steps ∷ steps ∷ steps ∷ call (unlink 1 nameA) ∷ steps ∷ []
+unlinkedFile = call (create 1 nameA File) ∷ starts ∷ advances ∷ advances ∷ advances ∷ call (unlink 1 nameA) ∷ advances ∷ []
 
 -- a directory and a child of it
 unfoldable pub parentAndChild : List Event

@@ -10,17 +10,16 @@ use native.Mathlib.Omega.{arith}
 use borrow.Author.Tests.{eq-eqb, ne-eqb, lt-ltb, le-ltb}
 use lib.Dec.{eqb, ltb}
 use Rattle.bounded.specs.Below.{someBelow}
-use Rattle.bounded.specs.Count.{one, count, Differ}
+use Rattle.bounded.specs.Count.{one, count, Differ, countTo}
 use Rattle.bounded.specs.Update.{Changed, here, there}
 use Rattle.bounded.proofs.BelowLaws.{none-some, all-ext}
 use Rattle.bounded.proofs.SeenLaws.{some-skip, some-here}
 use Rattle.bounded.proofs.CountLaws.{count-hit, count-miss, count-none, count-all, count-not, count-ext, count-at, count-split}
 use Rattle.layout.specs.Sizes.{addressCount}
-use Rattle.layout.specs.Inode.{sizeOf, addressOf, place}
+use Rattle.layout.specs.Inode.{sizeOf, addressOf, addressIndex}
 use Rattle.layout.specs.Block.{blocksUsed, kthBlock}
-use Rattle.layout.specs.Free.{named}
+use Rattle.layout.specs.Free.{blockNamed, blockFree}
 use Rattle.sound.specs.Inode.{InodeSound}
-use Rattle.sound.specs.Sound.{unnamedB}
 
 -- ---- numbers that differ: each value is met once, so as many values are met as numbers are not 0
 -- v is among the first m values
@@ -67,7 +66,7 @@ row-count f k l g h =
 -- the rows of f and g are the same but for that of inode i
 module _ (f g : ℕ → ℕ) (n i : ℕ) (l : 1 ≤ i) (m : i ≤ n) (same : (x : ℕ) → x < addressCount * n → x / addressCount + 1 ≢ i → g x ≡ f x) where
   -- before row i, row i, and after it
-  split : (u : ℕ → ℕ) → count (nonzero u) (12 * n) ≡ count (nonzero u) (12 * (i - 1)) + (count (λ k. nonzero u (place i k)) 12 + count (λ k. nonzero u (12 * i + k)) (12 * (n - i)))
+  split : (u : ℕ → ℕ) → count (nonzero u) (12 * n) ≡ count (nonzero u) (12 * (i - 1)) + (count (λ k. nonzero u (addressIndex i k)) 12 + count (λ k. nonzero u (12 * i + k)) (12 * (n - i)))
   split u =
       let a : 12 * n ≡ 12 * (i - 1) + (12 + 12 * (n - i)) = omega arith in
       ap (count (nonzero u)) a ∙ count-split (nonzero u) (12 * (i - 1)) (12 + 12 * (n - i))
@@ -75,7 +74,7 @@ module _ (f g : ℕ → ℕ) (n i : ℕ) (l : 1 ≤ i) (m : i ≤ n) (same : (x 
       ∙ ap (λ (x : ℕ). count (λ k. nonzero u (12 * (i - 1) + k)) 12 + x) (count-ext (λ k. nonzero u (12 * (i - 1) + (12 + k))) (λ k. nonzero u (12 * i + k)) (12 * (n - i))
       (λ k _. let e : 12 * (i - 1) + (12 + k) ≡ 12 * i + k = omega arith in ap (nonzero u) e)))
 
-  rows-count : (a b : ℕ) → count (λ k. nonzero f (place i k)) 12 ≡ a → count (λ k. nonzero g (place i k)) 12 ≡ b → count (nonzero g) (12 * n) + a ≡ count (nonzero f) (12 * n) + b
+  rows-count : (a b : ℕ) → count (λ k. nonzero f (addressIndex i k)) 12 ≡ a → count (λ k. nonzero g (addressIndex i k)) 12 ≡ b → count (nonzero g) (12 * n) + a ≡ count (nonzero f) (12 * n) + b
   rows-count a b p q =
       let x = split f in
       let y = split g in
@@ -106,7 +105,7 @@ differ-new f g m y c d u e h i j l k p q = go (ℕ-discrete i y) (ℕ-discrete j
 module _ (s : List ℕ) (n : ℕ) where
   pub address-kth : (x : ℕ) → addressOf s n x ≡ kthBlock s n (x / addressCount + 1) (x % addressCount)
   unfolding kthBlock
-  address-kth x = let e : x ≡ place (x / 12 + 1) (x % 12) = omega arith in ap (addressOf s n) e
+  address-kth x = let e : x ≡ addressIndex (x / 12 + 1) (x % 12) = omega arith in ap (addressOf s n) e
 
   -- an address of a sound inode is 0 or a block
   pub kth-bound : (b i k : ℕ) → k < addressCount → InodeSound s n b i → kthBlock s n i k ≤ b
@@ -121,15 +120,15 @@ module _ (s : List ℕ) (n : ℕ) where
   addresses-bound b h x l =
       rw (address-kth x) (kth-bound b (x / 12 + 1) (x % 12) (omega arith) (h (x / 12 + 1) (omega arith) (omega arith)))
 
-  used-row : (b i : ℕ) → InodeSound s n b i → count (λ k. nonzero (addressOf s n) (place i k)) addressCount ≡ blocksUsed (sizeOf s i)
+  used-row : (b i : ℕ) → InodeSound s n b i → count (λ k. nonzero (addressOf s n) (addressIndex i k)) addressCount ≡ blocksUsed (sizeOf s i)
   unfolding kthBlock blocksUsed
   used-row b i h =
       let z = h .size in
-      row-count (λ k. addressOf s n (place i k)) (blocksUsed (sizeOf s i)) (omega arith) (λ k l u. h .used k l u .0) (h .rest)
+      row-count (λ k. addressOf s n (addressIndex i k)) (blocksUsed (sizeOf s i)) (omega arith) (λ k l u. h .used k l u .0) (h .rest)
 
   -- the named blocks are as many as the addresses in use
-  named-count : (b : ℕ) → ((i : ℕ) → 1 ≤ i → i ≤ n → InodeSound s n b i) → Differ (addressOf s n) (addressCount * n) → count (nonzero (addressOf s n)) (addressCount * n) + count (unnamedB s n) b ≡ b
-  unfolding named
+  named-count : (b : ℕ) → ((i : ℕ) → 1 ≤ i → i ≤ n → InodeSound s n b i) → Differ (addressOf s n) (addressCount * n) → count (nonzero (addressOf s n)) (addressCount * n) + countTo (blockFree s n) b ≡ b
+  unfolding blockNamed
   named-count b h d =
       let a = met-count (addressOf s n) b (12 * n) d (addresses-bound b h) in
       let c = count-not (λ k. met (addressOf s n) (12 * n) (k + 1)) b in
@@ -140,7 +139,7 @@ pub unnamed-change : (s t : List ℕ) (n b i : ℕ) → 1 ≤ i → i ≤ n
     → ((j : ℕ) → 1 ≤ j → j ≤ n → InodeSound s n b j) → ((j : ℕ) → 1 ≤ j → j ≤ n → InodeSound t n b j)
     → Differ (addressOf s n) (addressCount * n) → Differ (addressOf t n) (addressCount * n)
     → ((j : ℕ) → 1 ≤ j → j ≤ n → j ≢ i → (k : ℕ) → k < addressCount → kthBlock t n j k ≡ kthBlock s n j k)
-    → count (unnamedB t n) b + blocksUsed (sizeOf t i) ≡ count (unnamedB s n) b + blocksUsed (sizeOf s i)
+    → countTo (blockFree t n) b + blocksUsed (sizeOf t i) ≡ countTo (blockFree s n) b + blocksUsed (sizeOf s i)
 unnamed-change s t n b i l m hs ht ds dt e =
     let x = named-count s n b hs ds in
     let y = named-count t n b ht dt in
@@ -154,12 +153,12 @@ module _ (s t : List ℕ) (n : ℕ) (e : (j : ℕ) → 1 ≤ j → j ≤ n → (
   pub same-addresses : (x : ℕ) → x < addressCount * n → addressOf t n x ≡ addressOf s n x
   same-addresses x l = address-kth t n x ∙ e (x / 12 + 1) (omega arith) (omega arith) (x % 12) (omega arith) ∙ sym (address-kth s n x)
 
-  pub same-named : (c : ℕ) → named t n c ≡ named s n c
-  unfolding named someBelow
+  pub same-named : (c : ℕ) → blockNamed t n c ≡ blockNamed s n c
+  unfolding blockNamed someBelow
   same-named c = ap not (all-ext (λ x. not (eqb (addressOf t n x) c)) (λ x. not (eqb (addressOf s n x) c)) (addressCount * n) (λ x l. ap (λ (y : ℕ). not (eqb y c)) (same-addresses x l)))
 
   pub same-differ : Differ (addressOf s n) (addressCount * n) → Differ (addressOf t n) (addressCount * n)
   same-differ d = differ-less (addressOf s n) (addressOf t n) (addressCount * n) d (λ x l _. same-addresses x l)
 
-  pub same-unnamed : (b : ℕ) → count (unnamedB t n) b ≡ count (unnamedB s n) b
-  same-unnamed b = count-ext (unnamedB t n) (unnamedB s n) b (λ k l. ap not (same-named (k + 1)))
+  pub same-unnamed : (b : ℕ) → countTo (blockFree t n) b ≡ countTo (blockFree s n) b
+  same-unnamed b = count-ext (λ k. blockFree t n (k + 1)) (λ k. blockFree s n (k + 1)) b (λ k l. ap not (same-named (k + 1)))

@@ -7,7 +7,7 @@ use native.Mathlib.Decide.{ℕ-discrete}
 use native.Mathlib.Omega.{arith}
 use lib.Dec.{eqb}
 use lib.ListN.{length, getD, replicate, getD-replicate, length-replicate}
-use Rattle.bounded.specs.Count.{one, count, Differ}
+use Rattle.bounded.specs.Count.{one, Differ, countTo}
 use Rattle.bounded.proofs.BoolLaws.{clash, fails}
 use Rattle.bounded.proofs.ReflectLaws.{r-fails}
 use Rattle.layout.specs.Sizes.{addressCount, blockBytes}
@@ -15,10 +15,10 @@ use Rattle.layout.specs.Header.{headerOf}
 use Rattle.layout.specs.declared.inode.Inode.{Inode}
 use Rattle.layout.specs.Inode.{InodeFits, kindOf, sizeOf, addressOf, putInode, freeKind, fileKind, directoryKind}
 use Rattle.layout.specs.Block.{blocksUsed, kthBlock}
+use Rattle.layout.specs.Free.{inodeFree, blockFree}
 use Rattle.directory.specs.Slot.{mostSlots, slots}
 use Rattle.sound.specs.Place.{dirOf, isSlot, filled, naming}
 use Rattle.sound.specs.Inode.{InodeSound}
-use Rattle.sound.specs.Sound.{freeB, unnamedB}
 use Rattle.sound.proofs.PlaceLaws.{slot-is, filled-is, naming-filled}
 use Rattle.changes.proofs.SameLaws.{OtherInodes, SameFrame, SameBlock, same-body, each-inode, NewInode, InCounts, frame-then, inode-then, put-inode, inode-new, inode-blocks}
 use Rattle.changes.proofs.KeepLaws.{SamePlace, place-kept, inode-kept}
@@ -116,20 +116,20 @@ module _ (s t : List ℕ) (n i : ℕ) (v : Inode) (a : Bared s t n i v) (empty :
             address-kth t n y ∙ a .others (y / 12 + 1) (omega arith) (omega arith) e .blocks (y % 12) (omega arith) ∙ sym (address-kth s n y)
 
     -- the blocks that i had are unnamed
-    pub bared-unnamed : count (unnamedB t n) b ≡ count (unnamedB s n) b + blocksUsed (sizeOf s i)
+    pub bared-unnamed : countTo (blockFree t n) b ≡ countTo (blockFree s n) b + blocksUsed (sizeOf s i)
     bared-unnamed =
         let c = unnamed-change s t n b i low high (h .inodes) inodes (h .once) once (λ j l m z. a .others j l m z .blocks) in
         let z = no-blocks (sizeOf t i) size-none in
         omega arith
 
     -- i is free or not
-    pub bared-free : count (freeB t) n + one (eqb (kindOf s i) freeKind) ≡ count (freeB s) n + one (eqb (v .kind) freeKind)
+    pub bared-free : countTo (inodeFree t) n + one (eqb (kindOf s i) freeKind) ≡ countTo (inodeFree s) n + one (eqb (v .kind) freeKind)
     bared-free =
         let e : i - 1 + 1 ≡ i = omega arith in
-        let c = count-but (freeB s) (freeB t) n (i - 1) (omega arith) (λ q l z. ap (λ (y : ℕ). eqb y freeKind) (a .others (q + 1) (omega arith) (omega arith) (λ o. z (omega arith)) .kind)) in
+        let c = count-but (λ k. inodeFree s (k + 1)) (λ k. inodeFree t (k + 1)) n (i - 1) (omega arith) (λ q l z. ap (λ (y : ℕ). eqb y freeKind) (a .others (q + 1) (omega arith) (omega arith) (λ o. z (omega arith)) .kind)) in
         let f : one (eqb (kindOf s (i - 1 + 1)) freeKind) ≡ one (eqb (kindOf s i) freeKind) = ap (λ (y : ℕ). one (eqb (kindOf s y) freeKind)) e in
         let g : one (eqb (kindOf t (i - 1 + 1)) freeKind) ≡ one (eqb (v .kind) freeKind) = ap (λ (y : ℕ). one (eqb (kindOf t y) freeKind)) e ∙ ap (λ (y : ℕ). one (eqb y freeKind)) (a .new .kind) in
         omega arith
 
-    pub bared-stock : headerOf t .«free_inodes» ≡ count (freeB t) n → headerOf t .«free_blocks» ≡ count (unnamedB t n) b → Stock t n b
+    pub bared-stock : headerOf t .«free_inodes» ≡ countTo (inodeFree t) n → headerOf t .«free_blocks» ≡ countTo (blockFree t n) b → Stock t n b
     bared-stock x y = record { inodes = inodes; once = once; free-inodes = x; free-blocks = y }

@@ -9,7 +9,6 @@ use native.Mathlib.Omega.{arith}
 use lib.ListN.{length, replicate}
 use Rattle.bounded.proofs.BoolLaws.{clash, fails}
 use Rattle.octets.specs.Octets.{Apart}
-use Rattle.layout.specs.Sizes.{mostStoreBlocks}
 use Rattle.layout.specs.Header.{headerOf}
 use Rattle.layout.specs.Inode.{kindOf, sizeOf, fileKind, directoryKind, isDirectory}
 use Rattle.layout.specs.Block.{blocksUsed, kthBlock}
@@ -21,6 +20,7 @@ use Rattle.directory.proofs.SlotLaws.{few-slots, slot-fits, apart-blocks, apart
 use Rattle.sound.specs.Place.{dirOf, slotOf, isSlot, entryAt, filled, placeOf}
 use Rattle.sound.specs.Sound.{Sound, inodesIn}
 use Rattle.sound.proofs.PlaceLaws.{slot-is, filled-is, naming-entry, entry-place, slot-place}
+use Rattle.sound.specs.declared.Form.the-variants.{Store}
 use Rattle.changes.proofs.SameLaws.{SameFrame, SameInode, SameBlock, InBlock, frame-stays, frame-then, inode-then, inode-stays, put-entry, clear-entry}
 use Rattle.changes.proofs.KeepLaws.{place-slot, slot-kept, same-slots}
 use Rattle.changes.proofs.StoreLaws.{one-at, dir-of, kind-some, kind-most, kind-is}
@@ -54,7 +54,7 @@ pub record SlotIn (s : List ℕ) (n d t : ℕ) : Type 0 where
   pub inside : t < slots s d
   pub small : t < mostSlots
 
-pub slot-in : (s : List ℕ) (n d t : ℕ) → Sound mostStoreBlocks false s → n ≡ inodesIn s → isDirectory s n d ≡ true → t < slots s d → SlotIn s n d t
+pub slot-in : (s : List ℕ) (n d t : ℕ) → Sound Store s → n ≡ inodesIn s → isDirectory s n d ≡ true → t < slots s d → SlotIn s n d t
 slot-in s n d t h x e l =
     let a = kind-some s n directoryKind d e in
     let b = kind-most s n directoryKind d e in
@@ -65,7 +65,7 @@ pub place-below : {s : List ℕ} {n d t : ℕ} → SlotIn s n d t → placeOf d 
 place-below k = let a = k .low in let b = k .high in let l = k .small in omega arith
 
 -- a slot of the sound store s, in a store m that has its inodes
-module _ (s m : List ℕ) (n d t : ℕ) (h : Sound mostStoreBlocks false s) (x : n ≡ inodesIn s) (a : EntriesAlone s m n) (slot : SlotIn s n d t) where
+module _ (s m : List ℕ) (n d t : ℕ) (h : Sound Store s) (x : n ≡ inodesIn s) (a : EntriesAlone s m n) (slot : SlotIn s n d t) where
   low : 1 ≤ d
   low = slot .low
 

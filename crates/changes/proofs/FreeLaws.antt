@@ -6,15 +6,16 @@ use mathlib.Core.List.{List}
 use native.Mathlib.Omega.{arith}
 use borrow.Author.Tests.{eqb-true, not-true}
 use lib.Dec.{eqb}
-use Rattle.bounded.specs.Count.{count}
+use Rattle.bounded.specs.Count.{countTo}
 use Rattle.bounded.specs.declared.Found.the-variants.{At}
 use Rattle.bounded.proofs.CountLaws.{count-ext, count-le, count-pos, count-some}
 use Rattle.bounded.proofs.SearchLaws.{found-lowest, lowest-of, lowest-found}
 use Rattle.layout.specs.Sizes.{mostInodes, mostStoreBlocks}
 use Rattle.layout.specs.Header.{headerOf}
 use Rattle.layout.specs.Inode.{kindOf, freeKind}
-use Rattle.layout.specs.Free.{named, isFree, freeInode, freeBlock}
-use Rattle.sound.specs.Sound.{Sound, freeB, unnamedB, inodesIn, blocksIn}
+use Rattle.layout.specs.Free.{blockNamed, inodeFree, freeInode, freeBlock, blockFree}
+use Rattle.sound.specs.Sound.{Sound, inodesIn, blocksIn}
+use Rattle.sound.specs.declared.Form.the-variants.{Store}
 
 -- ---- inodes
 pub record FreeInode (s : List ℕ) (n i : ℕ) : Type 0 where
@@ -24,73 +25,73 @@ pub record FreeInode (s : List ℕ) (n i : ℕ) : Type 0 where
 
 -- the lowest one
 pub free-inode : (s : List ℕ) (n i : ℕ) → freeInode s n ≡ At i → FreeInode s n i
-unfolding freeInode isFree
+unfolding freeInode
 free-inode s n i e =
-    let r = found-lowest (isFree s) 1 n i e in
+    let r = found-lowest (inodeFree s) 1 n i e in
     let l = r .below in
     record { low = r .from; high = omega arith; kind = eqb-true (kindOf s i) freeKind (r .holds) }
 
 -- it is counted
-pub inode-counted : (s : List ℕ) (n i : ℕ) → freeInode s n ≡ At i → 1 ≤ count (freeB s) n
-unfolding freeInode isFree
+pub inode-counted : (s : List ℕ) (n i : ℕ) → freeInode s n ≡ At i → 1 ≤ countTo (inodeFree s) n
+unfolding freeInode
 inode-counted s n i e =
-    let r = found-lowest (isFree s) 1 n i e in
+    let r = found-lowest (inodeFree s) 1 n i e in
     let l = r .from in
     let m = r .below in
     let q : i ≡ i - 1 + 1 = omega arith in
-    count-pos (freeB s) n (i - 1) (omega arith) (subst (λ (j : ℕ). eqb (kindOf s j) 0 ≡ true) q (r .holds))
+    count-pos (λ k. inodeFree s (k + 1)) n (i - 1) (omega arith) (subst (λ (j : ℕ). eqb (kindOf s j) 0 ≡ true) q (r .holds))
 
 -- kinds that are the same give the same free inodes
-pub same-free : (s t : List ℕ) (n : ℕ) → ((j : ℕ) → 1 ≤ j → j ≤ n → kindOf t j ≡ kindOf s j) → count (freeB t) n ≡ count (freeB s) n
-same-free s t n h = count-ext (freeB t) (freeB s) n (λ k l. ap (λ (x : ℕ). eqb x freeKind) (h (k + 1) (omega arith) (omega arith)))
+pub same-free : (s t : List ℕ) (n : ℕ) → ((j : ℕ) → 1 ≤ j → j ≤ n → kindOf t j ≡ kindOf s j) → countTo (inodeFree t) n ≡ countTo (inodeFree s) n
+same-free s t n h = count-ext (λ k. inodeFree t (k + 1)) (λ k. inodeFree s (k + 1)) n (λ k l. ap (λ (x : ℕ). eqb x freeKind) (h (k + 1) (omega arith) (omega arith)))
 
 -- ---- blocks
 module _ (s : List ℕ) (n b : ℕ) where
   pub record FreeBlock (c : ℕ) : Type 0 where
     pub low : 1 ≤ c
     pub high : c ≤ b
-    pub free : named s n c ≡ false
+    pub free : blockNamed s n c ≡ false
 
   -- the lowest one
   pub free-block : (c : ℕ) → freeBlock s n b ≡ At c → FreeBlock c
   unfolding freeBlock
   free-block c e =
-      let r = found-lowest (λ a. not (named s n a)) 1 b c e in
+      let r = found-lowest (λ a. not (blockNamed s n a)) 1 b c e in
       let l = r .below in
-      record { low = r .from; high = omega arith; free = not-true (named s n c) (r .holds) }
+      record { low = r .from; high = omega arith; free = not-true (blockNamed s n c) (r .holds) }
 
   -- one that is free is counted
-  pub block-counted : (c : ℕ) → FreeBlock c → 1 ≤ count (unnamedB s n) b
+  pub block-counted : (c : ℕ) → FreeBlock c → 1 ≤ countTo (blockFree s n) b
   block-counted c w =
       let l = w .low in
       let m = w .high in
       let q : c ≡ c - 1 + 1 = omega arith in
-      let u : named s n (c - 1 + 1) ≡ false = subst (λ (j : ℕ). named s n j ≡ false) q (w .free) in
-      count-pos (unnamedB s n) b (c - 1) (omega arith) (rw u)
+      let u : blockNamed s n (c - 1 + 1) ≡ false = subst (λ (j : ℕ). blockNamed s n j ≡ false) q (w .free) in
+      count-pos (λ k. blockFree s n (k + 1)) b (c - 1) (omega arith) (rw u)
 
   -- and where one is counted, one is found
-  pub block-found : 1 ≤ count (unnamedB s n) b → (c : ℕ) × (freeBlock s n b ≡ At c)
+  pub block-found : 1 ≤ countTo (blockFree s n) b → (c : ℕ) × (freeBlock s n b ≡ At c)
   unfolding freeBlock
   block-found l =
-      let f : ℕ → Bool = λ a. not (named s n a) in
-      let r = count-some (unnamedB s n) b l in
+      let f : ℕ → Bool = λ a. not (blockNamed s n a) in
+      let r = count-some (λ k. blockFree s n (k + 1)) b l in
       let k = r .0 in
       let a : k < b = r .1 in
       let d = lowest-of f 1 b (k + 1) (omega arith) (omega arith) (r .2) in
       (d .0, lowest-found f 1 b (d .0) (d .1))
 
 -- ---- the counts of a sound store are small
-module _ (s : List ℕ) (h : Sound mostStoreBlocks false s) where
+module _ (s : List ℕ) (h : Sound Store s) where
   pub few-free-inodes : headerOf s .«free_inodes» ≤ mostInodes
   few-free-inodes =
       let a = h .free-inodes in
-      let b = count-le (freeB s) (inodesIn s) in
+      let b = count-le (λ k. inodeFree s (k + 1)) (inodesIn s) in
       let c = h .framed .most-inodes in
       omega arith
 
   pub few-free-blocks : headerOf s .«free_blocks» ≤ mostStoreBlocks
   few-free-blocks =
       let a = h .free-blocks in
-      let b = count-le (unnamedB s (inodesIn s)) (blocksIn s) in
+      let b = count-le (λ k. blockFree s (inodesIn s) (k + 1)) (blocksIn s) in
       let c = h .framed .most-blocks in
       omega arith

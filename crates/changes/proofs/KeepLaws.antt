@@ -9,27 +9,29 @@ use native.Mathlib.Omega.{arith}
 use borrow.Author.Tests.{ne-eqb}
 use lib.Dec.{eqb, ltb}
 use lib.ListN.{getD}
-use Rattle.bounded.specs.Count.{count, tally, Differ}
+use Rattle.bounded.specs.Count.{tally, Differ, countTo}
 use Rattle.bounded.specs.Climb.{climb, Leads, Closed}
 use Rattle.bounded.proofs.BoolLaws.{clash, and-false-l}
 use Rattle.bounded.proofs.CountLaws.{count-ext}
 use Rattle.bounded.proofs.ClimbLaws.{leads-up}
 use Rattle.octets.specs.Octets.{part}
 use Rattle.octets.proofs.PartLaws.{part-part}
-use Rattle.layout.specs.Sizes.{addressCount, blockBytes, mostStoreBlocks, rootInode}
+use Rattle.layout.specs.Sizes.{addressCount, blockBytes, rootInode}
 use Rattle.layout.specs.Header.{headerOf}
 use Rattle.layout.specs.Inode.{kindOf, linksOf, sizeOf, parentOf, addressOf, freeKind, fileKind, directoryKind}
 use Rattle.layout.specs.Block.{blockAt, blockOf, blocksUsed, kthBlock}
+use Rattle.layout.specs.Free.{inodeFree, blockFree}
 use Rattle.names.specs.Entry.{isEmpty, legalEntry}
 use Rattle.names.proofs.EntryLaws.{empty-inode}
 use Rattle.directory.specs.Slot.{mostSlots, slots, slotAt, entryOf}
 use Rattle.sound.specs.Inode.{InodeSound, tailByte}
 use Rattle.sound.specs.Entry.{EntrySound, sameNames, sibling}
 use Rattle.sound.specs.Link.{LinkSound}
-use Rattle.sound.specs.Sound.{Framed, Sound, inodesIn, blocksIn, freeB, unnamedB}
+use Rattle.sound.specs.Sound.{Framed, Sound, inodesIn, blocksIn}
 use Rattle.sound.specs.Place.{dirOf, slotOf, isSlot, entryAt, filled, naming, IsDir}
 use Rattle.sound.proofs.PlaceLaws.{slot-is, filled-is}
 use Rattle.sound.proofs.SoundLaws.{climbs}
+use Rattle.sound.specs.declared.Form.the-variants.{Store}
 use Rattle.changes.proofs.SameLaws.{OtherInodes, SameFrame, SameInode, SameBody, SameBlock, same-body}
 use Rattle.changes.proofs.FreeLaws.{same-free}
 
@@ -231,10 +233,10 @@ pub record Body (t : List ℕ) (n b : ℕ) : Type 0 where
   pub root-parent : parentOf t rootInode ≡ 0
   pub entries : (p : ℕ) → p < mostSlots * n → filled t n p ≡ true → EntrySound t n p
   pub links : (i : ℕ) → 1 ≤ i → i ≤ n → LinkSound t n i
-  pub free-inodes : headerOf t .«free_inodes» ≡ count (freeB t) n
-  pub free-blocks : headerOf t .«free_blocks» ≡ count (unnamedB t n) b
+  pub free-inodes : headerOf t .«free_inodes» ≡ countTo (inodeFree t) n
+  pub free-blocks : headerOf t .«free_blocks» ≡ countTo (blockFree t n) b
 
-pub body-of : (s : List ℕ) (n b : ℕ) → Sound mostStoreBlocks false s → n ≡ inodesIn s → b ≡ blocksIn s → Body s n b
+pub body-of : (s : List ℕ) (n b : ℕ) → Sound Store s → n ≡ inodesIn s → b ≡ blocksIn s → Body s n b
 body-of s n b h x y =
     let r : Body s (inodesIn s) (blocksIn s) = record {
       inodes = h .inodes;
@@ -248,8 +250,8 @@ body-of s n b h x y =
     } in
     subst (λ (z : ℕ). Body s z b) (sym x) (subst (Body s (inodesIn s)) (sym y) r)
 
-module _ (s t : List ℕ) (h : Sound mostStoreBlocks false s) (f : SameFrame s t) where
-  framed-kept : Framed mostStoreBlocks t
+module _ (s t : List ℕ) (h : Sound Store s) (f : SameFrame s t) where
+  framed-kept : Framed Store t
   framed-kept =
       let g = h .framed in
       let a = f .inodes in
@@ -263,7 +265,7 @@ module _ (s t : List ℕ) (h : Sound mostStoreBlocks false s) (f : SameFrame s t
         long = c ∙ g .long ∙ rw (a, b);
       }
 
-  body-sound : Body t (inodesIn t) (blocksIn t) → Sound mostStoreBlocks false t
+  body-sound : Body t (inodesIn t) (blocksIn t) → Sound Store t
   body-sound r = record {
     framed = framed-kept;
     complete = f .complete ∙ h .complete;
@@ -281,14 +283,14 @@ module _ (s t : List ℕ) (h : Sound mostStoreBlocks false s) (f : SameFrame s t
   }
 
   -- for n and b as the sound store tells them
-  pub sound-of : (n b : ℕ) → n ≡ inodesIn s → b ≡ blocksIn s → Body t n b → Sound mostStoreBlocks false t
+  pub sound-of : (n b : ℕ) → n ≡ inodesIn s → b ≡ blocksIn s → Body t n b → Sound Store t
   sound-of n b x y r =
       body-sound (subst (λ (z : ℕ). Body t z (blocksIn t)) (x ∙ sym (f .inodes)) (subst (Body t n) (y ∙ sym (f .blocks)) r))
 
   -- the tree stays, and so do the free inodes
   module _ (n b : ℕ) (x : n ≡ inodesIn s) (y : b ≡ blocksIn s) (e : SameTree s t n) where
     pub sound-kept : ((i : ℕ) → 1 ≤ i → i ≤ n → InodeSound t n b i) → Differ (addressOf t n) (addressCount * n)
-        → headerOf t .«free_inodes» ≡ headerOf s .«free_inodes» → headerOf t .«free_blocks» ≡ count (unnamedB t n) b → Sound mostStoreBlocks false t
+        → headerOf t .«free_inodes» ≡ headerOf s .«free_inodes» → headerOf t .«free_blocks» ≡ countTo (blockFree t n) b → Sound Store t
     sound-kept inodes once free-inodes free-blocks =
         let g = h .framed .some-inodes in
         let r = body-of s n b h x y in

@@ -12,7 +12,7 @@ use Rattle.octets.proofs.NumLaws.{length-toBytes, num-comm, num-twice}
 use Rattle.octets.proofs.WordLaws.{length-words}
 use Rattle.layout.specs.declared.inode.Inode.{Inode}
 use Rattle.layout.specs.Header.{headerOf, putFree, lessFree}
-use Rattle.layout.specs.Inode.{InodeFits, attributesAt, addressAt, place, sizeOf, addressOf, addressesOf, attributeEntry, inodeOf, putAttributes, putAddresses, putInode}
+use Rattle.layout.specs.Inode.{InodeFits, attributesAt, addressAt, addressIndex, sizeOf, addressOf, addressesOf, attributeEntry, inodeOf, putAttributes, putAddresses, putInode}
 use Rattle.layout.specs.Block.{blocksUsed, kthBlock}
 use Rattle.layout.proofs.FrameLaws.{length-inode, length-entry, header-past}
 use Rattle.layout.proofs.ViewLaws.{header-free}
@@ -61,7 +61,7 @@ module _ (s : List ℕ) (n i : ℕ) (v : Inode) (e : v ≡ inodeOf s n i) where
 
   pub twelve : length (v .addresses) ≡ 12
   unfolding inodeOf addressesOf
-  twelve = ap (λ (w : Inode). length (w .addresses)) e ∙ length-table (λ k. addressOf s n (place i k)) 12
+  twelve = ap (λ (w : Inode). length (w .addresses)) e ∙ length-table (λ k. addressOf s n (addressIndex i k)) 12
 
 -- as it is written
 module _ (s : List ℕ) (n i : ℕ) (l : 1 ≤ i) (m : i ≤ n) (v : Inode) where
@@ -69,15 +69,15 @@ module _ (s : List ℕ) (n i : ℕ) (l : 1 ≤ i) (m : i ≤ n) (v : Inode) wher
   pub header-inode : headerOf (putInode s n i v) ≡ headerOf s
   unfolding putInode putAttributes putAddresses
   header-inode =
-      header-past (splice s (attributesAt i) (attributeEntry v)) (addressAt n (place i 0)) (wordBytes (v .addresses)) (omega arith)
+      header-past (splice s (attributesAt i) (attributeEntry v)) (addressAt n (addressIndex i 0)) (wordBytes (v .addresses)) (omega arith)
       ∙ header-past s (attributesAt i) (attributeEntry v) (omega arith)
 
   -- after the free counts
   pub inode-less : (x y : ℕ) → putInode (lessFree s x y) n i v ≡ lessFree (putInode s n i v) x y
   unfolding putInode putAttributes putAddresses
   inode-less x y =
-      sym (less-past (splice s (attributesAt i) (attributeEntry v)) (addressAt n (place i 0)) (wordBytes (v .addresses)) (omega arith) x y
-      ∙ ap (λ (t : List ℕ). splice t (addressAt n (place i 0)) (wordBytes (v .addresses))) (less-past s (attributesAt i) (attributeEntry v) (omega arith) x y))
+      sym (less-past (splice s (attributesAt i) (attributeEntry v)) (addressAt n (addressIndex i 0)) (wordBytes (v .addresses)) (omega arith) x y
+      ∙ ap (λ (t : List ℕ). splice t (addressAt n (addressIndex i 0)) (wordBytes (v .addresses))) (less-past s (attributesAt i) (attributeEntry v) (omega arith) x y))
 
   -- after a write past the inodes
   pub inode-past : length (v .addresses) ≡ 12 → (p : ℕ) (xs : List ℕ) → 16 + 32 * n ≤ p → putInode (splice s p xs) n i v ≡ splice (putInode s n i v) p xs
@@ -85,8 +85,8 @@ module _ (s : List ℕ) (n i : ℕ) (l : 1 ≤ i) (m : i ≤ n) (v : Inode) wher
   inode-past e p xs h =
       let a = length-entry v in
       let b = length-words (v .addresses) in
-      ap (λ (t : List ℕ). splice t (addressAt n (place i 0)) (wordBytes (v .addresses))) (splice-comm s p xs (attributesAt i) (attributeEntry v) (omega arith))
-      ∙ splice-comm (splice s (attributesAt i) (attributeEntry v)) p xs (addressAt n (place i 0)) (wordBytes (v .addresses)) (omega arith)
+      ap (λ (t : List ℕ). splice t (addressAt n (addressIndex i 0)) (wordBytes (v .addresses))) (splice-comm s p xs (attributesAt i) (attributeEntry v) (omega arith))
+      ∙ splice-comm (splice s (attributesAt i) (attributeEntry v)) p xs (addressAt n (addressIndex i 0)) (wordBytes (v .addresses)) (omega arith)
 
   -- with other attributes then
   pub attributes-twice : length (v .addresses) ≡ 12 → (w : Inode) → v .addresses ≡ w .addresses → putAttributes (putInode s n i v) i w ≡ putInode s n i w
@@ -95,15 +95,15 @@ module _ (s : List ℕ) (n i : ℕ) (l : 1 ≤ i) (m : i ≤ n) (v : Inode) wher
       let a = length-entry v in
       let b = length-words (v .addresses) in
       let c = length-entry w in
-      splice-comm (splice s (attributesAt i) (attributeEntry v)) (addressAt n (place i 0)) (wordBytes (v .addresses)) (attributesAt i) (attributeEntry w) (omega arith)
-      ∙ ap₂ (λ (t : List ℕ) (ws : List ℕ). splice t (addressAt n (place i 0)) (wordBytes ws)) (splice-twice s (attributesAt i) (attributeEntry v) (attributeEntry w) (a ∙ sym c)) q
+      splice-comm (splice s (attributesAt i) (attributeEntry v)) (addressAt n (addressIndex i 0)) (wordBytes (v .addresses)) (attributesAt i) (attributeEntry w) (omega arith)
+      ∙ ap₂ (λ (t : List ℕ) (ws : List ℕ). splice t (addressAt n (addressIndex i 0)) (wordBytes ws)) (splice-twice s (attributesAt i) (attributeEntry v) (attributeEntry w) (a ∙ sym c)) q
 
 -- twice: the second counts
 pub inode-twice : (s : List ℕ) (n i : ℕ) → 1 ≤ i → i ≤ n → (v w : Inode) → length (v .addresses) ≡ 12 → length (w .addresses) ≡ 12 → putInode (putInode s n i v) n i w ≡ putInode s n i w
 unfolding putInode putAttributes putAddresses
 inode-twice s n i l m v w e g =
     let o : ℕ = attributesAt i in
-    let p : ℕ = addressAt n (place i 0) in
+    let p : ℕ = addressAt n (addressIndex i 0) in
     let vs : List ℕ = wordBytes (v .addresses) in
     let ws : List ℕ = wordBytes (w .addresses) in
     let a = length-entry v in
@@ -131,5 +131,5 @@ module _ (s : List ℕ) (n i : ℕ) (f : InodeFits s n i) (v : Inode) (e : lengt
         links = (a .links ∙ g .links) k;
         size = (a .size ∙ g .size) k;
         parent = (a .parent ∙ g .parent) k;
-        addresses = (table-ext (λ j. addressOf (lessFree t x y) n (place i j)) (λ j. getD (v .addresses) j 0) 12 (λ j l. a .blocks j l ∙ inode-blocks s n i f v e j l) ∙ table-list (v .addresses) 12 e) k;
+        addresses = (table-ext (λ j. addressOf (lessFree t x y) n (addressIndex i j)) (λ j. getD (v .addresses) j 0) 12 (λ j l. a .blocks j l ∙ inode-blocks s n i f v e j l) ∙ table-list (v .addresses) 12 e) k;
       }

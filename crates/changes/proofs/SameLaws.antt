@@ -15,8 +15,8 @@ use Rattle.octets.proofs.WordLaws.{length-words}
 use Rattle.layout.specs.Sizes.{headerBytes, addressCount, blockBytes}
 use Rattle.layout.specs.declared.header.Header.{Header}
 use Rattle.layout.specs.declared.inode.Inode.{Inode}
-use Rattle.layout.specs.Header.{headerOf, putFree, reservedZero, lessFree, moreFree}
-use Rattle.layout.specs.Inode.{InodeFits, attributesAt, addressAt, place, kindOf, spareOf, linksOf, sizeOf, parentOf, addressOf, attributeEntry, putAttributes, putAddresses, putInode, putLinks}
+use Rattle.layout.specs.Header.{headerOf, putFree, headerRestZero, lessFree, moreFree}
+use Rattle.layout.specs.Inode.{InodeFits, attributesAt, addressAt, addressIndex, kindOf, spareOf, linksOf, sizeOf, parentOf, addressOf, attributeEntry, putAttributes, putAddresses, putInode, putLinks}
 use Rattle.layout.specs.Block.{blockAt, blockOf, putInBlock, zeroBlock, kthBlock}
 use Rattle.layout.proofs.View.{View, viewOf, below, freeCounts}
 use Rattle.layout.proofs.FrameLaws.{length-free, length-entry, header-past, kind-apart, spare-apart, links-apart, size-apart, parent-apart, address-apart, kind-put, spare-put, links-put, size-put, parent-put}
@@ -34,7 +34,7 @@ pub record SameFrame (s t : List ℕ) : Type 0 where
   pub blocks : blocksIn t ≡ blocksIn s
   pub complete : headerOf t .complete ≡ headerOf s .complete
   pub root : headerOf t .root ≡ headerOf s .root
-  pub reserved : reservedZero t ≡ reservedZero s
+  pub reserved : headerRestZero t ≡ headerRestZero s
 
 -- the attributes and addresses of inode i
 pub record SameInode (s t : List ℕ) (n i : ℕ) : Type 0 where
@@ -133,12 +133,12 @@ pub record InCounts (s t : List ℕ) (n a b : ℕ) : Type 0 where
 address-among : (a p m k : ℕ) → Apart a 24 p m → k < 12 → Apart (a + 2 * k) 2 p m
 address-among a p m k h l = omega arith
 
-address-row : (n j k : ℕ) → addressAt n (place j 0) + 2 * k ≡ addressAt n (place j k)
+address-row : (n j k : ℕ) → addressAt n (addressIndex j 0) + 2 * k ≡ addressAt n (addressIndex j k)
 address-row n j k = omega arith
 
 module _ (s : List ℕ) (p : ℕ) (xs : List ℕ) where
-  reserved-past : headerBytes ≤ p → reservedZero (splice s p xs) ≡ reservedZero s
-  unfolding reservedZero
+  reserved-past : headerBytes ≤ p → headerRestZero (splice s p xs) ≡ headerRestZero s
+  unfolding headerRestZero
   reserved-past h = ap₂ (λ (a b : ℕ). eqb a 0 && eqb b 0) (num-apart 1 s 9 p xs (omega arith)) (num-apart 4 s 12 p xs (omega arith))
 
   frame-past : headerBytes ≤ p → SameFrame s (splice s p xs)
@@ -153,7 +153,7 @@ module _ (s : List ℕ) (p : ℕ) (xs : List ℕ) where
         reserved = reserved-past h;
       }
 
-  inode-apart : (n j : ℕ) → Apart (attributesAt j) 8 p (length xs) → Apart (addressAt n (place j 0)) 24 p (length xs) → SameInode s (splice s p xs) n j
+  inode-apart : (n j : ℕ) → Apart (attributesAt j) 8 p (length xs) → Apart (addressAt n (addressIndex j 0)) 24 p (length xs) → SameInode s (splice s p xs) n j
   unfolding kthBlock
   inode-apart n j a b = record {
     kind = kind-apart s p xs j a;
@@ -162,7 +162,7 @@ module _ (s : List ℕ) (p : ℕ) (xs : List ℕ) where
     size = size-apart s p xs j a;
     parent = parent-apart s p xs j a;
     blocks = λ k l.
-        address-apart s p xs n (place j k) (subst (λ (o : ℕ). Apart o 2 p (length xs)) (address-row n j k) (address-among (addressAt n (place j 0)) p (length xs) k b l));
+        address-apart s p xs n (addressIndex j k) (subst (λ (o : ℕ). Apart o 2 p (length xs)) (address-row n j k) (address-among (addressAt n (addressIndex j 0)) p (length xs) k b l));
   }
 
   block-apart : (n c : ℕ) → Apart (blockAt n c) 64 p (length xs) → SameBlock s (splice s p xs) n c
@@ -259,14 +259,14 @@ module _ (s : List ℕ) (n i : ℕ) (f : InodeFits s n i) where
         let e = length-entry v in
         let a = f .low in
         let b = f .high in
-        address-apart s (attributesAt i) (attributeEntry v) n (place i k) (omega arith)
+        address-apart s (attributesAt i) (attributeEntry v) n (addressIndex i k) (omega arith)
 
     pub attributes-new : NewInode (putAttributes s i v) i v
     attributes-new = record { kind = kind-put s i v fits; spare = spare-put s i v fits; links = links-put s i v fits; size = size-put s i v fits; parent = parent-put s i v fits }
 
     module _ (e : length (v .addresses) ≡ addressCount) where
       abbrev start : ℕ
-      start = addressAt n (place i 0)
+      start = addressAt n (addressIndex i 0)
 
       words : length (wordBytes (v .addresses)) ≡ 24
       words = length-words (v .addresses) ∙ omega arith
@@ -301,10 +301,10 @@ module _ (s : List ℕ) (n i : ℕ) (f : InodeFits s n i) where
       inode-blocks k l =
           let a = f .low in
           let b = f .high in
-          let d : place i k - place i 0 ≡ k = omega arith in
-          sym (below-in (12 * n) (addressOf (putInode s n i v) n) (place i k) (omega arith))
-          ∙ ap (λ (w : View). w .address (place i k)) (view-inode n s i v f e)
-          ∙ overlay-in (below (12 * n) (addressOf s n)) (place i 0) (v .addresses) (place i k) (omega arith) (omega arith)
+          let d : addressIndex i k - addressIndex i 0 ≡ k = omega arith in
+          sym (below-in (12 * n) (addressOf (putInode s n i v) n) (addressIndex i k) (omega arith))
+          ∙ ap (λ (w : View). w .address (addressIndex i k)) (view-inode n s i v f e)
+          ∙ overlay-in (below (12 * n) (addressOf s n)) (addressIndex i 0) (v .addresses) (addressIndex i k) (omega arith) (omega arith)
           ∙ ap (λ (x : ℕ). getD (v .addresses) x 0) d
 
       pub inode-new : NewInode (putInode s n i v) i v
@@ -339,7 +339,7 @@ module _ (s : List ℕ) (n i : ℕ) (f : InodeFits s n i) (v : ℕ) where
         kind = num-other 1 2 s (attributesAt i) (attributesAt i + 2) v (omega arith);
         spare = num-other 1 2 s (attributesAt i + 1) (attributesAt i + 2) v (omega arith);
         size = num-other 2 2 s (attributesAt i + 4) (attributesAt i + 2) v (omega arith);
-        blocks = λ k l. num-other 2 2 s (addressAt n (place i k)) (attributesAt i + 2) v (omega arith);
+        blocks = λ k l. num-other 2 2 s (addressAt n (addressIndex i k)) (attributesAt i + 2) v (omega arith);
       }
 
   pub links-parent : parentOf (putLinks s i v) i ≡ parentOf s i
@@ -348,8 +348,8 @@ module _ (s : List ℕ) (n i : ℕ) (f : InodeFits s n i) (v : ℕ) where
 
 -- ---- the free counts
 module _ (s : List ℕ) (n : ℕ) (f : headerBytes ≤ length s) where
-  reserved-free : (a b : ℕ) → reservedZero (putFree s a b) ≡ reservedZero s
-  unfolding reservedZero putFree
+  reserved-free : (a b : ℕ) → headerRestZero (putFree s a b) ≡ headerRestZero s
+  unfolding headerRestZero putFree
   reserved-free a b =
       ap₂ (λ (x y : ℕ). eqb x 0 && eqb y 0)
       (num-other 1 2 (putNum 2 s 4 a) 9 6 b (omega arith) ∙ num-other 1 2 s 9 4 a (omega arith))

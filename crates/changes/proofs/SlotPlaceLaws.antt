@@ -5,16 +5,17 @@ use mathlib.Core.Bool.{true, false}
 use mathlib.Core.List.{List}
 use Rattle.bounded.specs.declared.Found.the-variants.{At, Absent}
 use Rattle.bounded.proofs.BoolLaws.{clash, fails}
-use Rattle.layout.specs.Sizes.{mostStoreBlocks, rootInode}
+use Rattle.layout.specs.Sizes.{rootInode}
 use Rattle.layout.specs.Inode.{kindOf, freeKind, isDirectory}
 use Rattle.names.specs.Name.{legalName}
 use Rattle.names.specs.Entry.{entryInode, isEmpty, sameName}
 use Rattle.names.proofs.EntryLaws.{empty-inode, empty-not-named}
-use Rattle.directory.specs.Slot.{mostSlots, slots, entryOf, slotNamed, findSlot, slotEmpty, inodeAt}
+use Rattle.directory.specs.Slot.{mostSlots, slots, entryOf, slotHasName, findSlot, slotEmpty, inodeAt}
 use Rattle.directory.proofs.SlotLaws.{find-below, find-absent, find-named}
 use Rattle.sound.specs.Place.{dirOf, slotOf, isSlot, entryAt, filled, naming, placeOf}
 use Rattle.sound.specs.Sound.{Sound, inodesIn}
 use Rattle.sound.proofs.PlaceLaws.{slot-is, filled-is, naming-entry, place-dir, entry-place, slot-place}
+use Rattle.sound.specs.declared.Form.the-variants.{Store}
 use Rattle.changes.proofs.ChangeLaws.{NewName}
 use Rattle.changes.proofs.EntryWriteLaws.{SlotIn, slot-in, place-below}
 use Rattle.changes.proofs.SoundTreeLaws.{body-at}
@@ -29,7 +30,7 @@ module _ (s : List ℕ) (n d : ℕ) (name : List ℕ) where
 
   -- one that is absent is new at any place of the directory
   pub absent-new : (t : ℕ) → 1 ≤ d → t < mostSlots → findSlot s n d name ≡ Absent → NewName s n (placeOf d t) name
-  unfolding slotNamed entryAt
+  unfolding slotHasName entryAt
   absent-new t l m e q b z h f =
       let k : dirOf q ≡ d = h ∙ place-dir d t l m in
       let r = slot-is s q .to (filled-is s n q .to f .0) .1 in
@@ -60,7 +61,7 @@ pub record EntryHere (s : List ℕ) (n d t i : ℕ) : Type 0 where
   pub used : kindOf s i ≡ freeKind → ⊥
   pub not-root : i ≡ rootInode → ⊥
 
-pub entry-here : (s : List ℕ) (n d t i : ℕ) → Sound mostStoreBlocks false s → n ≡ inodesIn s → isDirectory s n d ≡ true → t < slots s d → slotEmpty s n d t ≡ false → i ≡ inodeAt s n d t → EntryHere s n d t i
+pub entry-here : (s : List ℕ) (n d t i : ℕ) → Sound Store s → n ≡ inodesIn s → isDirectory s n d ≡ true → t < slots s d → slotEmpty s n d t ≡ false → i ≡ inodeAt s n d t → EntryHere s n d t i
 entry-here s n d t i h x dir inside full is =
     let k = slot-in s n d t h x dir inside in
     let e : naming s n (placeOf d t) ≡ i = place-naming s n d t k ∙ sym is in
@@ -75,5 +76,5 @@ entry-here s n d t i h x dir inside full is =
     }
 
 -- the one that a search for a legal name found
-pub found-here : (s : List ℕ) (n : ℕ) → Sound mostStoreBlocks false s → n ≡ inodesIn s → (d t : ℕ) (name : List ℕ) → isDirectory s n d ≡ true → legalName name ≡ true → findSlot s n d name ≡ At t → EntryHere s n d t (inodeAt s n d t)
+pub found-here : (s : List ℕ) (n : ℕ) → Sound Store s → n ≡ inodesIn s → (d t : ℕ) (name : List ℕ) → isDirectory s n d ≡ true → legalName name ≡ true → findSlot s n d name ≡ At t → EntryHere s n d t (inodeAt s n d t)
 found-here s n h x d t name k l f = entry-here s n d t (inodeAt s n d t) h x k (find-below s n d name t f) (found-full s n d name t l f) refl

@@ -4,7 +4,6 @@ use mathlib.Core.Path.{_≡_, refl}
 use mathlib.Core.Bool.{true, false}
 use mathlib.Core.List.{List}
 use native.Mathlib.Omega.{arith}
-use Rattle.layout.specs.Sizes.{mostStoreBlocks}
 use Rattle.layout.specs.Inode.{kindOf, linksOf, parentOf}
 use Rattle.directory.specs.Slot.{mostSlots}
 use Rattle.sound.specs.Place.{filled, naming}
@@ -12,6 +11,7 @@ use Rattle.sound.specs.Entry.{EntrySound, sibling}
 use Rattle.sound.specs.Link.{LinkSound}
 use Rattle.sound.specs.Sound.{Sound, inodesIn, blocksIn}
 use Rattle.sound.proofs.PlaceLaws.{slot-is, naming-slot, naming-filled}
+use Rattle.sound.specs.declared.Form.the-variants.{Store}
 use Rattle.changes.proofs.KeepLaws.{Body, body-of}
 use Rattle.changes.proofs.SameLaws.{OtherInodes}
 use Rattle.changes.proofs.ChangeLaws.{NamesSound, names-of}
@@ -24,7 +24,7 @@ pub nodes-else : {s t : List ℕ} {n i : ℕ} → OtherInodes s t n i → ElseNo
 nodes-else o = record { kinds = λ j l m z. o j l m z .kind; links = λ j l m z. o j l m z .links; parents = λ j l m z. o j l m z .parent }
 
 -- ---- a sound store
-module _ (s : List ℕ) (n : ℕ) (h : Sound mostStoreBlocks false s) (x : n ≡ inodesIn s) where
+module _ (s : List ℕ) (n : ℕ) (h : Sound Store s) (x : n ≡ inodesIn s) where
   pub body-at : Body s n (blocksIn s)
   body-at = body-of s n (blocksIn s) h x refl
 

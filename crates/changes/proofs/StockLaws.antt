@@ -4,14 +4,16 @@ use mathlib.Core.Path.{_≡_, refl, sym, ap, _∙_}
 use mathlib.Core.Bool.{false}
 use mathlib.Core.List.{List}
 use native.Mathlib.Omega.{arith}
-use Rattle.bounded.specs.Count.{count, Differ}
-use Rattle.layout.specs.Sizes.{mostStoreBlocks, addressCount, blockBytes}
+use Rattle.bounded.specs.Count.{Differ, countTo}
+use Rattle.layout.specs.Sizes.{addressCount, blockBytes}
 use Rattle.layout.specs.Header.{headerOf}
 use Rattle.layout.specs.declared.header.Header.{Header}
 use Rattle.layout.specs.Inode.{kindOf, sizeOf, parentOf, addressOf, freeKind, fileKind}
 use Rattle.layout.specs.Block.{blocksUsed, kthBlock}
+use Rattle.layout.specs.Free.{inodeFree, blockFree}
 use Rattle.sound.specs.Inode.{InodeSound}
-use Rattle.sound.specs.Sound.{Sound, inodesIn, blocksIn, freeB, unnamedB}
+use Rattle.sound.specs.Sound.{Sound, inodesIn, blocksIn}
+use Rattle.sound.specs.declared.Form.the-variants.{Store}
 use Rattle.changes.proofs.SameLaws.{SameFrame, SameBody, SameBlock, each-inode}
 use Rattle.changes.proofs.KeepLaws.{Body, sound-of, inode-like, tail-kept, inode-kept}
 use Rattle.changes.proofs.AddressLaws.{same-differ, same-unnamed}
@@ -26,8 +28,8 @@ use Rattle.changes.proofs.InodeWriteLaws.{Relinked, body-all}
 pub record Stock (t : List ℕ) (n b : ℕ) : Type 0 where
   pub inodes : (i : ℕ) → 1 ≤ i → i ≤ n → InodeSound t n b i
   pub once : Differ (addressOf t n) (addressCount * n)
-  pub free-inodes : headerOf t .«free_inodes» ≡ count (freeB t) n
-  pub free-blocks : headerOf t .«free_blocks» ≡ count (unnamedB t n) b
+  pub free-inodes : headerOf t .«free_inodes» ≡ countTo (inodeFree t) n
+  pub free-blocks : headerOf t .«free_blocks» ≡ countTo (blockFree t n) b
 
 -- the block that a size ends in is one that it uses
 last-used : (z : ℕ) → (z % blockBytes ≡ 0 → ⊥) → z / blockBytes < blocksUsed z
@@ -44,7 +46,7 @@ entries-stock s t n b h a = record {
 }
 
 -- ---- a store with the frame of a sound one that has its stock, sound names and a tree is sound
-pub stock-sound : (s t : List ℕ) (n : ℕ) → Sound mostStoreBlocks false s → n ≡ inodesIn s → SameFrame s t → Stock t n (blocksIn s) → NamesSound t n → Tree n (nodesOf t n) → Sound mostStoreBlocks false t
+pub stock-sound : (s t : List ℕ) (n : ℕ) → Sound Store s → n ≡ inodesIn s → SameFrame s t → Stock t n (blocksIn s) → NamesSound t n → Tree n (nodesOf t n) → Sound Store t
 stock-sound s t n h x f k a r =
     sound-of s t h f n (blocksIn s) x refl
     (record {

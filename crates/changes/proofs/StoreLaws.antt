@@ -7,12 +7,13 @@ use native.Mathlib.Omega.{arith}
 use borrow.Author.Tests.{eq-eqb, leb-true, eqb-true, le-leb, lt-leb}
 use lib.Dec.{eqb, leb}
 use Rattle.bounded.proofs.BoolLaws.{and-false-l, and-left, and-right, chain-end}
-use Rattle.layout.specs.Sizes.{mostStoreBlocks, mostImageBlocks, mostFileBytes, addressCount}
+use Rattle.layout.specs.Sizes.{mostImageBlocks, mostFileBytes, addressCount}
 use Rattle.layout.specs.Inode.{InodeFits, kindOf, sizeOf, addressOf, isKind}
 use Rattle.layout.specs.Block.{Sized, blocksUsed, kthBlock}
 use Rattle.directory.specs.Slot.{DirFits}
 use Rattle.sound.specs.Sound.{Sound, inodesIn, blocksIn}
 use Rattle.sound.proofs.FactLaws.{sized, one-block, inode-fits, dir-fits, address-bound}
+use Rattle.sound.specs.declared.Form.the-variants.{Store}
 
 -- ---- the kind of a number
 module _ (s : List ℕ) (n k i : ℕ) where
@@ -45,10 +46,10 @@ module _ (s : List ℕ) (n k i : ℕ) where
     kind-is = eqb-true (kindOf s i) k (and-right (leb i n) (eqb (kindOf s i) k) (and-right (leb 1 i) (leb i n && eqb (kindOf s i) k) t))
 
 -- ---- a sound store
-pub sized-at : (s : List ℕ) (n b : ℕ) → Sound mostStoreBlocks false s → n ≡ inodesIn s → b ≡ blocksIn s → Sized s n b
-sized-at s n b h x y = subst (λ (j : ℕ). Sized s j b) (sym x) (subst (Sized s (inodesIn s)) (sym y) (sized h (omega arith)))
+pub sized-at : (s : List ℕ) (n b : ℕ) → Sound Store s → n ≡ inodesIn s → b ≡ blocksIn s → Sized s n b
+sized-at s n b h x y = subst (λ (j : ℕ). Sized s j b) (sym x) (subst (Sized s (inodesIn s)) (sym y) (sized h))
 
-module _ (s : List ℕ) (n : ℕ) (h : Sound mostStoreBlocks false s) (e : n ≡ inodesIn s) where
+module _ (s : List ℕ) (n : ℕ) (h : Sound Store s) (e : n ≡ inodesIn s) where
   pub fits : (i : ℕ) → 1 ≤ i → i ≤ n → InodeFits s n i
   fits i l m = subst (λ (x : ℕ). InodeFits s x i) (sym e) (inode-fits h i l (omega arith))
 
@@ -66,7 +67,7 @@ module _ (s : List ℕ) (n : ℕ) (h : Sound mostStoreBlocks false s) (e : n ≡
   one-at i k j a l m p q u w f = one-block h i k j a l (omega arith) p (omega arith) u w (subst (λ (z : ℕ). kthBlock s z i k ≡ kthBlock s z j a) e f)
 
 -- ---- an inode of a kind on a sound store
-module _ (s : List ℕ) (n : ℕ) (h : Sound mostStoreBlocks false s) (e : n ≡ inodesIn s) (k i : ℕ) (t : isKind s n k i ≡ true) where
+module _ (s : List ℕ) (n : ℕ) (h : Sound Store s) (e : n ≡ inodesIn s) (k i : ℕ) (t : isKind s n k i ≡ true) where
   pub kind-fits : InodeFits s n i
   kind-fits = fits s n h e i (kind-some s n k i t) (kind-most s n k i t)
 

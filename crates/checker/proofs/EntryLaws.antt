@@ -13,7 +13,7 @@ use Rattle.bounded.specs.Below.{allBelow}
 use Rattle.bounded.specs.Count.{Tallied}
 use Rattle.bounded.specs.Search.{pick}
 use Rattle.bounded.specs.Reflect.{Reflects}
-use Rattle.bounded.specs.Table.{Filled}
+use Rattle.bounded.specs.Table.{Tabulated}
 use Rattle.bounded.proofs.BoolLaws.{clash, never, holds, same-test, and-true, and-left, and-false-l, and-false-r, or-l}
 use Rattle.bounded.proofs.BelowLaws.{all-none, all-at, all-of, all-fail, all-stop, all-ext, all-split}
 use Rattle.bounded.proofs.CountLaws.{tally-start, tally-skip, tally-one}
@@ -31,9 +31,10 @@ use Rattle.names.proofs.NameLaws.{legal-bounds, legal-nonzero}
 use Rattle.names.proofs.EntryLaws.{named, same-words-two, octets-part, empty-all, empty-inode, entry-legal}
 use Rattle.directory.specs.Slot.{mostSlots, slots, slotAt, entryOf, DirFits}
 use Rattle.directory.proofs.SlotLaws.{few-slots, slot-fits}
-use Rattle.sound.specs.Entry.{sameNames, namedB, newNameB, entryB}
+use Rattle.sound.specs.Entry.{sameNames}
 use Rattle.sound.specs.Place.{dirOf, slotOf, isSlot, entryAt, filled, naming, placeOf}
 use Rattle.sound.proofs.PlaceLaws.{filled-is, naming-entry, place-dir, entry-place, slot-place}
+use Rattle.sound.specs.Test.{namingB, newNameB, entryB}
 use Rattle.checker.specs.Pass.{lowOf, highOf, Passed}
 
 -- a place that is no slot names nothing, and is right
@@ -44,7 +45,7 @@ module _ (s : List ℕ) (n p : ℕ) (e : isSlot s p ≡ false) where
 
   pub other-right : entryB s n p ≡ true
   unfolding entryB filled
-  other-right = or-l (not (filled s n p)) (namedB s n p && newNameB s n p) (ap not (and-false-l (isSlot s p) (not (isEmpty (entryAt s n p))) e))
+  other-right = or-l (not (filled s n p)) (namingB s n p && newNameB s n p) (ap not (and-false-l (isSlot s p) (not (isEmpty (entryAt s n p))) e))
 
 -- ---- what the code knows of the slot whose bytes start at o
 abbrev pub Here : List ℕ → ℕ → ℕ → ℕ → ℕ → Type 0
@@ -110,8 +111,8 @@ module _ (s : List ℕ) (n d t o : ℕ) (x : Here s n d t o) where
 
   -- the inode that the code has read, and whether the name is legal
   module _ (i : ℕ) (g : Bool) (a : i ≡ entryInode (cutAt s o)) (b : g ≡ legalEntry (cutAt s o)) where
-    named-here : Reflects (namedB s n (placeOf d t)) (Names i g)
-    unfolding namedB
+    named-here : Reflects (namingB s n (placeOf d t)) (Names i g)
+    unfolding namingB
     named-here =
         r-same
         (sym
@@ -121,34 +122,34 @@ module _ (s : List ℕ) (n d t o : ℕ) (x : Here s n d t o) where
         ∙ ap (namesB g i) (place-dir d t (x .0 .inode .low) in-reach)))
         (names i g)
 
-    pub illegal : not g ≡ true → false ≡ namedB s n (placeOf d t)
+    pub illegal : not g ≡ true → false ≡ namingB s n (placeOf d t)
     illegal e = sym (r-fails named-here (λ w. clash g (w .0) (not-true g e)))
 
-    pub nameless : i < 1 → false ≡ namedB s n (placeOf d t)
+    pub nameless : i < 1 → false ≡ namingB s n (placeOf d t)
     nameless e = sym (r-fails named-here (λ w. let z = w .1 .0 in omega arith))
 
-    pub past-inodes : n < i → false ≡ namedB s n (placeOf d t)
+    pub past-inodes : n < i → false ≡ namingB s n (placeOf d t)
     past-inodes e = sym (r-fails named-here (λ w. let z = w .1 .1 .0 in omega arith))
 
     module _ (k : ℕ) (c : k ≡ kindOf s i) where
-      pub free-named : k ≡ freeKind → false ≡ namedB s n (placeOf d t)
+      pub free-named : k ≡ freeKind → false ≡ namingB s n (placeOf d t)
       free-named e = sym (r-fails named-here (λ w. w .1 .1 .1 .0 (sym c ∙ e)))
 
-      pub root-named : i ≡ rootInode → false ≡ namedB s n (placeOf d t)
+      pub root-named : i ≡ rootInode → false ≡ namingB s n (placeOf d t)
       root-named e = sym (r-fails named-here (λ w. w .1 .1 .1 .1 .0 e))
 
       module _ (y : not g ≡ false) (p : 1 ≤ i) (q : i ≤ n) (u : k ≡ freeKind → ⊥) (v : i ≡ rootInode → ⊥) where
-        pub file-named : (k ≡ directoryKind → ⊥) → true ≡ namedB s n (placeOf d t)
+        pub file-named : (k ≡ directoryKind → ⊥) → true ≡ namingB s n (placeOf d t)
         file-named f = sym (named-here .from (not-false g y, (p, (q, ((λ e. u (c ∙ e)), (v, λ e. absurd (f (c ∙ e))))))))
 
-        pub dir-named : (w : ℕ) → w ≡ parentOf s i → k ≡ directoryKind → eqb w d ≡ namedB s n (placeOf d t)
+        pub dir-named : (w : ℕ) → w ≡ parentOf s i → k ≡ directoryKind → eqb w d ≡ namingB s n (placeOf d t)
         dir-named w m f =
-            same-test (eqb w d) (namedB s n (placeOf d t))
+            same-test (eqb w d) (namingB s n (placeOf d t))
             (λ e. named-here .from (not-false g y, (p, (q, ((λ z. u (c ∙ z)), (v, λ z. sym m ∙ eqb-true w d e))))))
             (λ e. eq-eqb w d (m ∙ named-here .to e .1 .1 .1 .1 .1 (sym c ∙ f)))
 
     -- an inode of the n
-    pub named-range : namedB s n (placeOf d t) ≡ true → (1 ≤ i) × (i ≤ n)
+    pub named-range : namingB s n (placeOf d t) ≡ true → (1 ≤ i) × (i ≤ n)
     named-range e = let w = named-here .to e in (w .1 .0, w .1 .1 .0)
 
 -- ---- name_new: slot u has another name than slot t, as the words in low and high say
@@ -194,7 +195,7 @@ weaker false x h = ap not (h refl)
 
 -- the words of the names up to slot t are read, and slot t has a legal name
 module _ (s : List ℕ) (n d t : ℕ) (h : Octets s) (f : DirFits s n d) (k : kindOf s d ≡ directoryKind) (l : t < slots s d)
-    (low high : List ℕ) (lo : Filled (lowOf s n d) mostSlots (t + 1) low) (hi : Filled (highOf s n d) mostSlots (t + 1) high)
+    (low high : List ℕ) (lo : Tabulated (lowOf s n d) mostSlots (t + 1) low) (hi : Tabulated (highOf s n d) mostSlots (t + 1) high)
     (g : legalEntry (entryOf s n d t) ≡ true) where
   reach : t < mostSlots
   reach = let w = few-slots s n d f in omega arith
@@ -242,10 +243,10 @@ module _ (s : List ℕ) (n d t o : ℕ) (x : Here s n d t o) (low high counts : 
   word : w ≡ wordsAt (entryOf s n d t) 2
   word = e ∙ ap (λ (q : List ℕ). wordsAt q 2) (cut-here s n d t o x)
 
-  low-read : Filled (lowOf s n d) mostSlots (t + 1) lowNow
+  low-read : Tabulated (lowOf s n d) mostSlots (t + 1) lowNow
   low-read = filled-more (lowOf s n d) mostSlots t (w .low) low (in-reach s n d t o x) (ap (λ (v : Name). v .low) word) (y .lows)
 
-  high-read : Filled (highOf s n d) mostSlots (t + 1) highNow
+  high-read : Tabulated (highOf s n d) mostSlots (t + 1) highNow
   high-read = filled-more (highOf s n d) mostSlots t (w .high) high (in-reach s n d t o x) (ap (λ (v : Name). v .high) word) (y .highs)
 
   module _ (b : Bool) (r : b ≡ isEmpty (cutAt s o)) where
@@ -254,26 +255,26 @@ module _ (s : List ℕ) (n d t o : ℕ) (x : Here s n d t o) (low high counts : 
     empty-slot z =
         let f : filled s n (placeOf d t) ≡ false = filled-here s n d t o x ∙ ap not (sym r ∙ z) in
         let m = naming-here s n d t o x ∙ empty-inode (cutAt s o) (sym r ∙ z) in (
-          sym (or-l (not (filled s n (placeOf d t))) (namedB s n (placeOf d t) && newNameB s n (placeOf d t)) (ap not f)),
+          sym (or-l (not (filled s n (placeOf d t))) (namingB s n (placeOf d t) && newNameB s n (placeOf d t)) (ap not f)),
           λ q. record { lows = low-read; highs = high-read; counted = tally-skip (naming s n) 1 (mostInodes + 1) (placeOf d t) counts (omega arith) (y .counted) },
         )
 
-    module _ (z : b ≡ false) (g : Bool) (c : g ≡ namedB s n (placeOf d t)) where
-      full-slot : entryB s n (placeOf d t) ≡ namedB s n (placeOf d t) && newNameB s n (placeOf d t)
+    module _ (z : b ≡ false) (g : Bool) (c : g ≡ namingB s n (placeOf d t)) where
+      full-slot : entryB s n (placeOf d t) ≡ namingB s n (placeOf d t) && newNameB s n (placeOf d t)
       unfolding entryB
       full-slot =
-          ap (λ (q : Bool). not q || (namedB s n (placeOf d t) && newNameB s n (placeOf d t))) (filled-here s n d t o x ∙ ap not (sym r ∙ z))
+          ap (λ (q : Bool). not q || (namingB s n (placeOf d t) && newNameB s n (placeOf d t))) (filled-here s n d t o x ∙ ap not (sym r ∙ z))
 
       pub unnamed-slot : {A : Type 0} → not g ≡ true → (false ≡ entryB s n (placeOf d t)) × (false ≡ true → A)
       unnamed-slot q =
-          (sym (full-slot ∙ and-false-l (namedB s n (placeOf d t)) (newNameB s n (placeOf d t)) (sym c ∙ not-true g q)), never)
+          (sym (full-slot ∙ and-false-l (namingB s n (placeOf d t)) (newNameB s n (placeOf d t)) (sym c ∙ not-true g q)), never)
 
       module _ (u : not g ≡ false) where
-        named-slot : namedB s n (placeOf d t) ≡ true
+        named-slot : namingB s n (placeOf d t) ≡ true
         named-slot = sym c ∙ not-false g u
 
         legal-slot : legalEntry (entryOf s n d t) ≡ true
-        unfolding namedB
+        unfolding namingB
         legal-slot = ap legalEntry (sym (entry-place s n d t (x .0 .inode .low) (in-reach s n d t o x))) ∙ and-left (legalEntry (entryAt s n (placeOf d t))) _ named-slot
 
         pub slot-range : (i : ℕ) → i ≡ entryInode (cutAt s o) → (1 ≤ i) × (i < mostInodes + 1)
@@ -288,13 +289,13 @@ module _ (s : List ℕ) (n d t o : ℕ) (x : Here s n d t o) (low high counts : 
 
           pub same-slot : {A : Type 0} → not m ≡ true → (false ≡ entryB s n (placeOf d t)) × (false ≡ true → A)
           same-slot q =
-              (sym (full-slot ∙ and-false-r (namedB s n (placeOf d t)) (newNameB s n (placeOf d t)) (sym new-slot ∙ not-true m q)), never)
+              (sym (full-slot ∙ and-false-r (namingB s n (placeOf d t)) (newNameB s n (placeOf d t)) (sym new-slot ∙ not-true m q)), never)
 
           pub counted-slot : not m ≡ false → (i : ℕ) → i ≡ entryInode (cutAt s o)
               → (true ≡ entryB s n (placeOf d t)) × (true ≡ true → Passed s n d (t + 1) (placeOf d t + 1) lowNow highNow (set counts i (getD counts i 0 + 1)))
           counted-slot q i a =
               let k = slot-range i a in (
-                sym (full-slot ∙ and-true (namedB s n (placeOf d t)) (newNameB s n (placeOf d t)) named-slot (sym new-slot ∙ not-false m q)),
+                sym (full-slot ∙ and-true (namingB s n (placeOf d t)) (newNameB s n (placeOf d t)) named-slot (sym new-slot ∙ not-false m q)),
                 λ p. record {
                   lows = low-read;
                   highs = high-read;

@@ -11,7 +11,7 @@ use borrow.Author.Tests.{eq-eqb, ne-eqb, eqb-true, eqb-false}
 use lib.Dec.{eqb, leb}
 use lib.ListN.{length, getD, set, replicate, length-set, length-replicate}
 use lib.Seq.{getD-set-same, getD-set-other}
-use Rattle.bounded.specs.Count.{tally}
+use Rattle.bounded.specs.Count.{tally, count}
 use Rattle.bounded.specs.Climb.{climb, Leads, leadsB, Closed}
 use Rattle.bounded.proofs.BoolLaws.{holds-or-fails}
 use Rattle.bounded.proofs.ClimbLaws.{leads-self, leads-up, leads-turn, leads-end, leads-bool}
@@ -19,9 +19,9 @@ use Rattle.bounded.proofs.ReflectLaws.{r-eq, r-le, r-says, r-fails, reflects-ex
 use Rattle.layout.specs.Sizes.{rootInode}
 use Rattle.layout.specs.Inode.{InodeFits, kindOf, linksOf, parentOf, freeKind, directoryKind}
 use Rattle.directory.specs.Slot.{mostSlots}
-use Rattle.sound.specs.Link.{countedB, leadB}
 use Rattle.sound.specs.Place.{naming, IsDir}
 use Rattle.sound.proofs.SoundLaws.{counted-is}
+use Rattle.sound.specs.Test.{countedB, leadB}
 use Rattle.checker.specs.Pass.{Known}
 
 -- ---- the link count l of inode i, which count entries name

@@ -5,7 +5,7 @@ use mathlib.Core.List.{List}
 use lib.ListN.{length, getD}
 use Rattle.bounded.specs.Climb.{Leads}
 use Rattle.bounded.specs.Count.{Tallied}
-use Rattle.bounded.specs.Table.{Filled}
+use Rattle.bounded.specs.Table.{Tabulated}
 use Rattle.names.specs.Entry.{wordsAt, nameAt}
 use Rattle.directory.specs.Slot.{mostSlots, entryOf}
 use Rattle.layout.specs.Sizes.{mostInodes, rootInode}
@@ -21,8 +21,8 @@ highOf s n d t = wordsAt (entryOf s n d t) nameAt .high
 
 -- the names of the first t slots of d are read, and the inodes that all places before p name are counted
 pub record Passed (s : List ℕ) (n d t p : ℕ) (low high counts : List ℕ) : Type 0 where
-  pub lows : Filled (lowOf s n d) mostSlots t low
-  pub highs : Filled (highOf s n d) mostSlots t high
+  pub lows : Tabulated (lowOf s n d) mostSlots t low
+  pub highs : Tabulated (highOf s n d) mostSlots t high
   pub counted : Tallied (naming s n) 1 (mostInodes + 1) p counts
 
 -- the list tells of some numbers, the root among them, that they lead to the root

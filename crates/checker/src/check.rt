@@ -6,10 +6,12 @@ ghost use lib.ListN.{length};
 ghost use Rattle.bounded.specs.Seen.{Seen};
 ghost use Rattle.layout.specs.Sizes.{mostImageBlocks, addressCount, rootInode};
 ghost use Rattle.layout.specs.Inode.{InodeFits, addressOf};
-ghost use Rattle.sound.specs.Sound.{inodesIn, blocksIn, Framed, framedB, headerB, freeCountsB, bodyB, soundB, isSound};
+ghost use Rattle.sound.specs.Sound.{inodesIn, blocksIn, Framed, limitOf};
+ghost use Rattle.sound.specs.Test.{framedB, headerB, freeCountsB, bodyB, isSound};
+ghost use Rattle.sound.specs.declared.Form.the-variants.{Image};
 use crate::entries;
 use crate::links;
-use layout::block::store_length;
+use layout::block::allowed;
 use layout::header;
 use layout::header::Header;
 use layout::inode;
@@ -17,34 +19,29 @@ use layout::sizes::COMPLETE;
 use layout::sizes::DIRECTORY;
 use layout::sizes::HEADER_BYTES;
 use layout::sizes::MOST_IMAGE_BLOCKS;
-use layout::sizes::MOST_INODES;
 use layout::sizes::MOST_STORE_BLOCKS;
 use layout::sizes::ROOT;
 use sound::Form;
 
+// The most blocks that the form allows.
+fn block_limit(form: Form) -> usize
+    ensures { λ r. ⌜ (r ≡ limitOf form) × (r ≤ mostImageBlocks) ⌝ }
+{
+    match form {
+        Form::Store => MOST_STORE_BLOCKS,
+        Form::Image => MOST_IMAGE_BLOCKS,
+    }
+}
+
 // The header's counts are allowed, and the length is theirs.
-pub fn framed(s: &[u8], limit: usize) -> bool
-    requires { ⌜ limit ≤ mostImageBlocks ⌝ }
-    ensures { λ r. ⌜ r ≡ framedB limit (now (s .entry)) ⌝ }
+pub fn framed(form: Form, s: &[u8]) -> bool
+    ensures { λ r. ⌜ r ≡ framedB form (now (s .entry)) ⌝ }
 {
     if s.len() < HEADER_BYTES {
         return false;
     }
-    let n = octets::get_16(s, 0) as usize;
-    let b = octets::get_16(s, 2) as usize;
-    if n < 1 {
-        return false;
-    }
-    if MOST_INODES < n {
-        return false;
-    }
-    if b < 1 {
-        return false;
-    }
-    if limit < b {
-        return false;
-    }
-    s.len() == store_length(n, b)
+    let h = Header::read(s);
+    allowed(block_limit(form), h.inodes as usize, h.blocks as usize, s.len())
 }
 
 // Byte 8, the root and the reserved bytes; the root is a directory that has no parent.
@@ -70,7 +67,7 @@ fn header_right(s: &[u8], n: usize) -> bool
 
 // The free counts are true.
 fn counts_right(s: &[u8], n: usize, b: usize, map: &[u8]) -> bool
-    requires { ⌜ Framed mostImageBlocks (now s) × (n ≡ inodesIn (now s)) × (b ≡ blocksIn (now s)) × Seen (addressOf (now s) n) (mostImageBlocks + 1) (addressCount * n) (now map) ⌝ }
+    requires { ⌜ Framed Image (now s) × (n ≡ inodesIn (now s)) × (b ≡ blocksIn (now s)) × Seen (addressOf (now s) n) (mostImageBlocks + 1) (addressCount * n) (now map) ⌝ }
     ensures { λ r. ⌜ r ≡ freeCountsB (now (s .entry)) ⌝ }
 {
     let h = Header::read(s);
@@ -81,9 +78,9 @@ fn counts_right(s: &[u8], n: usize, b: usize, map: &[u8]) -> bool
 }
 
 // What holds of a store whose counts and length are right.
-pub fn body_right(s: &[u8], n: usize, b: usize, blank: bool) -> bool
-    requires { ⌜ Framed mostImageBlocks (now s) × (n ≡ inodesIn (now s)) × (b ≡ blocksIn (now s)) ⌝ }
-    ensures { λ r. ⌜ r ≡ bodyB blank (now (s .entry)) ⌝ }
+pub fn body_right(form: Form, s: &[u8], n: usize, b: usize) -> bool
+    requires { ⌜ Framed Image (now s) × (n ≡ inodesIn (now s)) × (b ≡ blocksIn (now s)) ⌝ }
+    ensures { λ r. ⌜ r ≡ bodyB form (now (s .entry)) ⌝ }
 {
     if !header_right(s, n) {
         return false;
@@ -105,29 +102,18 @@ pub fn body_right(s: &[u8], n: usize, b: usize, blank: bool) -> bool
     if !counts_right(s, n, b, &map) {
         return false;
     }
-    if !blank {
-        return true;
+    match form {
+        Form::Store => true,
+        Form::Image => inodes::blanks_right(s, n, b, &map),
     }
-    inodes::blanks_right(s, n, b, &map)
 }
 
 pub fn check(form: Form, s: &[u8]) -> bool
     ensures { λ r. ⌜ r ≡ isSound form (now (s .entry)) ⌝ }
 {
-    match form {
-        Form::Store => check_as(s, MOST_STORE_BLOCKS, false),
-        Form::Image => check_as(s, MOST_IMAGE_BLOCKS, true),
-    }
-}
-
-fn check_as(s: &[u8], limit: usize, blank: bool) -> bool
-    requires { ⌜ limit ≤ mostImageBlocks ⌝ }
-    ensures { λ r. ⌜ r ≡ soundB limit blank (now (s .entry)) ⌝ }
-{
-    if !framed(s, limit) {
+    if !framed(form, s) {
         return false;
     }
-    let n = octets::get_16(s, 0) as usize;
-    let b = octets::get_16(s, 2) as usize;
-    body_right(s, n, b, blank)
+    let h = Header::read(s);
+    body_right(form, s, h.inodes as usize, h.blocks as usize)
 }

@@ -9,8 +9,8 @@ ghost use Rattle.bounded.specs.Count.{Tallied};
 ghost use Rattle.layout.specs.Sizes.{mostInodes};
 ghost use Rattle.layout.specs.Inode.{kindOf, directoryKind};
 ghost use Rattle.directory.specs.Slot.{DirFits, mostSlots, slots, slotAt};
-ghost use Rattle.sound.specs.Entry.{namedB, entryB};
 ghost use Rattle.sound.specs.Place.{naming, placeOf};
+ghost use Rattle.sound.specs.Test.{namingB, entryB};
 ghost use Rattle.checker.specs.Pass.{Passed};
 use layout::inode;
 use layout::sizes::DIRECTORY;
@@ -22,7 +22,7 @@ use names::Name;
 // The entry at o, in slot t of d, names an inode in use, by a legal name; a directory's parent is d.
 fn entry_named(s: &[u8], n: usize, d: usize, t: usize, o: usize) -> bool
     requires { ⌜ DirFits (now s) n d × (t < slots (now s) d) × (kindOf (now s) d ≡ directoryKind) × (o ≡ slotAt (now s) n d t) ⌝ }
-    ensures { λ r. ⌜ r ≡ namedB (now (s .entry)) n (placeOf d t) ⌝ }
+    ensures { λ r. ⌜ r ≡ namingB (now (s .entry)) n (placeOf d t) ⌝ }
 {
     let e = &s[o..o + ENTRY_BYTES];
     let i = names::entry_inode(e) as usize;

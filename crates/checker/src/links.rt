@@ -3,14 +3,14 @@ ghost use mathlib.Core.Path.{_≡_};
 ghost use mathlib.Core.Bool.{true};
 ghost use Prim.Native.Nat.{_+_, _*_, _≤_};
 ghost use lib.ListN.{length};
-ghost use Rattle.bounded.specs.Below.{allBelow};
-ghost use Rattle.bounded.specs.Count.{tally, Tallied};
+ghost use Rattle.bounded.specs.Below.{allTo};
+ghost use Rattle.bounded.specs.Count.{tally, Tallied, count};
 ghost use Rattle.bounded.specs.Climb.{Leads, leadsB, Closed};
 ghost use Rattle.layout.specs.Sizes.{headerBytes, mostInodes, inodeBytes, rootInode};
 ghost use Rattle.layout.specs.Inode.{InodeFits, parentOf};
 ghost use Rattle.directory.specs.Slot.{mostSlots};
-ghost use Rattle.sound.specs.Link.{countedB, leadB};
 ghost use Rattle.sound.specs.Place.{naming, IsDir};
+ghost use Rattle.sound.specs.Test.{countedB, leadB};
 ghost use Rattle.checker.specs.Pass.{Known};
 use layout::inode;
 use layout::sizes::DIRECTORY;
@@ -40,7 +40,7 @@ fn link_right(s: &[u8], n: usize, i: usize, count: u16) -> bool
 
 pub fn links_right(s: &[u8], n: usize, counts: &[u16]) -> bool
     requires { ⌜ (n ≤ mostInodes) × (headerBytes + inodeBytes * n ≤ length (now s)) × Tallied (naming (now s) n) 1 (mostInodes + 1) (mostSlots * n) (now counts) ⌝ }
-    ensures { λ r. ⌜ r ≡ allBelow (λ k. countedB (now (s .entry)) n (k + 1)) n ⌝ }
+    ensures { λ r. ⌜ r ≡ allTo (countedB (now (s .entry)) n) n ⌝ }
 {
     for k in 0..n {
         if !link_right(s, n, k + 1, counts[k + 1]) {
@@ -99,7 +99,7 @@ fn parent_right(s: &[u8], n: usize, d: usize, known: &mut [u8]) -> bool
 // Parents lead to the root: linear, since a path is followed only up to what is known.
 pub fn parents_right(s: &[u8], n: usize) -> bool
     requires { ⌜ (1 ≤ n) × (n ≤ mostInodes) × (headerBytes + inodeBytes * n ≤ length (now s)) × Closed (IsDir (now s) n) (parentOf (now s)) rootInode n ⌝ }
-    ensures { λ r. ⌜ r ≡ allBelow (λ k. leadB (now (s .entry)) n (k + 1)) n ⌝ }
+    ensures { λ r. ⌜ r ≡ allTo (leadB (now (s .entry)) n) n ⌝ }
 {
     let mut known = [0u8; 257];
     known[ROOT] = 1;

@@ -1,36 +1,38 @@
 -- Tables of conditions, one condition at a time: the answer of what is decided is the first condition that holds. s is the store, m the image, d the desk.
 use mathlib.Core.Path.{_≡_, refl}
 use mathlib.Core.Bool.{Bool, true, false, not, _&&_}
-use mathlib.Core.List.{List, [], _∷_}
+use mathlib.Core.List.{List, [], _∷_, _++_}
 use Prim.Native.Nat.{ℕ, _-_}
 use lib.Dec.{ltb}
 use Rattle.bounded.specs.Search.{pick, onFound}
 use Rattle.bounded.specs.declared.Found.{Found}
 use Rattle.bounded.specs.declared.Found.the-variants.{At, Absent}
-use Rattle.layout.specs.Sizes.{mostStoreBlocks, addressCount}
+use Rattle.layout.specs.Sizes.{addressCount}
 use Rattle.layout.specs.Inode.{sizeOf}
 use Rattle.layout.specs.Block.{blocksUsed}
 use Rattle.layout.specs.Free.{freeBlock}
 use Rattle.directory.specs.Slot.{slots, emptySlot}
-use Rattle.sound.specs.Sound.{framedB, isSound, inodesIn, blocksIn}
+use Rattle.sound.specs.Sound.{inodesIn, blocksIn}
 use Rattle.sound.specs.declared.Form.the-variants.{Store}
+use Rattle.sound.specs.Test.{framedB, isSound}
 use Rattle.answers.specs.declared.Refusal.{Refusal}
 use Rattle.answers.specs.declared.Refusal.the-variants.{BadBuffer, UnsoundStore, BadDesk, NoBlocks, NoSlot, Busy}
 use Rattle.answers.specs.declared.Answer.{Answer}
 use Rattle.answers.specs.declared.Answer.the-variants.{Done, Refused}
+use Rattle.answers.specs.Order.{Row, row, firstOf}
 use Rattle.entries.specs.declared.Room.{Room}
 use Rattle.entries.specs.declared.RoomPlan.the-variants.{Has, NoRoom}
 use Rattle.entries.specs.Room.{room, roomIn, onRoom}
 use Rattle.files.specs.declared.Guard.the-variants.{Pass, Stop}
-use Rattle.files.specs.Guard.{onGuard}
+use Rattle.files.specs.Guard.{onGuard, storeRows}
 use Rattle.files.specs.Effect.{Call, Effect, Planned, refused, does, planned, plainDecision, given}
 use Rattle.files.specs.Plain.{leaves, plain}
 use Rattle.files.proofs.PlainLaws.{on-guard}
-use Rattle.checkpoint.specs.Fit.{deskFramed, notesFit}
+use Rattle.checkpoint.specs.Fit.{deskFramed, notesFit, bothFramed}
 use Rattle.checkpoint.specs.Busy.{unlessBusy}
-use Rattle.checkpoint.specs.Live.{World, Outcome, threeGuards, storeAlone, decision, leavesIn, live, guarded}
-use Rattle.checkpoint.proofs.DecisionLaws.{guarded-is}
-use Rattle.checkpoint.specs.Table.{Row, row, firstOf, found, orZero, storeRows, liveRows, noBlock, noSlot}
+use Rattle.checkpoint.specs.Live.{World, Outcome, threeGuards, storeAlone, decision, leavesIn, live, guarded, guardRows}
+use Rattle.checkpoint.proofs.DecisionLaws.{chained, three-is}
+use Rattle.checkpoint.specs.Table.{found, orZero, liveRows, noBlock, noSlot}
 
 -- the answer x is the first of rs that holds, else a
 pub record Gives (x : Answer) (rs : List Row) (a : Answer) : Type 0 where
@@ -76,19 +78,21 @@ by-busy true w x = record { first = refl }
 by-busy false w x = record { first = refl }
 
 -- 1, 2 and 3
-pub by-guards : (s m d : List ℕ) (o : Outcome) {rs : List Row} {a : Answer} → Gives (o .answer) rs a → Gives (guarded s m d o .answer) (liveRows s m d rs) a
-by-guards s m d o q =
+pub by-chain : (framed : Bool) (s m d : List ℕ) (o : Outcome) {rs : List Row} {a : Answer} → Gives (o .answer) rs a → Gives (chained framed s m d o .answer) (guardRows framed s m d ++ rs) a
+by-chain framed s m d o q =
     let h : Outcome → Answer = λ z. z .answer in
-    rw (guarded-is s m d o)
-    (by-pick h (not (framedB mostStoreBlocks s && deskFramed d)) _ _ refl
+    by-pick h (not framed) _ _ refl
     (by-pick h (not (isSound Store s)) _ _ refl
-    (by-pick h (not (notesFit s m d)) _ _ refl q)))
+    (by-pick h (not (notesFit s m d)) _ _ refl q))
+
+pub by-guards : (s m d : List ℕ) (o : Outcome) {rs : List Row} {a : Answer} → Gives (o .answer) rs a → Gives (guarded (threeGuards s m d) s m d o .answer) (liveRows s m d ++ rs) a
+by-guards s m d o q = rw (three-is s m d o) (by-chain (bothFramed s d) s m d o q)
 
 -- of a file call that takes all three buffers
 pub by-three : (c : Call) (w : World) {rs : List Row} {a : Answer} → storeAlone c ≡ false
-    → Gives (leavesIn w (unlessBusy (w .desk) (planned c (w .store) (inodesIn (w .store)) (blocksIn (w .store)))) .answer) rs a → Gives (live c w .answer) (liveRows (w .store) (w .image) (w .desk) rs) a
+    → Gives (leavesIn w (unlessBusy (w .desk) (planned c (w .store) (inodesIn (w .store)) (blocksIn (w .store)))) .answer) rs a → Gives (live c w .answer) (liveRows (w .store) (w .image) (w .desk) ++ rs) a
 unfolding live decision threeGuards
-by-three c w {rs} {a} z q = rw z (go (framedB mostStoreBlocks (w .store) && deskFramed (w .desk)) (isSound Store (w .store)) (notesFit (w .store) (w .image) (w .desk)))
+by-three c w {rs} {a} z q = rw z (go (framedB Store (w .store) && deskFramed (w .desk)) (isSound Store (w .store)) (notesFit (w .store) (w .image) (w .desk)))
   where
     go : (x y z : Bool) → Gives (leavesIn w (onGuard (pick (not x) (Stop BadBuffer) (pick (not y) (Stop UnsoundStore) (pick (not z) (Stop BadDesk) (Pass (inodesIn (w .store)) (blocksIn (w .store))))))
         (λ n b. unlessBusy (w .desk) (planned c (w .store) n b)) refused) .answer) (row (not x) BadBuffer ∷ row (not y) UnsoundStore ∷ row (not z) BadDesk ∷ rs) a
@@ -98,11 +102,11 @@ by-three c w {rs} {a} z q = rw z (go (framedB mostStoreBlocks (w .store) && desk
     go false y z = record { first = refl }
 
 -- 1 and 2 of a call on the store alone
-pub by-store : (c : Call) (s : List ℕ) {rs : List Row} {a : Answer} → Gives (leaves s (given c) (planned c s (inodesIn s) (blocksIn s)) .answer) rs a → Gives (plain c s .answer) (storeRows s rs) a
+pub by-store : (c : Call) (s : List ℕ) {rs : List Row} {a : Answer} → Gives (leaves s (given c) (planned c s (inodesIn s) (blocksIn s)) .answer) rs a → Gives (plain c s .answer) (storeRows s ++ rs) a
 unfolding plain plainDecision
 by-store c s q =
     let h : Planned → Answer = λ p. leaves s (given c) p .answer in
-    rw (on-guard s (planned c s) refused) (by-pick h (not (framedB mostStoreBlocks s)) _ _ refl (by-pick h (not (isSound Store s)) _ _ refl q))
+    rw (on-guard s (planned c s) refused) (by-pick h (not (framedB Store s)) _ _ refl (by-pick h (not (isSound Store s)) _ _ refl q))
 
 -- no condition is left
 pub by-none : {x : ℕ} → Gives (Done x) [] (Done x)

@@ -9,34 +9,28 @@ use lib.Dec.{eqb, leb, ltb}
 use lib.ListN.{length}
 use Rattle.bounded.specs.Search.{pick, firstFrom, onFound}
 use Rattle.bounded.proofs.BoolLaws.{and-left, and-right, fails, same-test, clash}
-use Rattle.bounded.proofs.BelowLaws.{allTo, to-at, to-of}
+use Rattle.bounded.proofs.BelowLaws.{to-at, to-of}
 use Rattle.bounded.proofs.SearchLaws.{none-below, absent-of}
 use Rattle.bounded.specs.declared.Found.{Found}
 use Rattle.bounded.specs.declared.Found.the-variants.{At, Absent}
-use Rattle.layout.specs.Sizes.{mostStoreBlocks, rootInode}
+use Rattle.bounded.specs.Below.{allTo}
+use Rattle.layout.specs.Sizes.{rootInode}
 use Rattle.layout.specs.Inode.{sizeOf}
 use Rattle.layout.specs.Block.{blocksUsed, kthBlock}
-use Rattle.layout.specs.Free.{named, freeBlock}
+use Rattle.layout.specs.Free.{blockNamed, freeBlock}
 use Rattle.desk.specs.Desk.{deskOf}
-use Rattle.sound.specs.Sound.{framedB, isSound, inodesIn}
-use Rattle.sound.specs.declared.Form.the-variants.{Store}
+use Rattle.sound.specs.Sound.{inodesIn}
 use Rattle.answers.specs.declared.Refusal.the-variants.{BadBuffer, WrongState, ImageFull}
 use Rattle.answers.specs.declared.Answer.{Answer}
 use Rattle.answers.specs.declared.Answer.the-variants.{Done}
-use Rattle.checkpoint.specs.Fit.{deskFramed, imageAllowed, isRunning, notesFit}
+use Rattle.answers.specs.Order.{row, firstOf}
+use Rattle.checkpoint.specs.Fit.{isRunning, allFramed}
 use Rattle.checkpoint.specs.Notes.{isCopied}
 use Rattle.checkpoint.specs.Copier.{targetBlock, stepOf, lock, copy, close, finish, full, lockedStep, freeStep, nextInode}
 use Rattle.checkpoint.specs.Live.{Outcome, left, refuse, doStep, started, start, step, status}
-use Rattle.checkpoint.proofs.DecisionLaws.{guarded-is, asStatus, status-is}
-use Rattle.checkpoint.specs.Table.{row, firstOf, found, liveRows, startTable, stepTable}
-use Rattle.checkpoint.proofs.ConditionLaws.{Gives, by-pick, by-guards, by-none, give}
-
--- 1 of start, where the image is looked at too
-start-first : {A : Type 0} (f k i : Bool) (x y : A) → pick (f && (k && not i)) x (pick (not (f && k)) x y) ≡ pick (not (f && (k && i))) x y
-start-first true true true x y = refl
-start-first true true false x y = refl
-start-first true false i x y = refl
-start-first false k i x y = refl
+use Rattle.checkpoint.proofs.DecisionLaws.{asStatus, status-is, start-is}
+use Rattle.checkpoint.specs.Table.{found, liveRows, startTable, stepTable}
+use Rattle.checkpoint.proofs.ConditionLaws.{Gives, by-pick, by-guards, by-none, give, by-chain}
 
 -- 16: a block finds no place, when and only when "every image block [is] named"
 no-place : (c : ℕ) (t : Bool) (f : Found) → not (found (pick t (At c) f)) ≡ true → f ≡ Absent
@@ -44,40 +38,35 @@ no-place c true f h = absurd (true≢false (sym h))
 no-place c false (At j) h = absurd (true≢false (sym h))
 no-place c false Absent h = refl
 
-pub full-image : (m : List ℕ) (n b c : ℕ) → not (found (targetBlock m n b c)) ≡ allTo (named m n) b
+pub full-image : (m : List ℕ) (n b c : ℕ) → not (found (targetBlock m n b c)) ≡ allTo (blockNamed m n) b
 unfolding targetBlock freeBlock
-full-image m n b c = same-test (not (found (targetBlock m n b c))) (allTo (named m n) b) there back
+full-image m n b c = same-test (not (found (targetBlock m n b c))) (allTo (blockNamed m n) b) there back
   where
-    there : not (found (targetBlock m n b c)) ≡ true → allTo (named m n) b ≡ true
+    there : not (found (targetBlock m n b c)) ≡ true → allTo (blockNamed m n) b ≡ true
     there h =
-        let e : firstFrom (λ j. not (named m n j)) 1 b ≡ Absent = no-place c (leb 1 c && (leb c b && not (named m n c))) (freeBlock m n b) h in
-        to-of (named m n) b (λ j l k. not-false (named m n j) (none-below (λ i. not (named m n i)) 1 b e j (omega arith) (omega arith)))
+        let e : firstFrom (λ j. not (blockNamed m n j)) 1 b ≡ Absent = no-place c (leb 1 c && (leb c b && not (blockNamed m n c))) (freeBlock m n b) h in
+        to-of (blockNamed m n) b (λ j l k. not-false (blockNamed m n j) (none-below (λ i. not (blockNamed m n i)) 1 b e j (omega arith) (omega arith)))
 
-    own : allTo (named m n) b ≡ true → leb 1 c && (leb c b && not (named m n c)) ≡ true → ⊥
+    own : allTo (blockNamed m n) b ≡ true → leb 1 c && (leb c b && not (blockNamed m n c)) ≡ true → ⊥
     own h w =
-        let r : leb c b && not (named m n c) ≡ true = and-right (leb 1 c) (leb c b && not (named m n c)) w in
-        let l : 1 ≤ c = leb-true 1 c (and-left (leb 1 c) (leb c b && not (named m n c)) w) in
-        let k : c ≤ b = leb-true c b (and-left (leb c b) (not (named m n c)) r) in
-        clash (named m n c) (to-at (named m n) b h c l k) (not-true (named m n c) (and-right (leb c b) (not (named m n c)) r))
+        let r : leb c b && not (blockNamed m n c) ≡ true = and-right (leb 1 c) (leb c b && not (blockNamed m n c)) w in
+        let l : 1 ≤ c = leb-true 1 c (and-left (leb 1 c) (leb c b && not (blockNamed m n c)) w) in
+        let k : c ≤ b = leb-true c b (and-left (leb c b) (not (blockNamed m n c)) r) in
+        clash (blockNamed m n c) (to-at (blockNamed m n) b h c l k) (not-true (blockNamed m n c) (and-right (leb c b) (not (blockNamed m n c)) r))
 
-    back : allTo (named m n) b ≡ true → not (found (targetBlock m n b c)) ≡ true
+    back : allTo (blockNamed m n) b ≡ true → not (found (targetBlock m n b c)) ≡ true
     back h =
-        let none : freeBlock m n b ≡ Absent = absent-of (λ j. not (named m n j)) 1 b (λ j l k. ap not (to-at (named m n) b h j (omega arith) (omega arith))) in
-        ap₂ (λ (t : Bool) (f : Found). not (found (pick t (At c) f))) (fails (leb 1 c && (leb c b && not (named m n c))) (own h)) none
+        let none : freeBlock m n b ≡ Absent = absent-of (λ j. not (blockNamed m n j)) 1 b (λ j l k. ap not (to-at (blockNamed m n) b h j (omega arith) (omega arith))) in
+        ap₂ (λ (t : Bool) (f : Found). not (found (pick t (At c) f))) (fails (leb 1 c && (leb c b && not (blockNamed m n c))) (own h)) none
 
 -- ---- start, step and state
 module _ (s m d : List ℕ) where
   pub start-table : start s m d .answer ≡ firstOf (startTable s m d) (Done 0)
-  unfolding start started startTable
+  unfolding started startTable
   start-table =
       let h : Outcome → Answer = λ z. z .answer in
-      ap (λ (o : Outcome). h (pick (framedB mostStoreBlocks s && (deskFramed d && not (imageAllowed (inodesIn s) (length m)))) (refuse BadBuffer s m d) o)) (guarded-is s m d _)
-      ∙ ap h (start-first (framedB mostStoreBlocks s) (deskFramed d) (imageAllowed (inodesIn s) (length m)) _ _)
-      ∙ give _ (startTable s m d) _
-      (by-pick h (not (framedB mostStoreBlocks s && (deskFramed d && imageAllowed (inodesIn s) (length m)))) _ _ refl
-      (by-pick h (not (isSound Store s)) _ _ refl
-      (by-pick h (not (notesFit s m d)) _ _ refl
-      (by-pick h (isRunning d) _ _ refl by-none))))
+      ap h (start-is s m d)
+      ∙ give _ (startTable s m d) _ (by-chain (allFramed s m d) s m d _ (by-pick h (isRunning d) _ _ refl by-none))
 
   by-step : (i k : ℕ) (runs none more : Bool) (t : Found) (root : Bool) (next : Found)
       → Gives (pick runs (doStep s m d (inodesIn s) (pick none (pick root (onFound next lock finish) (lock rootInode)) (pick more (onFound t (λ c. copy i k c) full) (close i)))) (refuse WrongState s m d) .answer)
@@ -100,11 +89,11 @@ module _ (s m d : List ℕ) where
   unfolding step stepOf freeStep lockedStep stepTable
   step-table =
       let i : ℕ = deskOf d .locked in
-      let k : ℕ = deskOf d .copied in
+      let k : ℕ = deskOf d .progress in
       give _ (stepTable s m d) _
       (by-guards s m d _
       (by-full i k (isRunning d) (eqb i 0) (ltb k (blocksUsed (sizeOf s i))) (targetBlock m (inodesIn s) (deskOf d .blocks) (kthBlock s (inodesIn s) i k))
       (isCopied d (inodesIn s) rootInode) (nextInode m d (inodesIn s)) _ (full-image m (inodesIn s) (deskOf d .blocks) (kthBlock s (inodesIn s) i k))))
 
-  pub status-table : status s m d ≡ asStatus (firstOf (liveRows s m d []) (Done 0)) d
-  status-table = status-is s m d ∙ ap (λ (a : Answer). asStatus a d) (give _ (liveRows s m d []) _ (by-guards s m d (left (Done 0) s m d) by-none))
+  pub status-table : status s m d ≡ asStatus (firstOf (liveRows s m d) (Done 0)) d
+  status-table = status-is s m d ∙ ap (λ (a : Answer). asStatus a d) (give _ (liveRows s m d) _ (by-guards s m d (left (Done 0) s m d) by-none))

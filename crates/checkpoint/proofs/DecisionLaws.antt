@@ -9,12 +9,12 @@ use borrow.Author.Tests.{eq-eqb}
 use lib.Dec.{eqb}
 use Rattle.bounded.specs.Search.{pick}
 use Rattle.bounded.proofs.BoolLaws.{clash, and-left, or-l, or-cases}
-use Rattle.layout.specs.Sizes.{mostStoreBlocks}
 use Rattle.layout.specs.Inode.{kindOf, freeKind}
 use Rattle.desk.specs.Desk.{deskOf}
-use Rattle.sound.specs.Sound.{framedB, isSound, inodesIn, blocksIn}
+use Rattle.sound.specs.Sound.{inodesIn, blocksIn}
 use Rattle.sound.specs.declared.Form.the-variants.{Store}
 use Rattle.sound.proofs.SoundLaws.{is-sound}
+use Rattle.sound.specs.Test.{framedB, isSound}
 use Rattle.answers.specs.declared.Answer.{Answer}
 use Rattle.answers.specs.declared.Answer.the-variants.{Done, Refused}
 use Rattle.answers.specs.declared.Refusal.{Refusal}
@@ -23,23 +23,24 @@ use Rattle.answers.specs.Refusal.{refusalNumber}
 use Rattle.answers.proofs.RefusalLaws.{not-none}
 use Rattle.files.specs.declared.Guard.{Guard}
 use Rattle.files.specs.declared.Guard.the-variants.{Pass, Stop}
-use Rattle.files.specs.Guard.{guardOf, onGuard}
+use Rattle.files.specs.Guard.{guardOf, onGuard, guardBy}
 use Rattle.files.specs.Effect.{Call, Effect, Planned, refused, does, onPlanned, planned, plainDecision}
 use Rattle.files.proofs.Lawful.{Apart, Stays, Lawful, Each}
 use Rattle.files.proofs.LawfulCalls.{lawful}
 use Rattle.checkpoint.specs.declared.Status.{Status}
 use Rattle.checkpoint.specs.declared.Status.the-variants.{Is, NoStatus}
-use Rattle.checkpoint.specs.Fit.{deskFramed, isRunning, notesFit}
+use Rattle.checkpoint.specs.Fit.{deskFramed, isRunning, notesFit, bothFramed, allFramed}
 use Rattle.checkpoint.specs.Busy.{isLocked, anyLocked, unlessBusy}
-use Rattle.checkpoint.specs.Live.{World, Outcome, left, refuse, threeGuards, storeAlone, decision, leavesIn, live, guarded, status}
+use Rattle.checkpoint.specs.Live.{World, Outcome, left, refuse, threeGuards, storeAlone, decision, leavesIn, live, guarded, status, guardRows, startGuards, started, start}
 use Rattle.checkpoint.specs.Shown.{numberOf}
 use Rattle.checkpoint.specs.List.{Ready, call, outcome, accepted, takenFrom, anyAt, takes}
 
--- ---- the guards as a chain of tests
-pub guarded-is : (s m d : List ℕ) (o : Outcome)
-    → guarded s m d o ≡ pick (not (framedB mostStoreBlocks s && deskFramed d)) (refuse BadBuffer s m d) (pick (not (isSound Store s)) (refuse UnsoundStore s m d) (pick (not (notesFit s m d)) (refuse BadDesk s m d) o))
-unfolding guarded threeGuards
-guarded-is s m d o = go (framedB mostStoreBlocks s && deskFramed d) (isSound Store s) (notesFit s m d)
+-- ---- the guards as a chain of tests; a says whether lengths and counts are those allowed
+abbrev pub chained : Bool → List ℕ → List ℕ → List ℕ → Outcome → Outcome
+chained a s m d o = pick (not a) (refuse BadBuffer s m d) (pick (not (isSound Store s)) (refuse UnsoundStore s m d) (pick (not (notesFit s m d)) (refuse BadDesk s m d) o))
+
+guarded-is : (a : Bool) (s m d : List ℕ) (o : Outcome) → guarded (guardBy s (guardRows a s m d)) s m d o ≡ chained a s m d o
+guarded-is a s m d o = go a (isSound Store s) (notesFit s m d)
   where
     go : (a b c : Bool) → onGuard (pick (not a) (Stop BadBuffer) (pick (not b) (Stop UnsoundStore) (pick (not c) (Stop BadDesk) (Pass (inodesIn s) (blocksIn s))))) (λ n k. o) (λ e. refuse e s m d)
         ≡ pick (not a) (refuse BadBuffer s m d) (pick (not b) (refuse UnsoundStore s m d) (pick (not c) (refuse BadDesk s m d) o))
@@ -47,6 +48,14 @@ guarded-is s m d o = go (framedB mostStoreBlocks s && deskFramed d) (isSound Sto
     go true true false = refl
     go true false c = refl
     go false b c = refl
+
+pub three-is : (s m d : List ℕ) (o : Outcome) → guarded (threeGuards s m d) s m d o ≡ chained (bothFramed s d) s m d o
+unfolding threeGuards
+three-is s m d o = guarded-is (bothFramed s d) s m d o
+
+pub start-is : (s m d : List ℕ) → start s m d ≡ chained (allFramed s m d) s m d (started s m d)
+unfolding start startGuards
+start-is s m d = guarded-is (allFramed s m d) s m d (started s m d)
 
 -- ---- beside the plain decision p: q is the same, or the copy is in the way, or one of the refusals 1 to 3 comes
 pub data Beside (w : World) (p q : Planned) : Type 0 where
@@ -70,7 +79,7 @@ beside-busy w (does x) = go (anyLocked (w .desk) (x .touches)) refl
 
 pub beside : (c : Call) (w : World) → Beside w (plainDecision c (w .store)) (decision c w)
 unfolding plainDecision decision threeGuards guardOf
-beside c w = go (storeAlone c) (framedB mostStoreBlocks (w .store)) (deskFramed (w .desk)) (isSound Store (w .store)) (notesFit (w .store) (w .image) (w .desk)) refl refl
+beside c w = go (storeAlone c) (framedB Store (w .store)) (deskFramed (w .desk)) (isSound Store (w .store)) (notesFit (w .store) (w .image) (w .desk)) refl refl
   where
     o : Guard
     o = Pass (inodesIn (w .store)) (blocksIn (w .store))
@@ -93,29 +102,29 @@ beside c w = go (storeAlone c) (framedB mostStoreBlocks (w .store)) (deskFramed 
 
 -- ---- what holds of a planned effect
 -- Q holds of it, and the copy has locked nothing that it touches
-abbrev pub Allowed : (Effect → Type 0) → World → Effect → Type 0
-Allowed Q w x = Q x × (anyLocked (w .desk) (x .touches) ≡ false)
+abbrev pub Unhindered : (Effect → Type 0) → World → Effect → Type 0
+Unhindered Q w x = Q x × (anyLocked (w .desk) (x .touches) ≡ false)
 
 module _ (Q : Effect → Type 0) where
-  each-unless : (w : World) (q : Planned) → Each Q q → Each (Allowed Q w) (unlessBusy (w .desk) q)
+  each-unless : (w : World) (q : Planned) → Each Q q → Each (Unhindered Q w) (unlessBusy (w .desk) q)
   each-unless w (refused e) h = tt
   each-unless w (does x) h = go (anyLocked (w .desk) (x .touches)) refl
     where
-      go : (b : Bool) → anyLocked (w .desk) (x .touches) ≡ b → Each (Allowed Q w) (pick b (refused Busy) (does x))
+      go : (b : Bool) → anyLocked (w .desk) (x .touches) ≡ b → Each (Unhindered Q w) (pick b (refused Busy) (does x))
       go true e = tt
       go false e = (h, e)
 
-  pub each-decided : (c : Call) (w : World) → Each Q (planned c (w .store) (inodesIn (w .store)) (blocksIn (w .store))) → Each (Allowed Q w) (decision c w)
+  pub each-decided : (c : Call) (w : World) → Each Q (planned c (w .store) (inodesIn (w .store)) (blocksIn (w .store))) → Each (Unhindered Q w) (decision c w)
   unfolding decision threeGuards guardOf
-  each-decided c w h = go (storeAlone c) (framedB mostStoreBlocks (w .store)) (deskFramed (w .desk)) (isSound Store (w .store)) (notesFit (w .store) (w .image) (w .desk))
+  each-decided c w h = go (storeAlone c) (framedB Store (w .store)) (deskFramed (w .desk)) (isSound Store (w .store)) (notesFit (w .store) (w .image) (w .desk))
     where
       o : Guard
       o = Pass (inodesIn (w .store)) (blocksIn (w .store))
 
-      last : Each (Allowed Q w) (unlessBusy (w .desk) (planned c (w .store) (inodesIn (w .store)) (blocksIn (w .store))))
+      last : Each (Unhindered Q w) (unlessBusy (w .desk) (planned c (w .store) (inodesIn (w .store)) (blocksIn (w .store))))
       last = each-unless w (planned c (w .store) (inodesIn (w .store)) (blocksIn (w .store))) h
 
-      go : (a f d s n : Bool) → Each (Allowed Q w) (onGuard (pick a (pick (not f) (Stop BadBuffer) (pick (not s) (Stop UnsoundStore) o)) (pick (not (f && d)) (Stop BadBuffer) (pick (not s) (Stop UnsoundStore) (pick (not n) (Stop BadDesk) o))))
+      go : (a f d s n : Bool) → Each (Unhindered Q w) (onGuard (pick a (pick (not f) (Stop BadBuffer) (pick (not s) (Stop UnsoundStore) o)) (pick (not (f && d)) (Stop BadBuffer) (pick (not s) (Stop UnsoundStore) (pick (not n) (Stop BadDesk) o))))
           (λ n b. unlessBusy (w .desk) (planned c (w .store) n b)) refused)
       go true false d s n = tt
       go true true d false n = tt
@@ -147,7 +156,7 @@ pub record Lives (w : World) (x : Effect) : Type 0 where
 pub lives : (c : Call) (w : World) (x : Effect) → Ready w → decision c w ≡ does x → Lives w x
 lives c w x r e =
     let h = each-decided (Lawful (w .store) (inodesIn (w .store))) c w (lawful c (w .store) (inodesIn (w .store)) (blocksIn (w .store)) (is-sound Store (w .store) .to (r .sound)) refl refl) in
-    let k = subst (Each (Allowed (Lawful (w .store) (inodesIn (w .store))) w)) e h in
+    let k = subst (Each (Unhindered (Lawful (w .store) (inodesIn (w .store))) w)) e h in
     record { laws = k .0; locked = λ g. apart-locked (w .desk) (x .touches) g (k .1) }
 
 -- the locked inode stays, with its bytes
@@ -187,8 +196,8 @@ abbrev pub asStatus : Answer → List ℕ → Status
 asStatus (Done x) d = Is (deskOf d .state) (deskOf d .locked) (deskOf d .steps)
 asStatus (Refused e) d = NoStatus e
 
-pub status-is : (s m d : List ℕ) → status s m d ≡ asStatus (guarded s m d (left (Done 0) s m d) .answer) d
-unfolding status guarded
+pub status-is : (s m d : List ℕ) → status s m d ≡ asStatus (guarded (threeGuards s m d) s m d (left (Done 0) s m d) .answer) d
+unfolding status
 status-is s m d = go (threeGuards s m d)
   where
     go : (g : Guard) → onGuard g (λ n b. Is (deskOf d .state) (deskOf d .locked) (deskOf d .steps)) NoStatus ≡ asStatus (onGuard g (λ n b. left (Done 0) s m d) (λ e. refuse e s m d) .answer) d

@@ -17,7 +17,7 @@ use Rattle.directory.specs.Slot.{mostSlots}
 use Rattle.checkpoint.specs.Fit.{imageBlocks}
 use Rattle.checkpoint.specs.Live.{World}
 use Rattle.checkpoint.specs.Shown.{Shown}
-use Rattle.checkpoint.specs.List.{Event, steps, starts, outcome, next, refusalOf, accepted, run, Finish}
+use Rattle.checkpoint.specs.List.{Event, advances, starts, outcome, next, refusalOf, accepted, run, Finish}
 use Rattle.checkpoint.specs.Finished.{countOf, Finished}
 use Rattle.checkpoint.specs.Progress.{noRestart, Roomy, Opens}
 use Rattle.checkpoint.specs.Demand.{Takes, Demand, Demands}
@@ -53,19 +53,19 @@ module _ (b : ℕ) (w : World) (s : Fresher (countOf w) b w) (es : List Event) w
   whole f = honesty.finished b es w (s .runs) (last-of n b es w (s .fresh) (finale n b es w (s .runs) f))
 
   -- ---- 16
-  stop-there : (v : World) → Going n b v → refusalOf steps v ≡ refusalNumber ImageFull → (r : Running n b v) × Fills n b v
+  stop-there : (v : World) → Going n b v → refusalOf advances v ≡ refusalNumber ImageFull → (r : Running n b v) × Fills n b v
   stop-there v (runs r) h = go (stepped n b v r)
     where
-      never : {A : Type 0} → refusalOf steps v ≡ 0 → A
+      never : {A : Type 0} → refusalOf advances v ≡ 0 → A
       never e = absurd (omega arith)
 
       go : Stepped n b v → (r : Running n b v) × Fills n b v
       go (on g c a) = never (ap (λ (x : Told). x .number) a)
       go (ends f) = never (ap (λ (x : Told). x .number) (finals n b v r f .answer))
       go (halts f) = (r, f)
-  stop-there v (rests r) h = let k : refusalOf steps v ≡ 15 = ap (λ (o : Shown). o .answer .number) (step-idle n b v r) in absurd (omega arith)
+  stop-there v (rests r) h = let k : refusalOf advances v ≡ 15 = ap (λ (o : Shown). o .answer .number) (step-idle n b v r) in absurd (omega arith)
 
-  full-never : Roomy w → refusalOf steps (run es w) ≡ refusalNumber ImageFull → ⊥
+  full-never : Roomy w → refusalOf advances (run es w) ≡ refusalNumber ImageFull → ⊥
   full-never m h =
       let k = stop-there (run es w) later h in
       never-full (k .0 .laid) (k .0 .sound) (k .0 .count) (roomy-blocks (s .runs) m) (k .1 .is)
@@ -78,23 +78,23 @@ module _ (b : ℕ) (w : World) (s : Fresher (countOf w) b w) (es : List Event) w
       let l = still-run n b fs (run es w) (subst (Resting n b) (sym (k .is)) (r .rest)) q in
       (l .image, l .desk)
 
-  stop-stays : refusalOf steps (run es w) ≡ refusalNumber ImageFull → (fs : List Event) → noRestart fs (next steps (run es w)) ≡ true
-      → (run fs (next steps (run es w)) .image ≡ run es w .image) × (run fs (next steps (run es w)) .desk ≡ next steps (run es w) .desk)
+  stop-stays : refusalOf advances (run es w) ≡ refusalNumber ImageFull → (fs : List Event) → noRestart fs (next advances (run es w)) ≡ true
+      → (run fs (next advances (run es w)) .image ≡ run es w .image) × (run fs (next advances (run es w)) .desk ≡ next advances (run es w) .desk)
   stop-stays h fs q =
       let k = stop-there (run es w) later h in
       let r = halted n b (run es w) (k .0) (k .1) in
-      let l = still-run n b fs (next steps (run es w)) (r .rest) q in
+      let l = still-run n b fs (next advances (run es w)) (r .rest) q in
       (l .image ∙ ap (λ (v : World). v .image) (r .is), l .desk)
 
   -- ---- a step's answer
-  answer-is : (v : World) → Going n b v → accepted steps v ≡ true → outcome steps v .answer ≡ told (Done (deskOf (v .desk) .steps + 1))
+  answer-is : (v : World) → Going n b v → accepted advances v ≡ true → outcome advances v .answer ≡ told (Done (deskOf (v .desk) .steps + 1))
   answer-is v (runs r) a = go (stepped n b v r)
     where
-      go : Stepped n b v → outcome steps v .answer ≡ told (Done (deskOf (v .desk) .steps + 1))
+      go : Stepped n b v → outcome advances v .answer ≡ told (Done (deskOf (v .desk) .steps + 1))
       go (on g c h) = h
       go (ends f) = finals n b v r f .answer
-      go (halts f) = absurd (clash (accepted steps v) a (ap (λ (x : Told). eqb (x .number) 0) (halted n b v r f .answer)))
-  answer-is v (rests r) a = absurd (clash (accepted steps v) a (ap (λ (o : Shown). eqb (o .answer .number) 0) (step-idle n b v r)))
+      go (halts f) = absurd (clash (accepted advances v) a (ap (λ (x : Told). eqb (x .number) 0) (halted n b v r f .answer)))
+  answer-is v (rests r) a = absurd (clash (accepted advances v) a (ap (λ (o : Shown). eqb (o .answer .number) 0) (step-idle n b v r)))
 
   taking-later : (e : Event) (p : ℕ) → p < mostSlots * n → Takes e (run es w) p
   taking-later e p l =

@@ -10,15 +10,16 @@ use Rattle.bounded.specs.Search.{pick, onFound}
 use Rattle.bounded.specs.declared.Found.{Found}
 use Rattle.bounded.specs.declared.Found.the-variants.{At, Absent}
 use Rattle.bounded.proofs.BoolLaws.{clash}
-use Rattle.layout.specs.Sizes.{mostStoreBlocks, mostFileBytes, addressCount}
+use Rattle.layout.specs.Sizes.{mostFileBytes, addressCount}
 use Rattle.layout.specs.Header.{headerOf}
 use Rattle.layout.specs.Inode.{kindOf, sizeOf, directoryKind, isFile, isDirectory}
 use Rattle.layout.specs.Block.{blocksUsed}
 use Rattle.layout.specs.Free.{freeInode, freeBlock}
 use Rattle.names.specs.Name.{legalName}
 use Rattle.directory.specs.Slot.{findSlot, emptySlot, inodeAt}
-use Rattle.sound.specs.Sound.{framedB, isSound, inodesIn, blocksIn}
+use Rattle.sound.specs.Sound.{inodesIn, blocksIn}
 use Rattle.sound.specs.declared.Form.the-variants.{Store}
+use Rattle.sound.specs.Test.{framedB, isSound}
 use Rattle.answers.specs.declared.Refusal.the-variants.{BadBuffer, UnsoundStore, NoBlocks, NoSlot}
 use Rattle.answers.specs.Refusal.{refusalNumber}
 use Rattle.answers.specs.declared.Answer.{Answer}
@@ -38,8 +39,7 @@ use Rattle.entries.specs.declared.RenamePlan.the-variants.{Move, NoRename}
 use Rattle.entries.specs.Room.{roomIn, onRoom}
 use Rattle.entries.specs.Plan.{holdsNone, isBelow, lookUpPlan, createPlan, linkPlan, unlinkPlan, renameTo, renamePlan}
 use Rattle.files.specs.Effect.{Call, lookUp, read, create, write, shorten, link, unlink, rename, Planned, refused, does, onPlanned, doLookUp, doRead, doCreate, doWrite, doShorten, doLink, doUnlink, doRename, planned, plainDecision, given}
-use Rattle.files.specs.Plain.{leaves, plain}
-use Rattle.files.specs.Plain as files
+use Rattle.files.specs.Plain.{leaves, plain, PlainOutcome}
 use Rattle.files.proofs.PlainLaws.{on-guard}
 use Rattle.checkpoint.specs.Live.{Outcome}
 use Rattle.checkpoint.specs.Shown.{numberOf}
@@ -165,11 +165,11 @@ pub record Deskless (a : Answer) : Type 0 where
 
 -- the plain store is framed and sound
 pub record StoreFits (s : List ℕ) : Type 0 where
-  pub framed : framedB mostStoreBlocks s ≡ true
+  pub framed : framedB Store s ≡ true
   pub sound : isSound Store s ≡ true
 
 -- what a plain call answers
-pub record Plainly (s : List ℕ) (o : files.Outcome) : Type 0 where
+pub record Plainly (s : List ℕ) (o : PlainOutcome) : Type 0 where
   pub never : Deskless (o .answer)
   pub first : StoreFits s → numberOf (o .answer) ≡ 1 → ⊥
   pub second : StoreFits s → numberOf (o .answer) ≡ 2 → ⊥
@@ -189,9 +189,9 @@ planned-plainly s out (refused r) h =
 
 pub plainly : (c : Call) (s : List ℕ) → Plainly s (plain c s)
 unfolding plain plainDecision
-plainly c s = rw (on-guard s (planned c s) refused) (go (framedB mostStoreBlocks s) (isSound Store s) refl refl)
+plainly c s = rw (on-guard s (planned c s) refused) (go (framedB Store s) (isSound Store s) refl refl)
   where
-    go : (a b : Bool) → framedB mostStoreBlocks s ≡ a → isSound Store s ≡ b
+    go : (a b : Bool) → framedB Store s ≡ a → isSound Store s ≡ b
         → Plainly s (leaves s (given c) (pick (not a) (refused BadBuffer) (pick (not b) (refused UnsoundStore) (planned c s (inodesIn s) (blocksIn s)))))
     go false b p q = record {
       never = low _ (omega arith);

@@ -7,21 +7,21 @@ use native.Mathlib.Omega.{arith}
 use borrow.Author.Tests.{eqb-true, eq-eqb}
 use lib.ListN.{length}
 use Rattle.bounded.proofs.BoolLaws.{clash}
-use Rattle.layout.specs.Sizes.{mostStoreBlocks}
-use Rattle.sound.specs.Sound.{framedB, isSound, inodesIn}
-use Rattle.sound.specs.declared.Form.the-variants.{Store}
+use Rattle.sound.specs.Sound.{inodesIn}
 use Rattle.answers.specs.declared.Refusal.the-variants.{Busy}
 use Rattle.answers.specs.Refusal.{refusalNumber}
 use Rattle.answers.specs.declared.Answer.{Answer}
 use Rattle.files.specs.Effect.{Call, Planned, refused, does, onPlanned, plainDecision, given}
 use Rattle.files.specs.Plain.{leaves, plain}
-use Rattle.checkpoint.specs.Fit.{deskFramed, imageAllowed, isRunning, notesFit}
+use Rattle.files.specs.declared.Guard.{Guard}
+use Rattle.files.specs.declared.Guard.the-variants.{Pass, Stop}
+use Rattle.checkpoint.specs.Fit.{isRunning}
 use Rattle.checkpoint.specs.Copier.{Step, lock, copy, close, finish, full, stepOf}
-use Rattle.checkpoint.specs.Live.{World, Outcome, refuse, decision, leavesIn, live, outOf, guarded, doStep, started, start, step}
+use Rattle.checkpoint.specs.Live.{World, Outcome, refuse, decision, leavesIn, live, outOf, guarded, doStep, started, start, step, threeGuards, startGuards}
 use Rattle.checkpoint.specs.Shown.{numberOf}
-use Rattle.checkpoint.specs.List.{Event, Ready, call, steps, asks, starts, outcome, next, run, Moment, here, after, isBusy, replies, heard, plainRun, plainReplies}
+use Rattle.checkpoint.specs.List.{Event, Ready, call, advances, asks, starts, outcome, next, run, Moment, here, after, isBusy, replies, heard, plainRun, plainReplies}
 use Rattle.checkpoint.specs.Demand.{AsPlain}
-use Rattle.checkpoint.proofs.DecisionLaws.{same, busy, unfit, beside, guarded-is}
+use Rattle.checkpoint.proofs.DecisionLaws.{same, busy, unfit, beside}
 use Rattle.checkpoint.proofs.PlainAnswers.{by-pick, StoreFits, plainly, plain-never}
 
 -- ---- one live call beside the plain one
@@ -129,15 +129,9 @@ busy-running c w r h = elim (between c w) [
 ]
 
 -- ---- the other events leave the store
-guarded-store : (s m d : List ℕ) (o : Outcome) → o .store ≡ s → guarded s m d o .store ≡ s
-guarded-store s m d o h =
-    rw (guarded-is s m d o)
-    (by-pick P (not (framedB mostStoreBlocks s && deskFramed d)) refl
-    (by-pick P (not (isSound Store s)) refl
-    (by-pick P (not (notesFit s m d)) refl h)))
-  where
-    P : Outcome → Type 0
-    P x = x .store ≡ s
+guarded-store : (g : Guard) (s m d : List ℕ) (o : Outcome) → o .store ≡ s → guarded g s m d o .store ≡ s
+guarded-store (Pass n b) s m d o h = h
+guarded-store (Stop e) s m d o h = refl
 
 step-store : (s m d : List ℕ) (n : ℕ) (x : Step) → doStep s m d n x .store ≡ s
 step-store s m d n (lock i) = refl
@@ -146,9 +140,9 @@ step-store s m d n (close i) = refl
 step-store s m d n finish = refl
 step-store s m d n full = refl
 
-pub steps-keep : (w : World) → outcome steps w .store ≡ w .store
+pub steps-keep : (w : World) → outcome advances w .store ≡ w .store
 unfolding outcome step
-steps-keep w = guarded-store (w .store) (w .image) (w .desk) _
+steps-keep w = guarded-store (threeGuards (w .store) (w .image) (w .desk)) (w .store) (w .image) (w .desk) _
     (by-pick P (isRunning (w .desk)) (step-store (w .store) (w .image) (w .desk) (inodesIn (w .store)) (stepOf (w .store) (w .image) (w .desk) (inodesIn (w .store)))) refl)
   where
     P : Outcome → Type 0
@@ -160,9 +154,7 @@ asks-keep w = refl
 
 pub starts-keep : (w : World) → outcome starts w .store ≡ w .store
 unfolding outcome start started
-starts-keep w =
-    by-pick P (framedB mostStoreBlocks (w .store) && (deskFramed (w .desk) && not (imageAllowed (inodesIn (w .store)) (length (w .image))))) refl
-    (guarded-store (w .store) (w .image) (w .desk) _ (by-pick P (isRunning (w .desk)) refl refl))
+starts-keep w = guarded-store (startGuards (w .store) (w .image) (w .desk)) (w .store) (w .image) (w .desk) _ (by-pick P (isRunning (w .desk)) refl refl)
   where
     P : Outcome → Type 0
     P x = x .store ≡ w .store
@@ -203,8 +195,8 @@ run-plain (call c ∷ es) w h = go (isBusy c w) refl (run-plain es (next (call c
     go : (b : Bool) → isBusy c w ≡ b → AsPlain es (next (call c) w) → AsPlain (call c ∷ es) w
     go true e r = busy-first c es w e r
     go false e r = heard-first c es w e (h w here) r
-run-plain (steps ∷ es) w h =
-    let r = from-same es (next steps w) (w .store) (run-plain es (next steps w) (λ v m. h v (after m))) (steps-keep w) in
+run-plain (advances ∷ es) w h =
+    let r = from-same es (next advances w) (w .store) (run-plain es (next advances w) (λ v m. h v (after m))) (steps-keep w) in
     record { store = r .0; answers = r .1 }
 run-plain (asks ∷ es) w h =
     let r = from-same es (next asks w) (w .store) (run-plain es (next asks w) (λ v m. h v (after m))) (asks-keep w) in

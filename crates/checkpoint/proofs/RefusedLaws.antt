@@ -1,5 +1,5 @@
 -- A refusal "changes no lent buffer, save that 16 marks the copy stopped and unlocks what was being copied". s is the store, m the image, d the desk.
-use mathlib.Core.Path.{_≡_, refl, sym, ap, _∙_}
+use mathlib.Core.Path.{_≡_, refl, sym, ap, _∙_, subst}
 use mathlib.Core.Bool.{Bool, true, false, not, _&&_, true≢false}
 use mathlib.Core.List.{List}
 use mathlib.Core.Logic.{_⊎_, inl, inr, ⊎-elim}
@@ -7,11 +7,11 @@ use Prim.Native.Nat.{ℕ, _-_}
 use lib.Dec.{eqb}
 use lib.ListN.{length}
 use Rattle.bounded.specs.Search.{pick}
-use Rattle.layout.specs.Sizes.{mostStoreBlocks}
 use Rattle.desk.specs.Desk.{deskOf, putDesk}
 use Rattle.desk.specs.Next.{stopping}
-use Rattle.sound.specs.Sound.{framedB, isSound, inodesIn}
+use Rattle.sound.specs.Sound.{inodesIn}
 use Rattle.sound.specs.declared.Form.the-variants.{Store}
+use Rattle.sound.specs.Test.{isSound}
 use Rattle.answers.specs.declared.Refusal.{Refusal}
 use Rattle.answers.specs.declared.Refusal.the-variants.{BadBuffer, UnsoundStore, BadDesk, WrongState, ImageFull}
 use Rattle.answers.specs.declared.Answer.{Answer}
@@ -19,10 +19,10 @@ use Rattle.answers.specs.declared.Answer.the-variants.{Done, Refused}
 use Rattle.answers.specs.Refusal.{refusalNumber}
 use Rattle.files.specs.Effect.{Call, Planned, refused, does}
 use Rattle.files.proofs.PlainLaws.{never}
-use Rattle.checkpoint.specs.Fit.{deskFramed, imageAllowed, isRunning, notesFit}
+use Rattle.checkpoint.specs.Fit.{isRunning, notesFit, bothFramed, allFramed}
 use Rattle.checkpoint.specs.Copier.{stepOf, Step, lock, copy, close, finish, full}
-use Rattle.checkpoint.specs.Live.{World, Outcome, left, refuse, decision, leavesIn, live, guarded, doStep, started, start, step}
-use Rattle.checkpoint.proofs.DecisionLaws.{guarded-is}
+use Rattle.checkpoint.specs.Live.{World, Outcome, left, refuse, decision, leavesIn, live, doStep, started, start, step}
+use Rattle.checkpoint.proofs.DecisionLaws.{chained, three-is, start-is}
 
 abbrev pub Keeps : List ℕ → List ℕ → List ℕ → Outcome → Type 0
 Keeps s m d o = (e : Refusal) → o .answer ≡ Refused e → o ≡ refuse e s m d
@@ -32,17 +32,16 @@ pick-has P true o p f g = f
 pick-has P false o p f g = g
 
 module _ (s m d : List ℕ) where
-  guarded-has : (P : Outcome → Type 0) (o : Outcome)
+  chained-has : (P : Outcome → Type 0) (a : Bool) (o : Outcome)
       → P (refuse BadBuffer s m d)
       → P (refuse UnsoundStore s m d)
       → P (refuse BadDesk s m d)
       → P o
-      → P (guarded s m d o)
-  guarded-has P o f g h k =
-      rw (guarded-is s m d o)
-      (pick-has P (not (framedB mostStoreBlocks s && deskFramed d)) _ _ f
+      → P (chained a s m d o)
+  chained-has P a o f g h k =
+      pick-has P (not a) _ _ f
       (pick-has P (not (isSound Store s)) _ _ g
-      (pick-has P (not (notesFit s m d)) _ _ h k)))
+      (pick-has P (not (notesFit s m d)) _ _ h k))
 
   keeps-refused : (f : Refusal) → Keeps s m d (refuse f s m d)
   keeps-refused f e h = ap (λ (a : Answer). left a s m d) h
@@ -50,14 +49,12 @@ module _ (s m d : List ℕ) where
   keeps-done : (x : ℕ) (t n k : List ℕ) → Keeps s m d (left (Done x) t n k)
   keeps-done x t n k e h = never x e h
 
-  keeps-guarded : (o : Outcome) → Keeps s m d o → Keeps s m d (guarded s m d o)
-  keeps-guarded o f = guarded-has (Keeps s m d) o (keeps-refused BadBuffer) (keeps-refused UnsoundStore) (keeps-refused BadDesk) f
-
   pub start-refused : Keeps s m d (start s m d)
-  unfolding start started
+  unfolding started
   start-refused =
-      pick-has (Keeps s m d) (framedB mostStoreBlocks s && (deskFramed d && not (imageAllowed (inodesIn s) (length m)))) _ _ (keeps-refused BadBuffer)
-      (keeps-guarded _ (pick-has (Keeps s m d) (isRunning d) _ _ (keeps-refused WrongState) (keeps-done 0 _ _ _)))
+      subst (Keeps s m d) (sym (start-is s m d))
+      (chained-has (Keeps s m d) (allFramed s m d) _ (keeps-refused BadBuffer) (keeps-refused UnsoundStore) (keeps-refused BadDesk)
+      (pick-has (Keeps s m d) (isRunning d) _ _ (keeps-refused WrongState) (keeps-done 0 _ _ _)))
 
   -- 16 "sets state 3 and fields 6-9 to zero and changes nothing more"
   abbrev KeepsBut16 : Outcome → Type 0
@@ -81,8 +78,9 @@ module _ (s m d : List ℕ) where
   step-keeps : KeepsBut16 (step s m d)
   unfolding step
   step-keeps =
-      guarded-has KeepsBut16 _ (not-16 BadBuffer refl) (not-16 UnsoundStore refl) (not-16 BadDesk refl)
-      (pick-has KeepsBut16 (isRunning d) _ _ (keeps-step (stepOf s m d (inodesIn s))) (not-16 WrongState refl))
+      subst KeepsBut16 (sym (three-is s m d _))
+      (chained-has KeepsBut16 (bothFramed s d) _ (not-16 BadBuffer refl) (not-16 UnsoundStore refl) (not-16 BadDesk refl)
+      (pick-has KeepsBut16 (isRunning d) _ _ (keeps-step (stepOf s m d (inodesIn s))) (not-16 WrongState refl)))
 
   pub step-refused : (e : Refusal) → (e ≡ ImageFull → ⊥) → step s m d .answer ≡ Refused e → step s m d ≡ refuse e s m d
   step-refused e n h = ⊎-elim (λ w. w .1) (λ w. absurd (n (w .0))) (step-keeps e h)

@@ -10,7 +10,7 @@ use Rattle.content.specs.Content.{fileBytes}
 use Rattle.checkpoint.specs.Fit.{imageBlocks}
 use Rattle.checkpoint.specs.Live.{World}
 use Rattle.checkpoint.specs.List.{Event, starts, next, accepted, run, Kept}
-use Rattle.checkpoint.specs.Finished.{countOf, Copied}
+use Rattle.checkpoint.specs.Finished.{countOf, InCopy}
 use Rattle.checkpoint.specs.School.{Unwritten, FileCopied, UnwrittenFiles, StillStores}
 use Rattle.checkpoint.proofs.Run.Starts.{Fresher, opens, opened-runs}
 use Rattle.checkpoint.proofs.Run.Lists.{Going, runs, counted, going-at}
@@ -29,7 +29,7 @@ begins : (v : World) → accepted starts v ≡ true → Fresher (countOf (next s
 begins v a = let o = opens v a in opened-runs (countOf (next starts v)) (blocks v) v o (ap countOf (o .is)) refl
 
 -- ---- a file that nobody wrote
-module _ (b : ℕ) (es : List Event) (w : World) (s : Fresher (countOf w) b w) (p : ℕ) (kept : Kept es w p) (copied : Copied es w (run es w .image) p) where
+module _ (b : ℕ) (es : List Event) (w : World) (s : Fresher (countOf w) b w) (p : ℕ) (kept : Kept es w p) (copied : InCopy es w (run es w .image) p) where
   abbrev i : ℕ
   i = naming (w .store) (countOf w) p
 

@@ -19,6 +19,7 @@ use Rattle.sound.specs.Sound.{inodesIn, blocksIn}
 use Rattle.answers.specs.declared.Refusal.the-variants.{NameTaken, IntoItself, NoBlocks, NoSlot, Busy}
 use Rattle.answers.specs.declared.Answer.{Answer}
 use Rattle.answers.specs.declared.Answer.the-variants.{Done}
+use Rattle.answers.specs.Order.{Row, row, firstOf}
 use Rattle.content.specs.declared.NumberPlan.{NumberPlan}
 use Rattle.content.specs.declared.NumberPlan.the-variants.{To, NoNumber}
 use Rattle.content.specs.Plan.{readPlan, writePlan, shortenPlan}
@@ -34,11 +35,11 @@ use Rattle.files.specs.declared.Guard.{Guard}
 use Rattle.files.specs.declared.Guard.the-variants.{Pass, Stop}
 use Rattle.files.specs.Guard.{guardOf, onGuard}
 use Rattle.files.specs.Effect.{lookUp, read, create, write, shorten, link, unlink, rename, refused, doLookUp, doRead, doCreate, doWrite, doShorten, doLink, doUnlink, doRename, planned, plainDecision}
-use Rattle.files.specs.Plain.{leaves, plain, Outcome as PlainOutcome}
+use Rattle.files.specs.Plain.{leaves, plain, PlainOutcome}
 use Rattle.checkpoint.specs.Busy.{anyLocked, unlessBusy}
 use Rattle.checkpoint.specs.Notes.{cutEntries, clearMarks, setMarks}
 use Rattle.checkpoint.specs.Live.{World, Outcome, left, decision, leavesIn, live}
-use Rattle.checkpoint.specs.Table.{Row, row, firstOf, found, orZero, noBlock, noSlot, slotFor, inodeFor, lookUpTable, readTable, createTable, writeTable, shortenTable, linkTable, unlinkTable, renameTable}
+use Rattle.checkpoint.specs.Table.{found, orZero, noBlock, noSlot, slotFor, inodeFor, lookUpTable, readTable, createTable, writeTable, shortenTable, linkTable, unlinkTable, renameTable}
 use Rattle.checkpoint.proofs.ConditionLaws.{Gives, by-pick, by-found, by-absent, by-room, by-busy, by-three, by-store, by-none, give}
 
 -- ---- the calls on the store alone

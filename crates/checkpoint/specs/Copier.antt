@@ -5,23 +5,22 @@ use mathlib.Core.List.{List}
 use lib.Dec.{eqb, leb, ltb}
 use lib.ListN.{replicate}
 use Rattle.bounded.specs.Search.{pick, firstFrom, onFound}
-use Rattle.bounded.specs.Count.{count, tally}
+use Rattle.bounded.specs.Count.{tally, countTo}
 use Rattle.bounded.specs.declared.Found.{Found}
 use Rattle.bounded.specs.declared.Found.the-variants.{At}
 use Rattle.octets.specs.Octets.{part, splice}
 use Rattle.layout.specs.Sizes.{rootInode, isComplete, notComplete}
 use Rattle.layout.specs.Header.{putHeader, putFree, putComplete}
-use Rattle.layout.specs.Inode.{kindOf, sizeOf, inodeOf, putAttributes, putLinks, putAddress, place, directoryKind}
+use Rattle.layout.specs.Inode.{kindOf, sizeOf, inodeOf, putAttributes, putLinks, putAddress, addressIndex, directoryKind}
 use Rattle.layout.specs.Block.{blockOf, putInBlock, blocksUsed, kthBlock}
-use Rattle.layout.specs.Free.{named, freeBlock}
+use Rattle.layout.specs.Free.{blockNamed, freeBlock, inodeFree, blockFree}
 use Rattle.layout.specs.declared.inode.Inode.{Inode}
 use Rattle.names.specs.Entry.{entryBytes, entryInode}
 use Rattle.directory.specs.Slot.{mostSlots, slotsInBlock}
 use Rattle.desk.specs.Desk.{deskOf, putDesk, putCopied, markOf, clearNotes}
 use Rattle.desk.specs.Next.{starting, locking, copyingOne, unlocking, finishing, stopping}
-use Rattle.sound.specs.Sound.{freeB, unnamedB}
 use Rattle.checkpoint.specs.Fit.{imageBlocks}
-use Rattle.checkpoint.specs.Image.{imageNaming, isNamed}
+use Rattle.checkpoint.specs.Image.{imageNaming, inodeNamed}
 use Rattle.checkpoint.specs.Notes.{isCopied}
 
 -- ---- Start
@@ -43,11 +42,11 @@ pub data Step : Type 0 where
 
 -- 2: "some uncopied inode is named by an image directory of kind 2: lock the lowest such"
 unfoldable pub nextInode : List ℕ → List ℕ → ℕ → Found
-nextInode m d n = firstFrom (λ i. not (isCopied d n i) && isNamed m n i) 1 n
+nextInode m d n = firstFrom (λ i. not (isCopied d n i) && inodeNamed m n i) 1 n
 
 -- 3: "It goes to the image block of its own number if that exists and no image address names it, else to the lowest block unnamed"
 unfoldable pub targetBlock : List ℕ → ℕ → ℕ → ℕ → Found
-targetBlock m n b c = pick (leb 1 c && (leb c b && not (named m n c))) (At c) (freeBlock m n b)
+targetBlock m n b c = pick (leb 1 c && (leb c b && not (blockNamed m n c))) (At c) (freeBlock m n b)
 
 -- 3 and 4: inode i is locked, k of its blocks are copied; 16 where every image block is named
 unfoldable pub lockedStep : List ℕ → List ℕ → ℕ → ℕ → ℕ → ℕ → Step
@@ -62,7 +61,7 @@ freeStep m d n = pick (isCopied d n rootInode) (onFound (nextInode m d n) lock f
 
 unfoldable pub stepOf : List ℕ → List ℕ → List ℕ → ℕ → Step
 stepOf s m d n =
-    pick (eqb (deskOf d .locked) 0) (freeStep m d n) (lockedStep s m n (deskOf d .blocks) (deskOf d .locked) (deskOf d .copied))
+    pick (eqb (deskOf d .locked) 0) (freeStep m d n) (lockedStep s m n (deskOf d .blocks) (deskOf d .locked) (deskOf d .progress))
 
 -- ---- The image and the desk after it
 -- "In a directory block, a marked entry that names a copied inode is zeroed": the bytes x of entry j of the k-th block of directory i
@@ -91,11 +90,11 @@ putCounts m t n zero = t
 putCounts m t n (suc k) = putLinks (putCounts m t n k) (k + 1) (tally (imageNaming m n) (mostSlots * n) (k + 1))
 
 unfoldable pub finishImage : List ℕ → ℕ → ℕ → List ℕ
-finishImage m n b = putComplete (putFree (putCounts m m n n) (count (freeB m) n) (count (unnamedB m n) b)) isComplete
+finishImage m n b = putComplete (putFree (putCounts m m n n) (countTo (inodeFree m) n) (countTo (blockFree m n) b)) isComplete
 
 abbrev pub stepImage : List ℕ → List ℕ → List ℕ → ℕ → Step → List ℕ
 stepImage s m d n (lock i) = m
-stepImage s m d n (copy i k c) = putAddress (putInBlock m n c 0 (copiedBlock s d n i k)) n (place i k) c
+stepImage s m d n (copy i k c) = putAddress (putInBlock m n c 0 (copiedBlock s d n i k)) n (addressIndex i k) c
 stepImage s m d n (close i) = putAttributes m i (unlinkedInode (inodeOf s n i))
 stepImage s m d n finish = finishImage m n (deskOf d .blocks)
 stepImage s m d n full = m

@@ -8,7 +8,7 @@ use Rattle.bounded.specs.Search.{pick}
 use Rattle.layout.specs.Sizes.{isComplete, notComplete}
 use Rattle.layout.specs.Header.{headerOf}
 use Rattle.directory.specs.Slot.{mostSlots}
-use Rattle.desk.specs.Sizes.{running, finished}
+use Rattle.desk.specs.Sizes.{running, finished, stepsAnInode}
 use Rattle.desk.specs.Desk.{deskOf}
 use Rattle.answers.specs.declared.Refusal.the-variants.{BadBuffer, UnsoundStore, BadDesk, ImageFull}
 use Rattle.answers.specs.Refusal.{refusalNumber}
@@ -16,10 +16,9 @@ use Rattle.answers.specs.declared.Answer.the-variants.{Done}
 use Rattle.answers.specs.Told.{told}
 use Rattle.sound.specs.Place.{filled, naming}
 use Rattle.checkpoint.specs.declared.Status.the-variants.{Is}
-use Rattle.checkpoint.specs.Fit.{stepsAnInode}
 use Rattle.checkpoint.specs.Live.{World}
 use Rattle.checkpoint.specs.Shown.{toldStatus}
-use Rattle.checkpoint.specs.List.{Event, asks, starts, steps, outcome, next, refusalOf, accepted, run, Finish, takes, acceptedSteps, stateAfter, replies, heard, plainRun, plainReplies}
+use Rattle.checkpoint.specs.List.{Event, asks, starts, advances, outcome, next, refusalOf, accepted, run, Finish, takes, acceptedSteps, stateAfter, replies, heard, plainRun, plainReplies}
 use Rattle.checkpoint.specs.Finished.{countOf, Finished}
 use Rattle.checkpoint.specs.Progress.{Progress, Roomy, GetsDone, Timing, Calls, Stopped, Stays, Opens}
 
@@ -65,9 +64,9 @@ pub record Demand (es : List Event) (w : World) : Type 0 where
   pub done : GetsDone es w
   pub stays : Stays es w
   -- "With 12 × N image blocks or more, 16 never comes in a run."
-  pub never-full : Roomy w → refusalOf steps (run es w) ≡ refusalNumber ImageFull → ⊥
+  pub never-full : Roomy w → refusalOf advances (run es w) ≡ refusalNumber ImageFull → ⊥
   -- "step the steps so far"
-  pub step-answer : accepted steps (run es w) ≡ true → outcome steps (run es w) .answer ≡ told (Done (acceptedSteps es w 0 + 1))
+  pub step-answer : accepted advances (run es w) ≡ true → outcome advances (run es w) .answer ≡ told (Done (acceptedSteps es w 0 + 1))
 
 pub record Demands : Type 0 where
   pub opens : (v : World) → Opens v

@@ -3,7 +3,6 @@ use Prim.Native.Nat.{ℕ, _*_, _≤_, _<_}
 use mathlib.Core.Path.{_≡_}
 use mathlib.Core.Bool.{true}
 use mathlib.Core.List.{List, [], _∷_, _++_}
-use Rattle.layout.specs.Sizes.{mostImageBlocks}
 use Rattle.layout.specs.Inode.{kindOf, sizeOf, freeKind, fileKind}
 use Rattle.names.specs.Entry.{entryName}
 use Rattle.directory.specs.Slot.{mostSlots}
@@ -11,6 +10,7 @@ use Rattle.desk.specs.Sizes.{finished}
 use Rattle.desk.specs.Desk.{deskOf}
 use Rattle.sound.specs.Sound.{Sound, inodesIn}
 use Rattle.sound.specs.Place.{dirOf, entryAt, filled, naming}
+use Rattle.sound.specs.declared.Form.the-variants.{Image}
 use Rattle.content.specs.Content.{fileBytes}
 use Rattle.checkpoint.specs.Live.{World}
 use Rattle.checkpoint.specs.List.{Event, next, run, Moment, Kept}
@@ -46,7 +46,7 @@ pub record HadKind (es : List Event) (w : World) (f : List ℕ) (i : ℕ) : Type
   pub kind : kindOf f i ≡ kindOf (moment .store) i
 
 -- ---- demand 3's first sentence: "in the same slot of the same directory, for the same inode, with a name it had and, for a file, the bytes of one moment in that time"
-pub record Copied (es : List Event) (w : World) (f : List ℕ) (p : ℕ) : Type 0 where
+pub record InCopy (es : List Event) (w : World) (f : List ℕ) (p : ℕ) : Type 0 where
   pub stands : filled f (countOf w) p ≡ true
   pub inode : naming f (countOf w) p ≡ naming (w .store) (countOf w) p
   pub kind : kindOf f (naming f (countOf w) p) ≡ kindOf (w .store) (naming (w .store) (countOf w) p)
@@ -90,8 +90,8 @@ pub record OneMoment (es : List Event) (w : World) (f : List ℕ) (i : ℕ) : Ty
 -- ---- "A copy finished as under 3 is sound", has every kept entry, and nothing false; the desk says that it is finished. w is the world just after the opening start, es the events up to the finish
 pub record Finished (es : List Event) (w : World) : Type 0 where
   pub count : inodesIn (run es w .image) ≡ countOf w
-  pub sound : Sound mostImageBlocks true (run es w .image)
-  pub entries : (p : ℕ) → Kept es w p → Copied es w (run es w .image) p
+  pub sound : Sound Image (run es w .image)
+  pub entries : (p : ℕ) → Kept es w p → InCopy es w (run es w .image) p
   pub honest : (p : ℕ) → p < mostSlots * countOf w → filled (run es w .image) (countOf w) p ≡ true → Honest es w (run es w .image) p
   pub moments : (i : ℕ) → 1 ≤ i → i ≤ countOf w → (kindOf (run es w .image) i ≡ freeKind → ⊥) → OneMoment es w (run es w .image) i
   pub state : deskOf (run es w .desk) .state ≡ finished

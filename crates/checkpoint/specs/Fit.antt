@@ -4,19 +4,21 @@ use mathlib.Core.Bool.{Bool, not, _&&_, _||_}
 use mathlib.Core.List.{List}
 use lib.Dec.{eqb, leb}
 use lib.ListN.{length}
-use Rattle.bounded.specs.Below.{allBelow}
+use Rattle.bounded.specs.Below.{allBelow, allTo}
 use Rattle.bounded.specs.Search.{pick}
-use Rattle.layout.specs.Sizes.{mostInodes, mostImageBlocks, addressCount, headerBytes, inodeBytes, blockBytes, rootInode, notComplete}
+use Rattle.layout.specs.Sizes.{mostImageBlocks, addressCount, headerBytes, inodeBytes, blockBytes, rootInode, notComplete, mostBlocks}
 use Rattle.layout.specs.Header.{headerOf}
 use Rattle.layout.specs.Inode.{addressOf}
-use Rattle.layout.specs.Block.{storeLength}
-use Rattle.desk.specs.Sizes.{deskLength, idle, running, stopped}
-use Rattle.desk.specs.Desk.{deskOf, copiedOf, reservedZero}
+use Rattle.layout.specs.Block.{storeLength, allowed}
+use Rattle.desk.specs.Sizes.{deskLength, idle, running, stopped, deskAllowed, stepsAnInode}
+use Rattle.desk.specs.Desk.{deskOf, copiedOf, deskRestZero}
 use Rattle.sound.specs.Sound.{inodesIn}
+use Rattle.sound.specs.Test.{framedB}
+use Rattle.sound.specs.declared.Form.the-variants.{Store}
 
 -- the opposite of refusal 1's "a desk (by its own N) .. has no length or count allowed above"
 unfoldable pub deskFramed : List ℕ → Bool
-deskFramed d = leb 1 (deskOf d .inodes) && (leb (deskOf d .inodes) mostInodes && eqb (length d) (deskLength (deskOf d .inodes)))
+deskFramed d = deskAllowed (deskOf d .inodes) (length d)
 
 -- "block count from the image's length"
 unfoldable pub imageBlocks : ℕ → ℕ → ℕ
@@ -24,16 +26,20 @@ imageBlocks n k = (k - (headerBytes + inodeBytes * n)) / blockBytes
 
 -- the opposite of refusal 1's "at start an image (by the store's N)", of k bytes
 unfoldable pub imageAllowed : ℕ → ℕ → Bool
-imageAllowed n k = leb 1 (imageBlocks n k) && (leb (imageBlocks n k) mostImageBlocks && eqb k (storeLength n (imageBlocks n k)))
+imageAllowed n k = allowed mostImageBlocks n (imageBlocks n k) k
+
+-- the opposite of refusal 1: of a call on all three buffers, which looks at store and desk, and of a start
+abbrev pub bothFramed : List ℕ → List ℕ → Bool
+bothFramed s d = framedB Store s && deskFramed d
+
+abbrev pub allFramed : List ℕ → List ℕ → List ℕ → Bool
+allFramed s m d = framedB Store s && (deskFramed d && imageAllowed (inodesIn s) (length m))
 
 -- the copy runs
 unfoldable pub isRunning : List ℕ → Bool
 isRunning d = eqb (deskOf d .state) running
 
 -- the paper's bound on accepted steps: "steps above 14 × N + 1, or above 14 × N if running"
-abbrev pub stepsAnInode : ℕ
-stepsAnInode = 14
-
 abbrev pub mostSteps : List ℕ → ℕ
 mostSteps d = pick (isRunning d) (stepsAnInode * deskOf d .inodes) (stepsAnInode * deskOf d .inodes + 1)
 
@@ -41,20 +47,16 @@ mostSteps d = pick (isRunning d) (stepsAnInode * deskOf d .inodes) (stepsAnInode
 unfoldable pub blocksFit : List ℕ → Bool
 blocksFit d = pick (eqb (deskOf d .state) idle) (eqb (deskOf d .blocks) 0) (leb 1 (deskOf d .blocks) && leb (deskOf d .blocks) mostImageBlocks)
 
--- "more than 12 blocks copied"
-abbrev pub mostCopied : ℕ
-mostCopied = addressCount
-
 -- the opposite of refusal 3's "the desk otherwise breaks its layout"
 unfoldable pub deskFits : List ℕ → Bool
 deskFits d =
     leb (deskOf d .state) stopped
     && (blocksFit d
-    && (reservedZero d
-    && (allBelow (λ k. leb (copiedOf d (k + 1)) 1) (deskOf d .inodes)
+    && (deskRestZero d
+    && (allTo (λ i. leb (copiedOf d i) 1) (deskOf d .inodes)
     && (leb (deskOf d .locked) (deskOf d .inodes)
-    && (leb (deskOf d .copied) mostCopied
-    && ((isRunning d || (eqb (deskOf d .locked) 0 && eqb (deskOf d .copied) 0))
+    && (leb (deskOf d .progress) mostBlocks
+    && ((isRunning d || (eqb (deskOf d .locked) 0 && eqb (deskOf d .progress) 0))
     && leb (deskOf d .steps) (mostSteps d)))))))
 
 -- the opposite of refusal 3's "while running, the image's length, N or block count differ from the desk's, its root is not 1, its byte 8 is not 0, or an address exceeds its block count"

@@ -24,5 +24,5 @@ abbrev pub imageNaming : List ℕ → ℕ → ℕ → ℕ
 imageNaming m n p = slotNames m n (dirOf p) (slotOf p)
 
 -- some image directory names inode i
-unfoldable pub isNamed : List ℕ → ℕ → ℕ → Bool
-isNamed m n i = someBelow (λ p. eqb (imageNaming m n p) i) (mostSlots * n)
+unfoldable pub inodeNamed : List ℕ → ℕ → ℕ → Bool
+inodeNamed m n i = someBelow (λ p. eqb (imageNaming m n p) i) (mostSlots * n)

@@ -5,15 +5,16 @@ use mathlib.Core.Bool.{Bool, true, false, _&&_, _||_}
 use mathlib.Core.List.{List, [], _∷_}
 use lib.Dec.{eqb}
 use Rattle.bounded.specs.Search.{pick}
-use Rattle.layout.specs.Sizes.{mostStoreBlocks, rootInode, isComplete}
+use Rattle.layout.specs.Sizes.{rootInode, isComplete}
 use Rattle.layout.specs.Header.{headerOf}
 use Rattle.desk.specs.Sizes.{running, finished, stopped}
 use Rattle.answers.specs.declared.Answer.{Answer}
 use Rattle.answers.specs.declared.Refusal.the-variants.{Busy, ImageFull}
 use Rattle.answers.specs.Refusal.{refusalNumber}
-use Rattle.sound.specs.Sound.{inodesIn, framedB, isSound}
+use Rattle.sound.specs.Sound.{inodesIn}
 use Rattle.sound.specs.declared.Form.the-variants.{Store}
 use Rattle.sound.specs.Place.{dirOf, filled, naming}
+use Rattle.sound.specs.Test.{framedB, isSound}
 use Rattle.files.specs.Effect.{Call, Entry, placeIn, onPlanned, plainDecision}
 use Rattle.files.specs.Plain.{plain}
 use Rattle.checkpoint.specs.Fit.{deskFramed, notesFit}
@@ -22,7 +23,7 @@ use Rattle.checkpoint.specs.Shown.{numberOf, Shown, shown, toldStatus}
 
 -- refusals 1, 2 and 3 do not come
 pub record Ready (w : World) : Type 0 where
-  pub framed : framedB mostStoreBlocks (w .store) ≡ true
+  pub framed : framedB Store (w .store) ≡ true
   pub sound : isSound Store (w .store) ≡ true
   pub desk : deskFramed (w .desk) ≡ true
   pub notes : notesFit (w .store) (w .image) (w .desk) ≡ true
@@ -30,14 +31,14 @@ pub record Ready (w : World) : Type 0 where
 -- "file calls, steps, state questions and starts follow, each with names, numbers, bytes and out-buffer of its own"
 pub data Event : Type 0 where
   call : Call → Event
-  steps : Event
+  advances : Event
   asks : Event
   starts : Event
 
 -- ---- one event: what its caller is told, by the paper's numbers, and the content of each buffer
 unfoldable pub outcome : Event → World → Shown
 outcome (call c) w = shown (live c w)
-outcome steps w = shown (step (w .store) (w .image) (w .desk))
+outcome advances w = shown (step (w .store) (w .image) (w .desk))
 outcome asks w = record { answer = toldStatus (status (w .store) (w .image) (w .desk)); store = w .store; image = w .image; desk = w .desk }
 outcome starts w = shown (start (w .store) (w .image) (w .desk))
 
@@ -65,19 +66,19 @@ pub data Moment : List Event → World → World → Type 0 where
 abbrev pub restarts : Event → World → Bool
 restarts starts w = accepted starts w
 restarts (call c) w = false
-restarts steps w = false
+restarts advances w = false
 restarts asks w = false
 
 -- "The step that sets image byte 8": it is 1 after it
 abbrev pub completes : Event → World → Bool
-completes steps w = accepted steps w && eqb (headerOf (next steps w .image) .complete) isComplete
+completes advances w = accepted advances w && eqb (headerOf (next advances w .image) .complete) isComplete
 completes (call c) w = false
 completes asks w = false
 completes starts w = false
 
 -- the events up to the finish: "The step that sets image byte 8, with no start accepted since the opening one, finishes the opening start's copy"
 pub data Finish : List Event → World → Type 0 where
-  last : {w : World} → completes steps w ≡ true → Finish (steps ∷ []) w
+  last : {w : World} → completes advances w ≡ true → Finish (advances ∷ []) w
   more : {e : Event} {es : List Event} {w : World} → restarts e w ≡ false → completes e w ≡ false → Finish es (next e w) → Finish (e ∷ es) w
 
 -- ---- entries: "a directory's slot, filled at the start; it is unlinked or moved when an accepted unlink or move empties it"
@@ -93,7 +94,7 @@ anyAt (x ∷ xs) p = eqb (placeIn x) p || anyAt xs p
 -- an accepted call takes the entry out of place p
 abbrev pub takes : Event → World → ℕ → Bool
 takes (call c) w p = accepted (call c) w && anyAt (takenFrom c (w .store)) p
-takes steps w p = false
+takes advances w p = false
 takes asks w p = false
 takes starts w p = false
 
@@ -111,7 +112,7 @@ pub data Kept (es : List Event) (w : World) : ℕ → Type 0 where
 unfoldable pub acceptedSteps : List Event → World → ℕ → ℕ
 acceptedSteps [] w c = c
 acceptedSteps (starts ∷ es) w c = acceptedSteps es (next starts w) (pick (accepted starts w) 0 c)
-acceptedSteps (steps ∷ es) w c = acceptedSteps es (next steps w) (pick (accepted steps w) (suc c) c)
+acceptedSteps (advances ∷ es) w c = acceptedSteps es (next advances w) (pick (accepted advances w) (suc c) c)
 acceptedSteps (call x ∷ es) w c = acceptedSteps es (next (call x) w) c
 acceptedSteps (asks ∷ es) w c = acceptedSteps es (next asks w) c
 
@@ -119,7 +120,7 @@ acceptedSteps (asks ∷ es) w c = acceptedSteps es (next asks w) c
 unfoldable pub stateAfter : List Event → World → ℕ → ℕ
 stateAfter [] w c = c
 stateAfter (starts ∷ es) w c = stateAfter es (next starts w) (pick (accepted starts w) running c)
-stateAfter (steps ∷ es) w c = stateAfter es (next steps w) (pick (completes steps w) finished (pick (eqb (refusalOf steps w) (refusalNumber ImageFull)) stopped c))
+stateAfter (advances ∷ es) w c = stateAfter es (next advances w) (pick (completes advances w) finished (pick (eqb (refusalOf advances w) (refusalNumber ImageFull)) stopped c))
 stateAfter (call x ∷ es) w c = stateAfter es (next (call x) w) c
 stateAfter (asks ∷ es) w c = stateAfter es (next asks w) c
 
@@ -138,7 +139,7 @@ replies [] w = []
 replies (call c ∷ es) w =
     pick (isBusy c w) (replies es (next (call c) w))
     (record { answer = live c w .answer; out = outOf c w } ∷ replies es (next (call c) w))
-replies (steps ∷ es) w = replies es (next steps w)
+replies (advances ∷ es) w = replies es (next advances w)
 replies (asks ∷ es) w = replies es (next asks w)
 replies (starts ∷ es) w = replies es (next starts w)
 
@@ -146,7 +147,7 @@ replies (starts ∷ es) w = replies es (next starts w)
 unfoldable pub heard : List Event → World → List Call
 heard [] w = []
 heard (call c ∷ es) w = pick (isBusy c w) (heard es (next (call c) w)) (c ∷ heard es (next (call c) w))
-heard (steps ∷ es) w = heard es (next steps w)
+heard (advances ∷ es) w = heard es (next advances w)
 heard (asks ∷ es) w = heard es (next asks w)
 heard (starts ∷ es) w = heard es (next starts w)
 

@@ -1,24 +1,24 @@
 -- The public calls over the three buffers: guards (1, 2, 3), the plain store's plan (4 to 13), busy (14), then the bytes. s is the store, m the image, d the desk.
 use Prim.Native.Nat.{ℕ, _+_}
 use mathlib.Core.Bool.{Bool, true, false, not, _&&_}
-use mathlib.Core.List.{List}
+use mathlib.Core.List.{List, [], _∷_}
 use lib.ListN.{length}
 use Rattle.bounded.specs.Search.{pick}
-use Rattle.layout.specs.Sizes.{mostStoreBlocks}
 use Rattle.desk.specs.Desk.{deskOf}
-use Rattle.sound.specs.Sound.{framedB, isSound, inodesIn, blocksIn}
+use Rattle.sound.specs.Sound.{inodesIn}
 use Rattle.sound.specs.declared.Form.the-variants.{Store}
+use Rattle.sound.specs.Test.{isSound}
 use Rattle.answers.specs.declared.Refusal.{Refusal}
 use Rattle.answers.specs.declared.Refusal.the-variants.{BadBuffer, UnsoundStore, BadDesk, WrongState, ImageFull}
 use Rattle.answers.specs.declared.Answer.{Answer}
 use Rattle.answers.specs.declared.Answer.the-variants.{Done, Refused}
+use Rattle.answers.specs.Order.{Row, row}
 use Rattle.files.specs.declared.Guard.{Guard}
-use Rattle.files.specs.declared.Guard.the-variants.{Pass, Stop}
-use Rattle.files.specs.Guard.{guardOf, onGuard}
+use Rattle.files.specs.Guard.{guardOf, onGuard, guardBy}
 use Rattle.files.specs.Effect.{Call, lookUp, read, create, write, shorten, link, unlink, rename, Planned, refused, does, onPlanned, planned, given}
 use Rattle.checkpoint.specs.declared.Status.{Status}
 use Rattle.checkpoint.specs.declared.Status.the-variants.{Is, NoStatus}
-use Rattle.checkpoint.specs.Fit.{deskFramed, imageAllowed, imageBlocks, isRunning, notesFit}
+use Rattle.checkpoint.specs.Fit.{imageBlocks, isRunning, notesFit, bothFramed, allFramed}
 use Rattle.checkpoint.specs.Busy.{unlessBusy}
 use Rattle.checkpoint.specs.Notes.{cutEntries, clearMarks, setMarks}
 use Rattle.checkpoint.specs.Copier.{startImage, startDesk, Step, lock, copy, close, finish, full, stepOf, stepImage, stepDesk}
@@ -43,13 +43,16 @@ left a s m d = record { answer = a; store = s; image = m; desk = d }
 abbrev pub refuse : Refusal → List ℕ → List ℕ → List ℕ → Outcome
 refuse e s m d = left (Refused e) s m d
 
--- "looked at lowest first": 1, 2 and 3 by the buffers, before all others
+-- "looked at lowest first": 1, 2 and 3 by the buffers, before all others. framed says whether lengths and counts are those allowed
+abbrev pub guardRows : Bool → List ℕ → List ℕ → List ℕ → List Row
+guardRows framed s m d = row (not framed) BadBuffer ∷ row (not (isSound Store s)) UnsoundStore ∷ row (not (notesFit s m d)) BadDesk ∷ []
+
+-- of a call on all three buffers, and of a start, which looks at the image's length too
 unfoldable pub threeGuards : List ℕ → List ℕ → List ℕ → Guard
-threeGuards s m d =
-    pick (not (framedB mostStoreBlocks s && deskFramed d)) (Stop BadBuffer)
-    (pick (not (isSound Store s)) (Stop UnsoundStore)
-    (pick (not (notesFit s m d)) (Stop BadDesk)
-    (Pass (inodesIn s) (blocksIn s))))
+threeGuards s m d = guardBy s (guardRows (bothFramed s d) s m d)
+
+unfoldable pub startGuards : List ℕ → List ℕ → List ℕ → Guard
+startGuards s m d = guardBy s (guardRows (allFramed s m d) s m d)
 
 -- ---- the file calls
 -- "Look up and read take the store alone"
@@ -84,9 +87,9 @@ live c w = leavesIn w (decision c w)
 unfoldable pub outOf : Call → World → List ℕ
 outOf c w = onPlanned (decision c w) (λ x. x .out) (λ e. given c)
 
--- ---- start and step: what follows where 1, 2 and 3 do not come
-unfoldable pub guarded : List ℕ → List ℕ → List ℕ → Outcome → Outcome
-guarded s m d o = onGuard (threeGuards s m d) (λ n b. o) (λ e. refuse e s m d)
+-- ---- start and step: what follows where the guards let through
+abbrev pub guarded : Guard → List ℕ → List ℕ → List ℕ → Outcome → Outcome
+guarded g s m d o = onGuard g (λ n b. o) (λ e. refuse e s m d)
 
 -- ---- start: 1 (the image too), 2, 3, 15
 unfoldable pub started : List ℕ → List ℕ → List ℕ → Outcome
@@ -95,9 +98,7 @@ started s m d =
     (left (Done 0) s (startImage (inodesIn s) (length m)) (startDesk d (inodesIn s) (imageBlocks (inodesIn s) (length m))))
 
 unfoldable pub start : List ℕ → List ℕ → List ℕ → Outcome
-start s m d =
-    pick (framedB mostStoreBlocks s && (deskFramed d && not (imageAllowed (inodesIn s) (length m)))) (refuse BadBuffer s m d)
-    (guarded s m d (started s m d))
+start s m d = guarded (startGuards s m d) s m d (started s m d)
 
 -- ---- step: 1, 2, 3, 15, 16; "Each accepted step adds 1."
 abbrev pub doStep : List ℕ → List ℕ → List ℕ → ℕ → Step → Outcome
@@ -108,7 +109,7 @@ doStep s m d n finish = left (Done (deskOf d .steps + 1)) s (stepImage s m d n f
 doStep s m d n full = left (Refused ImageFull) s (stepImage s m d n full) (stepDesk d full)
 
 unfoldable pub step : List ℕ → List ℕ → List ℕ → Outcome
-step s m d = guarded s m d (pick (isRunning d) (doStep s m d (inodesIn s) (stepOf s m d (inodesIn s))) (refuse WrongState s m d))
+step s m d = guarded (threeGuards s m d) s m d (pick (isRunning d) (doStep s m d (inodesIn s) (stepOf s m d (inodesIn s))) (refuse WrongState s m d))
 
 -- ---- state: 1, 2, 3; it changes nothing. "state takes all three buffers and gives state, locked inode and steps"
 unfoldable pub status : List ℕ → List ℕ → List ℕ → Status

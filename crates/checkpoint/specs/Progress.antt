@@ -6,12 +6,12 @@ use mathlib.Core.Bool.{Bool, true, false, not, _&&_}
 use mathlib.Core.List.{List, [], _∷_}
 use lib.ListN.{length, getD}
 use Rattle.octets.specs.Octets.{Octets}
-use Rattle.layout.specs.Sizes.{addressCount, isComplete}
+use Rattle.layout.specs.Sizes.{isComplete, mostBlocks}
 use Rattle.layout.specs.Header.{headerOf}
 use Rattle.layout.specs.Inode.{sizeOf}
 use Rattle.layout.specs.Block.{storeLength, blocksUsed}
-use Rattle.layout.specs.Free.{named}
-use Rattle.desk.specs.Sizes.{finished, stopped}
+use Rattle.layout.specs.Free.{blockNamed}
+use Rattle.desk.specs.Sizes.{finished, stopped, stepsAnInode}
 use Rattle.desk.specs.Desk.{deskOf}
 use Rattle.answers.specs.declared.Refusal.the-variants.{Busy, WrongState, ImageFull}
 use Rattle.answers.specs.declared.Answer.the-variants.{Done, Refused}
@@ -23,18 +23,18 @@ use Rattle.entries.specs.declared.Kind.{Kind}
 use Rattle.entries.specs.Plan.{lookUpPlan}
 use Rattle.files.specs.Effect.{Call, create, write, shorten, link, unlink, rename, given}
 use Rattle.files.specs.Plain.{plain}
-use Rattle.checkpoint.specs.Fit.{isRunning, imageAllowed, stepsAnInode}
+use Rattle.checkpoint.specs.Fit.{isRunning, imageAllowed}
 use Rattle.checkpoint.specs.Live.{World, outOf}
 use Rattle.checkpoint.specs.Shown.{numberOf}
-use Rattle.checkpoint.specs.List.{Ready, Event, call, steps, asks, starts, outcome, next, refusalOf, accepted, restarts, completes, run, Finish}
+use Rattle.checkpoint.specs.List.{Ready, Event, call, advances, asks, starts, outcome, next, refusalOf, accepted, restarts, completes, run, Finish}
 use Rattle.checkpoint.specs.Finished.{countOf}
 
 -- ---- it gets done
 -- "a block step with every image block named": the locked inode has a block left, and no image block is left
 pub record ImageTaken (w : World) : Type 0 where
   pub locked : 1 ≤ deskOf (w .desk) .locked
-  pub more : deskOf (w .desk) .copied < blocksUsed (sizeOf (w .store) (deskOf (w .desk) .locked))
-  pub taken : (c : ℕ) → 1 ≤ c → storeLength (countOf w) c ≤ length (w .image) → named (w .image) (countOf w) c ≡ true
+  pub more : deskOf (w .desk) .progress < blocksUsed (sizeOf (w .store) (deskOf (w .desk) .locked))
+  pub taken : (c : ℕ) → 1 ≤ c → storeLength (countOf w) c ≤ length (w .image) → blockNamed (w .image) (countOf w) c ≡ true
 
 -- what a finish leaves: "state finished", and one step more in bytes 12 to 15; byte 4 has the state. v is the world after it, and a desk is bytes
 pub record Ended (w v : World) : Type 0 where
@@ -45,9 +45,9 @@ pub record Ended (w v : World) : Type 0 where
 
 -- while the copy runs a step is accepted, or refused with 16, and that only where no image block is left
 pub record Progress (w : World) : Type 0 where
-  pub moves : isRunning (w .desk) ≡ true → (refusalOf steps w ≡ refusalNumber ImageFull → ⊥) → accepted steps w ≡ true
-  pub fills : refusalOf steps w ≡ refusalNumber ImageFull → ImageTaken w
-  pub ends : completes steps w ≡ true → Ended w (next steps w)
+  pub moves : isRunning (w .desk) ≡ true → (refusalOf advances w ≡ refusalNumber ImageFull → ⊥) → accepted advances w ≡ true
+  pub fills : refusalOf advances w ≡ refusalNumber ImageFull → ImageTaken w
+  pub ends : completes advances w ≡ true → Ended w (next advances w)
 
 -- no start is accepted
 unfoldable pub noRestart : List Event → World → Bool
@@ -57,17 +57,14 @@ noRestart (e ∷ es) w = not (restarts e w) && noRestart es (next e w)
 -- the steps that the list tries
 unfoldable pub tried : List Event → ℕ
 tried [] = 0
-tried (steps ∷ es) = suc (tried es)
+tried (advances ∷ es) = suc (tried es)
 tried (call c ∷ es) = tried es
 tried (asks ∷ es) = tried es
 tried (starts ∷ es) = tried es
 
 -- "With 12 × N image blocks or more"
-abbrev pub blocksAnInode : ℕ
-blocksAnInode = addressCount
-
 abbrev pub Roomy : World → Type 0
-Roomy w = storeLength (countOf w) (blocksAnInode * countOf w) ≤ length (w .image)
+Roomy w = storeLength (countOf w) (mostBlocks * countOf w) ≤ length (w .image)
 
 -- after as many steps as a copy can take, whatever calls fall between, it is finished or stopped; with 12 × N image blocks it is finished. w is the world just after the start
 pub record GetsDone (es : List Event) (w : World) : Type 0 where
@@ -78,7 +75,7 @@ pub record GetsDone (es : List Event) (w : World) : Type 0 where
 pub record Timing (w : World) : Type 0 where
   pub early : isRunning (w .desk) ≡ true → outcome starts w .answer ≡ told (Refused WrongState)
   pub again : isRunning (w .desk) ≡ false → outcome starts w .answer ≡ told (Done 0)
-  pub late : isRunning (w .desk) ≡ false → outcome steps w .answer ≡ told (Refused WrongState)
+  pub late : isRunning (w .desk) ≡ false → outcome advances w .answer ≡ told (Refused WrongState)
   pub question : next asks w ≡ w
 
 -- ---- it is out of the way
@@ -116,15 +113,15 @@ pub record Stopped (w v : World) : Type 0 where
   pub image : v .image ≡ w .image
   pub state : deskOf (v .desk) .state ≡ stopped
   pub locked : deskOf (v .desk) .locked ≡ 0
-  pub copied : deskOf (v .desk) .copied ≡ 0
+  pub progress : deskOf (v .desk) .progress ≡ 0
   pub long : length (v .desk) ≡ length (w .desk)
   pub rest : Octets (w .desk) → (x : ℕ) → (x ≡ 4 → ⊥) → (6 ≤ x → x ≤ 9 → ⊥) → getD (v .desk) x 0 ≡ getD (w .desk) x 0
 
 -- ---- it stays: from the finish, or from 16, until a start is accepted, image and desk are byte for byte as they were left. w is the world just after the start
 pub record Stays (es : List Event) (w : World) : Type 0 where
   pub copy : Finish es w → (fs : List Event) → noRestart fs (run es w) ≡ true → (run fs (run es w) .image ≡ run es w .image) × (run fs (run es w) .desk ≡ run es w .desk)
-  pub stop : refusalOf steps (run es w) ≡ refusalNumber ImageFull → (fs : List Event) → noRestart fs (next steps (run es w)) ≡ true
-      → (run fs (next steps (run es w)) .image ≡ run es w .image) × (run fs (next steps (run es w)) .desk ≡ next steps (run es w) .desk)
+  pub stop : refusalOf advances (run es w) ≡ refusalNumber ImageFull → (fs : List Event) → noRestart fs (next advances (run es w)) ≡ true
+      → (run fs (next advances (run es w)) .image ≡ run es w .image) × (run fs (next advances (run es w)) .desk ≡ next advances (run es w) .desk)
 
 -- ---- the opening start: accepted whenever the buffers fit and no copy runs; it leaves the store as it was
 pub record Opens (v : World) : Type 0 where

@@ -1,48 +1,30 @@
 -- "Given by number, looked at lowest first, when and only when the condition holds for that call": the conditions of each call on a store in a table. s is the store, m the image, d the desk.
 use Prim.Native.Nat.{ℕ, _+_, _-_, max}
 use mathlib.Core.Bool.{Bool, true, false, not, _&&_, _||_}
-use mathlib.Core.List.{List, [], _∷_}
+use mathlib.Core.List.{List, [], _∷_, _++_}
 use lib.Dec.{eqb, ltb}
 use lib.ListN.{length}
-use Rattle.bounded.specs.Below.{allBelow}
+use Rattle.files.specs.Guard.{storeRows}
+use Rattle.bounded.specs.Below.{allTo}
 use Rattle.bounded.specs.Search.{pick}
 use Rattle.bounded.specs.declared.Found.{Found}
 use Rattle.bounded.specs.declared.Found.the-variants.{At, Absent}
-use Rattle.layout.specs.Sizes.{mostStoreBlocks, mostFileBytes, mostDirectoryBlocks}
+use Rattle.layout.specs.Sizes.{mostFileBytes, mostDirectoryBlocks}
 use Rattle.layout.specs.Header.{headerOf}
 use Rattle.layout.specs.Inode.{kindOf, sizeOf, directoryKind, isFile, isDirectory}
 use Rattle.layout.specs.Block.{blocksUsed}
-use Rattle.layout.specs.Free.{named, freeInode, freeBlock}
+use Rattle.layout.specs.Free.{blockNamed, freeInode, freeBlock}
 use Rattle.names.specs.Name.{legalName}
 use Rattle.directory.specs.Slot.{findSlot, emptySlot, inodeAt}
 use Rattle.desk.specs.Desk.{deskOf}
-use Rattle.sound.specs.Sound.{framedB, isSound, inodesIn, blocksIn}
-use Rattle.sound.specs.declared.Form.the-variants.{Store}
+use Rattle.sound.specs.Sound.{inodesIn, blocksIn}
 use Rattle.answers.specs.declared.Refusal.{Refusal}
 use Rattle.answers.specs.declared.Refusal.the-variants.{BadBuffer, UnsoundStore, BadDesk, IllegalName, WrongInode, NameAbsent, NameTaken, NotEmpty, PastEnd, IntoItself, NoInode, NoBlocks, NoSlot, Busy, WrongState, ImageFull}
-use Rattle.answers.specs.declared.Answer.{Answer}
-use Rattle.answers.specs.declared.Answer.the-variants.{Refused}
-use Rattle.answers.specs.Refusal.{refusalNumber}
+use Rattle.answers.specs.Order.{Row, row}
 use Rattle.entries.specs.Plan.{holdsNone, isBelow}
-use Rattle.checkpoint.specs.Fit.{deskFramed, imageAllowed, isRunning, notesFit}
+use Rattle.checkpoint.specs.Fit.{isRunning, bothFramed, allFramed}
 use Rattle.checkpoint.specs.Busy.{anyLocked}
-
-pub record Row : Type 0 where
-  pub holds : Bool
-  pub refusal : Refusal
-
-abbrev pub row : Bool → Refusal → Row
-row b e = record { holds = b; refusal = e }
-
--- the refusal of the first condition that holds, else a
-abbrev pub firstOf : List Row → Answer → Answer
-firstOf [] a = a
-firstOf (r ∷ rs) a = pick (r .holds) (Refused (r .refusal)) (firstOf rs a)
-
--- the numbers go up
-abbrev pub ascendsFrom : ℕ → List Row → Bool
-ascendsFrom k [] = true
-ascendsFrom k (r ∷ rs) = ltb k (refusalNumber (r .refusal)) && ascendsFrom (refusalNumber (r .refusal)) rs
+use Rattle.checkpoint.specs.Live.{guardRows}
 
 -- ---- conditions
 abbrev pub found : Found → Bool
@@ -53,14 +35,9 @@ abbrev pub orZero : Found → ℕ
 orZero (At t) = t
 orZero Absent = 0
 
--- 1 and 2 of a call on the store alone
-abbrev pub storeRows : List ℕ → List Row → List Row
-storeRows s rs = row (not (framedB mostStoreBlocks s)) BadBuffer ∷ row (not (isSound Store s)) UnsoundStore ∷ rs
-
 -- 1, 2 and 3 of a call on all three buffers
-abbrev pub liveRows : List ℕ → List ℕ → List ℕ → List Row → List Row
-liveRows s m d rs =
-    row (not (framedB mostStoreBlocks s && deskFramed d)) BadBuffer ∷ row (not (isSound Store s)) UnsoundStore ∷ row (not (notesFit s m d)) BadDesk ∷ rs
+abbrev pub liveRows : List ℕ → List ℕ → List ℕ → List Row
+liveRows s m d = guardRows (bothFramed s d) s m d
 
 -- 12: "too few free blocks" for an entry more in e; 13: "all 48 slots used"
 abbrev pub noBlock : List ℕ → ℕ → Bool
@@ -81,7 +58,7 @@ inodeFor s e name = inodeAt s (inodesIn s) e (slotFor s e name)
 unfoldable pub lookUpTable : List ℕ → ℕ → List ℕ → List Row
 lookUpTable s e name =
     storeRows s
-    (row (not (legalName name)) IllegalName
+    ++ (row (not (legalName name)) IllegalName
     ∷ row (not (isDirectory s (inodesIn s) e)) WrongInode
     ∷ row (not (found (findSlot s (inodesIn s) e name))) NameAbsent
     ∷ [])
@@ -89,14 +66,14 @@ lookUpTable s e name =
 unfoldable pub readTable : List ℕ → ℕ → ℕ → List Row
 readTable s i o =
     storeRows s
-    (row (not (isFile s (inodesIn s) i)) WrongInode
+    ++ (row (not (isFile s (inodesIn s) i)) WrongInode
     ∷ row (ltb (sizeOf s i) o) PastEnd
     ∷ [])
 
 unfoldable pub createTable : List ℕ → List ℕ → List ℕ → ℕ → List ℕ → List Row
 createTable s m d e name =
     liveRows s m d
-    (row (not (legalName name)) IllegalName
+    ++ (row (not (legalName name)) IllegalName
     ∷ row (not (isDirectory s (inodesIn s) e)) WrongInode
     ∷ row (found (findSlot s (inodesIn s) e name)) NameTaken
     ∷ row (not (found (freeInode s (inodesIn s)))) NoInode
@@ -108,7 +85,7 @@ createTable s m d e name =
 unfoldable pub writeTable : List ℕ → List ℕ → List ℕ → ℕ → ℕ → List ℕ → List Row
 writeTable s m d i o xs =
     liveRows s m d
-    (row (not (isFile s (inodesIn s) i)) WrongInode
+    ++ (row (not (isFile s (inodesIn s) i)) WrongInode
     ∷ row (ltb (sizeOf s i) o || ltb mostFileBytes (o + length xs)) PastEnd
     ∷ row (ltb (headerOf s .«free_blocks») (blocksUsed (max (sizeOf s i) (o + length xs)) - blocksUsed (sizeOf s i))) NoBlocks
     ∷ row (anyLocked d (i ∷ [])) Busy
@@ -117,7 +94,7 @@ writeTable s m d i o xs =
 unfoldable pub shortenTable : List ℕ → List ℕ → List ℕ → ℕ → ℕ → List Row
 shortenTable s m d i z =
     liveRows s m d
-    (row (not (isFile s (inodesIn s) i)) WrongInode
+    ++ (row (not (isFile s (inodesIn s) i)) WrongInode
     ∷ row (ltb (sizeOf s i) z) PastEnd
     ∷ row (anyLocked d (i ∷ [])) Busy
     ∷ [])
@@ -125,7 +102,7 @@ shortenTable s m d i z =
 unfoldable pub linkTable : List ℕ → List ℕ → List ℕ → ℕ → List ℕ → ℕ → List Row
 linkTable s m d e name i =
     liveRows s m d
-    (row (not (legalName name)) IllegalName
+    ++ (row (not (legalName name)) IllegalName
     ∷ row (not (isDirectory s (inodesIn s) e && isFile s (inodesIn s) i)) WrongInode
     ∷ row (found (findSlot s (inodesIn s) e name)) NameTaken
     ∷ row (noBlock s e) NoBlocks
@@ -137,7 +114,7 @@ unfoldable pub unlinkTable : List ℕ → List ℕ → List ℕ → ℕ → List
 unlinkTable s m d e name =
     let i = inodeFor s e name in
     liveRows s m d
-    (row (not (legalName name)) IllegalName
+    ++ (row (not (legalName name)) IllegalName
     ∷ row (not (isDirectory s (inodesIn s) e)) WrongInode
     ∷ row (not (found (findSlot s (inodesIn s) e name))) NameAbsent
     ∷ row (eqb (kindOf s i) directoryKind && not (holdsNone s (inodesIn s) i)) NotEmpty
@@ -150,7 +127,7 @@ renameTable s m d e name f other =
     let i = inodeFor s e name in
     let moves = not (eqb e f) in
     liveRows s m d
-    (row (not (legalName name && legalName other)) IllegalName
+    ++ (row (not (legalName name && legalName other)) IllegalName
     ∷ row (not (isDirectory s (inodesIn s) e && isDirectory s (inodesIn s) f)) WrongInode
     ∷ row (not (found (findSlot s (inodesIn s) e name))) NameAbsent
     ∷ row (found (findSlot s (inodesIn s) f other) && (moves || not (eqb (slotFor s f other) (slotFor s e name)))) NameTaken
@@ -162,22 +139,20 @@ renameTable s m d e name f other =
 
 unfoldable pub startTable : List ℕ → List ℕ → List ℕ → List Row
 startTable s m d =
-    row (not (framedB mostStoreBlocks s && (deskFramed d && imageAllowed (inodesIn s) (length m)))) BadBuffer
-    ∷ row (not (isSound Store s)) UnsoundStore
-    ∷ row (not (notesFit s m d)) BadDesk
-    ∷ row (isRunning d) WrongState
+    guardRows (allFramed s m d) s m d
+    ++ row (isRunning d) WrongState
     ∷ []
 
 -- the state question
 abbrev pub askTable : List ℕ → List ℕ → List ℕ → List Row
-askTable s m d = liveRows s m d []
+askTable s m d = liveRows s m d
 
 -- 16: "a block step with every image block named"
 unfoldable pub stepTable : List ℕ → List ℕ → List ℕ → List Row
 stepTable s m d =
     let i = deskOf d .locked in
-    let k = deskOf d .copied in
+    let k = deskOf d .progress in
     liveRows s m d
-    (row (not (isRunning d)) WrongState
-    ∷ row (not (eqb i 0) && (ltb k (blocksUsed (sizeOf s i)) && allBelow (λ c. named m (inodesIn s) (c + 1)) (deskOf d .blocks))) ImageFull
+    ++ (row (not (isRunning d)) WrongState
+    ∷ row (not (eqb i 0) && (ltb k (blocksUsed (sizeOf s i)) && allTo (blockNamed m (inodesIn s)) (deskOf d .blocks))) ImageFull
     ∷ [])

@@ -8,13 +8,14 @@ use native.Mathlib.Decide.{ℕ-discrete, decLt}
 use native.Mathlib.Omega.{arith}
 use lib.ListN.{getD}
 use Rattle.bounded.specs.Count.{Differ}
-use Rattle.layout.specs.Sizes.{addressCount, blockBytes, mostStoreBlocks}
+use Rattle.layout.specs.Sizes.{addressCount, blockBytes}
 use Rattle.layout.specs.declared.header.Header.{Header}
 use Rattle.layout.specs.Header.{headerOf}
 use Rattle.layout.specs.Inode.{kindOf, spareOf, linksOf, sizeOf, parentOf, addressOf, fileKind, directoryKind}
 use Rattle.layout.specs.Block.{blockOf, blocksUsed, kthBlock}
 use Rattle.sound.specs.Inode.{InodeSound}
 use Rattle.sound.specs.Sound.{Sound, inodesIn, blocksIn}
+use Rattle.sound.specs.declared.Form.the-variants.{Store}
 use Rattle.changes.proofs.StoreLaws.{one-at, dir-of}
 use Rattle.changes.proofs.SameLaws.{OtherInodes, same-body, each-inode, SameFrame, SameBlock, InBlock}
 use Rattle.changes.proofs.KeepLaws.{ZeroTail, Body, body-of, inode-like, inode-kept, file-tree, sound-kept}
@@ -23,7 +24,7 @@ use Rattle.content.specs.Content.{fileByte}
 
 -- ---- a sound store with a file i of o bytes or more
 pub record Holds (s : List ℕ) (n b i o : ℕ) : Type 0 where
-  pub sound : Sound mostStoreBlocks false s
+  pub sound : Sound Store s
   pub inodes : n ≡ inodesIn s
   pub blocks : b ≡ blocksIn s
   pub low : 1 ≤ i
@@ -55,7 +56,7 @@ module _ (s : List ℕ) (n i : ℕ) where
       ap₂ (λ (j r : ℕ). getD (blockOf s n (kthBlock s n i j)) r 0) a c ∙ h x (omega arith) (omega arith)
 
 -- ---- bytes of the k-th block of a file
-module _ (s t : List ℕ) (n b i k : ℕ) (h : Sound mostStoreBlocks false s) (x : n ≡ inodesIn s) (y : b ≡ blocksIn s)
+module _ (s t : List ℕ) (n b i k : ℕ) (h : Sound Store s) (x : n ≡ inodesIn s) (y : b ≡ blocksIn s)
     (l : 1 ≤ i) (m : i ≤ n) (v : kindOf s i ≡ fileKind) (u : k < blocksUsed (sizeOf s i)) (g : InBlock s t n (kthBlock s n i k)) where
   -- the other blocks in use stay
   pub other-block : (j a : ℕ) → 1 ≤ j → j ≤ n → a < blocksUsed (sizeOf s j) → (j ≡ i → a ≡ k → ⊥) → SameBlock s t n (kthBlock s n j a)
@@ -70,7 +71,7 @@ module _ (s t : List ℕ) (n b i k : ℕ) (h : Sound mostStoreBlocks false s) (x
       ap (λ (c : ℕ). getD (blockOf t n c) (o % 64) 0) (g .inodes i l m .blocks (o / 64) r)
       ∙ ap (λ (z : List ℕ). getD z (o % 64) 0) (other-block i (o / 64) l m (omega arith) (λ _. q))
 
-  pub content-sound : ZeroPast t n i (sizeOf s i) → Sound mostStoreBlocks false t
+  pub content-sound : ZeroPast t n i (sizeOf s i) → Sound Store t
   content-sound w =
       let r = body-of s n b h x y in
       let e : (j : ℕ) → 1 ≤ j → j ≤ n → (a : ℕ) → a < addressCount → kthBlock t n j a ≡ kthBlock s n j a = λ j p q. g .inodes j p q .blocks in
@@ -100,7 +101,7 @@ pub record Resized (s t : List ℕ) (n i z : ℕ) : Type 0 where
   pub free-inodes : headerOf t .«free_inodes» ≡ headerOf s .«free_inodes»
   pub free-blocks : headerOf t .«free_blocks» ≡ headerOf s .«free_blocks» + (blocksUsed (sizeOf s i) - blocksUsed z)
 
-module _ (s t : List ℕ) (n b i z : ℕ) (h : Sound mostStoreBlocks false s) (x : n ≡ inodesIn s) (y : b ≡ blocksIn s)
+module _ (s t : List ℕ) (n b i z : ℕ) (h : Sound Store s) (x : n ≡ inodesIn s) (y : b ≡ blocksIn s)
     (l : 1 ≤ i) (m : i ≤ n) (v : kindOf s i ≡ fileKind) (g : Resized s t n i z) (u : blocksUsed z ≤ blocksUsed (sizeOf s i)) (w : ZeroPast s n i z) where
   body : Body s n b
   body = body-of s n b h x y
@@ -156,7 +157,7 @@ module _ (s t : List ℕ) (n b i z : ℕ) (h : Sound mostStoreBlocks false s) (x
           let c : kthBlock t n (a / 12 + 1) (a % 12) ≡ 0 = ap (λ (j : ℕ). kthBlock t n j (a % 12)) e ∙ g .rest (a % 12) (omega arith) (omega arith) in
           absurd (omega arith)
 
-  pub resized-sound : Sound mostStoreBlocks false t
+  pub resized-sound : Sound Store t
   resized-sound =
       let c = unnamed-change s t n b i l m (body .inodes) resized-inodes (body .once) resized-differ (λ j p q e k. g .others j p q e .blocks k) in
       let e : blocksUsed (sizeOf t i) ≡ blocksUsed z = ap blocksUsed (g .size) in

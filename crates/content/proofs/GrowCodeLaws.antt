@@ -20,9 +20,9 @@ use Rattle.octets.specs.Octets.{zeroed}
 use Rattle.octets.proofs.PartLaws.{length-zeroed}
 use Rattle.layout.specs.declared.inode.Inode.{Inode}
 use Rattle.layout.specs.Header.{headerOf, lessFree}
-use Rattle.layout.specs.Inode.{InodeFits, attributesAt, attributeEntry, place, sizeOf, addressOf, inodeOf, putAttributes, putInode, withBlocks}
+use Rattle.layout.specs.Inode.{InodeFits, attributesAt, attributeEntry, addressIndex, sizeOf, addressOf, inodeOf, putAttributes, putInode, withBlocks}
 use Rattle.layout.specs.Block.{Sized, blockAt, zeroBlock, blocksUsed}
-use Rattle.layout.specs.Free.{named, freeBlock}
+use Rattle.layout.specs.Free.{blockNamed, freeBlock}
 use Rattle.layout.proofs.FrameLaws.{length-inode, header-past}
 use Rattle.layout.proofs.ViewLaws.{inode-fits}
 use Rattle.changes.proofs.FreeLaws.{FreeBlock, free-block}
@@ -124,8 +124,8 @@ pub record Turn (s₀ : List ℕ) (n b i m : ℕ) (v : Inode) (u : ℕ) (s a : L
   pub next : (d : ℕ) → addBlock store n i d ≡ grown n i v (zeroBlock s n d) (set a (u + j) d) (u + j + 1) (j + 1)
   pub is : 1 ≤ j → store ≡ grown n i v s a (u + j) j
   -- the blocks up to the last one taken are named, and the others as at first
-  pub passed : (d : ℕ) → 1 ≤ d → d ≤ c → named store n d ≡ true
-  pub ahead : (d : ℕ) → c < d → named store n d ≡ named s₀ n d
+  pub passed : (d : ℕ) → 1 ≤ d → d ≤ c → blockNamed store n d ≡ true
+  pub ahead : (d : ℕ) → c < d → blockNamed store n d ≡ blockNamed s₀ n d
 
 pub turn-begin : (s : List ℕ) (n b i m : ℕ) (v : Inode) (u : ℕ) → v ≡ inodeOf s n i → u ≡ blocksUsed (v .size) → Spare s n b i m
     → Turn s n b i m v u s (v .addresses) 0 0
@@ -153,16 +153,16 @@ turn-begin s n b i m v u e q g =
 module _ (s₀ : List ℕ) (n b i m : ℕ) (v : Inode) (u : ℕ) (s a : List ℕ) (c j : ℕ) (h : Turn s₀ n b i m v u s a c j) where
   -- the search goes on in the map of the blocks that were named at first
   pub turn-search : (map : List ℕ) → Seen (addressOf s₀ n) 4097 (12 * n) map → b ≤ 4096 → firstFrom (λ d. eqb (getD map d 0) 0) (c + 1) (b + 1 - (c + 1)) ≡ freeBlock (h .store) n b
-  unfolding freeBlock named
+  unfolding freeBlock blockNamed
   turn-search map y k =
       let l = h .last in
       let p : b + 1 - (c + 1) ≡ b - c = omega arith in
       let q : c + 1 ≡ 1 + c = omega arith in
       rw (p, q)
-      (first-ext (λ d. eqb (getD map d 0) 0) (λ d. not (named (h .store) n d)) (1 + c) (b - c)
+      (first-ext (λ d. eqb (getD map d 0) 0) (λ d. not (blockNamed (h .store) n d)) (1 + c) (b - c)
       (λ d x z. seen-test (addressOf s₀ n) 4097 (12 * n) d map y (omega arith) ∙ ap not (sym (h .ahead d (omega arith))))
-      ∙ sym (first-skip (λ d. not (named (h .store) n d)) 1 c b l
-      (absent-of (λ d. not (named (h .store) n d)) 1 c (λ d x z. ap not (h .passed d x (omega arith))))))
+      ∙ sym (first-skip (λ d. not (blockNamed (h .store) n d)) 1 c b l
+      (absent-of (λ d. not (blockNamed (h .store) n d)) 1 c (λ d x z. ap not (h .passed d x (omega arith))))))
 
   -- before the last turn there is a block more
   spare-more : j < m → Spare (h .store) n b i (suc (m - (j + 1)))
@@ -173,9 +173,9 @@ module _ (s₀ : List ℕ) (n b i m : ℕ) (v : Inode) (u : ℕ) (s a : List ℕ
 
   -- a turn takes d
   module _ (d : ℕ) (e : freeBlock (h .store) n b ≡ At d) (f : InodeFits s₀ n i) (l : j < m) where
-    taken : Lowest (λ x. not (named (h .store) n x)) 1 b d
+    taken : Lowest (λ x. not (blockNamed (h .store) n x)) 1 b d
     unfolding freeBlock
-    taken = found-lowest (λ x. not (named (h .store) n x)) 1 b d e
+    taken = found-lowest (λ x. not (blockNamed (h .store) n x)) 1 b d e
 
     -- the last block taken is below it
     forward : c < d
@@ -183,7 +183,7 @@ module _ (s₀ : List ℕ) (n b i m : ℕ) (v : Inode) (u : ℕ) (s a : List ℕ
       where
         go : Dec (c < d) → c < d
         go (yes x) = x
-        go (no x) = absurd (clash (named (h .store) n d) (h .passed d (taken .from) (omega arith)) (not-true (named (h .store) n d) (taken .holds)))
+        go (no x) = absurd (clash (blockNamed (h .store) n d) (h .passed d (taken .from) (omega arith)) (not-true (blockNamed (h .store) n d) (taken .holds)))
 
     free : FreeBlock (h .store) n b d
     free = free-block (h .store) n b d e
@@ -197,10 +197,10 @@ module _ (s₀ : List ℕ) (n b i m : ℕ) (v : Inode) (u : ℕ) (s a : List ℕ
     few : blocksUsed (sizeOf (h .store) i) < 12
     few = room-left (h .store) n b i (m - (j + 1)) spare
 
-    empty : addressOf (h .store) n (place i (blocksUsed (sizeOf (h .store) i))) ≡ 0
+    empty : addressOf (h .store) n (addressIndex i (blocksUsed (sizeOf (h .store) i))) ≡ 0
     empty = let w = spare in body-of (h .store) n b (w .sound) (w .inodes) (w .blocks) .inodes i (w .low) (w .high) .rest (blocksUsed (sizeOf (h .store) i)) few (omega arith)
 
-    old : (x : ℕ) → 1 ≤ x → x ≢ d → named (addBlock (h .store) n i d) n x ≡ named (h .store) n x
+    old : (x : ℕ) → 1 ≤ x → x ≢ d → blockNamed (addBlock (h .store) n i d) n x ≡ blockNamed (h .store) n x
     old x p q = named-old (h .store) (addBlock (h .store) n i d) n i d grows (spare .low) (spare .high) few x empty p q
 
     grown-now : addBlock (h .store) n i d ≡ grown n i v (zeroBlock s n d) (set a (u + j) d) (u + (j + 1)) (j + 1)
@@ -231,9 +231,9 @@ module _ (s₀ : List ℕ) (n b i m : ℕ) (v : Inode) (u : ℕ) (s a : List ℕ
           ahead = λ x r. old x (omega arith) (λ t. omega arith) ∙ h .ahead x (let t = forward in omega arith);
         }
       where
-        reached : (x : ℕ) → 1 ≤ x → x ≤ d → Dec (x ≡ d) → Dec (c < x) → named (addBlock (h .store) n i d) n x ≡ true
+        reached : (x : ℕ) → 1 ≤ x → x ≤ d → Dec (x ≡ d) → Dec (c < x) → blockNamed (addBlock (h .store) n i d) n x ≡ true
         reached x r t (yes y) z = named-new (h .store) (addBlock (h .store) n i d) n i d grows (spare .low) (spare .high) few x y
-        reached x r t (no y) (yes z) = old x r y ∙ not-false (named (h .store) n x) (taken .before x r (omega arith))
+        reached x r t (no y) (yes z) = old x r y ∙ not-false (blockNamed (h .store) n x) (taken .before x r (omega arith))
         reached x r t (no y) (no z) = old x r y ∙ h .passed x r (omega arith)
 
   -- after it, with the record and the free count written

@@ -13,13 +13,13 @@ use Rattle.bounded.proofs.TableLaws.{length-table, getD-table}
 use Rattle.bounded.proofs.ReflectLaws.{r-fails}
 use Rattle.bounded.proofs.BoolLaws.{same-test}
 use Rattle.octets.proofs.PartLaws.{getD-part}
-use Rattle.layout.specs.Sizes.{addressCount, blockBytes, mostStoreBlocks}
+use Rattle.layout.specs.Sizes.{addressCount, blockBytes}
 use Rattle.layout.specs.declared.header.Header.{Header}
 use Rattle.layout.specs.declared.inode.Inode.{Inode}
 use Rattle.layout.specs.Header.{headerOf}
-use Rattle.layout.specs.Inode.{InodeFits, kindOf, spareOf, linksOf, sizeOf, parentOf, addressOf, addressesOf, inodeOf, place, putInode, freeKind, directoryKind, withBlocks}
+use Rattle.layout.specs.Inode.{InodeFits, kindOf, spareOf, linksOf, sizeOf, parentOf, addressOf, addressesOf, inodeOf, addressIndex, putInode, freeKind, directoryKind, withBlocks}
 use Rattle.layout.specs.Block.{blockAt, blockOf, zeroBlock, blocksUsed, kthBlock}
-use Rattle.layout.specs.Free.{named}
+use Rattle.layout.specs.Free.{blockNamed}
 use Rattle.layout.proofs.ViewLaws.{inode-fits}
 use Rattle.names.specs.Entry.{isEmpty}
 use Rattle.names.proofs.EntryLaws.{empty}
@@ -29,6 +29,7 @@ use Rattle.sound.specs.Inode.{InodeSound}
 use Rattle.sound.specs.Sound.{Sound, inodesIn, blocksIn}
 use Rattle.sound.proofs.FactLaws.{unnamed, named-is}
 use Rattle.sound.proofs.PlaceLaws.{slot-is}
+use Rattle.sound.specs.declared.Form.the-variants.{Store}
 use Rattle.changes.proofs.StoreLaws.{fits}
 use Rattle.changes.proofs.SameLaws.{same-body, OtherInodes, each-inode, SameFrame, SameBlock, frame-then, inode-then, zero-block, zero-block-is, put-inode, inode-new, inode-blocks, less-free}
 use Rattle.changes.proofs.KeepLaws.{SamePlace, SameTree, Body, body-of, inode-kept, entry-in, entry-kept, place-slot, place-new, place-kept, slot-kept, changed, sound-kept}
@@ -66,15 +67,15 @@ module _ (s : List ℕ) (n i c : ℕ) (f : InodeFits s n i) (l : 1 ≤ c) (m : b
 
   row-long : length row ≡ addressCount
   unfolding addressesOf
-  row-long = length-set (addressesOf s n i) used c ∙ length-table (λ k. addressOf s n (place i k)) 12
+  row-long = length-set (addressesOf s n i) used c ∙ length-table (λ k. addressOf s n (addressIndex i k)) 12
 
   row-old : (k : ℕ) → k < addressCount → k ≢ used → getD row k 0 ≡ kthBlock s n i k
   unfolding addressesOf kthBlock
-  row-old k a q = getD-set-other (addressesOf s n i) used k c 0 q ∙ getD-table (λ j. addressOf s n (place i j)) 12 k a
+  row-old k a q = getD-set-other (addressesOf s n i) used k c 0 q ∙ getD-table (λ j. addressOf s n (addressIndex i j)) 12 k a
 
   row-new : getD row used 0 ≡ c
   unfolding addressesOf
-  row-new = getD-set-same (addressesOf s n i) used c 0 (let e = length-table (λ k. addressOf s n (place i k)) 12 in omega arith)
+  row-new = getD-set-same (addressesOf s n i) used c 0 (let e = length-table (λ k. addressOf s n (addressIndex i k)) 12 in omega arith)
 
   abbrev zeroed : List ℕ
   zeroed = zeroBlock s n c
@@ -137,7 +138,7 @@ module _ (s t : List ℕ) (n i c : ℕ) (g : Grown s t n i c) where
       ∙ getD-replicate 64 (16 * (u % 4) + k) 0 0 (omega arith))
 
   -- every other address is what it was
-  pub grown-address : (w : ℕ) → w < addressCount * n → w ≢ place i (blocksUsed (sizeOf s i)) → addressOf t n w ≡ addressOf s n w
+  pub grown-address : (w : ℕ) → w < addressCount * n → w ≢ addressIndex i (blocksUsed (sizeOf s i)) → addressOf t n w ≡ addressOf s n w
   grown-address w q e = address-kth t n w ∙ at (ℕ-discrete (w / 12 + 1) i) ∙ sym (address-kth s n w)
     where
       at : Dec (w / 12 + 1 ≡ i) → kthBlock t n (w / 12 + 1) (w % 12) ≡ kthBlock s n (w / 12 + 1) (w % 12)
@@ -147,40 +148,40 @@ module _ (s t : List ℕ) (n i c : ℕ) (g : Grown s t n i c) where
   -- which blocks are named then, where the place was empty
   module _ (l : 1 ≤ i) (m : i ≤ n) (u : blocksUsed (sizeOf s i) < addressCount) (d : ℕ) where
     abbrev next : ℕ
-    next = place i (blocksUsed (sizeOf s i))
+    next = addressIndex i (blocksUsed (sizeOf s i))
 
     put-there : addressOf t n next ≡ c
     unfolding kthBlock
     put-there = g .new
 
-    pub named-new : d ≡ c → named t n d ≡ true
+    pub named-new : d ≡ c → blockNamed t n d ≡ true
     named-new e = named-is t n d .from (next, omega arith, put-there ∙ sym e)
 
-    pub named-old : addressOf s n next ≡ 0 → 1 ≤ d → d ≢ c → named t n d ≡ named s n d
+    pub named-old : addressOf s n next ≡ 0 → 1 ≤ d → d ≢ c → blockNamed t n d ≡ blockNamed s n d
     named-old r p q =
         same-test _ _
         (λ h. let w = named-is t n d .to h in came (w .0) (w .1) (w .2) (ℕ-discrete (w .0) next))
         (λ h. let w = named-is s n d .to h in goes (w .0) (w .1) (w .2) (ℕ-discrete (w .0) next))
       where
-        came : (x : ℕ) → x < addressCount * n → addressOf t n x ≡ d → Dec (x ≡ next) → named s n d ≡ true
+        came : (x : ℕ) → x < addressCount * n → addressOf t n x ≡ d → Dec (x ≡ next) → blockNamed s n d ≡ true
         came x o e (yes z) = absurd (q (sym e ∙ ap (addressOf t n) z ∙ put-there))
         came x o e (no z) = named-is s n d .from (x, o, sym (grown-address x o z) ∙ e)
 
-        goes : (x : ℕ) → x < addressCount * n → addressOf s n x ≡ d → Dec (x ≡ next) → named t n d ≡ true
+        goes : (x : ℕ) → x < addressCount * n → addressOf s n x ≡ d → Dec (x ≡ next) → blockNamed t n d ≡ true
         goes x o e (yes z) = let y : d ≡ 0 = sym e ∙ ap (addressOf s n) z ∙ r in absurd (omega arith)
         goes x o e (no z) = named-is t n d .from (x, o, grown-address x o z ∙ e)
 
 -- ---- on a sound store, with a block that no address names
-module _ (s t : List ℕ) (n b i c : ℕ) (h : Sound mostStoreBlocks false s) (x : n ≡ inodesIn s) (y : b ≡ blocksIn s)
+module _ (s t : List ℕ) (n b i c : ℕ) (h : Sound Store s) (x : n ≡ inodesIn s) (y : b ≡ blocksIn s)
     (g : Grown s t n i c) (l : 1 ≤ i) (m : i ≤ n) (v : kindOf s i ≢ freeKind) (u : blocksUsed (sizeOf s i) < addressCount)
-    (lc : 1 ≤ c) (mc : c ≤ b) (free : named s n c ≡ false) where
+    (lc : 1 ≤ c) (mc : c ≤ b) (free : blockNamed s n c ≡ false) where
   body : Body s n b
   body = body-of s n b h x y
 
   -- a block in use is not c, and stays
   not-new : (j k : ℕ) → 1 ≤ j → j ≤ n → k < addressCount → kthBlock s n j k ≢ c
   unfolding kthBlock
-  not-new j k a d q e = unnamed s n c free (place j k) (omega arith) e
+  not-new j k a d q e = unnamed s n c free (addressIndex j k) (omega arith) e
 
   pub grown-bytes : (j k : ℕ) → 1 ≤ j → j ≤ n → k < blocksUsed (sizeOf s j) → SameBlock s t n (kthBlock s n j k)
   unfolding blocksUsed
@@ -249,7 +250,7 @@ module _ (s t : List ℕ) (n b i c : ℕ) (h : Sound mostStoreBlocks false s) (x
           let q = body .inodes i l m .used k a o .1 in
           (omega arith, omega arith)
 
-  grown-rest : (k : ℕ) → k < addressCount → blocksUsed (sizeOf s i) + 1 ≤ k → addressOf t n (place i k) ≡ 0
+  grown-rest : (k : ℕ) → k < addressCount → blocksUsed (sizeOf s i) + 1 ≤ k → addressOf t n (addressIndex i k) ≡ 0
   unfolding kthBlock
   grown-rest k a d = g .old k a (λ e. omega arith) ∙ body .inodes i l m .rest k a (omega arith)
 
@@ -278,10 +279,10 @@ module _ (s t : List ℕ) (n b i c : ℕ) (h : Sound mostStoreBlocks false s) (x
   grown-differ : Differ (addressOf t n) (addressCount * n)
   unfolding kthBlock
   grown-differ =
-      differ-new (addressOf s n) (addressOf t n) (addressCount * n) (place i (blocksUsed (sizeOf s i))) c (body .once) (unnamed s n c free) (g .new)
+      differ-new (addressOf s n) (addressOf t n) (addressCount * n) (addressIndex i (blocksUsed (sizeOf s i))) c (body .once) (unnamed s n c free) (g .new)
       (grown-address s t n i c g)
 
-  pub grown-sound : Sound mostStoreBlocks false t
+  pub grown-sound : Sound Store t
   grown-sound =
       let w = unnamed-change s t n b i l m (body .inodes) grown-inodes (body .once) grown-differ (λ j a d q k. g .others j a d q .blocks k) in
       let z = grown-used s t n i c g in
@@ -290,7 +291,7 @@ module _ (s t : List ℕ) (n b i c : ℕ) (h : Sound mostStoreBlocks false s) (x
       sound-kept s t h (g .frame) n b x y grown-tree grown-inodes grown-differ (g .free-inodes) (omega arith)
 
 -- ---- a block more for an inode in use
-module _ (s : List ℕ) (n b i c : ℕ) (h : Sound mostStoreBlocks false s) (x : n ≡ inodesIn s) (y : b ≡ blocksIn s)
+module _ (s : List ℕ) (n b i c : ℕ) (h : Sound Store s) (x : n ≡ inodesIn s) (y : b ≡ blocksIn s)
     (l : 1 ≤ i) (m : i ≤ n) (u : blocksUsed (sizeOf s i) < addressCount) (w : FreeBlock s n b c) where
   pub block-added : Grown s (addBlock s n i c) n i c
   block-added =
@@ -299,5 +300,5 @@ module _ (s : List ℕ) (n b i c : ℕ) (h : Sound mostStoreBlocks false s) (x :
       let d = w .high in
       add-block s n i c (fits s n h x i l m) a (omega arith) u
 
-  pub add-block-sound : kindOf s i ≢ freeKind → Sound mostStoreBlocks false (addBlock s n i c)
+  pub add-block-sound : kindOf s i ≢ freeKind → Sound Store (addBlock s n i c)
   add-block-sound v = grown-sound s (addBlock s n i c) n b i c h x y block-added l m v u (w .low) (w .high) (w .free)

@@ -6,7 +6,6 @@ use mathlib.Core.List.{List}
 use native.Mathlib.Omega.{arith}
 use borrow.Author.Tests.{ltb-false}
 use lib.Dec.{ltb}
-use Rattle.bounded.specs.Search.{pick}
 use Rattle.bounded.proofs.SearchLaws.{pick-else, pick-not}
 use Rattle.bounded.proofs.BoolLaws.{or-false-l, or-false-r}
 use Rattle.layout.specs.Sizes.{mostFileBytes}

@@ -6,7 +6,7 @@ use native.Mathlib.Nat.{add-zero}
 use native.Mathlib.Omega.{arith}
 use lib.ListN.{length}
 use lib.Seq.{take-add}
-use Rattle.octets.specs.Octets.{part, splice, copied}
+use Rattle.octets.specs.Octets.{part, splice, pasted}
 use Rattle.octets.proofs.PartLaws.{length-splice, length-inside, part-all}
 use Rattle.layout.specs.Block.{putInBlock, kthBlock}
 use Rattle.layout.proofs.ViewLaws.{inode-fits}
@@ -27,8 +27,8 @@ file-fits-past s n p xs i z h f =
       blocks = λ k b. let r = f .blocks k b in rw (block-past s n p xs h i l m k (omega arith)) (record { low = r .low; inside = omega arith });
     }
 
-pub fits-copied : (s : List ℕ) (n i z x : ℕ) (xs : List ℕ) (j m : ℕ) → FileFits s n i z → FileFits (copied s (byteAt s n i x) xs j m) n i z
-unfolding copied byteAt
+pub fits-copied : (s : List ℕ) (n i z x : ℕ) (xs : List ℕ) (j m : ℕ) → FileFits s n i z → FileFits (pasted s (byteAt s n i x) xs j m) n i z
+unfolding pasted byteAt
 fits-copied s n i z x xs j m f = file-fits-past s n (byteAt s n i x) (part xs j m) i z (omega arith) f
 
 -- the first j, and then m more
@@ -71,8 +71,8 @@ module _ (n i : ℕ) where
       put-begin = refl
 
       pub put-turn : (j m : ℕ) → o + j < 768 → m ≤ 64 - (o + j) % 64 → j + m ≤ length xs
-          → let t = putFile s n i o (part xs 0 j) in copied t (byteAt t n i (o + j)) xs j m ≡ putFile s n i o (part xs 0 (j + m))
-      unfolding copied
+          → let t = putFile s n i o (part xs 0 j) in pasted t (byteAt t n i (o + j)) xs j m ≡ putFile s n i o (part xs 0 (j + m))
+      unfolding pasted
       put-turn j m b h f =
           let t : List ℕ = putFile s n i o (part xs 0 j) in
           let q : length (part xs 0 j) ≡ j = length-inside xs 0 j (omega arith) in

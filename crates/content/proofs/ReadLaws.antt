@@ -9,12 +9,12 @@ use lib.ListN.{length, getD}
 use lib.Seq.{ext-getD}
 use Rattle.bounded.specs.Table.{table}
 use Rattle.bounded.proofs.TableLaws.{length-table, getD-table, table-ext}
-use Rattle.octets.specs.Octets.{part, splice, copied}
+use Rattle.octets.specs.Octets.{part, splice, pasted}
 use Rattle.octets.proofs.PartLaws.{length-inside, getD-part, splice-append}
-use Rattle.layout.specs.Sizes.{mostStoreBlocks}
 use Rattle.layout.specs.Inode.{sizeOf, fileKind, isKind}
 use Rattle.layout.specs.Block.{blockAt, blockOf, blocksUsed, kthBlock}
 use Rattle.sound.specs.Sound.{Sound, inodesIn}
+use Rattle.sound.specs.declared.Form.the-variants.{Store}
 use Rattle.changes.proofs.StoreLaws.{kind-of, kind-dir, kind-size}
 use Rattle.content.specs.Fits.{byteAt, FileFits}
 use Rattle.content.specs.Content.{fileByte, fileBytes}
@@ -22,7 +22,7 @@ use Rattle.content.proofs.FileLaws.{Holds}
 
 -- ---- files that fit
 -- the first z bytes of an inode of a sound store
-pub file-fits : (s : List ℕ) (n : ℕ) → Sound mostStoreBlocks false s → n ≡ inodesIn s → (k i : ℕ) → isKind s n k i ≡ true → (z : ℕ) → z ≤ sizeOf s i → FileFits s n i z
+pub file-fits : (s : List ℕ) (n : ℕ) → Sound Store s → n ≡ inodesIn s → (k i : ℕ) → isKind s n k i ≡ true → (z : ℕ) → z ≤ sizeOf s i → FileFits s n i z
 unfolding blocksUsed
 file-fits s n h e k i t z l =
     let d = kind-dir s n h e k i t in
@@ -95,8 +95,8 @@ module _ (s : List ℕ) (n i : ℕ) where
     read-begin = refl
 
     pub read-turn : (j m : ℕ) → m ≤ 64 - (o + j) % 64 → byteAt s n i (o + j) + m ≤ length s
-        → copied (splice out 0 (fileBytes s n i o j)) j s (byteAt s n i (o + j)) m ≡ splice out 0 (fileBytes s n i o (j + m))
-    unfolding copied
+        → pasted (splice out 0 (fileBytes s n i o j)) j s (byteAt s n i (o + j)) m ≡ splice out 0 (fileBytes s n i o (j + m))
+    unfolding pasted
     read-turn j m h f =
         let q : j ≡ 0 + length (fileBytes s n i o j) = sym (zero-add (length (fileBytes s n i o j)) ∙ length-file o j) in
         rw (← file-run (o + j) m h f, file-join o j m)

@@ -11,15 +11,16 @@ use lib.Dec.{ltb}
 use lib.ListN.{length, getD, replicate, length-replicate, getD-replicate}
 use Rattle.bounded.specs.Search.{pick}
 use Rattle.bounded.proofs.TableLaws.{getD-table}
-use Rattle.layout.specs.Sizes.{addressCount, blockBytes, mostStoreBlocks}
+use Rattle.layout.specs.Sizes.{addressCount, blockBytes}
 use Rattle.layout.specs.declared.header.Header.{Header}
 use Rattle.layout.specs.declared.inode.Inode.{Inode}
 use Rattle.layout.specs.Header.{headerOf}
-use Rattle.layout.specs.Inode.{sizeOf, addressOf, addressesOf, inodeOf, place, putInode, fileKind, withBlocks}
+use Rattle.layout.specs.Inode.{sizeOf, addressOf, addressesOf, inodeOf, addressIndex, putInode, fileKind, withBlocks}
 use Rattle.layout.specs.Block.{blockAt, blockOf, blocksUsed, kthBlock, putInBlock}
 use Rattle.layout.proofs.ViewLaws.{inode-fits}
 use Rattle.directory.specs.Slot.{DirFits}
 use Rattle.sound.specs.Sound.{Sound, inodesIn, blocksIn}
+use Rattle.sound.specs.declared.Form.the-variants.{Store}
 use Rattle.changes.proofs.StoreLaws.{fits, dir-of, kind-some, kind-most, kind-is}
 use Rattle.changes.proofs.SameLaws.{SameFrame, SameInode, InBlock, frame-stays, frame-then, inode-stays, inode-then, put-in-block, in-block-out, in-block-in, put-inode, inode-new, inode-blocks, more-free}
 use Rattle.changes.proofs.KeepLaws.{Body, body-of}
@@ -33,7 +34,7 @@ use Rattle.content.proofs.PlanFacts.{shortens}
 
 -- ---- r is s with zeros past z in the block that z ends in
 pub record Trimmed (s r : List ℕ) (n i z : ℕ) : Type 0 where
-  pub sound : Sound mostStoreBlocks false r
+  pub sound : Sound Store r
   pub frame : SameFrame s r
   pub header : headerOf r ≡ headerOf s
   pub inodes : (j : ℕ) → 1 ≤ j → j ≤ n → SameInode s r n j
@@ -148,7 +149,7 @@ module _ (s : List ℕ) (n b i z : ℕ) (h : Holds s n b i z) where
 module _ (s : List ℕ) (n i k : ℕ) where
   kept : (j : ℕ) → j < addressCount → getD (keepFirst (addressesOf s n i) k) j 0 ≡ pick (ltb j k) (kthBlock s n i j) 0
   unfolding addressesOf kthBlock
-  kept j l = keep-at (addressesOf s n i) k j l ∙ ap (λ (x : ℕ). pick (ltb j k) x 0) (getD-table (λ a. addressOf s n (place i a)) 12 j l)
+  kept j l = keep-at (addressesOf s n i) k j l ∙ ap (λ (x : ℕ). pick (ltb j k) x 0) (getD-table (λ a. addressOf s n (addressIndex i a)) 12 j l)
 
   pub keep-below : (j : ℕ) → j < addressCount → j < k → getD (keepFirst (addressesOf s n i) k) j 0 ≡ kthBlock s n i j
   keep-below j l m = kept j l ∙ ap (λ (b : Bool). pick b (kthBlock s n i j) 0) (lt-ltb j k m)
@@ -200,7 +201,7 @@ module _ (s : List ℕ) (n b i z : ℕ) (h : Holds s n b i z) where
         free-blocks = d .free-blocks ∙ ap₂ (λ (x : Header) (y : ℕ). x .«free_blocks» + (blocksUsed y - blocksUsed z)) (g .header) (sym (o .size));
       }
 
-  pub cut-sound : Sound mostStoreBlocks false (cutTo s n i z)
+  pub cut-sound : Sound Store (cutTo s n i z)
   cut-sound =
       let a = trim in
       let o = a .inodes i (h .low) (h .high) in
@@ -208,8 +209,8 @@ module _ (s : List ℕ) (n b i z : ℕ) (h : Holds s n b i z) where
       cut-to (subst (λ (x : ℕ). blocksUsed z ≤ blocksUsed x) (sym (o .size)) (used-down s n b i z h)) (a .past)
 
 -- ---- the call
-pub shorten-sound : (s : List ℕ) (n b i z y : ℕ) → Sound mostStoreBlocks false s → n ≡ inodesIn s → b ≡ blocksIn s
-    → shortenPlan s n i z ≡ To y → Sound mostStoreBlocks false (shortened s n i y)
+pub shorten-sound : (s : List ℕ) (n b i z y : ℕ) → Sound Store s → n ≡ inodesIn s → b ≡ blocksIn s
+    → shortenPlan s n i z ≡ To y → Sound Store (shortened s n i y)
 shorten-sound s n b i z y h p q e =
     let w = shortens s n i z y e in
     let m = w .inside in

@@ -10,13 +10,14 @@ use lib.ListN.{length, getD, getD-replicate}
 use Rattle.bounded.specs.Search.{onFound}
 use Rattle.bounded.specs.declared.Found.{Found}
 use Rattle.bounded.specs.declared.Found.the-variants.{At}
-use Rattle.layout.specs.Sizes.{addressCount, blockBytes, mostStoreBlocks}
+use Rattle.layout.specs.Sizes.{addressCount, blockBytes}
 use Rattle.layout.specs.declared.header.Header.{Header}
 use Rattle.layout.specs.Header.{headerOf}
 use Rattle.layout.specs.Inode.{kindOf, linksOf, sizeOf, parentOf, inodeOf, freeKind, fileKind, isFile, withSize}
 use Rattle.layout.specs.Block.{blockOf, blocksUsed, kthBlock, putInBlock}
 use Rattle.layout.specs.Free.{freeBlock}
 use Rattle.sound.specs.Sound.{Sound, inodesIn, blocksIn}
+use Rattle.sound.specs.declared.Form.the-variants.{Store}
 use Rattle.changes.proofs.StoreLaws.{fits, dir-of, kind-some, kind-most, kind-is, kind-size}
 use Rattle.changes.proofs.SameLaws.{OtherInodes, SameFrame, SameBlock, InBlock, frame-stays, frame-then, inode-stays, inode-then, put-in-block, in-block-out, put-attributes, attributes-new, attributes-blocks}
 use Rattle.changes.proofs.KeepLaws.{body-of}
@@ -31,7 +32,7 @@ use Rattle.content.proofs.GrowLaws.{Grown, block-added, add-block-sound
 
 -- ---- m blocks more
 pub record Widened (s t : List ℕ) (n i m : ℕ) : Type 0 where
-  pub sound : Sound mostStoreBlocks false t
+  pub sound : Sound Store t
   pub frame : SameFrame s t
   pub others : OtherInodes s t n i
   pub kind : kindOf t i ≡ kindOf s i
@@ -52,7 +53,7 @@ widened-byte s t n i m w l h o a p =
     ap (λ (c : ℕ). getD (blockOf t n c) (o % 64) 0) (w .kept (o / 64) a (omega arith))
     ∙ ap (λ (c : List ℕ). getD c (o % 64) 0) (w .bytes i (o / 64) l h a (omega arith))
 
-widened-none : (s : List ℕ) (n i : ℕ) → Sound mostStoreBlocks false s → Widened s s n i 0
+widened-none : (s : List ℕ) (n i : ℕ) → Sound Store s → Widened s s n i 0
 widened-none s n i h = record {
   sound = h;
   frame = frame-stays s;
@@ -69,7 +70,7 @@ widened-none s n i h = record {
 }
 
 -- one block, and then m
-module _ (s r t : List ℕ) (n b i c m : ℕ) (h : Sound mostStoreBlocks false s) (x : n ≡ inodesIn s) (y : b ≡ blocksIn s)
+module _ (s r t : List ℕ) (n b i c m : ℕ) (h : Sound Store s) (x : n ≡ inodesIn s) (y : b ≡ blocksIn s)
     (l : 1 ≤ i) (q : i ≤ n) (v : kindOf s i ≢ freeKind) (u : blocksUsed (sizeOf s i) < addressCount) (w : FreeBlock s n b c) (g : Grown s r n i c) (e : Widened r t n i m) where
   used-more : blocksUsed (sizeOf r i) ≡ blocksUsed (sizeOf s i) + 1
   used-more = grown-used s r n i c g
@@ -121,7 +122,7 @@ module _ (s r t : List ℕ) (n b i c m : ℕ) (h : Sound mostStoreBlocks false s
 
 -- a sound store with m free blocks, and room for them in inode i
 pub record Spare (s : List ℕ) (n b i m : ℕ) : Type 0 where
-  pub sound : Sound mostStoreBlocks false s
+  pub sound : Sound Store s
   pub inodes : n ≡ inodesIn s
   pub blocks : b ≡ blocksIn s
   pub low : 1 ≤ i
@@ -130,7 +131,7 @@ pub record Spare (s : List ℕ) (n b i m : ℕ) : Type 0 where
   pub free : m ≤ headerOf s .«free_blocks»
   pub few : blocksUsed (sizeOf s i) + m ≤ addressCount
 
-pub spare-of : (s : List ℕ) (n b i m : ℕ) → Sound mostStoreBlocks false s → n ≡ inodesIn s → b ≡ blocksIn s → isFile s n i ≡ true → m ≤ headerOf s .«free_blocks» → blocksUsed (sizeOf s i) + m ≤ addressCount → Spare s n b i m
+pub spare-of : (s : List ℕ) (n b i m : ℕ) → Sound Store s → n ≡ inodesIn s → b ≡ blocksIn s → isFile s n i ≡ true → m ≤ headerOf s .«free_blocks» → blocksUsed (sizeOf s i) + m ≤ addressCount → Spare s n b i m
 spare-of s n b i m h x y f l u =
     let k = kind-is s n fileKind i f in
     record { sound = h; inodes = x; blocks = y; low = kind-some s n fileKind i f; high = kind-most s n fileKind i f; in-use = λ e. omega arith; free = l; few = u }
@@ -179,7 +180,7 @@ add-blocks zero s n b i h = unfold addBlocks in widened-none s n i (h .sound)
 add-blocks (suc m) s n b i h = widened-step s n b i m h (λ r. add-blocks m r n b i)
 
 -- ---- another size on the same blocks
-module _ (s : List ℕ) (n b i z : ℕ) (h : Sound mostStoreBlocks false s) (x : n ≡ inodesIn s) (y : b ≡ blocksIn s)
+module _ (s : List ℕ) (n b i z : ℕ) (h : Sound Store s) (x : n ≡ inodesIn s) (y : b ≡ blocksIn s)
     (l : 1 ≤ i) (q : i ≤ n) (u : blocksUsed z ≡ blocksUsed (sizeOf s i)) where
   pub put-size : Resized s (putSize s n i z) n i z
   unfolding putSize inodeOf kthBlock
@@ -204,7 +205,7 @@ module _ (s : List ℕ) (n b i z : ℕ) (h : Sound mostStoreBlocks false s) (x :
         free-blocks = ap (λ (d : Header). d .«free_blocks») (g .header) ∙ omega arith;
       }
 
-  pub put-size-sound : kindOf s i ≡ fileKind → ZeroPast s n i z → Sound mostStoreBlocks false (putSize s n i z)
+  pub put-size-sound : kindOf s i ≡ fileKind → ZeroPast s n i z → Sound Store (putSize s n i z)
   put-size-sound v w = resized-sound s (putSize s n i z) n b i z h x y l q v put-size (omega arith) w
 
 -- ---- one byte of a file
@@ -242,7 +243,7 @@ module _ (s : List ℕ) (n b i o v : ℕ) (h : Holds s n b i (suc o)) where
           ∙ in-block-out s n (kthBlock s n i k) (o % 64) (v ∷ []) (a % 64) (omega arith) (omega arith)
           ∙ ap (λ (d : ℕ). getD (blockOf s n (kthBlock s n i d)) (a % 64) 0) (sym z)
 
-  pub put-byte-sound : Sound mostStoreBlocks false after
+  pub put-byte-sound : Sound Store after
   put-byte-sound =
       content-sound s after n b i k (h .sound) (h .inodes) (h .blocks) (h .low) (h .high) (h .kind) used put-byte
       (λ a p q. let z = h .size in put-byte-other a q (λ e. omega arith) ∙ tail-past s n i (body-of s n b (h .sound) (h .inodes) (h .blocks) .inodes i (h .low) (h .high) .tail) (h .kind) a p q)
@@ -267,13 +268,13 @@ put-file-next v xs s n b i o h =
     let z = h .size in
     put-byte-holds s n b i o v (holds-less (suc o) (omega arith) h) (o + 1 + length xs) (omega arith)
 
-pub put-file-sound : (xs : List ℕ) (s : List ℕ) (n b i o : ℕ) → Holds s n b i (o + length xs) → Sound mostStoreBlocks false (putFile s n i o xs)
+pub put-file-sound : (xs : List ℕ) (s : List ℕ) (n b i o : ℕ) → Holds s n b i (o + length xs) → Sound Store (putFile s n i o xs)
 unfolding putFile
 put-file-sound [] s n b i o h = h .sound
 put-file-sound (v ∷ xs) s n b i o h = put-file-sound xs (oneByte s n i o v) n b i (o + 1) (put-file-next v xs s n b i o h)
 
 -- ---- the call
-module _ (s : List ℕ) (n b i o : ℕ) (xs : List ℕ) (z : ℕ) (h : Sound mostStoreBlocks false s) (x : n ≡ inodesIn s) (y : b ≡ blocksIn s) (w : Writes s n i o (length xs) z) where
+module _ (s : List ℕ) (n b i o : ℕ) (xs : List ℕ) (z : ℕ) (h : Sound Store s) (x : n ≡ inodesIn s) (y : b ≡ blocksIn s) (w : Writes s n i o (length xs) z) where
   low : 1 ≤ i
   low = kind-some s n fileKind i (w .file)
 
@@ -347,10 +348,10 @@ module _ (s : List ℕ) (n b i o : ℕ) (xs : List ℕ) (z : ℕ) (h : Sound mos
       }
 
   -- with the bytes
-  pub written-sound : Sound mostStoreBlocks false (written s n b i o xs z)
+  pub written-sound : Sound Store (written s n b i o xs z)
   unfolding written
   written-sound = put-file-sound xs sized n b i o sized-holds
 
-pub write-sound : (s : List ℕ) (n b i o : ℕ) (xs : List ℕ) (z : ℕ) → Sound mostStoreBlocks false s → n ≡ inodesIn s → b ≡ blocksIn s
-    → writePlan s n i o (length xs) ≡ To z → Sound mostStoreBlocks false (written s n b i o xs z)
+pub write-sound : (s : List ℕ) (n b i o : ℕ) (xs : List ℕ) (z : ℕ) → Sound Store s → n ≡ inodesIn s → b ≡ blocksIn s
+    → writePlan s n i o (length xs) ≡ To z → Sound Store (written s n b i o xs z)
 write-sound s n b i o xs z h x y e = written-sound s n b i o xs z h x y (writes s n i o (length xs) z e)

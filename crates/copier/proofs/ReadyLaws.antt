@@ -12,12 +12,12 @@ use Rattle.layout.specs.Sizes.{mostInodes, mostImageBlocks, addressCount}
 use Rattle.layout.specs.Inode.{addressOf}
 use Rattle.layout.specs.Block.{Sized}
 use Rattle.directory.specs.Slot.{DirFits}
-use Rattle.desk.specs.Sizes.{deskLength}
+use Rattle.desk.specs.Sizes.{deskLength, stepsAnInode}
 use Rattle.desk.specs.Desk.{deskOf}
 use Rattle.desk.specs.declared.Desk.{Desk}
 use Rattle.sound.specs.Sound.{inodesIn}
 use Rattle.changes.proofs.StoreLaws.{dir-of}
-use Rattle.checkpoint.specs.Fit.{isRunning, mostSteps, blocksFit, stepsAnInode, deskFits, imageFits}
+use Rattle.checkpoint.specs.Fit.{isRunning, mostSteps, blocksFit, deskFits, imageFits}
 use Rattle.checkpoint.specs.Shown.{world}
 use Rattle.checkpoint.specs.List.{Ready}
 use Rattle.checkpoint.proofs.Call.LiveLaws.{ready-sound}

@@ -20,7 +20,7 @@ use Rattle.desk.specs.declared.Desk.{Desk}
 use Rattle.answers.specs.declared.Answer.{Answer}
 use Rattle.answers.specs.declared.Answer.the-variants.{Done, Refused}
 use Rattle.answers.specs.declared.Refusal.the-variants.{ImageFull}
-use Rattle.checkpoint.specs.Image.{isNamed}
+use Rattle.checkpoint.specs.Image.{inodeNamed}
 use Rattle.checkpoint.specs.Notes.{isCopied}
 use Rattle.checkpoint.specs.Copier.{Step, lock, copy, close, finish, full, nextInode, targetBlock, unlinkedInode, finishImage, freeStep, lockedStep, stepOf, stepImage, stepDesk}
 use Rattle.checkpoint.specs.Live.{Outcome, left, doStep}
@@ -71,14 +71,14 @@ module _ (s m : List ℕ) (n b i k u : ℕ) (e : u ≡ blocksUsed (sizeOf s i)) 
 module _ (s m d : List ℕ) (n : ℕ) (h : Desk) (e : h ≡ deskOf d) where
   pub step-free : h .locked ≡ 0 → stepOf s m d n ≡ freeStep m d n
   unfolding stepOf
-  step-free q = ap (λ (t : Bool). pick t (freeStep m d n) (lockedStep s m n (deskOf d .blocks) (deskOf d .locked) (deskOf d .copied)))
+  step-free q = ap (λ (t : Bool). pick t (freeStep m d n) (lockedStep s m n (deskOf d .blocks) (deskOf d .locked) (deskOf d .progress)))
       (eq-eqb (deskOf d .locked) 0 (ap (λ (v : Desk). v .locked) (sym e) ∙ q))
 
-  pub step-locked : (h .locked ≡ 0 → ⊥) → stepOf s m d n ≡ lockedStep s m n (h .blocks) (h .locked) (h .copied)
+  pub step-locked : (h .locked ≡ 0 → ⊥) → stepOf s m d n ≡ lockedStep s m n (h .blocks) (h .locked) (h .progress)
   unfolding stepOf
-  step-locked q = ap (λ (t : Bool). pick t (freeStep m d n) (lockedStep s m n (deskOf d .blocks) (deskOf d .locked) (deskOf d .copied)))
+  step-locked q = ap (λ (t : Bool). pick t (freeStep m d n) (lockedStep s m n (deskOf d .blocks) (deskOf d .locked) (deskOf d .progress)))
       (ne-eqb (deskOf d .locked) 0 (λ z. q (ap (λ (v : Desk). v .locked) e ∙ z)))
-      ∙ ap (λ (v : Desk). lockedStep s m n (v .blocks) (v .locked) (v .copied)) (sym e)
+      ∙ ap (λ (v : Desk). lockedStep s m n (v .blocks) (v .locked) (v .progress)) (sym e)
 
 -- ---- what is left then
 pub same-left : (s : List ℕ) {r q : Answer} {m t d e : List ℕ} → r ≡ q → m ≡ t → d ≡ e → left r s m d ≡ left q s t e
@@ -103,8 +103,8 @@ module _ (d : List ℕ) (h next : Desk) (e : h ≡ deskOf d) where
   stop-done q t w = w ∙ ap (putDesk d) (q ∙ ap stopping e)
 
   module _ (m : List ℕ) (n : ℕ) (t : List ℕ) where
-    pub copy-done : (s a : List ℕ) (c : ℕ) → a ≡ stepImage s m d n (copy (h .locked) (h .copied) c) → next ≡ copyingOne h → t ≡ putDesk d next
-        → left (Done (next .steps)) s a t ≡ doStep s m d n (copy (h .locked) (h .copied) c)
+    pub copy-done : (s a : List ℕ) (c : ℕ) → a ≡ stepImage s m d n (copy (h .locked) (h .progress) c) → next ≡ copyingOne h → t ≡ putDesk d next
+        → left (Done (next .steps)) s a t ≡ doStep s m d n (copy (h .locked) (h .progress) c)
     copy-done s a c p q w = same-left s (rw (q, e)) p (w ∙ ap (putDesk d) (q ∙ ap copyingOne e))
 
     pub close-done : (s a u : List ℕ) (v : Inode) → v ≡ inodeOf s n (h .locked) → a ≡ putAttributes m (h .locked) (unlinkedInode v) → u ≡ putCopied d (h .locked) 1 → next ≡ unlocking h → t ≡ putDesk u next
@@ -119,7 +119,7 @@ module _ (d : List ℕ) (h next : Desk) (e : h ≡ deskOf d) where
 -- ---- the numbers that a search finds
 pub next-few : (m d : List ℕ) (n i : ℕ) (f : Found) → f ≡ nextInode m d n → f ≡ At i → i ≤ n
 unfolding nextInode
-next-few m d n i f g h = let l = found-lowest (λ i. not (isCopied d n i) && isNamed m n i) 1 n i (sym g ∙ h) .below in omega arith
+next-few m d n i f g h = let l = found-lowest (λ i. not (isCopied d n i) && inodeNamed m n i) 1 n i (sym g ∙ h) .below in omega arith
 
 pub target-inside : (m : List ℕ) (n b x c : ℕ) (f : Found) → Sized m n b → f ≡ targetBlock m n b x → f ≡ At c → (1 ≤ c) × (c ≤ mostImageBlocks) × (blockAt n c + blockBytes ≤ length m)
 target-inside m n b x c f z g h =

@@ -43,12 +43,12 @@ fn lock(d: &mut [u8], h: Desk, i: usize) -> Answer
 
 // 3: the next block of the locked inode goes to image block c.
 fn copy(s: &[u8], m: &mut [u8], d: &mut [u8], h: Desk, n: usize, c: usize) -> Answer
-    requires { ⌜ Held (now d) n h × DirFits (now s) n (h .locked) × (h .copied < blocksUsed (sizeOf (now s) (h .locked))) ⌝ }
+    requires { ⌜ Held (now d) n h × DirFits (now s) n (h .locked) × (h .progress < blocksUsed (sizeOf (now s) (h .locked))) ⌝ }
     requires { ⌜ (1 ≤ c) × (c ≤ mostImageBlocks) × (blockAt n c + blockBytes ≤ length (now m)) ⌝ }
-    ensures { λ r. ⌜ left r (now (s .entry)) (now (m .exit)) (now (d .exit)) ≡ doStep (now (s .entry)) (now (m .entry)) (now (d .entry)) n (copy (h .locked) (h .copied) c) ⌝ }
+    ensures { λ r. ⌜ left r (now (s .entry)) (now (m .exit)) (now (d .exit)) ≡ doStep (now (s .entry)) (now (m .entry)) (now (d .entry)) n (copy (h .locked) (h .progress) c) ⌝ }
 {
     let i = h.locked as usize;
-    let k = h.copied as usize;
+    let k = h.progress as usize;
     let o = block::block_at(n, c);
     transfer::copy_block(&mut m[o..o + BLOCK_BYTES], s, &*d, n, i, k);
     inode::put_address(&mut *m, n, ADDRESS_COUNT * (i - 1) + k, c as u16);
@@ -109,10 +109,10 @@ fn free_step(m: &mut [u8], d: &mut [u8], h: Desk, n: usize) -> Answer
 // An inode is locked.
 fn locked_step(s: &[u8], m: &mut [u8], d: &mut [u8], h: Desk, n: usize) -> Answer
     requires { ⌜ Held (now d) n h × DirFits (now s) n (h .locked) × Addressed (now m) n × Sized (now m) n (h .blocks) ⌝ }
-    ensures { λ r. ⌜ left r (now (s .entry)) (now (m .exit)) (now (d .exit)) ≡ doStep (now (s .entry)) (now (m .entry)) (now (d .entry)) n (lockedStep (now (s .entry)) (now (m .entry)) n (h .blocks) (h .locked) (h .copied)) ⌝ }
+    ensures { λ r. ⌜ left r (now (s .entry)) (now (m .exit)) (now (d .exit)) ≡ doStep (now (s .entry)) (now (m .entry)) (now (d .entry)) n (lockedStep (now (s .entry)) (now (m .entry)) n (h .blocks) (h .locked) (h .progress)) ⌝ }
 {
     let i = h.locked as usize;
-    let k = h.copied as usize;
+    let k = h.progress as usize;
     if block::blocks_used(inode::size(s, n, i) as usize) <= k {
         return close(s, &mut *m, &mut *d, h, n);
     }

@@ -13,15 +13,13 @@ ghost use Rattle.checkpoint.specs.Live.{left, started, start};
 ghost use Rattle.checkpoint.specs.Shown.{shown};
 use answers::Answer;
 use answers::Refusal;
-use checker::check;
 use desk::Desk;
 use desk::RUNNING;
 use files::Guard;
 use guards::fit;
-use guards::fit::NOT_COMPLETE;
 use guards::three;
 use layout::header::Header;
-use layout::sizes::MOST_STORE_BLOCKS;
+use layout::sizes::NOT_COMPLETE;
 use layout::sizes::ROOT;
 
 // The header of an empty image of n inodes and b blocks, and zeros.
@@ -70,18 +68,8 @@ fn begin(n: usize, m: &mut [u8], d: &mut [u8]) -> Answer
 pub fn start(store: &[u8], image: &mut [u8], desk: &mut [u8]) -> Answer
     ensures { λ r. ⌜ shown (left r (now (store .entry)) (now (image .exit)) (now (desk .exit))) ≡ shown (start (now (store .entry)) (now (image .entry)) (now (desk .entry))) ⌝ }
 {
-    if !check::framed(store, MOST_STORE_BLOCKS) {
-        return Answer::Refused(Refusal::BadBuffer);
-    }
-    if !fit::desk_framed(&*desk) {
-        return Answer::Refused(Refusal::BadBuffer);
-    }
-    let n = octets::get_16(store, 0) as usize;
-    if !fit::image_allowed(n, image.len()) {
-        return Answer::Refused(Refusal::BadBuffer);
-    }
-    match three::after_lengths(store, &*image, &*desk) {
-        Guard::Pass(_, _) => begin(n, &mut *image, &mut *desk),
+    match three::start_guards(store, &*image, &*desk) {
+        Guard::Pass(n, _) => begin(n, &mut *image, &mut *desk),
         Guard::Stop(why) => Answer::Refused(why),
     }
 }

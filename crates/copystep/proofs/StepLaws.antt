@@ -11,19 +11,19 @@ use Rattle.desk.specs.Sizes.{deskHeaderBytes, running}
 use Rattle.desk.specs.declared.Desk.{Desk}
 use Rattle.desk.specs.Desk.{deskOf}
 use Rattle.bounded.proofs.BoolLaws.{and-left}
-use Rattle.sound.specs.Sound.{framedB, soundB, inodesIn}
+use Rattle.sound.specs.Sound.{inodesIn}
 use Rattle.sound.specs.declared.Form.the-variants.{Store}
 use Rattle.answers.specs.declared.Refusal.{Refusal}
 use Rattle.answers.specs.declared.Refusal.the-variants.{WrongState}
 use Rattle.files.specs.declared.Guard.{Guard}
 use Rattle.files.specs.declared.Guard.the-variants.{Pass, Stop}
-use Rattle.layout.specs.Sizes.{mostStoreBlocks}
 use Rattle.sound.proofs.SoundLaws.{is-sound}
-use Rattle.guards.proofs.GuardLaws.{passed}
+use Rattle.sound.specs.Test.{framedB, isSound}
+use Rattle.guards.proofs.GuardLaws.{passed, desk-passed}
 use Rattle.checkpoint.proofs.Copy.FitLaws.{desk-framed-is}
 use Rattle.checkpoint.specs.Fit.{isRunning}
 use Rattle.checkpoint.specs.Copier.{stepOf}
-use Rattle.checkpoint.specs.Live.{Outcome, refuse, threeGuards, guarded, doStep, step}
+use Rattle.checkpoint.specs.Live.{Outcome, refuse, threeGuards, doStep, step}
 use Rattle.checkpoint.specs.Shown.{world, shown}
 use Rattle.checkpoint.specs.List.{Ready}
 
@@ -49,11 +49,11 @@ module _ (s m d : List ℕ) where
 
   module _ (w : Guard) (e : w ≡ threeGuards s m d) where
     pub step-stopped : (x : Refusal) → w ≡ Stop x → shown (refuse x s m d) ≡ shown (step s m d)
-    unfolding step guarded
+    unfolding step
     step-stopped x q = let z = sym e ∙ q in rw z
 
     pub step-through : (n b : ℕ) (o : Outcome) → w ≡ Pass n b → o ≡ goesOn n → shown o ≡ shown (step s m d)
-    unfolding step guarded
+    unfolding step
     step-through n b o q r =
         let z = sym e ∙ q in
         let p = passed s m d n b z in
@@ -61,11 +61,11 @@ module _ (s m d : List ℕ) where
 
   -- the guards let it through
   pub step-ready : (n b : ℕ) → threeGuards s m d ≡ Pass n b → Ready (world s m d) × (n ≡ inodesIn s)
-  unfolding soundB
+  unfolding isSound
   step-ready n b q =
       let p = passed s m d n b q in
       let k = is-sound Store s .from (p .sound) in
-      (record { framed = and-left (framedB mostStoreBlocks s) _ k; sound = k; desk = p .desk; notes = p .notes }, p .inodes)
+      (record { framed = and-left (framedB Store s) _ k; sound = k; desk = desk-passed p; notes = p .notes }, p .inodes)
 
   pub ready-long : Ready (world s m d) → deskHeaderBytes ≤ length d
   ready-long r = let e = desk-framed-is d .to (r .desk) .1 .1 in omega arith

@@ -6,14 +6,22 @@ use mathlib.Core.List.{List}
 use mathlib.Core.Logic.{_≢_}
 use native.Mathlib.Omega.{arith}
 use lib.ListN.{length, replicate, getD-replicate, length-replicate}
+use Rattle.bounded.specs.Reflect.{Reflects}
+use Rattle.bounded.proofs.ReflectLaws.{r-and, r-le, r-eq}
 use Rattle.octets.specs.Octets.{splice, Apart, numAt, toBytes, putNum, zeroed}
 use Rattle.octets.proofs.PartLaws.{length-zeroed}
 use Rattle.octets.proofs.NumLaws.{num-apart, num-in, zero-num, length-num, num-same, num-other, num-twice, num-comm}
 use Rattle.marks.specs.Mark.{marked, withMark, withoutMark}
 use Rattle.marks.proofs.MarkLaws.{with-same, with-other, without-same, without-other, mark-none}
-use Rattle.desk.specs.Sizes.{deskHeaderBytes, deskInodeBytes, markBytes, deskLength, copiedAt, marksAt}
-use Rattle.desk.specs.Desk.{deskOf, putDesk, reservedZero, copiedOf, putCopied, marksOf, putMarks, markOf, setMark, clearMark, clearNotes}
+use Rattle.layout.specs.Sizes.{mostInodes}
+use Rattle.desk.specs.Sizes.{deskHeaderBytes, deskInodeBytes, markBytes, deskLength, deskAllowed, copiedAt, marksAt}
+use Rattle.desk.specs.Desk.{deskOf, putDesk, deskRestZero, copiedOf, putCopied, marksOf, putMarks, markOf, setMark, clearMark, clearNotes}
 use Rattle.desk.specs.declared.Desk.{Desk}
+
+-- what the test of a desk's length says
+pub desk-allowed : (n k : ℕ) → Reflects (deskAllowed n k) ((1 ≤ n) × ((n ≤ mostInodes) × (k ≡ deskLength n)))
+unfolding deskAllowed
+desk-allowed n k = r-and (r-le 1 n) (r-and (r-le n mostInodes) (r-eq k (deskLength n)))
 
 -- ---- lengths
 pub length-putDesk : (d : List ℕ) (h : Desk) → length (putDesk d h) ≡ length d
@@ -53,39 +61,39 @@ within o k p m q l h a b = omega arith
 
 -- ---- one field written over a header
 module _ (d : List ℕ) (h : Desk) (v : ℕ) where
-  over-inodes : putNum 2 (putDesk d h) 0 v ≡ putDesk d (record { inodes = v; blocks = h .blocks; state = h .state; locked = h .locked; copied = h .copied; steps = h .steps })
+  over-inodes : putNum 2 (putDesk d h) 0 v ≡ putDesk d (record { inodes = v; blocks = h .blocks; state = h .state; locked = h .locked; progress = h .progress; steps = h .steps })
   unfolding putDesk
   over-inodes =
       rw (swap 4 2 12 0 (omega arith), swap 2 2 8 0 (omega arith), swap 2 2 6 0 (omega arith), swap 1 2 4 0 (omega arith), swap 2 2 2 0 (omega arith), num-twice)
 
-  over-blocks : putNum 2 (putDesk d h) 2 v ≡ putDesk d (record { inodes = h .inodes; blocks = v; state = h .state; locked = h .locked; copied = h .copied; steps = h .steps })
+  over-blocks : putNum 2 (putDesk d h) 2 v ≡ putDesk d (record { inodes = h .inodes; blocks = v; state = h .state; locked = h .locked; progress = h .progress; steps = h .steps })
   unfolding putDesk
   over-blocks =
       rw (swap 4 2 12 2 (omega arith), swap 2 2 8 2 (omega arith), swap 2 2 6 2 (omega arith), swap 1 2 4 2 (omega arith), num-twice)
 
-  over-state : putNum 1 (putDesk d h) 4 v ≡ putDesk d (record { inodes = h .inodes; blocks = h .blocks; state = v; locked = h .locked; copied = h .copied; steps = h .steps })
+  over-state : putNum 1 (putDesk d h) 4 v ≡ putDesk d (record { inodes = h .inodes; blocks = h .blocks; state = v; locked = h .locked; progress = h .progress; steps = h .steps })
   unfolding putDesk
   over-state = rw (swap 4 1 12 4 (omega arith), swap 2 1 8 4 (omega arith), swap 2 1 6 4 (omega arith), num-twice)
 
-  over-locked : putNum 2 (putDesk d h) 6 v ≡ putDesk d (record { inodes = h .inodes; blocks = h .blocks; state = h .state; locked = v; copied = h .copied; steps = h .steps })
+  over-locked : putNum 2 (putDesk d h) 6 v ≡ putDesk d (record { inodes = h .inodes; blocks = h .blocks; state = h .state; locked = v; progress = h .progress; steps = h .steps })
   unfolding putDesk
   over-locked = rw (swap 4 2 12 6 (omega arith), swap 2 2 8 6 (omega arith), num-twice)
 
-  over-copied : putNum 2 (putDesk d h) 8 v ≡ putDesk d (record { inodes = h .inodes; blocks = h .blocks; state = h .state; locked = h .locked; copied = v; steps = h .steps })
+  over-progress : putNum 2 (putDesk d h) 8 v ≡ putDesk d (record { inodes = h .inodes; blocks = h .blocks; state = h .state; locked = h .locked; progress = v; steps = h .steps })
   unfolding putDesk
-  over-copied = rw (swap 4 2 12 8 (omega arith), num-twice)
+  over-progress = rw (swap 4 2 12 8 (omega arith), num-twice)
 
-  over-steps : putNum 4 (putDesk d h) 12 v ≡ putDesk d (record { inodes = h .inodes; blocks = h .blocks; state = h .state; locked = h .locked; copied = h .copied; steps = v })
+  over-steps : putNum 4 (putDesk d h) 12 v ≡ putDesk d (record { inodes = h .inodes; blocks = h .blocks; state = h .state; locked = h .locked; progress = h .progress; steps = v })
   unfolding putDesk
   over-steps = rw num-twice
 
-fields : (s : List ℕ) (h : Desk) → putDesk s h ≡ putNum 4 (putNum 2 (putNum 2 (putNum 1 (putNum 2 (putNum 2 s 0 (h .inodes)) 2 (h .blocks)) 4 (h .state)) 6 (h .locked)) 8 (h .copied)) 12 (h .steps)
+fields : (s : List ℕ) (h : Desk) → putDesk s h ≡ putNum 4 (putNum 2 (putNum 2 (putNum 1 (putNum 2 (putNum 2 s 0 (h .inodes)) 2 (h .blocks)) 4 (h .state)) 6 (h .locked)) 8 (h .progress)) 12 (h .steps)
 unfolding putDesk
 fields s h = refl
 
 pub putDesk-twice : (d : List ℕ) (h k : Desk) → putDesk (putDesk d h) k ≡ putDesk d k
 putDesk-twice d h k =
-    rw (fields (putDesk d h) k, over-inodes, over-blocks, over-state, over-locked, over-copied, over-steps)
+    rw (fields (putDesk d h) k, over-inodes, over-blocks, over-state, over-locked, over-progress, over-steps)
 
 -- ---- a header is read back
 desk-field : (k : ℕ) (s : List ℕ) (o v : ℕ) → 0 < k → o + k ≤ length s → putNum k s o v ≡ s → numAt k s o ≡ v
@@ -100,7 +108,7 @@ desk-putDesk d h f =
       blocks = desk-field 2 (putDesk d h) 2 (h .blocks) (omega arith) (omega arith) (over-blocks d h (h .blocks)) i;
       state = desk-field 1 (putDesk d h) 4 (h .state) (omega arith) (omega arith) (over-state d h (h .state)) i;
       locked = desk-field 2 (putDesk d h) 6 (h .locked) (omega arith) (omega arith) (over-locked d h (h .locked)) i;
-      copied = desk-field 2 (putDesk d h) 8 (h .copied) (omega arith) (omega arith) (over-copied d h (h .copied)) i;
+      progress = desk-field 2 (putDesk d h) 8 (h .progress) (omega arith) (omega arith) (over-progress d h (h .progress)) i;
       steps = desk-field 4 (putDesk d h) 12 (h .steps) (omega arith) (omega arith) (over-steps d h (h .steps)) i;
     }
 
@@ -117,8 +125,8 @@ beside d h k o a b c =
       off k 2 o 0 (within o k 0 5 0 2 a (omega arith) (omega arith)),
     )
 
-pub reserved-putDesk : (d : List ℕ) (h : Desk) → reservedZero (putDesk d h) ≡ reservedZero d
-unfolding reservedZero
+pub reserved-putDesk : (d : List ℕ) (h : Desk) → deskRestZero (putDesk d h) ≡ deskRestZero d
+unfolding deskRestZero
 reserved-putDesk d h = rw (beside d h 1 5 (omega arith) (omega arith) (omega arith), beside d h 2 10 (omega arith) (omega arith) (omega arith))
 
 pub copied-putDesk : (d : List ℕ) (h : Desk) (i : ℕ) → copiedOf (putDesk d h) i ≡ copiedOf d i
@@ -147,8 +155,8 @@ module _ (d : List ℕ) (p : ℕ) (xs : List ℕ) (past : deskHeaderBytes ≤ p)
         num-apart 4 d 12 p xs (omega arith),
       )
 
-  reserved-past : reservedZero (splice d p xs) ≡ reservedZero d
-  unfolding reservedZero
+  reserved-past : deskRestZero (splice d p xs) ≡ deskRestZero d
+  unfolding deskRestZero
   reserved-past = rw (num-apart 1 d 5 p xs (omega arith), num-apart 2 d 10 p xs (omega arith))
 
 -- a header written before or after it
@@ -177,23 +185,23 @@ pub desk-clearNotes : (d : List ℕ) (n : ℕ) → deskOf (clearNotes d n) ≡ d
 unfolding clearNotes zeroed
 desk-clearNotes d n = desk-past d deskHeaderBytes (replicate (deskInodeBytes * n) 0) (omega arith)
 
-pub reserved-putCopied : (d : List ℕ) (i v : ℕ) → reservedZero (putCopied d i v) ≡ reservedZero d
+pub reserved-putCopied : (d : List ℕ) (i v : ℕ) → deskRestZero (putCopied d i v) ≡ deskRestZero d
 unfolding putCopied putNum
 reserved-putCopied d i v = reserved-past d (copiedAt i) (toBytes 1 v) (omega arith)
 
-pub reserved-putMarks : (d : List ℕ) (n i w : ℕ) → reservedZero (putMarks d n i w) ≡ reservedZero d
+pub reserved-putMarks : (d : List ℕ) (n i w : ℕ) → deskRestZero (putMarks d n i w) ≡ deskRestZero d
 unfolding putMarks putNum
 reserved-putMarks d n i w = reserved-past d (marksAt n i) (toBytes 8 w) (omega arith)
 
-pub reserved-setMark : (d : List ℕ) (n i t : ℕ) → reservedZero (setMark d n i t) ≡ reservedZero d
+pub reserved-setMark : (d : List ℕ) (n i t : ℕ) → deskRestZero (setMark d n i t) ≡ deskRestZero d
 unfolding setMark
 reserved-setMark d n i t = reserved-putMarks d n i (withMark (marksOf d n i) t)
 
-pub reserved-clearMark : (d : List ℕ) (n i t : ℕ) → reservedZero (clearMark d n i t) ≡ reservedZero d
+pub reserved-clearMark : (d : List ℕ) (n i t : ℕ) → deskRestZero (clearMark d n i t) ≡ deskRestZero d
 unfolding clearMark
 reserved-clearMark d n i t = reserved-putMarks d n i (withoutMark (marksOf d n i) t)
 
-pub reserved-clearNotes : (d : List ℕ) (n : ℕ) → reservedZero (clearNotes d n) ≡ reservedZero d
+pub reserved-clearNotes : (d : List ℕ) (n : ℕ) → deskRestZero (clearNotes d n) ≡ deskRestZero d
 unfolding clearNotes zeroed
 reserved-clearNotes d n = reserved-past d deskHeaderBytes (replicate (deskInodeBytes * n) 0) (omega arith)
 

@@ -15,18 +15,18 @@ deskOf d = record {
   blocks = numAt 2 d 2;
   state = numAt 1 d 4;
   locked = numAt 2 d 6;
-  copied = numAt 2 d 8;
+  progress = numAt 2 d 8;
   steps = numAt 4 d 12;
 }
 
 -- bytes 5, 10 and 11 stay
 unfoldable pub putDesk : List ℕ → Desk → List ℕ
 putDesk d h =
-    putNum 4 (putNum 2 (putNum 2 (putNum 1 (putNum 2 (putNum 2 d 0 (h .inodes)) 2 (h .blocks)) 4 (h .state)) 6 (h .locked)) 8 (h .copied)) 12 (h .steps)
+    putNum 4 (putNum 2 (putNum 2 (putNum 1 (putNum 2 (putNum 2 d 0 (h .inodes)) 2 (h .blocks)) 4 (h .state)) 6 (h .locked)) 8 (h .progress)) 12 (h .steps)
 
 -- "the rest 0": bytes 5, 10 and 11
-unfoldable pub reservedZero : List ℕ → Bool
-reservedZero d = eqb (numAt 1 d 5) 0 && eqb (numAt 2 d 10) 0
+unfoldable pub deskRestZero : List ℕ → Bool
+deskRestZero d = eqb (numAt 1 d 5) 0 && eqb (numAt 2 d 10) 0
 
 -- the copied byte of inode i
 unfoldable pub copiedOf : List ℕ → ℕ → ℕ

@@ -1,5 +1,8 @@
 -- "Desk, 16 + 9 × N bytes"
 use Prim.Native.Nat.{ℕ, _+_, _*_, _-_}
+use mathlib.Core.Bool.{Bool, _&&_}
+use lib.Dec.{eqb, leb}
+use Rattle.layout.specs.Sizes.{mostInodes, mostBlocks}
 
 abbrev pub deskHeaderBytes : ℕ
 deskHeaderBytes = 16
@@ -13,6 +16,14 @@ markBytes = 8
 
 abbrev pub deskLength : ℕ → ℕ
 deskLength n = deskHeaderBytes + deskInodeBytes * n
+
+-- what refusal 1 asks of a desk: N is 1 to 256, and the length k is its own
+unfoldable pub deskAllowed : ℕ → ℕ → Bool
+deskAllowed n k = leb 1 n && (leb n mostInodes && eqb k (deskLength n))
+
+-- "steps above 14 × N + 1": a lock, a step for each block and a close
+abbrev pub stepsAnInode : ℕ
+stepsAnInode = mostBlocks + 2
 
 -- "Then N copied bytes (0 or 1) and, in parallel, N 8-byte mark words": where those of inode i stand
 abbrev pub copiedAt : ℕ → ℕ

@@ -2,15 +2,21 @@
 ghost use mathlib.Core.Path.{_≡_};
 ghost use Prim.Native.Nat.{_+_, _<_, _≤_};
 ghost use lib.ListN.{length};
-ghost use Rattle.desk.specs.Sizes.{deskHeaderBytes, deskLength};
-ghost use Rattle.desk.specs.Desk.{deskOf, putDesk, reservedZero, copiedOf, putCopied, marksOf, putMarks, markOf, setMark, clearMark, clearNotes};
+ghost use Rattle.desk.specs.Sizes.{deskHeaderBytes, deskLength, deskAllowed};
+ghost use Rattle.desk.specs.Desk.{deskOf, putDesk, deskRestZero, copiedOf, putCopied, marksOf, putMarks, markOf, setMark, clearMark, clearNotes};
 ghost use Rattle.desk.specs.Next.{starting, locking, copyingOne, unlocking, finishing, stopping};
+
+use layout::sizes::MOST_BLOCKS;
+use layout::sizes::MOST_INODES;
 
 pub const DESK_HEADER_BYTES: usize = 16;
 
 pub const DESK_INODE_BYTES: usize = 9;
 
 const MARK_BYTES: usize = 8;
+
+// A copy has at most so many steps for each inode, and one more: a lock, its blocks and a close.
+pub const STEPS_AN_INODE: u32 = (MOST_BLOCKS + 2) as u32;
 
 pub const IDLE: u8 = 0;
 
@@ -20,12 +26,25 @@ pub const FINISHED: u8 = 2;
 
 pub const STOPPED: u8 = 3;
 
+// A desk for n inodes may be k bytes long.
+pub fn allowed(n: usize, k: usize) -> bool
+    ensures { λ r. ⌜ r ≡ deskAllowed n k ⌝ }
+{
+    if n < 1 {
+        return false;
+    }
+    if MOST_INODES < n {
+        return false;
+    }
+    k == DESK_HEADER_BYTES + DESK_INODE_BYTES * n
+}
+
 pub struct Desk {
     pub inodes: u16,
     pub blocks: u16,
     pub state: u8,
     pub locked: u16,
-    pub copied: u16,
+    pub progress: u16,
     pub steps: u32,
 }
 
@@ -39,7 +58,7 @@ impl Desk {
             blocks: octets::get_16(d, 2),
             state: octets::get_8(d, 4),
             locked: octets::get_16(d, 6),
-            copied: octets::get_16(d, 8),
+            progress: octets::get_16(d, 8),
             steps: octets::get_32(d, 12),
         }
     }
@@ -52,7 +71,7 @@ impl Desk {
         octets::put_16(&mut *d, 2, self.blocks);
         octets::put_8(&mut *d, 4, self.state);
         octets::put_16(&mut *d, 6, self.locked);
-        octets::put_16(&mut *d, 8, self.copied);
+        octets::put_16(&mut *d, 8, self.progress);
         octets::put_32(&mut *d, 12, self.steps);
     }
 
@@ -70,16 +89,16 @@ impl Desk {
         ensures { λ r. ⌜ r ≡ locking self i ⌝ }
     {
         self.locked = i;
-        self.copied = 0;
+        self.progress = 0;
         self.steps += 1;
         self
     }
 
     pub fn copied_one_more(mut self) -> Desk
-        requires { ⌜ (self .copied + 1 < 65536) × (self .steps + 1 < 4294967296) ⌝ }
+        requires { ⌜ (self .progress + 1 < 65536) × (self .steps + 1 < 4294967296) ⌝ }
         ensures { λ r. ⌜ r ≡ copyingOne self ⌝ }
     {
-        self.copied += 1;
+        self.progress += 1;
         self.steps += 1;
         self
     }
@@ -89,7 +108,7 @@ impl Desk {
         ensures { λ r. ⌜ r ≡ unlocking self ⌝ }
     {
         self.locked = 0;
-        self.copied = 0;
+        self.progress = 0;
         self.steps += 1;
         self
     }
@@ -108,7 +127,7 @@ impl Desk {
     {
         self.state = STOPPED;
         self.locked = 0;
-        self.copied = 0;
+        self.progress = 0;
         self
     }
 }
@@ -116,7 +135,7 @@ impl Desk {
 // The bytes of the header that no field takes are 0.
 pub fn reserved_zero(d: &[u8]) -> bool
     requires { ⌜ deskHeaderBytes ≤ length (now d) ⌝ }
-    ensures { λ r. ⌜ r ≡ reservedZero (now (d .entry)) ⌝ }
+    ensures { λ r. ⌜ r ≡ deskRestZero (now (d .entry)) ⌝ }
 {
     octets::get_8(d, 5) == 0 && octets::get_16(d, 10) == 0
 }

@@ -12,7 +12,7 @@ use Rattle.bounded.specs.declared.Found.the-variants.{At, Absent}
 use Rattle.bounded.proofs.SearchLaws.{Lowest, found-lowest, none-below, first-begin, first-end, first-ext, first-skip, first-hit, first-shift}
 use Rattle.octets.specs.Octets.{Octets, part, splice, Apart}
 use Rattle.octets.proofs.PartLaws.{length-splice, cut, part-part, part-apart, part-same}
-use Rattle.layout.specs.Inode.{sizeOf, place}
+use Rattle.layout.specs.Inode.{sizeOf, addressIndex}
 use Rattle.layout.specs.Block.{blockAt, blocksUsed, kthBlock, putInBlock}
 use Rattle.layout.proofs.View.{viewOf, overlay, withContent}
 use Rattle.layout.proofs.FrameLaws.{size-apart, address-apart}
@@ -20,7 +20,7 @@ use Rattle.layout.proofs.ViewLaws.{inode-fits, view-in-block}
 use Rattle.names.specs.declared.Name.{Name}
 use Rattle.names.specs.Entry.{isEmpty, sameName, entryFor, wordsAt, sameWords}
 use Rattle.names.proofs.EntryLaws.{same-words, octets-part, length-entry}
-use Rattle.directory.specs.Slot.{mostSlots, slots, slotAt, entryOf, slotNamed, findSlot, slotEmpty, emptySlot, putEntry, clearEntry, BlockFits, DirFits}
+use Rattle.directory.specs.Slot.{mostSlots, slots, slotAt, entryOf, slotHasName, findSlot, slotEmpty, emptySlot, putEntry, clearEntry, BlockFits, DirFits}
 
 -- ---- where slots lie
 pub slot-low : (s : List ℕ) (n d t : ℕ) → 16 + 32 * n ≤ slotAt s n d t
@@ -61,19 +61,19 @@ apart-slots s n d t e u p q r = apart-in-block s n d t e u (cc) (λ m. r (omega 
 -- ---- searches
 -- what a search that ended says
 module _ (s : List ℕ) (n d : ℕ) (name : List ℕ) where
-  pub find-lowest : (t : ℕ) → findSlot s n d name ≡ At t → Lowest (slotNamed s n d name) 0 (slots s d) t
+  pub find-lowest : (t : ℕ) → findSlot s n d name ≡ At t → Lowest (slotHasName s n d name) 0 (slots s d) t
   unfolding findSlot first
-  find-lowest t e = found-lowest (slotNamed s n d name) 0 (slots s d) t e
+  find-lowest t e = found-lowest (slotHasName s n d name) 0 (slots s d) t e
 
   pub find-below : (t : ℕ) → findSlot s n d name ≡ At t → t < slots s d
   find-below t e = let l = find-lowest t e in omega arith
 
   pub find-named : (t : ℕ) → findSlot s n d name ≡ At t → sameName (entryOf s n d t) name ≡ true
-  find-named t e = unfold slotNamed in find-lowest t e .holds
+  find-named t e = unfold slotHasName in find-lowest t e .holds
 
-  pub find-absent : findSlot s n d name ≡ Absent → (t : ℕ) → t < slots s d → slotNamed s n d name t ≡ false
+  pub find-absent : findSlot s n d name ≡ Absent → (t : ℕ) → t < slots s d → slotHasName s n d name t ≡ false
   unfolding findSlot first
-  find-absent e t l = none-below (slotNamed s n d name) 0 (slots s d) e t (omega arith) (omega arith)
+  find-absent e t l = none-below (slotHasName s n d name) 0 (slots s d) e t (omega arith) (omega arith)
 
 module _ (s : List ℕ) (n d : ℕ) where
   pub empty-lowest : (t : ℕ) → emptySlot s n d ≡ At t → Lowest (slotEmpty s n d) 0 (slots s d) t
@@ -148,9 +148,9 @@ abbrev pub wordsTest : Name → List ℕ → Bool
 wordsTest w e = sameWords (wordsAt e 2) w
 
 find-words : (s : List ℕ) (n d : ℕ) (name : List ℕ) → Octets s → Octets name → findSlot s n d name ≡ first (λ t. wordsTest (wordsAt name 0) (entryOf s n d t)) (slots s d)
-unfolding findSlot first slotNamed entryOf
+unfolding findSlot first slotHasName entryOf
 find-words s n d name hs hn =
-    first-ext (slotNamed s n d name) (λ t. wordsTest (wordsAt name 0) (entryOf s n d t)) 0 (slots s d)
+    first-ext (slotHasName s n d name) (λ t. wordsTest (wordsAt name 0) (entryOf s n d t)) 0 (slots s d)
     (λ t a b. sym (same-words (entryOf s n d t) name (octets-part s (slotAt s n d t) 16 hs) hn))
 
 pub find-blocks : (s : List ℕ) (n d : ℕ) (name : List ℕ) (w : Name) → Octets s → Octets name → w ≡ wordsAt name 0 → findSlot s n d name ≡ fromBlock (wordsTest w) s n d 0
@@ -175,7 +175,7 @@ module _ (s : List ℕ) (n p : ℕ) (xs : List ℕ) (h : 16 + 32 * n ≤ p) wher
 
     pub block-past : (k : ℕ) → k < 12 → kthBlock (splice s p xs) n e k ≡ kthBlock s n e k
     unfolding kthBlock
-    block-past k b = address-apart s p xs n (place e k) (omega arith)
+    block-past k b = address-apart s p xs n (addressIndex e k) (omega arith)
 
     pub slot-past : (u : ℕ) → u < 48 → slotAt (splice s p xs) n e u ≡ slotAt s n e u
     unfolding slotAt

@@ -17,7 +17,7 @@ slotsInBlock = 4
 
 -- "Slots of a directory are counted from 0, at most 48."
 abbrev pub mostSlots : ℕ
-mostSlots = 48
+mostSlots = slotsInBlock * mostDirectoryBlocks
 
 -- the slots inside of a directory's size
 unfoldable pub slots : List ℕ → ℕ → ℕ
@@ -36,12 +36,12 @@ abbrev pub inodeAt : List ℕ → ℕ → ℕ → ℕ → ℕ
 inodeAt s n d t = entryInode (entryOf s n d t)
 
 -- slot t has the name
-unfoldable pub slotNamed : List ℕ → ℕ → ℕ → List ℕ → ℕ → Bool
-slotNamed s n d name t = sameName (entryOf s n d t) name
+unfoldable pub slotHasName : List ℕ → ℕ → ℕ → List ℕ → ℕ → Bool
+slotHasName s n d name t = sameName (entryOf s n d t) name
 
 -- the slot of the name
 unfoldable pub findSlot : List ℕ → ℕ → ℕ → List ℕ → Found
-findSlot s n d name = first (slotNamed s n d name) (slots s d)
+findSlot s n d name = first (slotHasName s n d name) (slots s d)
 
 -- slot t is empty
 unfoldable pub slotEmpty : List ℕ → ℕ → ℕ → ℕ → Bool

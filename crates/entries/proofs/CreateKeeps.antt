@@ -7,7 +7,7 @@ use native.Mathlib.Omega.{arith}
 use lib.ListN.{replicate}
 use Rattle.bounded.specs.declared.Found.the-variants.{At, Absent}
 use Rattle.bounded.proofs.BoolLaws.{fails}
-use Rattle.layout.specs.Sizes.{mostStoreBlocks, addressCount}
+use Rattle.layout.specs.Sizes.{addressCount}
 use Rattle.layout.specs.Header.{headerOf, lessFree}
 use Rattle.layout.specs.declared.header.Header.{Header}
 use Rattle.layout.specs.declared.inode.Inode.{Inode}
@@ -20,6 +20,7 @@ use Rattle.directory.specs.Slot.{mostSlots, slots, findSlot, slotEmpty, putEntr
 use Rattle.sound.specs.Place.{dirOf, filled, placeOf}
 use Rattle.sound.specs.Sound.{Sound, inodesIn, blocksIn}
 use Rattle.sound.proofs.PlaceLaws.{slot-is, filled-is, place-dir}
+use Rattle.sound.specs.declared.Form.the-variants.{Store}
 use Rattle.changes.proofs.SameLaws.{OtherInodes, NewInode, frame-then, inode-then, InCounts, less-free}
 use Rattle.changes.proofs.StoreLaws.{fits}
 use Rattle.changes.proofs.FreeLaws.{free-inode}
@@ -65,7 +66,7 @@ pub new-parent : (k : Kind) (d : ℕ) → newInode k d .kind ≡ directoryKind �
 new-parent File d e = absurd (omega arith)
 new-parent Directory d e = refl
 
-module _ (s : List ℕ) (n d t i : ℕ) (k : Kind) (name : List ℕ) (h : Sound mostStoreBlocks false s) (x : n ≡ inodesIn s)
+module _ (s : List ℕ) (n d t i : ℕ) (k : Kind) (name : List ℕ) (h : Sound Store s) (x : n ≡ inodesIn s)
     (dir : isDirectory s n d ≡ true) (new : freeInode s n ≡ At i) (inside : t < slots s d) (empty : slotEmpty s n d t ≡ true)
     (legal : legalName name ≡ true) (absent : findSlot s n d name ≡ Absent) where
   low : 1 ≤ i
@@ -157,7 +158,7 @@ module _ (s : List ℕ) (n d t i : ℕ) (k : Kind) (name : List ℕ) (h : Sound 
       (slot .dir) f (body-at s n h x .inodes i low high .free f .0)
       (λ e. used (sym (r .kind) ∙ e)) (λ e. r .parent ∙ new-parent k d (sym (r .kind) ∙ e)) (r .links ∙ new-links k d)
 
-  pub create-sound : Sound mostStoreBlocks false (lessFree (putInode (putEntry s n d t i name) n i (newInode k d)) 1 0)
+  pub create-sound : Sound Store (lessFree (putInode (putEntry s n d t i name) n i (newInode k d)) 1 0)
   create-sound =
       stock-sound s w n h x (frame-then (alone .frame) (bared .frame)) after
       (names-filled s w n (names-at s n h x) p i name create-filled low legal (absent-new s n d name t (slot .low) (slot .small) absent)) tree

@@ -23,6 +23,7 @@ use Rattle.directory.specs.Slot.{DirFits, slots, putEntry, clearEntry}
 use Rattle.directory.proofs.SlotLaws.{block-fits, length-put, fits-clear, slots-clear, length-clear}
 use Rattle.sound.specs.Sound.{Sound, inodesIn, blocksIn}
 use Rattle.sound.specs.Place.{naming}
+use Rattle.sound.specs.declared.Form.the-variants.{Store}
 use Rattle.changes.proofs.StoreLaws.{sized-at, fits, dir-of, kind-some, kind-most, kind-dir, kind-fits}
 use Rattle.changes.proofs.SameLaws.{SameInode, put-entry, clear-entry}
 use Rattle.changes.proofs.KeepLaws.{same-slots, body-of}
@@ -37,7 +38,7 @@ use Rattle.entries.specs.Apply.{newInode, enter, dropLink, setParent}
 use Rattle.entries.proofs.RoomLaws.{IsRoom, slot, block, is-room, Roomed, make-room}
 
 -- a sound store names an inode from no more places than it has
-pub few-links : (s : List ℕ) → Sound mostStoreBlocks false s → (i : ℕ) → 1 ≤ i → i ≤ inodesIn s → linksOf s i ≤ 12288
+pub few-links : (s : List ℕ) → Sound Store s → (i : ℕ) → 1 ≤ i → i ≤ inodesIn s → linksOf s i ≤ 12288
 few-links s h i l m =
     let a = h .links i l m .counted in
     let b = tally-le (naming s (inodesIn s)) (48 * inodesIn s) i in
@@ -45,7 +46,7 @@ few-links s h i l m =
     omega arith
 
 -- ---- the room in d
-module _ (s : List ℕ) (n b d : ℕ) (r : Room) (h : Sound mostStoreBlocks false s) (x : n ≡ inodesIn s) (y : b ≡ blocksIn s) (k : isDirectory s n d ≡ true) (e : roomIn s n b d ≡ Has r) where
+module _ (s : List ℕ) (n b d : ℕ) (r : Room) (h : Sound Store s) (x : n ≡ inodesIn s) (y : b ≡ blocksIn s) (k : isDirectory s n d ≡ true) (e : roomIn s n b d ≡ Has r) where
   pub room-none : r .block ≡ 0 → s ≡ makeRoom s n d r
   unfolding makeRoom
   room-none q = rw (eq-eqb (r .block) 0 q)
@@ -108,7 +109,7 @@ module _ (s : List ℕ) (n d v : ℕ) (f : DirFits s n d) (l : v < slots s d) wh
   clear-header = clear-entry s n d v in-block .header
 
 -- ---- t is the sound store s with the entry in its room
-module _ (s : List ℕ) (n b d : ℕ) (r : Room) (h : Sound mostStoreBlocks false s) (x : n ≡ inodesIn s) (y : b ≡ blocksIn s) (k : isDirectory s n d ≡ true) (e : roomIn s n b d ≡ Has r) (i : ℕ) (name : List ℕ) (t : List ℕ) (q : t ≡ enter s n d r i name) where
+module _ (s : List ℕ) (n b d : ℕ) (r : Room) (h : Sound Store s) (x : n ≡ inodesIn s) (y : b ≡ blocksIn s) (k : isDirectory s n d ≡ true) (e : roomIn s n b d ≡ Has r) (i : ℕ) (name : List ℕ) (t : List ℕ) (q : t ≡ enter s n d r i name) where
   abbrev grown : List ℕ
   grown = makeRoom s n d r
 
@@ -161,7 +162,7 @@ module _ (s : List ℕ) (n i e : ℕ) (v : Inode) (q : v ≡ inodeOf s n i) wher
   parent-directory h w r ew er = rw (eq-eqb (kindOf s i) directoryKind (sym kind-is ∙ h), er, ew, q)
 
 -- the new inode written: one that is free is there to be counted off
-pub create-counts : (s : List ℕ) (n b d : ℕ) (r : Room) (h : Sound mostStoreBlocks false s) → n ≡ inodesIn s → b ≡ blocksIn s → isDirectory s n d ≡ true → roomIn s n b d ≡ Has r → (i : ℕ) (name t : List ℕ) → t ≡ enter s n d r i name
+pub create-counts : (s : List ℕ) (n b d : ℕ) (r : Room) (h : Sound Store s) → n ≡ inodesIn s → b ≡ blocksIn s → isDirectory s n d ≡ true → roomIn s n b d ≡ Has r → (i : ℕ) (name t : List ℕ) → t ≡ enter s n d r i name
     → freeInode s n ≡ At i → (k : Kind) (u : List ℕ) → u ≡ putInode t n i (newInode k d) → (headerBytes ≤ length u) × (1 ≤ headerOf u .«free_inodes»)
 create-counts s n b d r h x y g e i name t q f k u w =
     let o = free-inode s n i f in
@@ -175,7 +176,7 @@ create-counts s n b d r h x y g e i name t q f k u w =
     (omega arith, omega arith)
 
 -- ---- a move: t has the room in e, u has slot v of d empty too, w has the entry
-module _ (s : List ℕ) (n b e : ℕ) (r : Room) (h : Sound mostStoreBlocks false s) (x : n ≡ inodesIn s) (y : b ≡ blocksIn s) (k : isDirectory s n e ≡ true) (g : roomIn s n b e ≡ Has r) (t : List ℕ) (q : t ≡ makeRoom s n e r) (d v : ℕ) (u : List ℕ) (p : u ≡ clearEntry t n d v) where
+module _ (s : List ℕ) (n b e : ℕ) (r : Room) (h : Sound Store s) (x : n ≡ inodesIn s) (y : b ≡ blocksIn s) (k : isDirectory s n e ≡ true) (g : roomIn s n b e ≡ Has r) (t : List ℕ) (q : t ≡ makeRoom s n e r) (d v : ℕ) (u : List ℕ) (p : u ≡ clearEntry t n d v) where
   to-dir : DirFits t n e
   to-dir = roomed-dir s n b e r h x y k g t q e k
 
@@ -196,7 +197,7 @@ module _ (s : List ℕ) (n b e : ℕ) (r : Room) (h : Sound mostStoreBlocks fals
       inode-fits s w n j (a ∙ c ∙ f) (fits s n h x j l m)
 
 -- ---- an unlink: t has slot v of d empty
-module _ (s : List ℕ) (n : ℕ) (h : Sound mostStoreBlocks false s) (x : n ≡ inodesIn s) (d v : ℕ) (k : isDirectory s n d ≡ true) (l : v < slots s d) (t : List ℕ) (q : t ≡ clearEntry s n d v) where
+module _ (s : List ℕ) (n : ℕ) (h : Sound Store s) (x : n ≡ inodesIn s) (d v : ℕ) (k : isDirectory s n d ≡ true) (l : v < slots s d) (t : List ℕ) (q : t ≡ clearEntry s n d v) where
   pub record Cleared (i : ℕ) : Type 0 where
     pub inode : InodeFits t n i
     pub inodes : headerOf t .«free_inodes» ≤ mostInodes

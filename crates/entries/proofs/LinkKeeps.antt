@@ -5,13 +5,13 @@ use mathlib.Core.Bool.{true, false}
 use mathlib.Core.List.{List}
 use native.Mathlib.Omega.{arith}
 use Rattle.bounded.specs.declared.Found.the-variants.{Absent}
-use Rattle.layout.specs.Sizes.{mostStoreBlocks}
 use Rattle.layout.specs.Inode.{InodeFits, kindOf, linksOf, parentOf, putLinks, fileKind, isFile, isDirectory}
 use Rattle.layout.proofs.ViewLaws.{inode-fits}
 use Rattle.names.specs.Name.{legalName}
 use Rattle.directory.specs.Slot.{slots, findSlot, slotEmpty, putEntry}
 use Rattle.sound.specs.Place.{placeOf}
 use Rattle.sound.specs.Sound.{Sound, inodesIn, blocksIn}
+use Rattle.sound.specs.declared.Form.the-variants.{Store}
 use Rattle.changes.proofs.SameLaws.{OtherInodes, SameBody, same-body, body-then, links-new, links-parent, frame-then, inode-then}
 use Rattle.changes.proofs.StoreLaws.{kind-some, kind-most, kind-is, kind-fits}
 use Rattle.changes.proofs.ChangeLaws.{Filled, filled-then, names-filled}
@@ -22,7 +22,7 @@ use Rattle.changes.proofs.InodeWriteLaws.{Relinked, relinked-places, links-reli
 use Rattle.changes.proofs.SlotPlaceLaws.{absent-new, place-bare}
 use Rattle.changes.proofs.StockLaws.{entries-stock, relinked-stock, stock-sound}
 
-module _ (s : List ℕ) (n d t i : ℕ) (name : List ℕ) (h : Sound mostStoreBlocks false s) (x : n ≡ inodesIn s)
+module _ (s : List ℕ) (n d t i : ℕ) (name : List ℕ) (h : Sound Store s) (x : n ≡ inodesIn s)
     (dir : isDirectory s n d ≡ true) (file : isFile s n i ≡ true) (inside : t < slots s d) (empty : slotEmpty s n d t ≡ true)
     (legal : legalName name ≡ true) (absent : findSlot s n d name ≡ Absent) where
   low : 1 ≤ i
@@ -81,7 +81,7 @@ module _ (s : List ℕ) (n d t i : ℕ) (name : List ℕ) (h : Sound mostStoreBl
       p (place-below slot) (place-bare s n d t slot empty) (link-filled .names) (λ q l z. link-filled .others q l z .names)
       (kind-is s n fileKind i file) link-links
 
-  pub link-sound : Sound mostStoreBlocks false (putLinks (putEntry s n d t i name) i (linksOf (putEntry s n d t i name) i + 1))
+  pub link-sound : Sound Store (putLinks (putEntry s n d t i name) i (linksOf (putEntry s n d t i name) i + 1))
   link-sound =
       stock-sound s w n h x (frame-then (alone .frame) (relinked .inode .frame))
       (relinked-stock m w n (blocksIn s) i relinked (λ z. let k = kind in omega arith) (λ _. parent) low high (entries-stock s m n (blocksIn s) (body-at s n h x) alone))

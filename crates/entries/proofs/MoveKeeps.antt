@@ -12,7 +12,7 @@ use Rattle.bounded.specs.Search.{pick}
 use Rattle.bounded.specs.declared.Found.the-variants.{Absent}
 use Rattle.bounded.proofs.BoolLaws.{clash, fails, and-left, and-right}
 use Rattle.bounded.proofs.ClimbLaws.{leads-bool, leads-prop}
-use Rattle.layout.specs.Sizes.{mostStoreBlocks, rootInode}
+use Rattle.layout.specs.Sizes.{rootInode}
 use Rattle.layout.specs.Inode.{kindOf, linksOf, parentOf, inodeOf, putAttributes, directoryKind, isDirectory, withParent}
 use Rattle.layout.proofs.ViewLaws.{inode-fits}
 use Rattle.names.specs.Name.{legalName}
@@ -20,6 +20,7 @@ use Rattle.directory.specs.Slot.{mostSlots, slots, findSlot, slotEmpty, putEntr
 use Rattle.sound.specs.Place.{naming, placeOf}
 use Rattle.sound.specs.Sound.{Sound, inodesIn, blocksIn}
 use Rattle.sound.proofs.PlaceLaws.{place-dir}
+use Rattle.sound.specs.declared.Form.the-variants.{Store}
 use Rattle.changes.proofs.SameLaws.{OtherInodes, SameBody, same-body, body-then, SameFrame, frame-stays, frame-then, inode-stays, inode-then}
 use Rattle.changes.proofs.KeepLaws.{SamePlace, SameTree, tree-stays, leads-kept}
 use Rattle.changes.proofs.StoreLaws.{fits, kind-some, kind-most, kind-is}
@@ -57,7 +58,7 @@ module _ (n : ℕ) (v : Nodes) (t : Tree n v) (a : Above n v) (none : v .parent 
   leads-other up h d l = leads-kept Under (v .parent) up i n under (λ x k. h x (k .0)) (l .0) e (d, l) (l .1)
 
 -- ---- refusal 10 and what it says on a sound store
-module _ (s : List ℕ) (n i e : ℕ) (h : Sound mostStoreBlocks false s) (x : n ≡ inodesIn s) (low : 1 ≤ i) (not-root : i ≢ rootInode) (dir : isDirectory s n e ≡ true) where
+module _ (s : List ℕ) (n i e : ℕ) (h : Sound Store s) (x : n ≡ inodesIn s) (low : 1 ≤ i) (not-root : i ≢ rootInode) (dir : isDirectory s n e ≡ true) where
   above : Dir n (nodesOf s n) e
   above = record { low = kind-some s n directoryKind e dir; high = kind-most s n directoryKind e dir; kind = kind-is s n directoryKind e dir }
 
@@ -81,7 +82,7 @@ module _ (s : List ℕ) (n i e : ℕ) (h : Sound mostStoreBlocks false s) (x : n
       f (sym (t .kinds i low m) ∙ k)
       (leads-other n (nodesOf s n) (tree-at s n h x) (above-at s n h x) none i e low not-root (parentOf r) (λ y d. sym (t .parents y (d .low) (d .high))) above c))
 
-module _ (s : List ℕ) (n d t i e u : ℕ) (other : List ℕ) (h : Sound mostStoreBlocks false s) (x : n ≡ inodesIn s)
+module _ (s : List ℕ) (n d t i e u : ℕ) (other : List ℕ) (h : Sound Store s) (x : n ≡ inodesIn s)
     (from : isDirectory s n d ≡ true) (inside : t < slots s d) (full : slotEmpty s n d t ≡ false) (is : i ≡ inodeAt s n d t)
     (into : isDirectory s n e ≡ true) (room : u < slots s e) (empty : slotEmpty s n e u ≡ true)
     (legal : legalName other ≡ true) (absent : findSlot s n e other ≡ Absent) (apart : isBelow s n i e ≡ false) where
@@ -205,7 +206,7 @@ module _ (s : List ℕ) (n d t i e u : ℕ) (other : List ℕ) (h : Sound mostSt
       (old .names) (f .others p l other-place .names ∙ emptied .names) free (f .names) (λ r l y z. f .others r l z .names ∙ emptied .others r l y .names)
       (target .dir) (not-below s n i e h x low (old .not-root) into apart) (move-body .kind) move-links move-parent
 
-  pub move-sound : Sound mostStoreBlocks false (setParent (putEntry (clearEntry s n d t) n e u i other) n i e)
+  pub move-sound : Sound Store (setParent (putEntry (clearEntry s n d t) n e u i other) n i e)
   move-sound =
       stock-sound s w n h x (frame-then (both .frame) (rehomed .frame)) (rehomed .stock)
       (names-filled m w n (names-emptied s m n (names-at s n h x) p emptied) q i other move-filled low legal

@@ -9,11 +9,12 @@ use lib.Dec.{eqb}
 use Rattle.bounded.specs.Climb.{climb, Leads, leadsB}
 use Rattle.bounded.proofs.BoolLaws.{fails}
 use Rattle.bounded.proofs.ClimbLaws.{leads-prop, leads-here, leads-turn, leads-end}
-use Rattle.layout.specs.Sizes.{mostStoreBlocks, rootInode}
+use Rattle.layout.specs.Sizes.{rootInode}
 use Rattle.layout.specs.Inode.{parentOf, directoryKind, isDirectory}
 use Rattle.sound.specs.Sound.{Sound, inodesIn}
 use Rattle.sound.specs.Place.{IsDir}
 use Rattle.sound.proofs.FactLaws.{naming-dir}
+use Rattle.sound.specs.declared.Form.the-variants.{Store}
 use Rattle.changes.proofs.StoreLaws.{kind-some, kind-most, kind-is}
 
 -- ---- above the root there is nothing
@@ -46,7 +47,7 @@ pub record Climbing (s : List ℕ) (n i e k x : ℕ) : Type 0 where
   pub dir : IsDir s n x
   pub left : leadsB (parentOf s) i n e ≡ leadsB (parentOf s) i (n - k) x
 
-module _ (s : List ℕ) (n i e : ℕ) (h : Sound mostStoreBlocks false s) (q : n ≡ inodesIn s) where
+module _ (s : List ℕ) (n i e : ℕ) (h : Sound Store s) (q : n ≡ inodesIn s) where
   pub climbing-start : isDirectory s n e ≡ true → Climbing s n i e 0 e
   climbing-start d =
       let z : n ≡ n - 0 = omega arith in

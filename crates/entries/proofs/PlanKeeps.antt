@@ -4,12 +4,12 @@ use mathlib.Core.Path.{_≡_, sym, ap, _∙_, subst}
 use mathlib.Core.Bool.{true, false}
 use mathlib.Core.List.{List}
 use Rattle.bounded.specs.declared.Found.the-variants.{Absent}
-use Rattle.layout.specs.Sizes.{mostStoreBlocks}
 use Rattle.layout.specs.Inode.{fileKind, directoryKind, isKind, isDirectory}
 use Rattle.names.specs.Entry.{entryInode, isEmpty}
 use Rattle.directory.specs.Slot.{findSlot, slotEmpty}
 use Rattle.directory.proofs.SlotLaws.{find-below}
 use Rattle.sound.specs.Sound.{Sound, inodesIn, blocksIn}
+use Rattle.sound.specs.declared.Form.the-variants.{Store}
 use Rattle.changes.proofs.KeepLaws.{same-slots}
 use Rattle.changes.proofs.StoreLaws.{kind-some, kind-most}
 use Rattle.changes.proofs.SlotPlaceLaws.{entry-here, found-full}
@@ -31,7 +31,7 @@ use Rattle.entries.proofs.UnlinkKeeps.{unlink-sound}
 use Rattle.entries.proofs.RenameKeeps.{rename-sound}
 use Rattle.entries.proofs.MoveKeeps.{not-below, below-kept, move-sound}
 
-module _ (s : List ℕ) (n b : ℕ) (h : Sound mostStoreBlocks false s) (x : n ≡ inodesIn s) (y : b ≡ blocksIn s) where
+module _ (s : List ℕ) (n b : ℕ) (h : Sound Store s) (x : n ≡ inodesIn s) (y : b ≡ blocksIn s) where
   -- with room made, the directories and the new name are as they were
   module _ (d : ℕ) (name : List ℕ) (r : Room) (k : isDirectory s n d ≡ true) (e : roomIn s n b d ≡ Has r) where
     abbrev m : List ℕ
@@ -49,7 +49,7 @@ module _ (s : List ℕ) (n b : ℕ) (h : Sound mostStoreBlocks false s) (x : n �
     still : NewIn s n d name → findSlot m n d name ≡ Absent
     still w = same-find s m n d (r .slot) roomed name (w .legal) d (kind-some s n directoryKind d k) (kind-most s n directoryKind d k) ∙ w .absent
 
-  pub created-sound : (d : ℕ) (name : List ℕ) (k : Kind) (i : ℕ) (r : Room) → createPlan s n b d name ≡ Make i r → Sound mostStoreBlocks false (created s n d name k i r)
+  pub created-sound : (d : ℕ) (name : List ℕ) (k : Kind) (i : ℕ) (r : Room) → createPlan s n b d name ≡ Make i r → Sound Store (created s n d name k i r)
   unfolding created enter
   created-sound d name k i r e =
       let c = creates s n b d name i r e in
@@ -58,7 +58,7 @@ module _ (s : List ℕ) (n b : ℕ) (h : Sound mostStoreBlocks false s) (x : n �
       create-sound (makeRoom s n d r) n d (r .slot) i k name (o .sound) (count d name r (w .directory) (c .room)) (kind d name r (w .directory) (c .room) directoryKind d ∙ w .directory)
       (same-free-inode s (makeRoom s n d r) n (o .tree .kinds) ∙ c .inode) (o .slot) (o .empty) (w .legal) (still d name r (w .directory) (c .room) w)
 
-  pub linked-sound : (d : ℕ) (name : List ℕ) (i : ℕ) (r : Room) → linkPlan s n b d name i ≡ Add r → Sound mostStoreBlocks false (linked s n d name i r)
+  pub linked-sound : (d : ℕ) (name : List ℕ) (i : ℕ) (r : Room) → linkPlan s n b d name i ≡ Add r → Sound Store (linked s n d name i r)
   unfolding linked enter
   linked-sound d name i r e =
       let c = links s n b d name i r e in
@@ -68,13 +68,13 @@ module _ (s : List ℕ) (n b : ℕ) (h : Sound mostStoreBlocks false s) (x : n �
       link-sound (makeRoom s n d r) n d (r .slot) i name (o .sound) (count d name r (w .directory) (c .room)) (same directoryKind d ∙ w .directory) (same fileKind i ∙ c .file)
       (o .slot) (o .empty) (w .legal) (still d name r (w .directory) (c .room) w)
 
-  pub unlinked-sound : (d : ℕ) (name : List ℕ) (t i : ℕ) → unlinkPlan s n d name ≡ Take t i → Sound mostStoreBlocks false (unlinked s n d t i)
+  pub unlinked-sound : (d : ℕ) (name : List ℕ) (t i : ℕ) → unlinkPlan s n d name ≡ Take t i → Sound Store (unlinked s n d t i)
   unlinked-sound d name t i e =
       let c = unlinks s n d name t i e in
       let w = c .entry in
       unlink-sound s n d t i h x (w .directory) (find-below s n d name t (w .found)) (found-full s n d name t (w .legal) (w .found)) (w .inode) (c .empty)
 
-  pub renamed-sound : (d : ℕ) (name : List ℕ) (e : ℕ) (other : List ℕ) (t i : ℕ) → renamePlan s n b d name e other ≡ Rename t i → Sound mostStoreBlocks false (renamed s n d other t i)
+  pub renamed-sound : (d : ℕ) (name : List ℕ) (e : ℕ) (other : List ℕ) (t i : ℕ) → renamePlan s n b d name e other ≡ Rename t i → Sound Store (renamed s n d other t i)
   renamed-sound d name e other t i q =
       let c = renames s n b d name e other t i q in
       let w = c .0 .entry in
@@ -82,7 +82,7 @@ module _ (s : List ℕ) (n b : ℕ) (h : Sound mostStoreBlocks false s) (x : n �
       rename-sound s n d t i other h x (w .directory) (find-below s n d name t (w .found)) (found-full s n d name t (w .legal) (w .found)) (w .inode)
       (o .legal) (subst (λ (z : ℕ). findSlot s n z other ≡ Absent) (sym (c .1)) (o .absent))
 
-  pub moved-sound : (d : ℕ) (name : List ℕ) (e : ℕ) (other : List ℕ) (t i : ℕ) (r : Room) → renamePlan s n b d name e other ≡ Move t i r → Sound mostStoreBlocks false (moved s n d e other t i r)
+  pub moved-sound : (d : ℕ) (name : List ℕ) (e : ℕ) (other : List ℕ) (t i : ℕ) (r : Room) → renamePlan s n b d name e other ≡ Move t i r → Sound Store (moved s n d e other t i r)
   unfolding moved slotEmpty
   moved-sound d name e other t i r q =
       let c = moves s n b d name e other t i r q in

@@ -5,12 +5,12 @@ use mathlib.Core.Bool.{true, false}
 use mathlib.Core.List.{List}
 use native.Mathlib.Decide.{ℕ-discrete}
 use Rattle.bounded.specs.declared.Found.the-variants.{Absent}
-use Rattle.layout.specs.Sizes.{mostStoreBlocks}
 use Rattle.names.specs.Name.{legalName}
 use Rattle.layout.specs.Inode.{isDirectory}
 use Rattle.directory.specs.Slot.{slots, findSlot, slotEmpty, putEntry, inodeAt}
 use Rattle.sound.specs.Place.{naming, placeOf}
 use Rattle.sound.specs.Sound.{Sound, inodesIn, blocksIn}
+use Rattle.sound.specs.declared.Form.the-variants.{Store}
 use Rattle.changes.proofs.ChangeLaws.{Filled, names-filled}
 use Rattle.changes.proofs.TreeLaws.{Tree, tree-rename}
 use Rattle.changes.proofs.SoundTreeLaws.{nodesOf, nodes-else, body-at, names-at, above-at, tree-at}
@@ -19,7 +19,7 @@ use Rattle.changes.proofs.SlotPlaceLaws.{EntryHere, entry-here, absent-new}
 use Rattle.changes.proofs.StockLaws.{entries-stock, stock-sound}
 use Rattle.entries.specs.Apply.{renamed}
 
-module _ (s : List ℕ) (n d t i : ℕ) (other : List ℕ) (h : Sound mostStoreBlocks false s) (x : n ≡ inodesIn s)
+module _ (s : List ℕ) (n d t i : ℕ) (other : List ℕ) (h : Sound Store s) (x : n ≡ inodesIn s)
     (dir : isDirectory s n d ≡ true) (inside : t < slots s d) (full : slotEmpty s n d t ≡ false) (is : i ≡ inodeAt s n d t)
     (legal : legalName other ≡ true) (absent : findSlot s n d other ≡ Absent) where
   old : EntryHere s n d t i
@@ -50,7 +50,7 @@ module _ (s : List ℕ) (n d t i : ℕ) (other : List ℕ) (h : Sound mostStoreB
       ])
       (old .not-root) (o .links)
 
-  pub rename-sound : Sound mostStoreBlocks false (renamed s n d other t i)
+  pub rename-sound : Sound Store (renamed s n d other t i)
   rename-sound =
       stock-sound s w n h x (rename-alone .frame) (entries-stock s w n (blocksIn s) (body-at s n h x) rename-alone)
       (names-filled s w n (names-at s n h x) p i other rename-filled (old .low) legal (absent-new s n d other t (old .slot .low) (old .slot .small) absent)) tree

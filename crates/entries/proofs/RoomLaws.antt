@@ -12,17 +12,18 @@ use Rattle.bounded.specs.Search.{pick, first, firstFrom, onFound}
 use Rattle.bounded.specs.declared.Found.{Found}
 use Rattle.bounded.specs.declared.Found.the-variants.{At, Absent}
 use Rattle.bounded.proofs.SearchLaws.{first-ext, first-split, absent-of}
-use Rattle.layout.specs.Sizes.{mostStoreBlocks, mostDirectoryBlocks}
+use Rattle.layout.specs.Sizes.{mostDirectoryBlocks}
 use Rattle.layout.specs.Header.{headerOf}
 use Rattle.layout.specs.Inode.{kindOf, sizeOf, freeKind, directoryKind, isKind, isDirectory}
 use Rattle.layout.specs.Block.{blocksUsed}
-use Rattle.layout.specs.Free.{isFree, freeInode, freeBlock}
+use Rattle.layout.specs.Free.{inodeFree, freeInode, freeBlock}
 use Rattle.names.specs.Name.{legalName}
 use Rattle.names.specs.Entry.{sameName}
 use Rattle.names.proofs.EntryLaws.{empty-not-named}
-use Rattle.directory.specs.Slot.{slots, entryOf, slotNamed, findSlot, slotEmpty, emptySlot}
+use Rattle.directory.specs.Slot.{slots, entryOf, slotHasName, findSlot, slotEmpty, emptySlot}
 use Rattle.directory.proofs.SlotLaws.{empty-below, empty-at}
 use Rattle.sound.specs.Sound.{Sound, inodesIn, blocksIn}
+use Rattle.sound.specs.declared.Form.the-variants.{Store}
 use Rattle.answers.specs.declared.Refusal.the-variants.{NoBlocks, NoSlot}
 use Rattle.changes.proofs.StoreLaws.{kind-read, kind-low, kind-high, kind-some, kind-most, kind-is}
 use Rattle.changes.proofs.SameLaws.{OtherInodes, SameFrame, frame-stays, inode-stays}
@@ -52,7 +53,7 @@ is-room s n b d r = go (emptySlot s n d) refl (ltb (blocksUsed (sizeOf s d)) mos
 
 -- ---- t is the sound store s with room in slot u of the directory d
 pub record Roomed (s t : List ℕ) (n d u : ℕ) : Type 0 where
-  pub sound : Sound mostStoreBlocks false t
+  pub sound : Sound Store t
   pub frame : SameFrame s t
   pub tree : SameTree s t n
   pub others : OtherInodes s t n d
@@ -65,7 +66,7 @@ pub record Roomed (s t : List ℕ) (n d u : ℕ) : Type 0 where
   pub slot : u < slots t d
   pub empty : slotEmpty t n d u ≡ true
 
-module _ (s : List ℕ) (n b d : ℕ) (h : Sound mostStoreBlocks false s) (x : n ≡ inodesIn s) (y : b ≡ blocksIn s) (k : isDirectory s n d ≡ true) where
+module _ (s : List ℕ) (n b d : ℕ) (h : Sound Store s) (x : n ≡ inodesIn s) (y : b ≡ blocksIn s) (k : isDirectory s n d ≡ true) where
   low : 1 ≤ d
   low = kind-some s n directoryKind d k
 
@@ -134,8 +135,8 @@ same-kind s t n k j e = go (decLt j 1) (decLt n j)
 
 -- the lowest free inode is the same
 pub same-free-inode : (s t : List ℕ) (n : ℕ) → ((i : ℕ) → 1 ≤ i → i ≤ n → kindOf t i ≡ kindOf s i) → freeInode t n ≡ freeInode s n
-unfolding freeInode isFree
-same-free-inode s t n e = first-ext (isFree t) (isFree s) 1 n (λ j l m. ap (λ (x : ℕ). eqb x freeKind) (e j l (omega arith)))
+unfolding freeInode
+same-free-inode s t n e = first-ext (inodeFree t) (inodeFree s) 1 n (λ j l m. ap (λ (x : ℕ). eqb x freeKind) (e j l (omega arith)))
 
 found-else : (x : Found) → onFound x At Absent ≡ x
 found-else (At t) = refl
@@ -143,24 +144,24 @@ found-else Absent = refl
 
 -- a search for a name finds what it found
 module _ (s t : List ℕ) (n d u : ℕ) (r : Roomed s t n d u) (name : List ℕ) (g : legalName name ≡ true) where
-  find-among : (e : ℕ) → 1 ≤ e → e ≤ n → firstFrom (slotNamed t n e name) 0 (slots s e) ≡ firstFrom (slotNamed s n e name) 0 (slots s e)
-  unfolding slotNamed
-  find-among e l m = first-ext (slotNamed t n e name) (slotNamed s n e name) 0 (slots s e) (λ v p q. ap (λ (x : List ℕ). sameName x name) (r .entries e v l m (omega arith)))
+  find-among : (e : ℕ) → 1 ≤ e → e ≤ n → firstFrom (slotHasName t n e name) 0 (slots s e) ≡ firstFrom (slotHasName s n e name) 0 (slots s e)
+  unfolding slotHasName
+  find-among e l m = first-ext (slotHasName t n e name) (slotHasName s n e name) 0 (slots s e) (λ v p q. ap (λ (x : List ℕ). sameName x name) (r .entries e v l m (omega arith)))
 
   find-grown : 1 ≤ d → d ≤ n → findSlot t n d name ≡ findSlot s n d name
-  unfolding findSlot first slotNamed slotEmpty
+  unfolding findSlot first slotHasName slotEmpty
   find-grown l m =
       let a = r .more in
       let k : ℕ = slots t d - slots s d in
       let e : slots t d ≡ slots s d + k = omega arith in
-      let w = absent-of (slotNamed t n d name) (0 + slots s d) k (λ v p q. empty-not-named (entryOf t n d v) name (r .new v (omega arith) (omega arith)) g) in
-      ap (firstFrom (slotNamed t n d name) 0) e ∙ first-split (slotNamed t n d name) 0 (slots s d) k
-      ∙ ap (onFound (firstFrom (slotNamed t n d name) 0 (slots s d)) At) w
-      ∙ found-else (firstFrom (slotNamed t n d name) 0 (slots s d)) ∙ find-among d l m
+      let w = absent-of (slotHasName t n d name) (0 + slots s d) k (λ v p q. empty-not-named (entryOf t n d v) name (r .new v (omega arith) (omega arith)) g) in
+      ap (firstFrom (slotHasName t n d name) 0) e ∙ first-split (slotHasName t n d name) 0 (slots s d) k
+      ∙ ap (onFound (firstFrom (slotHasName t n d name) 0 (slots s d)) At) w
+      ∙ found-else (firstFrom (slotHasName t n d name) 0 (slots s d)) ∙ find-among d l m
 
   pub same-find : (e : ℕ) → 1 ≤ e → e ≤ n → findSlot t n e name ≡ findSlot s n e name
   unfolding findSlot first
   same-find e l m = elim (ℕ-discrete e d) as (λ _. findSlot t n e name ≡ findSlot s n e name) [
     | yes q ↦ subst (λ (x : ℕ). findSlot t n x name ≡ findSlot s n x name) (sym q) (find-grown (subst (λ (x : ℕ). 1 ≤ x) q l) (subst (λ (x : ℕ). x ≤ n) q m))
-    | no q ↦ ap (firstFrom (slotNamed t n e name) 0) (same-slots (r .others e l m q)) ∙ find-among e l m
+    | no q ↦ ap (firstFrom (slotHasName t n e name) 0) (same-slots (r .others e l m q)) ∙ find-among e l m
   ]

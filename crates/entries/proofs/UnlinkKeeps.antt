@@ -10,7 +10,6 @@ use lib.Dec.{leb}
 use Rattle.bounded.specs.Search.{pick}
 use Rattle.bounded.proofs.BoolLaws.{clash, fails}
 use Rattle.bounded.proofs.BelowLaws.{all-at}
-use Rattle.layout.specs.Sizes.{mostStoreBlocks}
 use Rattle.layout.specs.Header.{headerOf, moreFree}
 use Rattle.layout.specs.declared.header.Header.{Header}
 use Rattle.layout.specs.Inode.{InodeFits, kindOf, linksOf, sizeOf, parentOf, putInode, putLinks, freeKind, directoryKind, isDirectory, zeroInode}
@@ -22,6 +21,7 @@ use Rattle.directory.specs.Slot.{mostSlots, slots, entryOf, slotEmpty, clearEnt
 use Rattle.sound.specs.Place.{dirOf, slotOf, entryAt, filled, placeOf}
 use Rattle.sound.specs.Sound.{Sound, inodesIn, blocksIn}
 use Rattle.sound.proofs.PlaceLaws.{slot-is, filled-is}
+use Rattle.sound.specs.declared.Form.the-variants.{Store}
 use Rattle.changes.proofs.SameLaws.{OtherInodes, SameBody, same-body, body-then, links-new, links-parent, NewInode, frame-then, inode-then, InCounts, more-free}
 use Rattle.changes.proofs.StoreLaws.{fits}
 use Rattle.changes.proofs.RecordLaws.{header-inode}
@@ -47,7 +47,7 @@ unfilled s n i e q d =
     clash (isEmpty (entryOf s n i (slotOf q))) (all-at (λ u. isEmpty (entryOf s n i u)) (slots s i) e (slotOf q) l)
     (ap (λ (y : ℕ). isEmpty (entryOf s n y (slotOf q))) (sym d) ∙ r .1))
 
-module _ (s : List ℕ) (n d t i : ℕ) (h : Sound mostStoreBlocks false s) (x : n ≡ inodesIn s)
+module _ (s : List ℕ) (n d t i : ℕ) (h : Sound Store s) (x : n ≡ inodesIn s)
     (dir : isDirectory s n d ≡ true) (inside : t < slots s d) (full : slotEmpty s n d t ≡ false) (is : i ≡ inodeAt s n d t)
     (holds : kindOf s i ≡ directoryKind → holdsNone s n i ≡ true) where
   old : EntryHere s n d t i
@@ -117,7 +117,7 @@ module _ (s : List ℕ) (n d t i : ℕ) (h : Sound mostStoreBlocks false s) (x :
         p below (old .names) (less-emptied .names) (λ q l z. less-emptied .others q l z .names) (omega arith)
         less-links
 
-    less-sound : Sound mostStoreBlocks false w
+    less-sound : Sound Store w
     less-sound =
         stock-sound s w n h x (frame-then (alone .frame) (relinked .inode .frame))
         (relinked-stock m w n (blocksIn s) i relinked used (λ _. parent) low high stock)
@@ -183,7 +183,7 @@ module _ (s : List ℕ) (n d t i : ℕ) (h : Sound mostStoreBlocks false s) (x :
         p below (old .names) (last-emptied .names) (λ q l y. last-emptied .others q l y .names) (omega arith)
         (λ k q l e. naming-none s n q (unfilled s n i (holds k) q e)) (bared .new .kind) (bared .new .links)
 
-    last-sound : Sound mostStoreBlocks false z
+    last-sound : Sound Store z
     last-sound = stock-sound s z n h x (frame-then (alone .frame) (bared .frame)) after (names-emptied s z n (names-at s n h x) p last-emptied) cut
 
   -- ---- both
@@ -211,5 +211,5 @@ module _ (s : List ℕ) (n d t i : ℕ) (h : Sound mostStoreBlocks false s) (x :
   pub unlink-last : linksOf s i ≤ 1 → NewInode (unlinked s n d t i) i zeroInode
   unlink-last last = by-links (λ (w : List ℕ). NewInode w i zeroInode) (λ o. let e = links in absurd (omega arith)) (λ o. bared o .new)
 
-  pub unlink-sound : Sound mostStoreBlocks false (unlinked s n d t i)
-  unlink-sound = by-links (Sound mostStoreBlocks false) less-sound last-sound
+  pub unlink-sound : Sound Store (unlinked s n d t i)
+  unlink-sound = by-links (Sound Store) less-sound last-sound

@@ -4,11 +4,11 @@ ghost use mathlib.Core.Bool.{true, false};
 ghost use Prim.Native.Nat.{_≤_};
 ghost use lib.ListN.{length};
 ghost use Rattle.bounded.specs.Climb.{leadsB};
-ghost use Rattle.layout.specs.Sizes.{mostStoreBlocks};
 ghost use Rattle.layout.specs.Inode.{parentOf, isDirectory};
 ghost use Rattle.names.specs.Name.{nameBytes};
 ghost use Rattle.directory.specs.Slot.{DirFits};
 ghost use Rattle.sound.specs.Sound.{Sound, inodesIn, blocksIn};
+ghost use Rattle.sound.specs.declared.Form.the-variants.{Store};
 ghost use Rattle.entries.specs.Room.{roomIn};
 ghost use Rattle.entries.specs.Plan.{lookUpPlan, createPlan, linkPlan, holdsNone, unlinkPlan, isBelow, renameWithin, moveTo, renamePlan};
 use crate::CreatePlan;
@@ -30,7 +30,7 @@ use layout::sizes::ROOT;
 use names::ENTRY_BYTES;
 
 pub fn look_up_plan(s: &[u8], n: usize, d: usize, name: &[u8]) -> NumberPlan
-    requires { ⌜ Sound mostStoreBlocks false (now s) × (n ≡ inodesIn (now s)) ⌝ }
+    requires { ⌜ Sound Store (now s) × (n ≡ inodesIn (now s)) ⌝ }
     ensures { λ r. ⌜ r ≡ lookUpPlan (now (s .entry)) n d (now (name .entry)) ⌝ }
 {
     if !names::legal_name(name) {
@@ -47,7 +47,7 @@ pub fn look_up_plan(s: &[u8], n: usize, d: usize, name: &[u8]) -> NumberPlan
 
 // Where an entry more in directory d goes.
 fn room_in(s: &[u8], n: usize, b: usize, d: usize) -> RoomPlan
-    requires { ⌜ Sound mostStoreBlocks false (now s) × (n ≡ inodesIn (now s)) × (b ≡ blocksIn (now s)) × (isDirectory (now s) n d ≡ true) ⌝ }
+    requires { ⌜ Sound Store (now s) × (n ≡ inodesIn (now s)) × (b ≡ blocksIn (now s)) × (isDirectory (now s) n d ≡ true) ⌝ }
     ensures { λ r. ⌜ r ≡ roomIn (now (s .entry)) n b d ⌝ }
 {
     if let Found::At(t) = directory::empty_slot(s, n, d) {
@@ -67,7 +67,7 @@ fn room_in(s: &[u8], n: usize, b: usize, d: usize) -> RoomPlan
 }
 
 pub fn create_plan(s: &[u8], n: usize, b: usize, d: usize, name: &[u8]) -> CreatePlan
-    requires { ⌜ Sound mostStoreBlocks false (now s) × (n ≡ inodesIn (now s)) × (b ≡ blocksIn (now s)) ⌝ }
+    requires { ⌜ Sound Store (now s) × (n ≡ inodesIn (now s)) × (b ≡ blocksIn (now s)) ⌝ }
     ensures { λ r. ⌜ r ≡ createPlan (now (s .entry)) n b d (now (name .entry)) ⌝ }
 {
     if !names::legal_name(name) {
@@ -89,7 +89,7 @@ pub fn create_plan(s: &[u8], n: usize, b: usize, d: usize, name: &[u8]) -> Creat
 }
 
 pub fn link_plan(s: &[u8], n: usize, b: usize, d: usize, name: &[u8], i: usize) -> LinkPlan
-    requires { ⌜ Sound mostStoreBlocks false (now s) × (n ≡ inodesIn (now s)) × (b ≡ blocksIn (now s)) ⌝ }
+    requires { ⌜ Sound Store (now s) × (n ≡ inodesIn (now s)) × (b ≡ blocksIn (now s)) ⌝ }
     ensures { λ r. ⌜ r ≡ linkPlan (now (s .entry)) n b d (now (name .entry)) i ⌝ }
 {
     if !names::legal_name(name) {
@@ -125,7 +125,7 @@ fn holds_none(s: &[u8], n: usize, d: usize) -> bool
 }
 
 pub fn unlink_plan(s: &[u8], n: usize, d: usize, name: &[u8]) -> UnlinkPlan
-    requires { ⌜ Sound mostStoreBlocks false (now s) × (n ≡ inodesIn (now s)) ⌝ }
+    requires { ⌜ Sound Store (now s) × (n ≡ inodesIn (now s)) ⌝ }
     ensures { λ r. ⌜ r ≡ unlinkPlan (now (s .entry)) n d (now (name .entry)) ⌝ }
 {
     if !names::legal_name(name) {
@@ -148,7 +148,7 @@ pub fn unlink_plan(s: &[u8], n: usize, d: usize, name: &[u8]) -> UnlinkPlan
 
 // Directory e is i or below it: up from e, no further than the root.
 fn leads_to(s: &[u8], n: usize, i: usize, e: usize) -> bool
-    requires { ⌜ Sound mostStoreBlocks false (now s) × (n ≡ inodesIn (now s)) × (isDirectory (now s) n e ≡ true) × (1 ≤ i) ⌝ }
+    requires { ⌜ Sound Store (now s) × (n ≡ inodesIn (now s)) × (isDirectory (now s) n e ≡ true) × (1 ≤ i) ⌝ }
     ensures { λ r. ⌜ r ≡ leadsB (parentOf (now (s .entry))) i n e ⌝ }
 {
     let mut x = e;
@@ -165,7 +165,7 @@ fn leads_to(s: &[u8], n: usize, i: usize, e: usize) -> bool
 }
 
 fn is_below(s: &[u8], n: usize, i: usize, e: usize) -> bool
-    requires { ⌜ Sound mostStoreBlocks false (now s) × (n ≡ inodesIn (now s)) × (isDirectory (now s) n e ≡ true) × (1 ≤ i) × (i ≤ n) ⌝ }
+    requires { ⌜ Sound Store (now s) × (n ≡ inodesIn (now s)) × (isDirectory (now s) n e ≡ true) × (1 ≤ i) × (i ≤ n) ⌝ }
     ensures { λ r. ⌜ r ≡ isBelow (now (s .entry)) n i e ⌝ }
 {
     if inode::kind(s, n, i) != DIRECTORY {
@@ -190,7 +190,7 @@ fn rename_within(s: &[u8], n: usize, t: usize, i: usize, e: usize, other: &[u8])
 
 // It is to go to another directory e.
 fn move_to(s: &[u8], n: usize, b: usize, t: usize, i: usize, e: usize, other: &[u8]) -> RenamePlan
-    requires { ⌜ Sound mostStoreBlocks false (now s) × (n ≡ inodesIn (now s)) × (b ≡ blocksIn (now s)) × (isDirectory (now s) n e ≡ true) × (length (now other) ≤ nameBytes) × (1 ≤ i) × (i ≤ n) ⌝ }
+    requires { ⌜ Sound Store (now s) × (n ≡ inodesIn (now s)) × (b ≡ blocksIn (now s)) × (isDirectory (now s) n e ≡ true) × (length (now other) ≤ nameBytes) × (1 ≤ i) × (i ≤ n) ⌝ }
     ensures { λ r. ⌜ r ≡ moveTo (now (s .entry)) n b t i e (now (other .entry)) ⌝ }
 {
     let Found::Absent = directory::find_slot(s, n, e, other) else {
@@ -214,7 +214,7 @@ pub fn rename_plan(
     e: usize,
     other: &[u8],
 ) -> RenamePlan
-    requires { ⌜ Sound mostStoreBlocks false (now s) × (n ≡ inodesIn (now s)) × (b ≡ blocksIn (now s)) ⌝ }
+    requires { ⌜ Sound Store (now s) × (n ≡ inodesIn (now s)) × (b ≡ blocksIn (now s)) ⌝ }
     ensures { λ r. ⌜ r ≡ renamePlan (now (s .entry)) n b d (now (name .entry)) e (now (other .entry)) ⌝ }
 {
     if !names::legal_name(name) {

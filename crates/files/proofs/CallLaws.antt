@@ -5,10 +5,10 @@ use mathlib.Core.Bool.{true, false}
 use mathlib.Core.List.{List}
 use native.Mathlib.Omega.{arith}
 use Rattle.bounded.proofs.SearchLaws.{pick-not}
-use Rattle.layout.specs.Sizes.{mostStoreBlocks}
-use Rattle.sound.specs.Sound.{Sound, framedB, isSound, inodesIn, blocksIn}
+use Rattle.sound.specs.Sound.{Sound, inodesIn, blocksIn}
 use Rattle.sound.specs.declared.Form.the-variants.{Store}
 use Rattle.sound.proofs.SoundLaws.{is-sound}
+use Rattle.sound.specs.Test.{framedB, isSound}
 use Rattle.answers.specs.declared.Refusal.{Refusal}
 use Rattle.answers.specs.declared.Refusal.the-variants.{BadBuffer, UnsoundStore}
 use Rattle.answers.specs.declared.Answer.the-variants.{Refused}
@@ -16,15 +16,15 @@ use Rattle.files.specs.declared.Guard.{Guard}
 use Rattle.files.specs.declared.Guard.the-variants.{Pass, Stop}
 use Rattle.files.specs.Guard.{guardOf}
 use Rattle.files.specs.Effect.{Call, planned, plainDecision, given}
-use Rattle.files.specs.Plain.{Outcome, left, shown, leaves, plain}
+use Rattle.files.specs.Plain.{PlainOutcome, plainLeft, plainShown, leaves, plain}
 
 -- ---- the guards in code
 module _ (s : List ℕ) where
-  pub guard-unframed : framedB mostStoreBlocks s ≡ false → Stop BadBuffer ≡ guardOf s
+  pub guard-unframed : framedB Store s ≡ false → Stop BadBuffer ≡ guardOf s
   unfolding guardOf
   guard-unframed f = rw f
 
-  module _ (f : framedB mostStoreBlocks s ≡ true) where
+  module _ (f : framedB Store s ≡ true) where
     pub guard-unsound : isSound Store s ≡ false → Stop UnsoundStore ≡ guardOf s
     unfolding guardOf
     guard-unsound g = rw (f, g)
@@ -38,7 +38,7 @@ no-pass : (w : Refusal) (n b : ℕ) → Stop w ≡ Pass n b → ⊥
 no-pass w n b h = let z : _≡_ {A = ℕ} 0 1 = cc in absurd (omega arith)
 
 pub record Passed (s : List ℕ) (n b : ℕ) : Type 0 where
-  pub sound : Sound mostStoreBlocks false s
+  pub sound : Sound Store s
   pub inodes : n ≡ inodesIn s
   pub blocks : b ≡ blocksIn s
 
@@ -47,7 +47,7 @@ module _ (s : List ℕ) where
   unfolding guardOf
   passed n b e =
       let z = Pass n b in
-      let a = pick-not (framedB mostStoreBlocks s) (Stop _) _ z e (no-pass _ n b) in
+      let a = pick-not (framedB Store s) (Stop _) _ z e (no-pass _ n b) in
       let c = pick-not (isSound Store s) (Stop _) _ z (a .1) (no-pass _ n b) in
       record {
         sound = is-sound Store s .to (c .0);
@@ -57,10 +57,10 @@ module _ (s : List ℕ) where
 
 -- ---- a call returns: g is what the guard has answered, x what it leaves
 module _ (c : Call) (s : List ℕ) (g : Guard) (e : g ≡ guardOf s) where
-  pub call-through : (n b : ℕ) (x : Outcome) → g ≡ Pass n b → x ≡ leaves s (given c) (planned c s n b) → shown x ≡ shown (plain c s)
+  pub call-through : (n b : ℕ) (x : PlainOutcome) → g ≡ Pass n b → x ≡ leaves s (given c) (planned c s n b) → plainShown x ≡ plainShown (plain c s)
   unfolding plain plainDecision
-  call-through n b x h q = let p = sym e ∙ h in rw p (ap shown q)
+  call-through n b x h q = let p = sym e ∙ h in rw p (ap plainShown q)
 
-  pub call-stopped : (w : Refusal) → g ≡ Stop w → shown (left (Refused w) s (given c)) ≡ shown (plain c s)
+  pub call-stopped : (w : Refusal) → g ≡ Stop w → plainShown (plainLeft (Refused w) s (given c)) ≡ plainShown (plain c s)
   unfolding plain plainDecision
   call-stopped w h = let p = sym e ∙ h in rw p refl

@@ -8,12 +8,13 @@ use native.Mathlib.Decide.{ℕ-discrete}
 use native.Mathlib.Omega.{arith}
 use Rattle.bounded.proofs.BoolLaws.{clash}
 use Rattle.bounded.proofs.CountLaws.{met-at, met-once}
-use Rattle.layout.specs.Sizes.{mostStoreBlocks, rootInode}
+use Rattle.layout.specs.Sizes.{rootInode}
 use Rattle.layout.specs.Inode.{kindOf, freeKind, fileKind, directoryKind}
 use Rattle.directory.specs.Slot.{mostSlots}
 use Rattle.sound.specs.Place.{dirOf, filled, naming}
 use Rattle.sound.specs.Sound.{Sound, inodesIn, blocksIn}
 use Rattle.sound.proofs.PlaceLaws.{slot-is, filled-is, naming-filled}
+use Rattle.sound.specs.declared.Form.the-variants.{Store}
 use Rattle.changes.proofs.SameLaws.{same-body}
 use Rattle.changes.proofs.KeepLaws.{SamePlace, place-kept, Body}
 use Rattle.changes.proofs.SoundTreeLaws.{body-at}
@@ -73,7 +74,7 @@ stands-below : (s : List ℕ) (n : ℕ) (y : Entry) → Stands s n y → placeIn
 stands-below s n y k = let a = k .low in let b = k .high in let l = k .small in omega arith
 
 -- ---- what an effect leaves
-module _ (s : List ℕ) (n : ℕ) (x : Effect) (h : Sound mostStoreBlocks false s) (e : n ≡ inodesIn s) (k : Lawful s n x) where
+module _ (s : List ℕ) (n : ℕ) (x : Effect) (h : Sound Store s) (e : n ≡ inodesIn s) (k : Lawful s n x) where
   pub same-count : n ≡ inodesIn (x .store)
   same-count = e ∙ sym (k .frame .inodes)
 

@@ -5,12 +5,12 @@ use mathlib.Core.Logic.{_≢_, _⊎_}
 use mathlib.Core.Bool.{true, false}
 use mathlib.Core.List.{List, [], _∷_}
 use lib.ListN.{length}
-use Rattle.layout.specs.Sizes.{mostStoreBlocks}
 use Rattle.layout.specs.Inode.{kindOf, sizeOf, freeKind, fileKind}
 use Rattle.layout.specs.Block.{blocksUsed, kthBlock}
 use Rattle.directory.specs.Slot.{mostSlots}
 use Rattle.sound.specs.Place.{filled, naming}
 use Rattle.sound.specs.Sound.{Sound}
+use Rattle.sound.specs.declared.Form.the-variants.{Store}
 use Rattle.changes.proofs.SameLaws.{SameFrame, SameInode, SameBody, same-body, SameBlock}
 use Rattle.files.specs.Effect.{Entry, placeIn, Effect, Planned, refused, does}
 
@@ -58,7 +58,7 @@ pub stays-keeps : {s t : List ℕ} {n j : ℕ} → Stays s t n j → Keeps s t n
 stays-keeps a = record { body = same-body (a .inode); bytes = a .bytes }
 
 pub record Lawful (s : List ℕ) (n : ℕ) (x : Effect) : Type 0 where
-  pub sound : Sound mostStoreBlocks false (x .store)
+  pub sound : Sound Store (x .store)
   pub frame : SameFrame s (x .store)
   -- a taken entry stood, and its place is empty unless it is filled anew; a made entry stands, and its place was empty unless it was taken from
   pub stood : All (Stands s n) (x .taken)

@@ -3,8 +3,8 @@ use Prim.Native.Nat.{ℕ}
 use mathlib.Core.Path.{_≡_}
 use mathlib.Core.Bool.{false}
 use mathlib.Core.List.{List}
-use Rattle.layout.specs.Sizes.{mostStoreBlocks}
 use Rattle.sound.specs.Sound.{Sound, inodesIn, blocksIn}
+use Rattle.sound.specs.declared.Form.the-variants.{Store}
 use Rattle.files.specs.Effect.{Call, lookUp, read, create, write, shorten, link, unlink, rename, planned}
 use Rattle.files.proofs.Lawful.{Lawful, Each}
 use Rattle.files.proofs.LawfulStays.{lawful-look-up, lawful-read}
@@ -13,7 +13,7 @@ use Rattle.files.proofs.LawfulContent.{lawful-write, lawful-shorten}
 use Rattle.files.proofs.LawfulUnlink.{lawful-unlink}
 use Rattle.files.proofs.LawfulRename.{lawful-rename}
 
-pub lawful : (c : Call) (s : List ℕ) (n b : ℕ) → Sound mostStoreBlocks false s → n ≡ inodesIn s → b ≡ blocksIn s → Each (Lawful s n) (planned c s n b)
+pub lawful : (c : Call) (s : List ℕ) (n b : ℕ) → Sound Store s → n ≡ inodesIn s → b ≡ blocksIn s → Each (Lawful s n) (planned c s n b)
 lawful (lookUp d name) s n b h x y = lawful-look-up s n b d name h
 lawful (read i o out) s n b h x y = lawful-read s n b i o out h
 lawful (create d name k) s n b h x y = lawful-create s n b d name k h x y

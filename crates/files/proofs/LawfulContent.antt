@@ -9,10 +9,12 @@ use borrow.Author.Tests.{eqb-false}
 use lib.Dec.{eqb}
 use lib.ListN.{length, replicate, length-replicate}
 use Rattle.bounded.specs.Search.{pick}
-use Rattle.layout.specs.Sizes.{mostStoreBlocks, blockBytes, addressCount}
+use Rattle.bounded.specs.Count.{count}
+use Rattle.layout.specs.Sizes.{blockBytes, addressCount}
 use Rattle.layout.specs.Inode.{kindOf, linksOf, sizeOf, parentOf, fileKind}
 use Rattle.layout.specs.Block.{blocksUsed, blockOf, putInBlock, kthBlock}
 use Rattle.sound.specs.Sound.{Sound, inodesIn, blocksIn}
+use Rattle.sound.specs.declared.Form.the-variants.{Store}
 use Rattle.changes.proofs.SameLaws.{OtherInodes, SameFrame, SameBlock, InBlock, frame-then, frame-stays, inode-then, inode-stays, same-body, put-in-block}
 use Rattle.changes.proofs.StoreLaws.{kind-some, kind-most, kind-is, kind-size}
 use Rattle.changes.proofs.KeepLaws.{SameTree, file-tree}
@@ -103,7 +105,7 @@ within-put (v ∷ xs) s n b i o h =
     }))
 
 -- ---- the laws of such an effect
-within-lawful : (s t : List ℕ) (n i a : ℕ) → Sound mostStoreBlocks false t → kindOf s i ≡ fileKind → 1 ≤ i → i ≤ n → Within s t n i → Lawful s n (rewrites a t i)
+within-lawful : (s t : List ℕ) (n i a : ℕ) → Sound Store t → kindOf s i ≡ fileKind → 1 ≤ i → i ≤ n → Within s t n i → Lawful s n (rewrites a t i)
 within-lawful s t n i a h f p q g =
     let tree : SameTree s t n = file-tree s t n i (g .others) (g .kind) (g .links) (g .parent) (λ z. omega arith)
     (λ d k l m z u. g .bytes d k l m (λ y. let w = sym (ap (kindOf s) y) ∙ z in omega arith) u) in
@@ -125,7 +127,7 @@ within-lawful s t n i a h f p q g =
     }
 
 -- ---- write
-within-written : (s : List ℕ) (n b i o : ℕ) (xs : List ℕ) (z : ℕ) → Sound mostStoreBlocks false s → n ≡ inodesIn s → b ≡ blocksIn s → Writes s n i o (length xs) z → Within s (written s n b i o xs z) n i
+within-written : (s : List ℕ) (n b i o : ℕ) (xs : List ℕ) (z : ℕ) → Sound Store s → n ≡ inodesIn s → b ≡ blocksIn s → Writes s n i o (length xs) z → Within s (written s n b i o xs z) n i
 unfolding written
 within-written s n b i o xs z h x y w =
     let low = kind-some s n fileKind i (w .file) in
@@ -146,7 +148,7 @@ within-written s n b i o xs z h x y w =
     (within-then (blocks-of wide n (g .sound) count) (within-sized wide (putSize wide n i z) n i z r)
     (within-put xs (putSize wide n i z) n b i o (sized-holds s n b i o xs z h x y w)))
 
-pub lawful-write : (s : List ℕ) (n b i o : ℕ) (xs : List ℕ) → Sound mostStoreBlocks false s → n ≡ inodesIn s → b ≡ blocksIn s → Each (Lawful s n) (planned (write i o xs) s n b)
+pub lawful-write : (s : List ℕ) (n b i o : ℕ) (xs : List ℕ) → Sound Store s → n ≡ inodesIn s → b ≡ blocksIn s → Each (Lawful s n) (planned (write i o xs) s n b)
 lawful-write s n b i o xs h x y = go (writePlan s n i o (length xs)) refl
   where
     go : (p : NumberPlan) → writePlan s n i o (length xs) ≡ p → Each (Lawful s n) (doWrite s n b i o xs p)
@@ -172,7 +174,7 @@ within-rest s n b i z h = go (eqb (z % blockBytes) 0) refl
         within-block s _ n i (z / blockBytes) c (h .low) (h .high) u
         (put-in-block s n (kthBlock s n i (z / blockBytes)) (c .low i (z / blockBytes) (h .low) (h .high) u) (z % blockBytes) (replicate (blockBytes - z % blockBytes) 0) (omega arith))
 
-pub lawful-shorten : (s : List ℕ) (n b i z : ℕ) → Sound mostStoreBlocks false s → n ≡ inodesIn s → b ≡ blocksIn s → Each (Lawful s n) (planned (shorten i z) s n b)
+pub lawful-shorten : (s : List ℕ) (n b i z : ℕ) → Sound Store s → n ≡ inodesIn s → b ≡ blocksIn s → Each (Lawful s n) (planned (shorten i z) s n b)
 lawful-shorten s n b i z h x y = go (shortenPlan s n i z) refl
   where
     go : (p : NumberPlan) → shortenPlan s n i z ≡ p → Each (Lawful s n) (doShorten s n i p)

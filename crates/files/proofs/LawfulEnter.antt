@@ -5,7 +5,6 @@ use mathlib.Core.Logic.{_≢_, inl}
 use mathlib.Core.Bool.{true, false}
 use mathlib.Core.List.{List, [], _∷_}
 use native.Mathlib.Omega.{arith}
-use Rattle.layout.specs.Sizes.{mostStoreBlocks}
 use Rattle.layout.specs.Inode.{linksOf, fileKind, isFile}
 use Rattle.layout.proofs.ViewLaws.{inode-fits}
 use Rattle.directory.specs.Slot.{mostSlots, slotEmpty, findSlot}
@@ -16,6 +15,7 @@ use Rattle.names.specs.Entry.{isEmpty}
 use Rattle.sound.specs.Place.{entryAt, filled, placeOf}
 use Rattle.sound.specs.Sound.{Sound, inodesIn, blocksIn}
 use Rattle.sound.proofs.PlaceLaws.{filled-is, entry-place}
+use Rattle.sound.specs.declared.Form.the-variants.{Store}
 use Rattle.changes.proofs.SameLaws.{put-entry}
 use Rattle.changes.proofs.StoreLaws.{kind-fits, fits}
 use Rattle.changes.proofs.FreeLaws.{free-inode}
@@ -50,7 +50,7 @@ bare-slot s n d t y e =
     fails (filled s n (placeOf d t))
     (λ f. clash (isEmpty (entryAt s n (placeOf d t))) (ap isEmpty (entry-place s n d t (y .low) (y .small)) ∙ e) (filled-is s n (placeOf d t) .to f .1))
 
-module _ (s : List ℕ) (n b d : ℕ) (name : List ℕ) (r : Room) (h : Sound mostStoreBlocks false s) (x : n ≡ inodesIn s) (y : b ≡ blocksIn s)
+module _ (s : List ℕ) (n b d : ℕ) (name : List ℕ) (r : Room) (h : Sound Store s) (x : n ≡ inodesIn s) (y : b ≡ blocksIn s)
     (new : NewIn s n d name) (e : roomIn s n b d ≡ Has r) where
   abbrev m : List ℕ
   m = makeRoom s n d r
@@ -82,7 +82,7 @@ module _ (s : List ℕ) (n b d : ℕ) (name : List ℕ) (r : Room) (h : Sound mo
   entered-steady i = steady-then (blocks-of s n h x) (room-steady s n b d r h x y (new .directory) e) (put-steady m n d (r .slot) i name (blocks-of m n (room .sound) count) there) (λ j z. (z, z))
 
   -- the entry made, and nothing else of the store that a law speaks of. v is the answer, ks what else may change
-  made-lawful : (w : List ℕ) (v i : ℕ) (ks : List ℕ) → Filled m w n (placeOf d (r .slot)) i name → Steady s w n (d ∷ ks) → Sound mostStoreBlocks false w
+  made-lawful : (w : List ℕ) (v i : ℕ) (ks : List ℕ) → Filled m w n (placeOf d (r .slot)) i name → Steady s w n (d ∷ ks) → Sound Store w
       → Lawful s n (changes v w (d ∷ ks) [] (entry d (r .slot) i ∷ []))
   made-lawful w v i ks o a sound =
       record {
@@ -102,7 +102,7 @@ module _ (s : List ℕ) (n b d : ℕ) (name : List ℕ) (r : Room) (h : Sound mo
         apart = λ j z. (tt, (z .0, tt));
       }
 
-  link-lawful : (i : ℕ) → isFile s n i ≡ true → Sound mostStoreBlocks false (linked s n d name i r) → Lawful s n (changes 0 (linked s n d name i r) (d ∷ i ∷ []) [] (entry d (r .slot) i ∷ []))
+  link-lawful : (i : ℕ) → isFile s n i ≡ true → Sound Store (linked s n d name i r) → Lawful s n (changes 0 (linked s n d name i r) (d ∷ i ∷ []) [] (entry d (r .slot) i ∷ []))
   unfolding linked enter
   link-lawful i file sound =
       let here = same-kind s m n fileKind i (room .tree .kinds) ∙ file in
@@ -112,7 +112,7 @@ module _ (s : List ℕ) (n b d : ℕ) (name : List ℕ) (r : Room) (h : Sound mo
       let a = steady-then {ks = d ∷ i ∷ []} (blocks-of s n h x) g (links-steady (enter s n d r i name) n i (linksOf (enter s n d r i name) i + 1) f) (λ j z. ((z .0, tt), (z .1 .0, tt))) in
       made-lawful _ _ i _ o a sound
 
-  create-lawful : (k : Kind) (i : ℕ) → freeInode s n ≡ At i → Sound mostStoreBlocks false (created s n d name k i r) → Lawful s n (changes i (created s n d name k i r) (d ∷ []) [] (entry d (r .slot) i ∷ []))
+  create-lawful : (k : Kind) (i : ℕ) → freeInode s n ≡ At i → Sound Store (created s n d name k i r) → Lawful s n (changes i (created s n d name k i r) (d ∷ []) [] (entry d (r .slot) i ∷ []))
   unfolding created enter
   create-lawful k i free sound =
       let o = create-filled m n d (r .slot) i k name (room .sound) count (room-dir s n b d r h x y (new .directory) e) (same-free-inode s m n (room .tree .kinds) ∙ free) (room .slot) (room .empty) (new .legal) still in
@@ -123,14 +123,14 @@ module _ (s : List ℕ) (n b d : ℕ) (name : List ℕ) (r : Room) (h : Sound mo
       let a = steady-then {ks = d ∷ []} (blocks-of s n h x) g (new-steady (enter s n d r i name) n i (newInode k d) f c (new-addresses k d)) (λ j u. (u, tt)) in
       made-lawful _ _ i _ o a sound
 
-pub lawful-link : (s : List ℕ) (n b d : ℕ) (name : List ℕ) (i : ℕ) → Sound mostStoreBlocks false s → n ≡ inodesIn s → b ≡ blocksIn s → Each (Lawful s n) (planned (link d name i) s n b)
+pub lawful-link : (s : List ℕ) (n b d : ℕ) (name : List ℕ) (i : ℕ) → Sound Store s → n ≡ inodesIn s → b ≡ blocksIn s → Each (Lawful s n) (planned (link d name i) s n b)
 lawful-link s n b d name i h x y = go (linkPlan s n b d name i) refl
   where
     go : (p : LinkPlan) → linkPlan s n b d name i ≡ p → Each (Lawful s n) (doLink s n d name i p)
     go (NoLink w) e = tt
     go (Add r) e = let c = links s n b d name i r e in link-lawful s n b d name r h x y (c .new) (c .room) i (c .file) (linked-sound s n b h x y d name i r e)
 
-pub lawful-create : (s : List ℕ) (n b d : ℕ) (name : List ℕ) (k : Kind) → Sound mostStoreBlocks false s → n ≡ inodesIn s → b ≡ blocksIn s → Each (Lawful s n) (planned (create d name k) s n b)
+pub lawful-create : (s : List ℕ) (n b d : ℕ) (name : List ℕ) (k : Kind) → Sound Store s → n ≡ inodesIn s → b ≡ blocksIn s → Each (Lawful s n) (planned (create d name k) s n b)
 lawful-create s n b d name k h x y = go (createPlan s n b d name) refl
   where
     go : (p : CreatePlan) → createPlan s n b d name ≡ p → Each (Lawful s n) (doCreate s n d name k p)

@@ -7,17 +7,18 @@ use mathlib.Core.List.{List, [], _∷_}
 use native.Mathlib.Omega.{arith}
 use lib.Dec.{eqb}
 use Rattle.bounded.specs.Search.{pick}
-use Rattle.layout.specs.Sizes.{mostStoreBlocks}
 use Rattle.layout.specs.Inode.{InodeFits, kindOf, spareOf, inodeOf, putAttributes, directoryKind, isKind, isDirectory, withParent}
 use Rattle.layout.specs.Block.{kthBlock}
 use Rattle.layout.proofs.ViewLaws.{inode-fits}
 use Rattle.directory.specs.Slot.{slots, slotEmpty, findSlot, putEntry, clearEntry, inodeAt}
 use Rattle.directory.proofs.SlotLaws.{find-below}
 use Rattle.bounded.specs.declared.Found.the-variants.{Absent}
+use Rattle.bounded.specs.Count.{count}
 use Rattle.names.specs.Name.{legalName}
 use Rattle.names.specs.Entry.{isEmpty, entryInode}
 use Rattle.sound.specs.Place.{placeOf}
 use Rattle.sound.specs.Sound.{Sound, inodesIn, blocksIn}
+use Rattle.sound.specs.declared.Form.the-variants.{Store}
 use Rattle.changes.proofs.SameLaws.{SameInode, frame-stays, inode-stays, same-body, each-inode, put-entry, clear-entry}
 use Rattle.changes.proofs.StoreLaws.{fits}
 use Rattle.changes.proofs.EntryWriteLaws.{SlotIn, slot-in, place-below}
@@ -43,7 +44,7 @@ use Rattle.files.proofs.LawfulEnter.{still, was-bare}
 use Rattle.files.proofs.LawfulStays.{same-store}
 
 -- ---- rename within a directory
-module _ (s : List ℕ) (n d t i : ℕ) (other : List ℕ) (h : Sound mostStoreBlocks false s) (x : n ≡ inodesIn s)
+module _ (s : List ℕ) (n d t i : ℕ) (other : List ℕ) (h : Sound Store s) (x : n ≡ inodesIn s)
     (dir : isDirectory s n d ≡ true) (inside : t < slots s d) (full : slotEmpty s n d t ≡ false) (is : i ≡ inodeAt s n d t)
     (legal : legalName other ≡ true) (absent : findSlot s n d other ≡ Absent) where
   rename-lawful : Lawful s n (changes 0 (renamed s n d other t i) (d ∷ []) [] [])
@@ -95,7 +96,7 @@ parent-steady s n i e f z = go (eqb (kindOf s i) directoryKind)
 slot-same : (s t : List ℕ) (n d u : ℕ) → SameInode s t n d → SlotIn s n d u → SlotIn t n d u
 slot-same s t n d u a y = record { low = y .low; high = y .high; dir = a .kind ∙ y .dir; inside = subst (λ (z : ℕ). u < z) (sym (same-slots a)) (y .inside); small = y .small }
 
-module _ (s : List ℕ) (n b d : ℕ) (name : List ℕ) (e : ℕ) (other : List ℕ) (t i : ℕ) (r : Room) (h : Sound mostStoreBlocks false s) (x : n ≡ inodesIn s) (y : b ≡ blocksIn s)
+module _ (s : List ℕ) (n b d : ℕ) (name : List ℕ) (e : ℕ) (other : List ℕ) (t i : ℕ) (r : Room) (h : Sound Store s) (x : n ≡ inodesIn s) (y : b ≡ blocksIn s)
     (q : renamePlan s n b d name e other ≡ Move t i r) where
   move-lawful : Lawful s n (changes 0 (moved s n d e other t i r) (d ∷ e ∷ i ∷ []) (entry d t i ∷ []) (entry e (r .slot) i ∷ []))
   unfolding moved slotEmpty
@@ -157,7 +158,7 @@ module _ (s : List ℕ) (n b d : ℕ) (name : List ℕ) (e : ℕ) (other : List 
         apart = λ j z. (((z .0, z .1 .1 .0), tt), (z .1 .0, tt));
       }
 
-pub lawful-rename : (s : List ℕ) (n b d : ℕ) (name : List ℕ) (e : ℕ) (other : List ℕ) → Sound mostStoreBlocks false s → n ≡ inodesIn s → b ≡ blocksIn s → Each (Lawful s n) (planned (rename d name e other) s n b)
+pub lawful-rename : (s : List ℕ) (n b d : ℕ) (name : List ℕ) (e : ℕ) (other : List ℕ) → Sound Store s → n ≡ inodesIn s → b ≡ blocksIn s → Each (Lawful s n) (planned (rename d name e other) s n b)
 lawful-rename s n b d name e other h x y = go (renamePlan s n b d name e other) refl
   where
     go : (p : RenamePlan) → renamePlan s n b d name e other ≡ p → Each (Lawful s n) (doRename s n d e other p)

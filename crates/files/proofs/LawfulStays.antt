@@ -6,8 +6,8 @@ use mathlib.Core.Bool.{false}
 use mathlib.Core.List.{List, []}
 use native.Mathlib.Omega.{arith}
 use lib.ListN.{length}
-use Rattle.layout.specs.Sizes.{mostStoreBlocks}
 use Rattle.sound.specs.Sound.{Sound}
+use Rattle.sound.specs.declared.Form.the-variants.{Store}
 use Rattle.changes.proofs.SameLaws.{frame-stays, inode-stays, same-body}
 use Rattle.content.specs.Plan.{readPlan}
 use Rattle.content.specs.declared.NumberPlan.{NumberPlan}
@@ -21,7 +21,7 @@ use Rattle.files.proofs.Lawful.{SameNaming, Lawful, Each}
 naming-stays : (s : List ℕ) (n q : ℕ) → SameNaming s s n q
 naming-stays s n q = record { stands = refl; names = refl }
 
-pub same-store : (s : List ℕ) (n a : ℕ) (out is : List ℕ) → Sound mostStoreBlocks false s
+pub same-store : (s : List ℕ) (n a : ℕ) (out is : List ℕ) → Sound Store s
     → Lawful s n (record { answer = a; store = s; out = out; touches = is; writes = []; taken = []; made = [] })
 same-store s n a out is h = record {
   sound = h;
@@ -40,14 +40,14 @@ same-store s n a out is h = record {
   apart = λ j _. (tt, tt);
 }
 
-pub lawful-look-up : (s : List ℕ) (n b d : ℕ) (name : List ℕ) → Sound mostStoreBlocks false s → Each (Lawful s n) (planned (lookUp d name) s n b)
+pub lawful-look-up : (s : List ℕ) (n b d : ℕ) (name : List ℕ) → Sound Store s → Each (Lawful s n) (planned (lookUp d name) s n b)
 lawful-look-up s n b d name h = go (lookUpPlan s n d name)
   where
     go : (p : NumberPlan) → Each (Lawful s n) (doLookUp s p)
     go (To i) = same-store s n i [] [] h
     go (NoNumber w) = tt
 
-pub lawful-read : (s : List ℕ) (n b i o : ℕ) (out : List ℕ) → Sound mostStoreBlocks false s → Each (Lawful s n) (planned (read i o out) s n b)
+pub lawful-read : (s : List ℕ) (n b i o : ℕ) (out : List ℕ) → Sound Store s → Each (Lawful s n) (planned (read i o out) s n b)
 lawful-read s n b i o out h = go (readPlan s n i o (length out))
   where
     go : (p : NumberPlan) → Each (Lawful s n) (doRead s n i o out p)

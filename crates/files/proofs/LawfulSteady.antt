@@ -8,7 +8,7 @@ use native.Mathlib.Omega.{arith}
 use borrow.Author.Tests.{ne-eqb}
 use lib.Dec.{eqb}
 use lib.ListN.{replicate}
-use Rattle.layout.specs.Sizes.{mostStoreBlocks, addressCount}
+use Rattle.layout.specs.Sizes.{addressCount}
 use Rattle.layout.specs.declared.inode.Inode.{Inode}
 use Rattle.layout.specs.Inode.{InodeFits, kindOf, sizeOf, putInode, putLinks, freeKind, fileKind, directoryKind, isDirectory}
 use Rattle.layout.specs.Block.{blocksUsed, blockOf, kthBlock}
@@ -16,6 +16,7 @@ use Rattle.layout.specs.Header.{lessFree}
 use Rattle.layout.proofs.FrameLaws.{length-inode}
 use Rattle.directory.specs.Slot.{putEntry, clearEntry}
 use Rattle.sound.specs.Sound.{Sound, inodesIn, blocksIn}
+use Rattle.sound.specs.declared.Form.the-variants.{Store}
 use Rattle.changes.proofs.SameLaws.{SameFrame, SameInode, SameBlock, InBlock, same-body, body-then, frame-then, inode-then, each-inode, put-entry, clear-entry, less-free}
 use Rattle.changes.proofs.StoreLaws.{dir-of, one-at, kind-some, kind-most, kind-is}
 use Rattle.changes.proofs.FreeLaws.{free-block}
@@ -36,7 +37,7 @@ pub record Blocks (s : List ℕ) (n : ℕ) : Type 0 where
   pub low : (j k : ℕ) → 1 ≤ j → j ≤ n → k < blocksUsed (sizeOf s j) → 1 ≤ kthBlock s n j k
   pub once : (i k j a : ℕ) → 1 ≤ i → i ≤ n → 1 ≤ j → j ≤ n → k < blocksUsed (sizeOf s i) → a < blocksUsed (sizeOf s j) → kthBlock s n i k ≡ kthBlock s n j a → i ≡ j
 
-pub blocks-of : (s : List ℕ) (n : ℕ) → Sound mostStoreBlocks false s → n ≡ inodesIn s → Blocks s n
+pub blocks-of : (s : List ℕ) (n : ℕ) → Sound Store s → n ≡ inodesIn s → Blocks s n
 blocks-of s n h x = record {
   few = λ j l m. dir-of s n h x j l m .few;
   low = λ j k l m u. dir-of s n h x j l m .blocks k u .low;
@@ -143,7 +144,7 @@ new-steady s n i v f e a =
     }
 
 -- room in d
-module _ (s : List ℕ) (n b d : ℕ) (r : Room) (h : Sound mostStoreBlocks false s) (x : n ≡ inodesIn s) (y : b ≡ blocksIn s)
+module _ (s : List ℕ) (n b d : ℕ) (r : Room) (h : Sound Store s) (x : n ≡ inodesIn s) (y : b ≡ blocksIn s)
     (k : isDirectory s n d ≡ true) (e : roomIn s n b d ≡ Has r) where
   pub roomed : Roomed s (makeRoom s n d r) n d (r .slot)
   roomed = make-room s n b d h x y k r e

@@ -9,7 +9,6 @@ use native.Mathlib.Omega.{arith}
 use borrow.Author.Tests.{leb-true, leb-false}
 use lib.Dec.{leb}
 use Rattle.bounded.specs.Search.{pick}
-use Rattle.layout.specs.Sizes.{mostStoreBlocks}
 use Rattle.layout.specs.Inode.{InodeFits, kindOf, linksOf, sizeOf, putInode, putLinks, freeKind, directoryKind, isDirectory, zeroInode}
 use Rattle.layout.specs.Block.{blocksUsed, kthBlock}
 use Rattle.layout.specs.Header.{moreFree}
@@ -18,6 +17,7 @@ use Rattle.layout.proofs.ViewLaws.{inode-fits}
 use Rattle.directory.specs.Slot.{slots, slotEmpty, clearEntry, inodeAt}
 use Rattle.directory.proofs.SlotLaws.{find-below}
 use Rattle.sound.specs.Sound.{Sound, inodesIn}
+use Rattle.sound.specs.declared.Form.the-variants.{Store}
 use Rattle.changes.proofs.SameLaws.{SameFrame, SameBody, SameBlock, same-body, each-inode, frame-then, more-free}
 use Rattle.changes.proofs.StoreLaws.{fits}
 use Rattle.changes.proofs.EntryWriteLaws.{EntriesAlone, entries-stay, clear-alone}
@@ -52,7 +52,7 @@ module _ (m : List ℕ) (n i : ℕ) (there : InodeFits m n i) where
       go false = let r = links-relinked m n i there (linksOf m i - 1) .inode in (r .frame, r .bytes)
 
 -- ---- unlink
-module _ (s : List ℕ) (n d t i : ℕ) (h : Sound mostStoreBlocks false s) (x : n ≡ inodesIn s)
+module _ (s : List ℕ) (n d t i : ℕ) (h : Sound Store s) (x : n ≡ inodesIn s)
     (dir : isDirectory s n d ≡ true) (inside : t < slots s d) (full : slotEmpty s n d t ≡ false) (is : i ≡ inodeAt s n d t) (holds : kindOf s i ≡ directoryKind → holdsNone s n i ≡ true) where
   here : EntryHere s n d t i
   here = entry-here s n d t i h x dir inside full is
@@ -115,7 +115,7 @@ module _ (s : List ℕ) (n d t i : ℕ) (h : Sound mostStoreBlocks false s) (x :
         apart = λ j z. (((z .0, z .1 .0), tt), tt);
       }
 
-pub lawful-unlink : (s : List ℕ) (n b d : ℕ) (name : List ℕ) → Sound mostStoreBlocks false s → n ≡ inodesIn s → Each (Lawful s n) (planned (unlink d name) s n b)
+pub lawful-unlink : (s : List ℕ) (n b d : ℕ) (name : List ℕ) → Sound Store s → n ≡ inodesIn s → Each (Lawful s n) (planned (unlink d name) s n b)
 lawful-unlink s n b d name h x = go (unlinkPlan s n d name) refl
   where
     go : (p : UnlinkPlan) → unlinkPlan s n d name ≡ p → Each (Lawful s n) (doUnlink s n d p)

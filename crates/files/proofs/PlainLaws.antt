@@ -5,9 +5,9 @@ use mathlib.Core.Bool.{Bool, true, false, not}
 use mathlib.Core.List.{List}
 use native.Mathlib.Omega.{arith}
 use Rattle.bounded.specs.Search.{pick}
-use Rattle.layout.specs.Sizes.{mostStoreBlocks}
-use Rattle.sound.specs.Sound.{framedB, isSound, inodesIn, blocksIn}
+use Rattle.sound.specs.Sound.{inodesIn, blocksIn}
 use Rattle.sound.specs.declared.Form.the-variants.{Store}
+use Rattle.sound.specs.Test.{framedB, isSound}
 use Rattle.answers.specs.declared.Refusal.{Refusal}
 use Rattle.answers.specs.declared.Refusal.the-variants.{BadBuffer, UnsoundStore}
 use Rattle.answers.specs.declared.Answer.{Answer}
@@ -15,19 +15,19 @@ use Rattle.answers.specs.declared.Answer.the-variants.{Done, Refused}
 use Rattle.files.specs.declared.Guard.the-variants.{Pass, Stop}
 use Rattle.files.specs.Guard.{guardOf, onGuard}
 use Rattle.files.specs.Effect.{Call, Planned, refused, does, plainDecision, given}
-use Rattle.files.specs.Plain.{Outcome, left, leaves, plain}
+use Rattle.files.specs.Plain.{PlainOutcome, plainLeft, leaves, plain}
 
 -- no call is both done and refused
 pub never : {A : Type 0} (x : ℕ) (e : Refusal) → Done x ≡ Refused e → A
 never x e h = let z : _≡_ {A = ℕ} 0 1 = cc in absurd (omega arith)
 
 -- if the outcome o is a refusal, the store is s and the out-buffer is out
-abbrev pub Keeps : List ℕ → List ℕ → Outcome → Type 0
-Keeps s out o = (e : Refusal) → o .answer ≡ Refused e → o ≡ left (Refused e) s out
+abbrev pub Keeps : List ℕ → List ℕ → PlainOutcome → Type 0
+Keeps s out o = (e : Refusal) → o .answer ≡ Refused e → o ≡ plainLeft (Refused e) s out
 
 leaves-keeps : (s out : List ℕ) (p : Planned) → Keeps s out (leaves s out p)
 leaves-keeps s out (does x) e h = never (x .answer) e h
-leaves-keeps s out (refused f) e h = ap (λ (a : Answer). left a s out) h
+leaves-keeps s out (refused f) e h = ap (λ (a : Answer). plainLeft a s out) h
 
 pub plain-refused : (s : List ℕ) (c : Call) → Keeps s (given c) (plain c s)
 unfolding plain
@@ -35,9 +35,9 @@ plain-refused s c = leaves-keeps s (given c) (plainDecision c s)
 
 -- refusals 1 and 2, one after the other
 pub on-guard : {A : Type 0} (s : List ℕ) (f : ℕ → ℕ → A) (g : Refusal → A)
-    → onGuard (guardOf s) f g ≡ pick (not (framedB mostStoreBlocks s)) (g BadBuffer) (pick (not (isSound Store s)) (g UnsoundStore) (f (inodesIn s) (blocksIn s)))
+    → onGuard (guardOf s) f g ≡ pick (not (framedB Store s)) (g BadBuffer) (pick (not (isSound Store s)) (g UnsoundStore) (f (inodesIn s) (blocksIn s)))
 unfolding guardOf
-on-guard {A} s f g = go (framedB mostStoreBlocks s) (isSound Store s)
+on-guard {A} s f g = go (framedB Store s) (isSound Store s)
   where
     go : (x y : Bool) → onGuard (pick (not x) (Stop BadBuffer) (pick (not y) (Stop UnsoundStore) (Pass (inodesIn s) (blocksIn s)))) f g
         ≡ pick (not x) (g BadBuffer) (pick (not y) (g UnsoundStore) (f (inodesIn s) (blocksIn s)))

@@ -7,28 +7,28 @@ use Rattle.answers.specs.declared.Answer.the-variants.{Done, Refused}
 use Rattle.files.specs.Effect.{Call, Planned, refused, does, plainDecision, given}
 
 -- what a call leaves: its answer, the store, and a read's out-buffer ([] for the other calls)
-pub record Outcome : Type 0 where
+pub record PlainOutcome : Type 0 where
   pub answer : Answer
   pub store : List ℕ
   pub out : List ℕ
 
-abbrev pub left : Answer → List ℕ → List ℕ → Outcome
-left a s o = record { answer = a; store = s; out = o }
+abbrev pub plainLeft : Answer → List ℕ → List ℕ → PlainOutcome
+plainLeft a s o = record { answer = a; store = s; out = o }
 
 -- the same by the paper's numbers: what a caller sees
-pub record Shown : Type 0 where
+pub record PlainShown : Type 0 where
   pub answer : Told
   pub store : List ℕ
   pub out : List ℕ
 
-abbrev pub shown : Outcome → Shown
-shown o = record { answer = told (o .answer); store = o .store; out = o .out }
+abbrev pub plainShown : PlainOutcome → PlainShown
+plainShown o = record { answer = told (o .answer); store = o .store; out = o .out }
 
 -- what is left of the store s and the out-buffer out by what was decided
-abbrev pub leaves : List ℕ → List ℕ → Planned → Outcome
-leaves s out (does x) = left (Done (x .answer)) (x .store) (x .out)
-leaves s out (refused e) = left (Refused e) s out
+abbrev pub leaves : List ℕ → List ℕ → Planned → PlainOutcome
+leaves s out (does x) = plainLeft (Done (x .answer)) (x .store) (x .out)
+leaves s out (refused e) = plainLeft (Refused e) s out
 
 -- a file call: guards 1 and 2, then refusal or effect
-unfoldable pub plain : Call → List ℕ → Outcome
+unfoldable pub plain : Call → List ℕ → PlainOutcome
 plain c s = leaves s (given c) (plainDecision c s)

@@ -3,13 +3,13 @@ ghost use mathlib.Core.Path.{_≡_};
 ghost use mathlib.Core.Bool.{false};
 ghost use mathlib.Core.List.{[]};
 ghost use lib.ListN.{length};
-ghost use Rattle.layout.specs.Sizes.{mostStoreBlocks};
 ghost use Rattle.sound.specs.Sound.{Sound, inodesIn, blocksIn};
+ghost use Rattle.sound.specs.declared.Form.the-variants.{Store};
 ghost use Rattle.content.specs.Plan.{readPlan, writePlan, shortenPlan};
 ghost use Rattle.entries.specs.Plan.{lookUpPlan, createPlan, linkPlan, unlinkPlan, renamePlan};
 ghost use Rattle.files.specs.Guard.{guardOf};
 ghost use Rattle.files.specs.Effect.{lookUp, read, create, write, shorten, link, unlink, rename, doLookUp, doRead, doCreate, doWrite, doShorten, doLink, doUnlink, doRename};
-ghost use Rattle.files.specs.Plain.{left, shown, leaves, plain};
+ghost use Rattle.files.specs.Plain.{plainLeft, plainShown, leaves, plain};
 use crate::Guard;
 use answers::Answer;
 use answers::Refusal;
@@ -20,18 +20,20 @@ use entries::Kind;
 use entries::LinkPlan;
 use entries::RenamePlan;
 use entries::UnlinkPlan;
-use layout::sizes::MOST_STORE_BLOCKS;
+use layout::header::Header;
+use sound::Form;
 
 // Refusals 1 and 2, which come before all others.
 pub fn guard(s: &[u8]) -> Guard
     ensures { λ r. ⌜ r ≡ guardOf (now (s .entry)) ⌝ }
 {
-    if !check::framed(s, MOST_STORE_BLOCKS) {
+    if !check::framed(Form::Store, s) {
         return Guard::Stop(Refusal::BadBuffer);
     }
-    let n = octets::get_16(s, 0) as usize;
-    let b = octets::get_16(s, 2) as usize;
-    if !check::body_right(s, n, b, false) {
+    let h = Header::read(s);
+    let n = h.inodes as usize;
+    let b = h.blocks as usize;
+    if !check::body_right(Form::Store, s, n, b) {
         return Guard::Stop(Refusal::UnsoundStore);
     }
     Guard::Pass(n, b)
@@ -39,8 +41,8 @@ pub fn guard(s: &[u8]) -> Guard
 
 // ---- look up
 fn do_look_up(s: &[u8], n: usize, d: usize, name: &[u8]) -> Answer
-    requires { ⌜ Sound mostStoreBlocks false (now s) × (n ≡ inodesIn (now s)) ⌝ }
-    ensures { λ r. ⌜ left r (now (s .entry)) [] ≡ leaves (now (s .entry)) [] (doLookUp (now (s .entry)) (lookUpPlan (now (s .entry)) n d (now (name .entry)))) ⌝ }
+    requires { ⌜ Sound Store (now s) × (n ≡ inodesIn (now s)) ⌝ }
+    ensures { λ r. ⌜ plainLeft r (now (s .entry)) [] ≡ leaves (now (s .entry)) [] (doLookUp (now (s .entry)) (lookUpPlan (now (s .entry)) n d (now (name .entry)))) ⌝ }
 {
     match entries::plan::look_up_plan(s, n, d, name) {
         NumberPlan::To(i) => Answer::Done(i),
@@ -49,7 +51,7 @@ fn do_look_up(s: &[u8], n: usize, d: usize, name: &[u8]) -> Answer
 }
 
 pub fn look_up(store: &[u8], dir: usize, name: &[u8]) -> Answer
-    ensures { λ r. ⌜ shown (left r (now (store .entry)) []) ≡ shown (plain (lookUp dir (now (name .entry))) (now (store .entry))) ⌝ }
+    ensures { λ r. ⌜ plainShown (plainLeft r (now (store .entry)) []) ≡ plainShown (plain (lookUp dir (now (name .entry))) (now (store .entry))) ⌝ }
 {
     match guard(store) {
         Guard::Pass(n, _) => do_look_up(store, n, dir, name),
@@ -59,8 +61,8 @@ pub fn look_up(store: &[u8], dir: usize, name: &[u8]) -> Answer
 
 // ---- read
 fn do_read(s: &[u8], n: usize, i: usize, o: usize, out: &mut [u8]) -> Answer
-    requires { ⌜ Sound mostStoreBlocks false (now s) × (n ≡ inodesIn (now s)) ⌝ }
-    ensures { λ r. ⌜ left r (now (s .entry)) (now (out .exit)) ≡ leaves (now (s .entry)) (now (out .entry)) (doRead (now (s .entry)) n i o (now (out .entry)) (readPlan (now (s .entry)) n i o (length (now (out .entry))))) ⌝ }
+    requires { ⌜ Sound Store (now s) × (n ≡ inodesIn (now s)) ⌝ }
+    ensures { λ r. ⌜ plainLeft r (now (s .entry)) (now (out .exit)) ≡ leaves (now (s .entry)) (now (out .entry)) (doRead (now (s .entry)) n i o (now (out .entry)) (readPlan (now (s .entry)) n i o (length (now (out .entry))))) ⌝ }
 {
     match content::plan::read_plan(s, n, i, o, out.len()) {
         NumberPlan::To(count) => {
@@ -72,7 +74,7 @@ fn do_read(s: &[u8], n: usize, i: usize, o: usize, out: &mut [u8]) -> Answer
 }
 
 pub fn read(store: &[u8], inode: usize, offset: usize, out: &mut [u8]) -> Answer
-    ensures { λ r. ⌜ shown (left r (now (store .entry)) (now (out .exit))) ≡ shown (plain (read inode offset (now (out .entry))) (now (store .entry))) ⌝ }
+    ensures { λ r. ⌜ plainShown (plainLeft r (now (store .entry)) (now (out .exit))) ≡ plainShown (plain (read inode offset (now (out .entry))) (now (store .entry))) ⌝ }
 {
     match guard(store) {
         Guard::Pass(n, _) => do_read(store, n, inode, offset, &mut *out),
@@ -82,8 +84,8 @@ pub fn read(store: &[u8], inode: usize, offset: usize, out: &mut [u8]) -> Answer
 
 // ---- create
 fn do_create(s: &mut [u8], n: usize, b: usize, d: usize, name: &[u8], kind: Kind) -> Answer
-    requires { ⌜ Sound mostStoreBlocks false (now s) × (n ≡ inodesIn (now s)) × (b ≡ blocksIn (now s)) ⌝ }
-    ensures { λ r. ⌜ left r (now (s .exit)) [] ≡ leaves (now (s .entry)) [] (doCreate (now (s .entry)) n d (now (name .entry)) kind (createPlan (now (s .entry)) n b d (now (name .entry)))) ⌝ }
+    requires { ⌜ Sound Store (now s) × (n ≡ inodesIn (now s)) × (b ≡ blocksIn (now s)) ⌝ }
+    ensures { λ r. ⌜ plainLeft r (now (s .exit)) [] ≡ leaves (now (s .entry)) [] (doCreate (now (s .entry)) n d (now (name .entry)) kind (createPlan (now (s .entry)) n b d (now (name .entry)))) ⌝ }
 {
     match entries::plan::create_plan(s, n, b, d, name) {
         CreatePlan::Make(i, room) => {
@@ -95,7 +97,7 @@ fn do_create(s: &mut [u8], n: usize, b: usize, d: usize, name: &[u8], kind: Kind
 }
 
 pub fn create(store: &mut [u8], dir: usize, name: &[u8], kind: Kind) -> Answer
-    ensures { λ r. ⌜ shown (left r (now (store .exit)) []) ≡ shown (plain (create dir (now (name .entry)) kind) (now (store .entry))) ⌝ }
+    ensures { λ r. ⌜ plainShown (plainLeft r (now (store .exit)) []) ≡ plainShown (plain (create dir (now (name .entry)) kind) (now (store .entry))) ⌝ }
 {
     match guard(store) {
         Guard::Pass(n, b) => do_create(&mut *store, n, b, dir, name, kind),
@@ -105,8 +107,8 @@ pub fn create(store: &mut [u8], dir: usize, name: &[u8], kind: Kind) -> Answer
 
 // ---- write
 fn do_write(s: &mut [u8], n: usize, b: usize, i: usize, o: usize, xs: &[u8]) -> Answer
-    requires { ⌜ Sound mostStoreBlocks false (now s) × (n ≡ inodesIn (now s)) × (b ≡ blocksIn (now s)) ⌝ }
-    ensures { λ r. ⌜ left r (now (s .exit)) [] ≡ leaves (now (s .entry)) [] (doWrite (now (s .entry)) n b i o (now (xs .entry)) (writePlan (now (s .entry)) n i o (length (now (xs .entry))))) ⌝ }
+    requires { ⌜ Sound Store (now s) × (n ≡ inodesIn (now s)) × (b ≡ blocksIn (now s)) ⌝ }
+    ensures { λ r. ⌜ plainLeft r (now (s .exit)) [] ≡ leaves (now (s .entry)) [] (doWrite (now (s .entry)) n b i o (now (xs .entry)) (writePlan (now (s .entry)) n i o (length (now (xs .entry))))) ⌝ }
 {
     match content::plan::write_plan(s, n, i, o, xs.len()) {
         NumberPlan::To(z) => {
@@ -118,7 +120,7 @@ fn do_write(s: &mut [u8], n: usize, b: usize, i: usize, o: usize, xs: &[u8]) -> 
 }
 
 pub fn write(store: &mut [u8], inode: usize, offset: usize, bytes: &[u8]) -> Answer
-    ensures { λ r. ⌜ shown (left r (now (store .exit)) []) ≡ shown (plain (write inode offset (now (bytes .entry))) (now (store .entry))) ⌝ }
+    ensures { λ r. ⌜ plainShown (plainLeft r (now (store .exit)) []) ≡ plainShown (plain (write inode offset (now (bytes .entry))) (now (store .entry))) ⌝ }
 {
     match guard(store) {
         Guard::Pass(n, b) => do_write(&mut *store, n, b, inode, offset, bytes),
@@ -128,8 +130,8 @@ pub fn write(store: &mut [u8], inode: usize, offset: usize, bytes: &[u8]) -> Ans
 
 // ---- shorten
 fn do_shorten(s: &mut [u8], n: usize, i: usize, z: usize) -> Answer
-    requires { ⌜ Sound mostStoreBlocks false (now s) × (n ≡ inodesIn (now s)) ⌝ }
-    ensures { λ r. ⌜ left r (now (s .exit)) [] ≡ leaves (now (s .entry)) [] (doShorten (now (s .entry)) n i (shortenPlan (now (s .entry)) n i z)) ⌝ }
+    requires { ⌜ Sound Store (now s) × (n ≡ inodesIn (now s)) ⌝ }
+    ensures { λ r. ⌜ plainLeft r (now (s .exit)) [] ≡ leaves (now (s .entry)) [] (doShorten (now (s .entry)) n i (shortenPlan (now (s .entry)) n i z)) ⌝ }
 {
     match content::plan::shorten_plan(s, n, i, z) {
         NumberPlan::To(y) => {
@@ -141,7 +143,7 @@ fn do_shorten(s: &mut [u8], n: usize, i: usize, z: usize) -> Answer
 }
 
 pub fn shorten(store: &mut [u8], inode: usize, size: usize) -> Answer
-    ensures { λ r. ⌜ shown (left r (now (store .exit)) []) ≡ shown (plain (shorten inode size) (now (store .entry))) ⌝ }
+    ensures { λ r. ⌜ plainShown (plainLeft r (now (store .exit)) []) ≡ plainShown (plain (shorten inode size) (now (store .entry))) ⌝ }
 {
     match guard(store) {
         Guard::Pass(n, _) => do_shorten(&mut *store, n, inode, size),
@@ -151,8 +153,8 @@ pub fn shorten(store: &mut [u8], inode: usize, size: usize) -> Answer
 
 // ---- link
 fn do_link(s: &mut [u8], n: usize, b: usize, d: usize, name: &[u8], i: usize) -> Answer
-    requires { ⌜ Sound mostStoreBlocks false (now s) × (n ≡ inodesIn (now s)) × (b ≡ blocksIn (now s)) ⌝ }
-    ensures { λ r. ⌜ left r (now (s .exit)) [] ≡ leaves (now (s .entry)) [] (doLink (now (s .entry)) n d (now (name .entry)) i (linkPlan (now (s .entry)) n b d (now (name .entry)) i)) ⌝ }
+    requires { ⌜ Sound Store (now s) × (n ≡ inodesIn (now s)) × (b ≡ blocksIn (now s)) ⌝ }
+    ensures { λ r. ⌜ plainLeft r (now (s .exit)) [] ≡ leaves (now (s .entry)) [] (doLink (now (s .entry)) n d (now (name .entry)) i (linkPlan (now (s .entry)) n b d (now (name .entry)) i)) ⌝ }
 {
     match entries::plan::link_plan(s, n, b, d, name, i) {
         LinkPlan::Add(room) => {
@@ -164,7 +166,7 @@ fn do_link(s: &mut [u8], n: usize, b: usize, d: usize, name: &[u8], i: usize) ->
 }
 
 pub fn link(store: &mut [u8], dir: usize, name: &[u8], inode: usize) -> Answer
-    ensures { λ r. ⌜ shown (left r (now (store .exit)) []) ≡ shown (plain (link dir (now (name .entry)) inode) (now (store .entry))) ⌝ }
+    ensures { λ r. ⌜ plainShown (plainLeft r (now (store .exit)) []) ≡ plainShown (plain (link dir (now (name .entry)) inode) (now (store .entry))) ⌝ }
 {
     match guard(store) {
         Guard::Pass(n, b) => do_link(&mut *store, n, b, dir, name, inode),
@@ -174,8 +176,8 @@ pub fn link(store: &mut [u8], dir: usize, name: &[u8], inode: usize) -> Answer
 
 // ---- unlink
 fn do_unlink(s: &mut [u8], n: usize, d: usize, name: &[u8]) -> Answer
-    requires { ⌜ Sound mostStoreBlocks false (now s) × (n ≡ inodesIn (now s)) ⌝ }
-    ensures { λ r. ⌜ left r (now (s .exit)) [] ≡ leaves (now (s .entry)) [] (doUnlink (now (s .entry)) n d (unlinkPlan (now (s .entry)) n d (now (name .entry)))) ⌝ }
+    requires { ⌜ Sound Store (now s) × (n ≡ inodesIn (now s)) ⌝ }
+    ensures { λ r. ⌜ plainLeft r (now (s .exit)) [] ≡ leaves (now (s .entry)) [] (doUnlink (now (s .entry)) n d (unlinkPlan (now (s .entry)) n d (now (name .entry)))) ⌝ }
 {
     match entries::plan::unlink_plan(s, n, d, name) {
         UnlinkPlan::Take(t, i) => {
@@ -187,7 +189,7 @@ fn do_unlink(s: &mut [u8], n: usize, d: usize, name: &[u8]) -> Answer
 }
 
 pub fn unlink(store: &mut [u8], dir: usize, name: &[u8]) -> Answer
-    ensures { λ r. ⌜ shown (left r (now (store .exit)) []) ≡ shown (plain (unlink dir (now (name .entry))) (now (store .entry))) ⌝ }
+    ensures { λ r. ⌜ plainShown (plainLeft r (now (store .exit)) []) ≡ plainShown (plain (unlink dir (now (name .entry))) (now (store .entry))) ⌝ }
 {
     match guard(store) {
         Guard::Pass(n, _) => do_unlink(&mut *store, n, dir, name),
@@ -205,8 +207,8 @@ fn do_rename(
     e: usize,
     other: &[u8],
 ) -> Answer
-    requires { ⌜ Sound mostStoreBlocks false (now s) × (n ≡ inodesIn (now s)) × (b ≡ blocksIn (now s)) ⌝ }
-    ensures { λ r. ⌜ left r (now (s .exit)) [] ≡ leaves (now (s .entry)) [] (doRename (now (s .entry)) n d e (now (other .entry)) (renamePlan (now (s .entry)) n b d (now (name .entry)) e (now (other .entry)))) ⌝ }
+    requires { ⌜ Sound Store (now s) × (n ≡ inodesIn (now s)) × (b ≡ blocksIn (now s)) ⌝ }
+    ensures { λ r. ⌜ plainLeft r (now (s .exit)) [] ≡ leaves (now (s .entry)) [] (doRename (now (s .entry)) n d e (now (other .entry)) (renamePlan (now (s .entry)) n b d (now (name .entry)) e (now (other .entry)))) ⌝ }
 {
     match entries::plan::rename_plan(s, n, b, d, name, e, other) {
         RenamePlan::Same => Answer::Done(0),
@@ -223,7 +225,7 @@ fn do_rename(
 }
 
 pub fn rename(store: &mut [u8], dir: usize, name: &[u8], to_dir: usize, to_name: &[u8]) -> Answer
-    ensures { λ r. ⌜ shown (left r (now (store .exit)) []) ≡ shown (plain (rename dir (now (name .entry)) «to_dir» (now («to_name» .entry))) (now (store .entry))) ⌝ }
+    ensures { λ r. ⌜ plainShown (plainLeft r (now (store .exit)) []) ≡ plainShown (plain (rename dir (now (name .entry)) «to_dir» (now («to_name» .entry))) (now (store .entry))) ⌝ }
 {
     match guard(store) {
         Guard::Pass(n, b) => do_rename(&mut *store, n, b, dir, name, to_dir, to_name),

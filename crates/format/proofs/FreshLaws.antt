@@ -10,7 +10,7 @@ use borrow.Author.Tests.{eq-eqb, ne-eqb, le-ltb}
 use lib.Dec.{eqb, ltb}
 use lib.ListN.{length, getD, replicate, length-replicate}
 use Rattle.bounded.specs.Search.{pick}
-use Rattle.bounded.specs.Count.{count}
+use Rattle.bounded.specs.Count.{count, countTo}
 use Rattle.bounded.specs.Climb.{climb, Leads}
 use Rattle.bounded.proofs.BoolLaws.{and-true, and-false-r}
 use Rattle.bounded.proofs.BelowLaws.{none-some}
@@ -20,17 +20,18 @@ use Rattle.octets.proofs.PartLaws.{length-splice, splice-in, splice-out}
 use Rattle.octets.proofs.NumLaws.{num-apart, num-in, num-other, zero-num}
 use Rattle.layout.specs.Sizes.{mostInodes, mostStoreBlocks, rootInode}
 use Rattle.layout.specs.declared.header.Header.{Header}
-use Rattle.layout.specs.Header.{headerOf, putHeader, putFree, putComplete, reservedZero}
-use Rattle.layout.specs.Inode.{attributesAt, addressAt, place, kindOf, spareOf, linksOf, sizeOf, parentOf, addressOf, attributeEntry, putAttributes, putAddresses, putInode, freeKind, directoryKind}
-use Rattle.layout.specs.Block.{storeLength, blocksUsed}
-use Rattle.layout.specs.Free.{named}
+use Rattle.layout.specs.Header.{headerOf, putHeader, putFree, putComplete, headerRestZero}
+use Rattle.layout.specs.Inode.{attributesAt, addressAt, addressIndex, kindOf, spareOf, linksOf, sizeOf, parentOf, addressOf, attributeEntry, putAttributes, putAddresses, putInode, freeKind, directoryKind}
+use Rattle.layout.specs.Block.{storeLength, blocksUsed, allowed}
+use Rattle.layout.specs.Free.{blockNamed, inodeFree, blockFree}
 use Rattle.layout.proofs.FrameLaws.{length-header, length-inode, header-past}
 use Rattle.layout.proofs.ViewLaws.{is-inside, header-put}
 use Rattle.directory.specs.Slot.{mostSlots, slots}
 use Rattle.sound.specs.Place.{dirOf, slotOf, isSlot, filled, naming}
 use Rattle.sound.specs.Inode.{InodeSound}
 use Rattle.sound.specs.Link.{LinkSound}
-use Rattle.sound.specs.Sound.{inodesIn, blocksIn, freeB, unnamedB, Sound}
+use Rattle.sound.specs.Sound.{inodesIn, blocksIn, Sound}
+use Rattle.sound.specs.declared.Form.the-variants.{Store}
 use Rattle.desk.specs.Sizes.{deskLength, copiedAt, marksAt, idle}
 use Rattle.desk.specs.Desk.{deskOf, copiedOf, marksOf}
 use Rattle.desk.specs.Desk as desk
@@ -38,8 +39,8 @@ use Rattle.desk.proofs.DeskLaws.{length-putDesk, desk-putDesk, reserved-putDesk
 use Rattle.answers.specs.declared.Refusal.the-variants.{BadBuffer}
 use Rattle.answers.specs.Told.{Told, told}
 use Rattle.answers.specs.declared.Answer.the-variants.{Done, Refused}
-use Rattle.format.specs.Format.{left, storeAllowed, freshHeader, emptyRoot, freshStore, freshDesk, layOutStore}
-use Rattle.format.proofs.FormatLaws.{store-allowed}
+use Rattle.format.specs.Format.{laidOut, freshHeader, emptyRoot, freshStore, freshDesk, layOutStore}
+use Rattle.layout.proofs.AllowedLaws.{allowed-is}
 
 -- ---- zero bytes
 byte-zeros : (m i : ℕ) → getD {A = ℕ} (replicate m 0) i 0 ≡ 0
@@ -130,8 +131,8 @@ module _ (n b : ℕ) where
       ∙ beside (replicate (storeLength n b) 0) (freshHeader n b) k o a c
       ∙ num-zeros k (storeLength n b) o
 
-  pub reserved-fresh : reservedZero (freshStore n b) ≡ true
-  unfolding reservedZero
+  pub reserved-fresh : headerRestZero (freshStore n b) ≡ true
+  unfolding headerRestZero
   reserved-fresh =
       and-true _ _ (eq-eqb _ 0 (reserved-number 1 9 (omega arith) (omega arith) (omega arith))) (eq-eqb _ 0 (reserved-number 4 12 (omega arith) (omega arith) (omega arith)))
 
@@ -206,8 +207,8 @@ module _ (n b : ℕ) (some : 1 ≤ n) where
   unfolding filled
   filled-fresh p = rw (no-slot p)
 
-  named-fresh : (c : ℕ) → 1 ≤ c → named (freshStore n b) n c ≡ false
-  unfolding named
+  named-fresh : (c : ℕ) → 1 ≤ c → blockNamed (freshStore n b) n c ≡ false
+  unfolding blockNamed
   named-fresh c l =
       none-some (λ x. eqb (addressOf (freshStore n b) n x) c) (12 * n) (λ x m. ne-eqb _ c (λ e. let z = address-fresh x in omega arith))
 
@@ -222,7 +223,7 @@ module _ (n b : ℕ) (some : 1 ≤ n) where
         free = λ e. (links-fresh i, (z, parent-fresh i));
         size = omega arith;
         used = λ k m q. absurd (omega arith);
-        rest = λ k m q. address-fresh (place i k);
+        rest = λ k m q. address-fresh (addressIndex i k);
         directory = λ e. omega arith;
         tail = λ e h. absurd (h (omega arith));
         parent = λ e. parent-fresh i;
@@ -245,19 +246,19 @@ module _ (n b : ℕ) (some : 1 ≤ n) where
       lead e (yes q) = (0, (unfold climb in q))
       lead e (no h) = let z = kind-fresh i l h in absurd (omega arith)
 
-  free-fresh : count (freeB (freshStore n b)) n ≡ n - 1
+  free-fresh : countTo (inodeFree (freshStore n b)) n ≡ n - 1
   free-fresh =
-      let p = freeB (freshStore n b) in
+      let p : ℕ → Bool = λ k. inodeFree (freshStore n b) (k + 1) in
       let e : n ≡ 1 + (n - 1) = omega arith in
       let z = kind-root in
       let a : count p 1 ≡ 0 = count-none p 1 (λ k l. let q : k + 1 ≡ 1 = omega arith in rw q (ne-eqb (kindOf (freshStore n b) 1) 0 (λ x. omega arith))) in
       let c : count (λ k. p (1 + k)) (n - 1) ≡ n - 1 = count-all (λ k. p (1 + k)) (n - 1) (λ k l. eq-eqb _ 0 (kind-fresh (1 + k + 1) (omega arith) (λ x. omega arith))) in
       ap (count p) e ∙ count-split p 1 (n - 1) ∙ omega arith
 
-  unnamed-fresh : count (unnamedB (freshStore n b) n) b ≡ b
-  unnamed-fresh = count-all (unnamedB (freshStore n b) n) b (λ k l. ap not (named-fresh (k + 1) (omega arith)))
+  unnamed-fresh : countTo (blockFree (freshStore n b) n) b ≡ b
+  unnamed-fresh = count-all (λ k. blockFree (freshStore n b) n (k + 1)) b (λ k l. ap not (named-fresh (k + 1) (omega arith)))
 
-pub fresh-sound : (n b : ℕ) → 1 ≤ n → n ≤ mostInodes → 1 ≤ b → b ≤ mostStoreBlocks → Sound mostStoreBlocks false (freshStore n b)
+pub fresh-sound : (n b : ℕ) → 1 ≤ n → n ≤ mostInodes → 1 ≤ b → b ≤ mostStoreBlocks → Sound Store (freshStore n b)
 unfolding freshHeader
 fresh-sound n b h i k l =
     let e = inodes-fresh n b in
@@ -280,13 +281,13 @@ fresh-sound n b h i k l =
     }
 
 -- a store that the call laid out
-pub laid-out-sound : (s : List ℕ) (n b : ℕ) → (layOutStore s n b) .answer ≡ told (Done 0) → Sound mostStoreBlocks false ((layOutStore s n b) .buffer)
+pub laid-out-sound : (s : List ℕ) (n b : ℕ) → (layOutStore s n b) .answer ≡ told (Done 0) → Sound Store ((layOutStore s n b) .buffer)
 unfolding layOutStore
-laid-out-sound s n b e = go (storeAllowed n b (length s)) refl e
+laid-out-sound s n b e = go (allowed mostStoreBlocks n b (length s)) refl e
   where
-    go : (t : Bool) → storeAllowed n b (length s) ≡ t → pick t (left (Done 0) (freshStore n b)) (left (Refused BadBuffer) s) .answer ≡ told (Done 0)
-        → Sound mostStoreBlocks false (pick t (left (Done 0) (freshStore n b)) (left (Refused BadBuffer) s) .buffer)
-    go true a r = let q = store-allowed n b (length s) .to a in fresh-sound n b (q .0) (q .1 .0) (q .1 .1 .0) (q .1 .1 .1 .0)
+    go : (t : Bool) → allowed mostStoreBlocks n b (length s) ≡ t → pick t (laidOut (Done 0) (freshStore n b)) (laidOut (Refused BadBuffer) s) .answer ≡ told (Done 0)
+        → Sound Store (pick t (laidOut (Done 0) (freshStore n b)) (laidOut (Refused BadBuffer) s) .buffer)
+    go true a r = let q = allowed-is mostStoreBlocks n b (length s) .to a in fresh-sound n b (q .some-inodes) (q .most-inodes) (q .some-blocks) (q .most-blocks)
     go false a r = let z : _≡_ {A = ℕ} 1 0 = ap (λ (x : Told). x .number) r in absurd (omega arith)
 
 -- ---- a fresh desk
@@ -295,17 +296,17 @@ module _ (n : ℕ) where
   unfolding freshDesk
   length-fresh-desk = simp (length-putDesk, length-replicate)
 
-  pub desk-fresh : deskOf (freshDesk n) ≡ record { inodes = n; blocks = 0; state = idle; locked = 0; copied = 0; steps = 0 }
+  pub desk-fresh : deskOf (freshDesk n) ≡ record { inodes = n; blocks = 0; state = idle; locked = 0; progress = 0; steps = 0 }
   unfolding freshDesk
   desk-fresh =
       let e = length-replicate {A = ℕ} (deskLength n) 0 in
       desk-putDesk (replicate (deskLength n) 0) _ (omega arith)
 
-  pub reserved-fresh-desk : desk.reservedZero (freshDesk n) ≡ true
+  pub reserved-fresh-desk : desk.deskRestZero (freshDesk n) ≡ true
   unfolding freshDesk
   reserved-fresh-desk =
       reserved-putDesk (replicate (deskLength n) 0) _
-      ∙ (unfold desk.reservedZero in and-true _ _ (eq-eqb _ 0 (num-zeros 1 (deskLength n) 5)) (eq-eqb _ 0 (num-zeros 2 (deskLength n) 10)))
+      ∙ (unfold desk.deskRestZero in and-true _ _ (eq-eqb _ 0 (num-zeros 1 (deskLength n) 5)) (eq-eqb _ 0 (num-zeros 2 (deskLength n) 10)))
 
   pub copied-fresh : (i : ℕ) → copiedOf (freshDesk n) i ≡ 0
   unfolding freshDesk

@@ -5,13 +5,13 @@ use mathlib.Core.List.{List}
 use lib.Dec.{eqb, leb}
 use lib.ListN.{length, replicate}
 use Rattle.bounded.specs.Search.{pick}
-use Rattle.layout.specs.Sizes.{mostInodes, mostStoreBlocks, addressCount, rootInode, isComplete}
+use Rattle.layout.specs.Sizes.{mostStoreBlocks, addressCount, rootInode, isComplete}
 use Rattle.layout.specs.Header.{putHeader}
 use Rattle.layout.specs.Inode.{putInode, directoryKind}
-use Rattle.layout.specs.Block.{storeLength}
+use Rattle.layout.specs.Block.{storeLength, allowed}
 use Rattle.layout.specs.declared.header.Header.{Header}
 use Rattle.layout.specs.declared.inode.Inode.{Inode}
-use Rattle.desk.specs.Sizes.{deskLength, idle}
+use Rattle.desk.specs.Sizes.{deskLength, idle, deskAllowed}
 use Rattle.desk.specs.Desk.{putDesk}
 use Rattle.answers.specs.declared.Refusal.the-variants.{BadBuffer}
 use Rattle.answers.specs.Told.{Told, told}
@@ -19,18 +19,14 @@ use Rattle.answers.specs.declared.Answer.{Answer}
 use Rattle.answers.specs.declared.Answer.the-variants.{Done, Refused}
 
 -- what a layout call leaves: its answer by the paper's numbers, and the buffer's content
-pub record Outcome : Type 0 where
+pub record LaidOut : Type 0 where
   pub answer : Told
   pub buffer : List ℕ
 
-abbrev pub left : Answer → List ℕ → Outcome
-left r s = record { answer = told r; buffer = s }
+abbrev pub laidOut : Answer → List ℕ → LaidOut
+laidOut r s = record { answer = told r; buffer = s }
 
 -- ---- A store
--- refusal 1: "inode count N (1 to 256)", "block count B (store 1 to 1,024)", "Length is 16 + 32 × N + 64 × B exactly"
-unfoldable pub storeAllowed : ℕ → ℕ → ℕ → Bool
-storeAllowed n b k = leb 1 n && (leb n mostInodes && (leb 1 b && (leb b mostStoreBlocks && eqb k (storeLength n b))))
-
 -- a true header: all inodes but the root are free, and all blocks
 unfoldable pub freshHeader : ℕ → ℕ → Header
 freshHeader n b = record { inodes = n; blocks = b; «free_inodes» = n - 1; «free_blocks» = b; complete = isComplete; root = rootInode }
@@ -42,16 +38,13 @@ emptyRoot = record { kind = directoryKind; links = 0; size = 0; parent = 0; addr
 unfoldable pub freshStore : ℕ → ℕ → List ℕ
 freshStore n b = putInode (putHeader (replicate (storeLength n b) 0) (freshHeader n b)) n rootInode emptyRoot
 
-unfoldable pub layOutStore : List ℕ → ℕ → ℕ → Outcome
-layOutStore s n b = pick (storeAllowed n b (length s)) (left (Done 0) (freshStore n b)) (left (Refused BadBuffer) s)
+unfoldable pub layOutStore : List ℕ → ℕ → ℕ → LaidOut
+layOutStore s n b = pick (allowed mostStoreBlocks n b (length s)) (laidOut (Done 0) (freshStore n b)) (laidOut (Refused BadBuffer) s)
 
 -- ---- A desk
-unfoldable pub deskAllowed : ℕ → ℕ → Bool
-deskAllowed n k = leb 1 n && (leb n mostInodes && eqb k (deskLength n))
-
 -- its N, and nothing else
 unfoldable pub freshDesk : ℕ → List ℕ
-freshDesk n = putDesk (replicate (deskLength n) 0) (record { inodes = n; blocks = 0; state = idle; locked = 0; copied = 0; steps = 0 })
+freshDesk n = putDesk (replicate (deskLength n) 0) (record { inodes = n; blocks = 0; state = idle; locked = 0; progress = 0; steps = 0 })
 
-unfoldable pub layOutDesk : List ℕ → ℕ → Outcome
-layOutDesk d n = pick (deskAllowed n (length d)) (left (Done 0) (freshDesk n)) (left (Refused BadBuffer) d)
+unfoldable pub layOutDesk : List ℕ → ℕ → LaidOut
+layOutDesk d n = pick (deskAllowed n (length d)) (laidOut (Done 0) (freshDesk n)) (laidOut (Refused BadBuffer) d)

@@ -3,40 +3,18 @@ ghost use mathlib.Core.Path.{_≡_};
 ghost use Prim.Native.Nat.{_≤_};
 ghost use lib.ListN.{length};
 ghost use Rattle.layout.specs.Sizes.{mostInodes, mostStoreBlocks};
-ghost use Rattle.format.specs.Format.{left, storeAllowed, deskAllowed, freshHeader, emptyRoot, layOutStore, layOutDesk};
+ghost use Rattle.format.specs.Format.{laidOut, freshHeader, emptyRoot, layOutStore, layOutDesk};
 use answers::Answer;
 use answers::Refusal;
-use desk::DESK_HEADER_BYTES;
-use desk::DESK_INODE_BYTES;
 use desk::Desk;
 use desk::IDLE;
-use layout::block::store_length;
+use layout::block::allowed;
 use layout::header::Header;
 use layout::inode::Inode;
 use layout::sizes::COMPLETE;
 use layout::sizes::DIRECTORY;
-use layout::sizes::MOST_INODES;
 use layout::sizes::MOST_STORE_BLOCKS;
 use layout::sizes::ROOT;
-
-// A store of n inodes and b blocks may be k bytes long.
-fn store_allowed(n: usize, b: usize, k: usize) -> bool
-    ensures { λ r. ⌜ r ≡ storeAllowed n b k ⌝ }
-{
-    if n < 1 {
-        return false;
-    }
-    if MOST_INODES < n {
-        return false;
-    }
-    if b < 1 {
-        return false;
-    }
-    if MOST_STORE_BLOCKS < b {
-        return false;
-    }
-    k == store_length(n, b)
-}
 
 fn fresh_header(n: usize, b: usize) -> Header
     requires { ⌜ (1 ≤ n) × (n ≤ mostInodes) × (b ≤ mostStoreBlocks) ⌝ }
@@ -65,10 +43,10 @@ fn empty_root() -> Inode
 }
 
 pub fn lay_out_store(buffer: &mut [u8], inodes: usize, blocks: usize) -> Answer
-    ensures { λ r. ⌜ left r (now (buffer .exit)) ≡ layOutStore (now (buffer .entry)) inodes blocks ⌝ }
+    ensures { λ r. ⌜ laidOut r (now (buffer .exit)) ≡ layOutStore (now (buffer .entry)) inodes blocks ⌝ }
 {
     let length = buffer.len();
-    if !store_allowed(inodes, blocks, length) {
+    if !allowed(MOST_STORE_BLOCKS, inodes, blocks, length) {
         return Answer::Refused(Refusal::BadBuffer);
     }
     octets::zero_range(&mut *buffer, 0, length);
@@ -77,24 +55,11 @@ pub fn lay_out_store(buffer: &mut [u8], inodes: usize, blocks: usize) -> Answer
     Answer::Done(0)
 }
 
-// A desk for n inodes may be k bytes long.
-fn desk_allowed(n: usize, k: usize) -> bool
-    ensures { λ r. ⌜ r ≡ deskAllowed n k ⌝ }
-{
-    if n < 1 {
-        return false;
-    }
-    if MOST_INODES < n {
-        return false;
-    }
-    k == DESK_HEADER_BYTES + DESK_INODE_BYTES * n
-}
-
 pub fn lay_out_desk(buffer: &mut [u8], inodes: usize) -> Answer
-    ensures { λ r. ⌜ left r (now (buffer .exit)) ≡ layOutDesk (now (buffer .entry)) inodes ⌝ }
+    ensures { λ r. ⌜ laidOut r (now (buffer .exit)) ≡ layOutDesk (now (buffer .entry)) inodes ⌝ }
 {
     let length = buffer.len();
-    if !desk_allowed(inodes, length) {
+    if !desk::allowed(inodes, length) {
         return Answer::Refused(Refusal::BadBuffer);
     }
     octets::zero_range(&mut *buffer, 0, length);
@@ -103,7 +68,7 @@ pub fn lay_out_desk(buffer: &mut [u8], inodes: usize) -> Answer
         blocks: 0,
         state: IDLE,
         locked: 0,
-        copied: 0,
+        progress: 0,
         steps: 0,
     };
     fresh.write(&mut *buffer);

@@ -11,37 +11,25 @@ use Rattle.bounded.specs.Search.{pick}
 use Rattle.bounded.proofs.BoolLaws.{clash, and-false-l, chain-end}
 use Rattle.bounded.proofs.ReflectLaws.{r-eq, r-le, r-and, r-says, r-fails, reflects-ext}
 use Rattle.octets.specs.Octets.{numAt}
-use Rattle.layout.specs.Sizes.{mostInodes, mostImageBlocks, addressCount, rootInode, notComplete}
+use Rattle.layout.specs.Sizes.{mostInodes, mostImageBlocks, rootInode, notComplete, mostBlocks}
 use Rattle.layout.specs.declared.header.Header.{Header}
 use Rattle.layout.specs.Header.{headerOf}
-use Rattle.layout.specs.Block.{storeLength}
-use Rattle.desk.specs.Sizes.{deskHeaderBytes, deskLength, idle, running, stopped}
+use Rattle.layout.specs.Block.{storeLength, allowed}
+use Rattle.desk.specs.Sizes.{deskHeaderBytes, deskLength, idle, running, stopped, stepsAnInode, deskAllowed}
 use Rattle.desk.specs.declared.Desk.{Desk}
-use Rattle.desk.specs.Desk.{deskOf, reservedZero}
-use Rattle.checkpoint.specs.Fit.{deskFramed, imageBlocks, imageAllowed, isRunning, stepsAnInode, blocksFit, deskFits, imageFits}
+use Rattle.desk.specs.Desk.{deskOf, deskRestZero}
+use Rattle.checkpoint.specs.Fit.{deskFramed, imageBlocks, imageAllowed, isRunning, blocksFit, deskFits, imageFits}
 use Rattle.checkpoint.proofs.Copy.FitLaws.{desk-framed-is, desk-fits-is, image-fits-is}
 use Rattle.checkpoint.proofs.Step.StartLaws.{image-allowed-is}
 use Rattle.guards.specs.Fit.{blocksRight, copiedRight, countsRight, addressesRight, notesRight}
 
 -- ---- the desk's frame
-pub read-inodes : (d : List ℕ) → numAt 2 d 0 ≡ deskOf d .inodes
-unfolding deskOf
-read-inodes d = refl
-
 pub framed-short : (d : List ℕ) → length d < deskHeaderBytes → false ≡ deskFramed d
 framed-short d h = sym (r-fails (desk-framed-is d) (λ t. let l = t .1 .1 in omega arith))
 
-module _ (d : List ℕ) {n : ℕ} (e : n ≡ deskOf d .inodes) where
-  pub framed-none : n < 1 → false ≡ deskFramed d
-  framed-none h = sym (r-fails (desk-framed-is d) (λ t. let l = t .0 in omega arith))
-
-  pub framed-many : mostInodes < n → false ≡ deskFramed d
-  framed-many h = sym (r-fails (desk-framed-is d) (λ t. let l = t .1 .0 in omega arith))
-
-  pub framed-long : 1 ≤ n → n ≤ mostInodes → eqb (length d) (deskLength n) ≡ deskFramed d
-  framed-long a b =
-      reflects-ext (r-eq (length d) (deskLength n))
-      (r-says (λ t. let l = t .1 .1 in omega arith) (λ l. (omega arith, (omega arith, omega arith))) (desk-framed-is d))
+pub framed-read : (d : List ℕ) (h : Desk) → h ≡ deskOf d → (x : Bool) → x ≡ deskAllowed (h .inodes) (length d) → x ≡ deskFramed d
+unfolding deskFramed
+framed-read d h e x q = q ∙ ap (λ (y : Desk). deskAllowed (y .inodes) (length d)) e
 
 -- what a desk that passed has
 pub record Framed (d : List ℕ) : Type 0 where
@@ -68,13 +56,13 @@ module _ (h : Desk) where
   counts-locked l = sym (and-false-l _ _ (lt-leb (h .locked) (h .inodes) l))
 
   module _ (a : h .locked ≤ h .inodes) where
-    pub counts-copied : addressCount < h .copied → false ≡ countsRight h
-    counts-copied l = chain-end _ _ _ (le-leb (h .locked) (h .inodes) a) (sym (and-false-l _ _ (lt-leb (h .copied) addressCount l)))
+    pub counts-progress : mostBlocks < h .progress → false ≡ countsRight h
+    counts-progress l = chain-end _ _ _ (le-leb (h .locked) (h .inodes) a) (sym (and-false-l _ _ (lt-leb (h .progress) mostBlocks l)))
 
-    module _ (b : h .copied ≤ addressCount) where
+    module _ (b : h .progress ≤ mostBlocks) where
       -- past the first two conditions
-      counts-on : (x rest : Bool) → x ≡ rest → x ≡ leb (h .locked) (h .inodes) && (leb (h .copied) addressCount && rest)
-      counts-on x rest q = chain-end _ _ _ (le-leb (h .locked) (h .inodes) a) (chain-end _ _ _ (le-leb (h .copied) addressCount b) q)
+      counts-on : (x rest : Bool) → x ≡ rest → x ≡ leb (h .locked) (h .inodes) && (leb (h .progress) mostBlocks && rest)
+      counts-on x rest q = chain-end _ _ _ (le-leb (h .locked) (h .inodes) a) (chain-end _ _ _ (le-leb (h .progress) mostBlocks b) q)
 
       pub counts-running : h .state ≡ running → leb (h .steps) (stepsAnInode * h .inodes) ≡ countsRight h
       counts-running e = counts-on _ _ (rw (eq-eqb (h .state) running e))
@@ -83,11 +71,11 @@ module _ (h : Desk) where
         pub counts-held : (h .locked ≡ 0 → ⊥) → false ≡ countsRight h
         counts-held f = counts-on _ _ (rw (ne-eqb (h .state) running e, ne-eqb (h .locked) 0 f))
 
-        pub counts-begun : h .locked ≡ 0 → (h .copied ≡ 0 → ⊥) → false ≡ countsRight h
-        counts-begun f g = counts-on _ _ (rw (ne-eqb (h .state) running e, eq-eqb (h .locked) 0 f, ne-eqb (h .copied) 0 g))
+        pub counts-begun : h .locked ≡ 0 → (h .progress ≡ 0 → ⊥) → false ≡ countsRight h
+        counts-begun f g = counts-on _ _ (rw (ne-eqb (h .state) running e, eq-eqb (h .locked) 0 f, ne-eqb (h .progress) 0 g))
 
-        pub counts-idle : h .locked ≡ 0 → h .copied ≡ 0 → leb (h .steps) (stepsAnInode * h .inodes + 1) ≡ countsRight h
-        counts-idle f g = counts-on _ _ (rw (ne-eqb (h .state) running e, eq-eqb (h .locked) 0 f, eq-eqb (h .copied) 0 g))
+        pub counts-idle : h .locked ≡ 0 → h .progress ≡ 0 → leb (h .steps) (stepsAnInode * h .inodes + 1) ≡ countsRight h
+        counts-idle f g = counts-on _ _ (rw (ne-eqb (h .state) running e, eq-eqb (h .locked) 0 f, eq-eqb (h .progress) 0 g))
 
 -- ---- the desk: h is its header as the code has read it
 module _ (d : List ℕ) (h : Desk) (e : h ≡ deskOf d) where
@@ -101,10 +89,10 @@ module _ (d : List ℕ) (h : Desk) (e : h ≡ deskOf d) where
   pub fits-blocks : blocksRight h ≡ false → false ≡ deskFits d
   fits-blocks q = sym (r-fails (desk-fits-is d) (λ t. clash (blocksFit d) (t .1 .0) (sym blocks-are ∙ q)))
 
-  pub fits-reserved : reservedZero d ≡ false → false ≡ deskFits d
-  fits-reserved q = sym (r-fails (desk-fits-is d) (λ t. clash (reservedZero d) (t .1 .1 .0) q))
+  pub fits-reserved : deskRestZero d ≡ false → false ≡ deskFits d
+  fits-reserved q = sym (r-fails (desk-fits-is d) (λ t. clash (deskRestZero d) (t .1 .1 .0) q))
 
-  module _ (s : h .state ≤ stopped) (b : blocksRight h ≡ true) (r : reservedZero d ≡ true) where
+  module _ (s : h .state ≤ stopped) (b : blocksRight h ≡ true) (r : deskRestZero d ≡ true) where
     pub fits-copied : copiedRight d (h .inodes) ≡ false → false ≡ deskFits d
     unfolding deskFits
     fits-copied q =
@@ -124,16 +112,9 @@ module _ (d : List ℕ) (h : Desk) (e : h ≡ deskOf d) where
         (chain-end _ _ _ (sym (ap (λ (z : Desk). copiedRight d (z .inodes)) e) ∙ q) (ap countsRight e))))
 
 -- ---- a new image, of b blocks by its length
-module _ (n k : ℕ) {b : ℕ} (e : b ≡ imageBlocks n k) where
-  pub allowed-none : b < 1 → false ≡ imageAllowed n k
-  allowed-none h = sym (r-fails (image-allowed-is n k) (λ t. let l = t .0 in omega arith))
-
-  pub allowed-many : mostImageBlocks < b → false ≡ imageAllowed n k
-  allowed-many h = sym (r-fails (image-allowed-is n k) (λ t. let l = t .1 .0 in omega arith))
-
-  pub allowed-long : (r : ℕ) → r ≡ storeLength n b → 1 ≤ b → b ≤ mostImageBlocks → eqb k r ≡ imageAllowed n k
-  allowed-long r q a c =
-      reflects-ext (r-eq k r) (r-says (λ t. let l = t .1 .1 in omega arith) (λ l. (omega arith, (omega arith, omega arith))) (image-allowed-is n k))
+pub allowed-read : (n k b : ℕ) → b ≡ imageBlocks n k → (x : Bool) → x ≡ allowed mostImageBlocks n b k → x ≡ imageAllowed n k
+unfolding imageAllowed
+allowed-read n k b e x q = q ∙ ap (λ (y : ℕ). allowed mostImageBlocks n y k) e
 
 -- ---- the image of a running copy: t is its header as the code has read it
 module _ (m d : List ℕ) (h : Desk) (e : h ≡ deskOf d) where

@@ -1,80 +1,107 @@
 -- Each way that the guards and the state question return, and what the guards let through. s is the store, m the image, d the desk.
 use Prim.Native.Nat.{ℕ}
 use mathlib.Core.Path.{_≡_, sym, ap, _∙_}
-use mathlib.Core.Bool.{true, false, _&&_}
+use mathlib.Core.Bool.{Bool, true, false}
 use mathlib.Core.List.{List}
 use native.Mathlib.Omega.{arith}
+use lib.ListN.{length}
+use Rattle.layout.specs.Block.{allowed}
 use Rattle.bounded.proofs.BoolLaws.{and-right}
 use Rattle.bounded.proofs.SearchLaws.{pick-not}
-use Rattle.layout.specs.Sizes.{mostStoreBlocks}
 use Rattle.desk.specs.declared.Desk.{Desk}
 use Rattle.desk.specs.Desk.{deskOf}
-use Rattle.sound.specs.Sound.{Sound, framedB, isSound, inodesIn, blocksIn}
+use Rattle.sound.specs.Sound.{Sound, inodesIn, blocksIn}
 use Rattle.sound.specs.declared.Form.the-variants.{Store}
 use Rattle.sound.proofs.SoundLaws.{is-sound}
+use Rattle.sound.specs.Test.{framedB, isSound}
 use Rattle.answers.specs.declared.Refusal.{Refusal}
 use Rattle.answers.specs.declared.Refusal.the-variants.{BadBuffer, UnsoundStore, BadDesk}
 use Rattle.files.specs.declared.Guard.{Guard}
 use Rattle.files.specs.declared.Guard.the-variants.{Pass, Stop}
+use Rattle.files.specs.Guard.{guardBy}
 use Rattle.checkpoint.specs.declared.Status.the-variants.{Is, NoStatus}
-use Rattle.checkpoint.specs.Fit.{deskFramed, notesFit}
-use Rattle.checkpoint.specs.Live.{threeGuards, status}
+use Rattle.checkpoint.specs.Fit.{deskFramed, notesFit, bothFramed, allFramed, imageAllowed}
+use Rattle.checkpoint.specs.Live.{threeGuards, status, guardRows, startGuards}
 use Rattle.guards.specs.Fit.{notesRight}
 
--- ---- the guards in code
+-- ---- the guards in code: 2 and 3, where lengths and counts are those allowed
 module _ (s m d : List ℕ) where
-  pub three-unframed : framedB mostStoreBlocks s ≡ false → Stop BadBuffer ≡ threeGuards s m d
+  pub after-unsound : isSound Store s ≡ false → Stop UnsoundStore ≡ guardBy s (guardRows true s m d)
+  after-unsound h = rw h
+
+  module _ (h : isSound Store s ≡ true) {n : ℕ} (p : n ≡ inodesIn s) where
+    notes : notesRight n m d ≡ notesFit s m d
+    unfolding notesFit
+    notes = ap (λ (k : ℕ). notesRight k m d) p
+
+    pub after-misfit : notesRight n m d ≡ false → Stop BadDesk ≡ guardBy s (guardRows true s m d)
+    after-misfit q = let k = sym notes ∙ q in rw (h, k)
+
+    pub after-pass : (b : ℕ) → b ≡ blocksIn s → notesRight n m d ≡ true → Pass n b ≡ guardBy s (guardRows true s m d)
+    after-pass b r q = let k = sym notes ∙ q in rw (h, k, p, r)
+
+  -- 1, of a call on all three buffers and of a start
+  pub three-unframed : framedB Store s ≡ false → Stop BadBuffer ≡ threeGuards s m d
   unfolding threeGuards
   three-unframed f = rw f
 
-  module _ (f : framedB mostStoreBlocks s ≡ true) where
+  pub start-unframed : framedB Store s ≡ false → Stop BadBuffer ≡ startGuards s m d
+  unfolding startGuards
+  start-unframed f = rw f
+
+  module _ (f : framedB Store s ≡ true) where
     pub three-no-desk : deskFramed d ≡ false → Stop BadBuffer ≡ threeGuards s m d
     unfolding threeGuards
     three-no-desk g = rw (f, g)
 
+    pub start-no-desk : deskFramed d ≡ false → Stop BadBuffer ≡ startGuards s m d
+    unfolding startGuards
+    start-no-desk g = rw (f, g)
+
     module _ (g : deskFramed d ≡ true) where
-      pub three-unsound : isSound Store s ≡ false → Stop UnsoundStore ≡ threeGuards s m d
+      pub three-framed : (x : Guard) → x ≡ guardBy s (guardRows true s m d) → x ≡ threeGuards s m d
       unfolding threeGuards
-      three-unsound h = rw (f, g, h)
+      three-framed x q = rw (f, g) q
 
-      module _ (h : isSound Store s ≡ true) {n : ℕ} (p : n ≡ inodesIn s) where
-        notes : notesRight n m d ≡ notesFit s m d
-        unfolding notesFit
-        notes = ap (λ (k : ℕ). notesRight k m d) p
+      module _ {n : ℕ} (p : n ≡ inodesIn s) where
+        pub start-no-image : imageAllowed n (length m) ≡ false → Stop BadBuffer ≡ startGuards s m d
+        unfolding startGuards
+        start-no-image h = let k : imageAllowed (inodesIn s) (length m) ≡ false = rw (← p) h in rw (f, g, k)
 
-        pub three-misfit : notesRight n m d ≡ false → Stop BadDesk ≡ threeGuards s m d
-        unfolding threeGuards
-        three-misfit q = let k = sym notes ∙ q in rw (f, g, h, k)
-
-        pub three-pass : (b : ℕ) → b ≡ blocksIn s → notesRight n m d ≡ true → Pass n b ≡ threeGuards s m d
-        unfolding threeGuards
-        three-pass b r q = let k = sym notes ∙ q in rw (f, g, h, k, p, r)
+        pub start-framed : imageAllowed n (length m) ≡ true → (x : Guard) → x ≡ guardBy s (guardRows true s m d) → x ≡ startGuards s m d
+        unfolding startGuards
+        start-framed h x q = let k : imageAllowed (inodesIn s) (length m) ≡ true = rw (← p) h in rw (f, g, k) q
 
 -- ---- what they let through
 no-pass : (w : Refusal) (n b : ℕ) → Stop w ≡ Pass n b → ⊥
 no-pass w n b h = let z : _≡_ {A = ℕ} 0 1 = cc in absurd (omega arith)
 
-pub record Passed (s m d : List ℕ) (n b : ℕ) : Type 0 where
-  pub sound : Sound mostStoreBlocks false s
+pub record Passed (framed : Bool) (s m d : List ℕ) (n b : ℕ) : Type 0 where
+  pub allowed : framed ≡ true
+  pub sound : Sound Store s
   pub inodes : n ≡ inodesIn s
   pub blocks : b ≡ blocksIn s
-  pub desk : deskFramed d ≡ true
   pub notes : notesFit s m d ≡ true
 
-pub passed : (s m d : List ℕ) (n b : ℕ) → threeGuards s m d ≡ Pass n b → Passed s m d n b
-unfolding threeGuards
-passed s m d n b e =
+passed-by : (framed : Bool) (s m d : List ℕ) (n b : ℕ) → guardBy s (guardRows framed s m d) ≡ Pass n b → Passed framed s m d n b
+passed-by framed s m d n b e =
     let z = Pass n b in
-    let a = pick-not (framedB mostStoreBlocks s && deskFramed d) (Stop _) _ z e (no-pass _ n b) in
+    let a = pick-not framed (Stop _) _ z e (no-pass _ n b) in
     let c = pick-not (isSound Store s) (Stop _) _ z (a .1) (no-pass _ n b) in
     let f = pick-not (notesFit s m d) (Stop _) _ z (c .1) (no-pass _ n b) in
-    record {
-      sound = is-sound Store s .to (c .0);
-      inodes = cc (f .1);
-      blocks = cc (f .1);
-      desk = and-right (framedB mostStoreBlocks s) (deskFramed d) (a .0);
-      notes = f .0;
-    }
+    record { allowed = a .0; sound = is-sound Store s .to (c .0); inodes = cc (f .1); blocks = cc (f .1); notes = f .0 }
+
+pub passed : (s m d : List ℕ) (n b : ℕ) → threeGuards s m d ≡ Pass n b → Passed (bothFramed s d) s m d n b
+unfolding threeGuards
+passed s m d n b e = passed-by (bothFramed s d) s m d n b e
+
+pub passed-start : (s m d : List ℕ) (n b : ℕ) → startGuards s m d ≡ Pass n b → Passed (allFramed s m d) s m d n b
+unfolding startGuards
+passed-start s m d n b e = passed-by (allFramed s m d) s m d n b e
+
+-- the desk's length is right
+pub desk-passed : {s m d : List ℕ} {n b : ℕ} → Passed (bothFramed s d) s m d n b → deskFramed d ≡ true
+desk-passed {s} {m} {d} p = and-right (framedB Store s) (deskFramed d) (p .allowed)
 
 -- ---- the state question: g is what the guards have answered
 module _ (s m d : List ℕ) (g : Guard) (e : g ≡ threeGuards s m d) where

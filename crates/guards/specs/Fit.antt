@@ -3,14 +3,14 @@ use Prim.Native.Nat.{ℕ, _+_, _*_}
 use mathlib.Core.Bool.{Bool, not, _&&_, _||_}
 use mathlib.Core.List.{List}
 use lib.Dec.{eqb, leb}
-use Rattle.bounded.specs.Below.{allBelow}
+use Rattle.bounded.specs.Below.{allBelow, allTo}
 use Rattle.bounded.specs.Search.{pick}
-use Rattle.layout.specs.Sizes.{mostImageBlocks, addressCount}
+use Rattle.layout.specs.Sizes.{mostImageBlocks, addressCount, mostBlocks}
 use Rattle.layout.specs.Inode.{addressOf}
-use Rattle.desk.specs.Sizes.{idle, running}
+use Rattle.desk.specs.Sizes.{idle, running, stepsAnInode}
 use Rattle.desk.specs.declared.Desk.{Desk}
 use Rattle.desk.specs.Desk.{deskOf, copiedOf}
-use Rattle.checkpoint.specs.Fit.{stepsAnInode, mostCopied, isRunning, deskFits, imageFits}
+use Rattle.checkpoint.specs.Fit.{isRunning, deskFits, imageFits}
 
 -- "image block count (0 when idle, else 1 to 4,096)"
 abbrev pub blocksRight : Desk → Bool
@@ -18,14 +18,14 @@ blocksRight h = pick (eqb (h .state) idle) (eqb (h .blocks) 0) (leb 1 (h .blocks
 
 -- "copied bytes (0 or 1)"
 abbrev pub copiedRight : List ℕ → ℕ → Bool
-copiedRight d n = allBelow (λ k. leb (copiedOf d (k + 1)) 1) n
+copiedRight d n = allTo (λ i. leb (copiedOf d i) 1) n
 
 -- the opposite of "locked inode above N, more than 12 blocks copied, fields 6-9 not zero unless running, steps above 14 × N + 1, or above 14 × N if running"
 abbrev pub countsRight : Desk → Bool
 countsRight h =
     leb (h .locked) (h .inodes)
-    && (leb (h .copied) mostCopied
-    && ((eqb (h .state) running || (eqb (h .locked) 0 && eqb (h .copied) 0))
+    && (leb (h .progress) mostBlocks
+    && ((eqb (h .state) running || (eqb (h .locked) 0 && eqb (h .progress) 0))
     && leb (h .steps) (pick (eqb (h .state) running) (stepsAnInode * h .inodes) (stepsAnInode * h .inodes + 1))))
 
 -- the opposite of "an address exceeds its block count", of b blocks

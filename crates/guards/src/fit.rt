@@ -8,11 +8,12 @@ ghost use Rattle.desk.specs.Sizes.{deskHeaderBytes};
 ghost use Rattle.checkpoint.specs.Fit.{deskFramed, deskFits, imageBlocks, imageAllowed, imageFits};
 ghost use Rattle.guards.specs.Fit.{blocksRight, copiedRight, countsRight, addressesRight, notesRight};
 use desk::DESK_HEADER_BYTES;
-use desk::DESK_INODE_BYTES;
 use desk::Desk;
 use desk::IDLE;
 use desk::RUNNING;
+use desk::STEPS_AN_INODE;
 use desk::STOPPED;
+use layout::block::allowed;
 use layout::block::store_length;
 use layout::header::Header;
 use layout::inode;
@@ -21,14 +22,9 @@ use layout::sizes::BLOCK_BYTES;
 use layout::sizes::HEADER_BYTES;
 use layout::sizes::INODE_BYTES;
 use layout::sizes::MOST_IMAGE_BLOCKS;
-use layout::sizes::MOST_INODES;
+use layout::sizes::MOST_BLOCKS;
+use layout::sizes::NOT_COMPLETE;
 use layout::sizes::ROOT;
-
-// Byte 8 of an image whose copy runs.
-pub const NOT_COMPLETE: u8 = 0;
-
-// A finished copy has at most so many steps for each inode, and one more.
-const STEPS_AN_INODE: u32 = 14;
 
 // ---- the larger of two: a loop that keeps the largest has no early exit, and is made of vectors
 fn larger_byte(x: u8, y: u8) -> u8
@@ -57,14 +53,8 @@ pub fn desk_framed(d: &[u8]) -> bool
     if d.len() < DESK_HEADER_BYTES {
         return false;
     }
-    let n = octets::get_16(d, 0) as usize;
-    if n < 1 {
-        return false;
-    }
-    if MOST_INODES < n {
-        return false;
-    }
-    d.len() == DESK_HEADER_BYTES + DESK_INODE_BYTES * n
+    let h = Desk::read(d);
+    desk::allowed(h.inodes as usize, d.len())
 }
 
 // The image's count of blocks is one that the state allows.
@@ -100,7 +90,7 @@ fn counts_fit(h: Desk) -> bool
     if h.inodes < h.locked {
         return false;
     }
-    if ADDRESS_COUNT < h.copied as usize {
+    if MOST_BLOCKS < h.progress as usize {
         return false;
     }
     let most = STEPS_AN_INODE * (h.inodes as u32);
@@ -110,7 +100,7 @@ fn counts_fit(h: Desk) -> bool
     if h.locked != 0 {
         return false;
     }
-    if h.copied != 0 {
+    if h.progress != 0 {
         return false;
     }
     h.steps <= most + 1
@@ -155,14 +145,7 @@ pub fn image_allowed(n: usize, k: usize) -> bool
     requires { ⌜ n ≤ mostInodes ⌝ }
     ensures { λ r. ⌜ r ≡ imageAllowed n k ⌝ }
 {
-    let b = image_blocks(n, k);
-    if b < 1 {
-        return false;
-    }
-    if MOST_IMAGE_BLOCKS < b {
-        return false;
-    }
-    k == store_length(n, b)
+    allowed(MOST_IMAGE_BLOCKS, n, image_blocks(n, k), k)
 }
 
 // No address is above b: the largest is not.

@@ -7,7 +7,7 @@ use native.Mathlib.Omega.{arith}
 use borrow.Author.Tests.{eq-eqb, ne-eqb, eqb-true, le-leb, lt-leb}
 use lib.Dec.{eqb, leb}
 use lib.ListN.{getD, set}
-use Rattle.bounded.specs.Below.{allBelow}
+use Rattle.bounded.specs.Below.{allBelow, allTo}
 use Rattle.bounded.specs.Count.{count, newAt, tally, differB}
 use Rattle.bounded.specs.Seen.{Seen}
 use Rattle.bounded.specs.Reflect.{Reflects}
@@ -18,13 +18,13 @@ use Rattle.bounded.proofs.SeenLaws.{seen-more, seen-run, seen-not, seen-some}
 use Rattle.bounded.proofs.ReflectLaws.{r-eq, r-le, r-lt, r-and, r-imp, r-fails, r-says, reflects-ext}
 use Rattle.octets.proofs.PartLaws.{getD-part}
 use Rattle.layout.specs.Sizes.{addressCount, blockBytes, mostFileBytes, mostImageBlocks}
-use Rattle.layout.specs.Inode.{kindOf, spareOf, linksOf, sizeOf, parentOf, addressOf, place, freeKind, fileKind, directoryKind, attributesZero, addressesZero}
+use Rattle.layout.specs.Inode.{kindOf, spareOf, linksOf, sizeOf, parentOf, addressOf, addressIndex, freeKind, fileKind, directoryKind, attributesZero, addressesZero}
 use Rattle.layout.specs.Block.{blockAt, blockOf, blocksUsed, kthBlock}
-use Rattle.layout.specs.Free.{named}
+use Rattle.layout.specs.Free.{blockNamed, blockFree}
 use Rattle.layout.proofs.InodeLaws.{attributes-none, addresses-none}
-use Rattle.sound.specs.Inode.{tailByte, usedB, restB, tailB, attributesB, addressesB, zeroTailB, inodeB}
-use Rattle.sound.specs.Sound.{unnamedB, zeroBlockB}
+use Rattle.sound.specs.Inode.{tailByte}
 use Rattle.sound.proofs.SoundLaws.{attributes}
+use Rattle.sound.specs.Test.{usedB, restB, tailB, attributesB, addressesB, zeroTailB, inodeB, blankBlockB}
 use Rattle.inodes.specs.Pass.{newBlockB, newBlocksB, addressB}
 
 -- a count that begins
@@ -117,27 +117,27 @@ module _ (s : List ℕ) (n b i k u a : ℕ) (eu : u ≡ blocksUsed (sizeOf s i))
       (λ t.
       let z : a ≡ 0 = eqb-true a 0 t in
       and-true (usedB s n b i k && restB s n i k) (newBlockB s n i k) (address-is .from ((λ x. absurd (omega arith)), λ x. z))
-      (new-zero (addressOf s n) (place i k) a ea z))
+      (new-zero (addressOf s n) (addressIndex i k) a ea z))
       (λ t. eq-eqb a 0 (address-is .to (and-left (usedB s n b i k && restB s n i k) (newBlockB s n i k) t) .1 l))
 
   -- the blocks named before it are noted in m
-  module _ (m : List ℕ) (h : Seen (addressOf s n) 4097 (place i k) m) (l : a < 4097) where
+  module _ (m : List ℕ) (h : Seen (addressOf s n) 4097 (addressIndex i k) m) (l : a < 4097) where
     pub address-again : 1 ≤ a → (getD m a 0 ≡ 0 → ⊥) → false ≡ addressB s n b i k
     unfolding addressB kthBlock
     address-again p z =
-        sym (and-false-r (usedB s n b i k && restB s n i k) (newBlockB s n i k) (again-noted (addressOf s n) 4097 (place i k) a m ea l h z (omega arith)))
+        sym (and-false-r (usedB s n b i k && restB s n i k) (newBlockB s n i k) (again-noted (addressOf s n) 4097 (addressIndex i k) a m ea l h z (omega arith)))
 
     pub address-new : k < u → 1 ≤ a → a ≤ b → getD m a 0 ≡ 0 → true ≡ addressB s n b i k
     unfolding addressB kthBlock
     address-new j p q z =
         sym
         (and-true (usedB s n b i k && restB s n i k) (newBlockB s n i k) (address-is .from ((λ x. (p, q)), λ x. absurd (omega arith)))
-        (new-noted (addressOf s n) 4097 (place i k) a m ea l h z))
+        (new-noted (addressOf s n) 4097 (addressIndex i k) a m ea l h z))
 
-pub address-noted : (s : List ℕ) (n i k a : ℕ) (m : List ℕ) → a ≡ kthBlock s n i k → a < 4097 → Seen (addressOf s n) 4097 (place i k) m →
-    Seen (addressOf s n) 4097 (place i k + 1) (set m a 1)
+pub address-noted : (s : List ℕ) (n i k a : ℕ) (m : List ℕ) → a ≡ kthBlock s n i k → a < 4097 → Seen (addressOf s n) 4097 (addressIndex i k) m →
+    Seen (addressOf s n) 4097 (addressIndex i k + 1) (set m a 1)
 unfolding kthBlock
-address-noted s n i k a m e l h = seen-more (addressOf s n) 4097 (place i k) a m e l h
+address-noted s n i k a m e l h = seen-more (addressOf s n) 4097 (addressIndex i k) a m e l h
 
 -- ---- all addresses of inode i
 pub seen-as : (f : ℕ → ℕ) (l : List ℕ) {m k : ℕ} → m ≡ k → Seen f 4097 m l → Seen f 4097 k l
@@ -189,11 +189,11 @@ module _ (s : List ℕ) (n b i : ℕ) where
 
 -- all inodes: no block is named twice
 pub inodes-are : (s : List ℕ) (n b : ℕ) →
-    allBelow (λ k. inodeB s n b (k + 1) && newBlocksB s n (k + 1)) n ≡ allBelow (λ k. inodeB s n b (k + 1)) n && differB (addressOf s n) (addressCount * n)
+    allBelow (λ k. inodeB s n b (k + 1) && newBlocksB s n (k + 1)) n ≡ allTo (inodeB s n b) n && differB (addressOf s n) (addressCount * n)
 unfolding newBlocksB
 inodes-are s n b =
     all-both (λ k. inodeB s n b (k + 1)) (λ k. newBlocksB s n (k + 1)) n
-    ∙ ap (λ (x : Bool). allBelow (λ k. inodeB s n b (k + 1)) n && x)
+    ∙ ap (λ (x : Bool). allTo (inodeB s n b) n && x)
     (all-ext (λ k. newBlocksB s n (k + 1)) (λ k. allBelow (λ j. newAt (addressOf s n) (addressCount * k + j)) addressCount) n
     (λ k l. let e : k + 1 - 1 ≡ k = omega arith in ap (λ (x : ℕ). allBelow (λ j. newAt (addressOf s n) (addressCount * x + j)) addressCount) e)
     ∙ sym (all-chunk (newAt (addressOf s n)) addressCount n))
@@ -204,8 +204,8 @@ block-byte : (s : List ℕ) (n c o : ℕ) → o < 64 → getD (blockOf s n c) o 
 unfolding blockOf
 block-byte s n c o l = getD-part s (blockAt n c) 64 o l
 
-zero-block-is : (s : List ℕ) (n k a : ℕ) → a ≡ blockAt n (k + 1) → allBelow (λ j. eqb (getD s (a + j) 0) 0) 64 ≡ zeroBlockB s n k
-unfolding zeroBlockB
+zero-block-is : (s : List ℕ) (n k a : ℕ) → a ≡ blockAt n (k + 1) → allBelow (λ j. eqb (getD s (a + j) 0) 0) 64 ≡ blankBlockB s n (k + 1)
+unfolding blankBlockB
 zero-block-is s n k a e =
     rw e (all-ext (λ j. eqb (getD s (blockAt n (k + 1) + j) 0) 0) (λ o. eqb (getD (blockOf s n (k + 1)) o 0) 0) 64
     (λ o l. ap (λ (x : ℕ). eqb x 0) (sym (block-byte s n (k + 1) o l))))
@@ -267,16 +267,16 @@ module _ (s : List ℕ) (n i z : ℕ) (ez : z ≡ sizeOf s i) (h : z % blockByte
 
 -- ---- the blocks that the map does not have
 module _ (s : List ℕ) (n k : ℕ) (map : List ℕ) (h : Seen (addressOf s n) 4097 (addressCount * n) map) (l : k < mostImageBlocks) where
-  pub blank-named : (getD map (k + 1) 0 ≡ 0 → ⊥) → not (unnamedB s n k) || zeroBlockB s n k ≡ true
-  unfolding named
-  blank-named z = or-l _ (zeroBlockB s n k) (ap (λ (x : Bool). not (not x)) (seen-some (addressOf s n) 4097 (addressCount * n) (k + 1) map h (omega arith) z))
+  pub blank-named : (getD map (k + 1) 0 ≡ 0 → ⊥) → not (blockFree s n (k + 1)) || blankBlockB s n (k + 1) ≡ true
+  unfolding blockNamed
+  blank-named z = or-l _ (blankBlockB s n (k + 1)) (ap (λ (x : Bool). not (not x)) (seen-some (addressOf s n) 4097 (addressCount * n) (k + 1) map h (omega arith) z))
 
   pub blank-tested : (a : ℕ) → getD map (k + 1) 0 ≡ 0 → a ≡ blockAt n (k + 1) →
-      allBelow (λ j. eqb (getD s (a + j) 0) 0) blockBytes ≡ not (unnamedB s n k) || zeroBlockB s n k
-  unfolding named
+      allBelow (λ j. eqb (getD s (a + j) 0) 0) blockBytes ≡ not (blockFree s n (k + 1)) || blankBlockB s n (k + 1)
+  unfolding blockNamed
   blank-tested a z e =
       zero-block-is s n k a e
-      ∙ sym (ap (λ (x : Bool). not (not x) || zeroBlockB s n k) (seen-not (addressOf s n) 4097 (addressCount * n) (k + 1) map h (omega arith) z))
+      ∙ sym (ap (λ (x : Bool). not (not x) || blankBlockB s n (k + 1)) (seen-not (addressOf s n) 4097 (addressCount * n) (k + 1) map h (omega arith) z))
 
 -- ---- an inode that is all zero
 module _ (s : List ℕ) (n b i : ℕ) (h : attributesZero s i && addressesZero s n i ≡ true) where
@@ -296,7 +296,7 @@ module _ (s : List ℕ) (n b i : ℕ) (h : attributesZero s i && addressesZero s
   blank-address : (k : ℕ) → k < addressCount → addressB s n b i k ≡ true
   unfolding kthBlock
   blank-address k l =
-      let e : place i 0 + k ≡ place i k = omega arith in
+      let e : addressIndex i 0 + k ≡ addressIndex i k = omega arith in
       sym (address-rest s n b i k 0 0 none-used (sym (addresses-none s n i d k l) ∙ ap (addressOf s n) e) (omega arith))
 
   pub blank-right : true ≡ inodeB s n b i && newBlocksB s n i
@@ -312,5 +312,5 @@ module _ (s : List ℕ) (n b i : ℕ) (h : attributesZero s i && addressesZero s
       (and-true (addressesB s n b i) (zeroTailB s n i) (and-left (addressesB s n b i) (newBlocksB s n i) x) y))
       (and-right (addressesB s n b i) (newBlocksB s n i) x))
 
-  pub blank-noted : (map : List ℕ) → 1 ≤ i → Seen (addressOf s n) 4097 (place i 0) map → Seen (addressOf s n) 4097 (addressCount * i) (set map 0 1)
-  blank-noted map l g = seen-as (addressOf s n) (set map 0 1) (omega arith) (seen-run (addressOf s n) 4097 (place i 0) 12 0 map (omega arith) (addresses-none s n i d) (omega arith) g)
+  pub blank-noted : (map : List ℕ) → 1 ≤ i → Seen (addressOf s n) 4097 (addressIndex i 0) map → Seen (addressOf s n) 4097 (addressCount * i) (set map 0 1)
+  blank-noted map l g = seen-as (addressOf s n) (set map 0 1) (omega arith) (seen-run (addressOf s n) 4097 (addressIndex i 0) 12 0 map (omega arith) (addresses-none s n i d) (omega arith) g)

@@ -5,12 +5,12 @@ use mathlib.Core.List.{List}
 use Rattle.bounded.specs.Below.{allBelow}
 use Rattle.bounded.specs.Count.{newAt}
 use Rattle.layout.specs.Sizes.{addressCount}
-use Rattle.layout.specs.Inode.{addressOf, place}
-use Rattle.sound.specs.Inode.{usedB, restB}
+use Rattle.layout.specs.Inode.{addressOf, addressIndex}
+use Rattle.sound.specs.Test.{usedB, restB}
 
 -- address k of inode i names no block that an address before it names
 abbrev pub newBlockB : List ℕ → ℕ → ℕ → ℕ → Bool
-newBlockB s n i k = newAt (addressOf s n) (place i k)
+newBlockB s n i k = newAt (addressOf s n) (addressIndex i k)
 
 -- nor does any of its twelve
 unfoldable pub newBlocksB : List ℕ → ℕ → ℕ → Bool

@@ -4,14 +4,14 @@ ghost use mathlib.Core.Bool.{true, not, _&&_, _||_};
 ghost use Prim.Native.Nat.{_+_, _*_, _<_, _≤_};
 ghost use lib.Dec.{eqb};
 ghost use lib.ListN.{length, getD, replicate};
-ghost use Rattle.bounded.specs.Below.{allBelow};
-ghost use Rattle.bounded.specs.Count.{count, differB};
+ghost use Rattle.bounded.specs.Below.{allTo};
+ghost use Rattle.bounded.specs.Count.{differB, countTo};
 ghost use Rattle.bounded.specs.Seen.{Seen};
 ghost use Rattle.layout.specs.Sizes.{headerBytes, mostInodes, mostImageBlocks, addressCount, inodeBytes};
-ghost use Rattle.layout.specs.Inode.{InodeFits, sizeOf, addressOf, place, attributesZero, addressesZero};
+ghost use Rattle.layout.specs.Inode.{InodeFits, sizeOf, addressOf, addressIndex, attributesZero, addressesZero};
 ghost use Rattle.layout.specs.Block.{Sized, blocksUsed};
-ghost use Rattle.sound.specs.Inode.{attributesB, addressesB, zeroTailB, inodeB};
-ghost use Rattle.sound.specs.Sound.{freeB, unnamedB, zeroBlockB};
+ghost use Rattle.layout.specs.Free.{inodeFree, blockFree};
+ghost use Rattle.sound.specs.Test.{attributesB, addressesB, zeroTailB, inodeB, blankBlockB};
 ghost use Rattle.inodes.specs.Pass.{addressB, newBlocksB};
 use layout::block;
 use layout::inode;
@@ -65,8 +65,8 @@ fn address_right(
     map: &mut [u8],
 ) -> bool
     requires { ⌜ InodeFits (now s) n i × (k < addressCount) × (used ≡ blocksUsed (sizeOf (now s) i)) × (b ≤ mostImageBlocks) ⌝ }
-    requires { ⌜ Seen (addressOf (now s) n) (mostImageBlocks + 1) (place i k) (now map) ⌝ }
-    ensures { λ r. ⌜ (r ≡ addressB (now (s .entry)) n b i k) × (r ≡ true → Seen (addressOf (now (s .entry)) n) (mostImageBlocks + 1) (place i k + 1) (now (map .exit))) ⌝ }
+    requires { ⌜ Seen (addressOf (now s) n) (mostImageBlocks + 1) (addressIndex i k) (now map) ⌝ }
+    ensures { λ r. ⌜ (r ≡ addressB (now (s .entry)) n b i k) × (r ≡ true → Seen (addressOf (now (s .entry)) n) (mostImageBlocks + 1) (addressIndex i k + 1) (now (map .exit))) ⌝ }
 {
     let a = block::kth_block(s, n, i, k) as usize;
     if used <= k {
@@ -88,7 +88,7 @@ fn address_right(
 
 // The twelve addresses of inode i.
 fn addresses_right(s: &[u8], n: usize, b: usize, i: usize, map: &mut [u8]) -> bool
-    requires { ⌜ InodeFits (now s) n i × (b ≤ mostImageBlocks) × Seen (addressOf (now s) n) (mostImageBlocks + 1) (place i 0) (now map) ⌝ }
+    requires { ⌜ InodeFits (now s) n i × (b ≤ mostImageBlocks) × Seen (addressOf (now s) n) (mostImageBlocks + 1) (addressIndex i 0) (now map) ⌝ }
     ensures { λ r. ⌜ (r ≡ addressesB (now (s .entry)) n b i && newBlocksB (now (s .entry)) n i) × (r ≡ true → Seen (addressOf (now (s .entry)) n) (mostImageBlocks + 1) (addressCount * i) (now (map .exit))) ⌝ }
 {
     let used = block::blocks_used(inode::size(s, n, i) as usize);
@@ -129,7 +129,7 @@ fn is_blank(s: &[u8], n: usize, i: usize) -> bool
 }
 
 fn inode_right(s: &[u8], n: usize, b: usize, i: usize, map: &mut [u8]) -> bool
-    requires { ⌜ Sized (now s) n b × InodeFits (now s) n i × Seen (addressOf (now s) n) (mostImageBlocks + 1) (place i 0) (now map) ⌝ }
+    requires { ⌜ Sized (now s) n b × InodeFits (now s) n i × Seen (addressOf (now s) n) (mostImageBlocks + 1) (addressIndex i 0) (now map) ⌝ }
     ensures { λ r. ⌜ (r ≡ inodeB (now (s .entry)) n b i && newBlocksB (now (s .entry)) n i) × (r ≡ true → Seen (addressOf (now (s .entry)) n) (mostImageBlocks + 1) (addressCount * i) (now (map .exit))) ⌝ }
 {
     if is_blank(s, n, i) {
@@ -148,7 +148,7 @@ fn inode_right(s: &[u8], n: usize, b: usize, i: usize, map: &mut [u8]) -> bool
 // Every inode is right, and no block is named twice; the map, which comes in zero, then has the blocks that are named.
 pub fn inodes_right(s: &[u8], n: usize, b: usize, map: &mut [u8]) -> bool
     requires { ⌜ Sized (now s) n b × (now map ≡ replicate (mostImageBlocks + 1) 0) ⌝ }
-    ensures { λ r. ⌜ (r ≡ allBelow (λ k. inodeB (now (s .entry)) n b (k + 1)) n && differB (addressOf (now (s .entry)) n) (addressCount * n)) × (r ≡ true → Seen (addressOf (now (s .entry)) n) (mostImageBlocks + 1) (addressCount * n) (now (map .exit))) ⌝ }
+    ensures { λ r. ⌜ (r ≡ allTo (inodeB (now (s .entry)) n b) n && differB (addressOf (now (s .entry)) n) (addressCount * n)) × (r ≡ true → Seen (addressOf (now (s .entry)) n) (mostImageBlocks + 1) (addressCount * n) (now (map .exit))) ⌝ }
 {
     for k in 0..n {
         if !inode_right(s, n, b, k + 1, &mut *map) {
@@ -161,7 +161,7 @@ pub fn inodes_right(s: &[u8], n: usize, b: usize, map: &mut [u8]) -> bool
 // How many inodes are free. A count of 16 bits, since a vector has more of them.
 pub fn free_inodes(s: &[u8], n: usize) -> usize
     requires { ⌜ (n ≤ mostInodes) × (headerBytes + inodeBytes * n ≤ length (now s)) ⌝ }
-    ensures { λ r. ⌜ r ≡ count (freeB (now (s .entry))) n ⌝ }
+    ensures { λ r. ⌜ r ≡ countTo (inodeFree (now (s .entry))) n ⌝ }
 {
     let mut free = 0u16;
     for k in 0..n {
@@ -175,7 +175,7 @@ pub fn free_inodes(s: &[u8], n: usize) -> usize
 // How many of the b blocks the map does not have.
 pub fn free_blocks(map: &[u8], b: usize) -> usize
     requires { ⌜ (length (now map) ≡ mostImageBlocks + 1) × (b ≤ mostImageBlocks) ⌝ }
-    ensures { λ r. ⌜ r ≡ count (λ k. eqb (getD (now (map .entry)) (k + 1) 0) 0) b ⌝ }
+    ensures { λ r. ⌜ r ≡ countTo (λ c. eqb (getD (now (map .entry)) c 0) 0) b ⌝ }
 {
     let mut free = 0u16;
     for k in 0..b {
@@ -189,7 +189,7 @@ pub fn free_blocks(map: &[u8], b: usize) -> usize
 // The blocks that the map does not have are zero.
 pub fn blanks_right(s: &[u8], n: usize, b: usize, map: &[u8]) -> bool
     requires { ⌜ Sized (now s) n b × Seen (addressOf (now s) n) (mostImageBlocks + 1) (addressCount * n) (now map) ⌝ }
-    ensures { λ r. ⌜ r ≡ allBelow (λ k. not (unnamedB (now (s .entry)) n k) || zeroBlockB (now (s .entry)) n k) b ⌝ }
+    ensures { λ r. ⌜ r ≡ allTo (λ c. not (blockFree (now (s .entry)) n c) || blankBlockB (now (s .entry)) n c) b ⌝ }
 {
     for k in 0..b {
         if map[k + 1] == 0 {

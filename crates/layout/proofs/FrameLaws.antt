@@ -10,7 +10,7 @@ use Rattle.octets.proofs.NumLaws.{num-apart, num-in, length-num}
 use Rattle.layout.specs.declared.header.Header.{Header}
 use Rattle.layout.specs.declared.inode.Inode.{Inode}
 use Rattle.layout.specs.Header.{headerOf, putHeader, putFree, putComplete}
-use Rattle.layout.specs.Inode.{attributesAt, addressAt, place, kindOf, spareOf, linksOf, sizeOf, parentOf, addressOf, attributeEntry, putAttributes, putAddresses, putInode, putLinks, putAddress}
+use Rattle.layout.specs.Inode.{attributesAt, addressAt, addressIndex, kindOf, spareOf, linksOf, sizeOf, parentOf, addressOf, attributeEntry, putAttributes, putAddresses, putInode, putLinks, putAddress}
 use Rattle.layout.specs.Block.{putInBlock}
 
 -- ---- lengths
@@ -40,7 +40,7 @@ length-address s n x b = length-num 2 s (addressAt n x) b
 
 pub length-addresses : (s : List ℕ) (n i : ℕ) (vs : List ℕ) → length (putAddresses s n i vs) ≡ length s
 unfolding putAddresses
-length-addresses s n i vs = length-splice s (addressAt n (place i 0)) (wordBytes vs)
+length-addresses s n i vs = length-splice s (addressAt n (addressIndex i 0)) (wordBytes vs)
 
 pub length-inode : (s : List ℕ) (n i : ℕ) (v : Inode) → length (putInode s n i v) ≡ length s
 unfolding putInode

@@ -15,7 +15,7 @@ use Rattle.octets.specs.Octets.{splice, numAt, toBytes, putNum, wordBytes}
 use Rattle.octets.proofs.NumLaws.{num-join}
 use Rattle.octets.proofs.ZeroLaws.{numbers-zero}
 use Rattle.layout.specs.declared.inode.Inode.{Inode}
-use Rattle.layout.specs.Inode.{attributesAt, kindOf, spareOf, linksOf, sizeOf, parentOf, attributesZero, attributeEntry, addressAt, place, addressOf, addressesZero, putAddresses}
+use Rattle.layout.specs.Inode.{attributesAt, kindOf, spareOf, linksOf, sizeOf, parentOf, attributesZero, attributeEntry, addressAt, addressIndex, addressOf, addressesZero, putAddresses}
 
 -- the attributes, field by field
 pub attribute-chain : (s : List ℕ) (o : ℕ) (v : Inode) →
@@ -27,7 +27,7 @@ attribute-chain s o v = simp add-assoc
 pub addresses-put : (s : List ℕ) (n i o : ℕ) (vs : List ℕ) → o ≡ addressAt n (12 * (i - 1)) → splice s o (wordBytes vs) ≡ putAddresses s n i vs
 unfolding putAddresses
 addresses-put s n i o vs e =
-    let g : o ≡ addressAt n (place i 0) = omega arith in
+    let g : o ≡ addressAt n (addressIndex i 0) = omega arith in
     ap (λ (p : ℕ). splice s p (wordBytes vs)) g
 
 -- ---- zero bytes, as words
@@ -58,16 +58,16 @@ pub addresses-words : (s : List ℕ) (n i o : ℕ) → o ≡ addressAt n (12 * (
 unfolding addressesZero addressOf
 addresses-words s n i o e =
     sym (numbers-zero 2 s o 12)
-    ∙ all-ext (λ k. eqb (numAt 2 s (o + 2 * k)) 0) (λ k. eqb (numAt 2 s (addressAt n (place i k))) 0) 12
-    (λ k l. let g : o + 2 * k ≡ addressAt n (place i k) = omega arith in ap (λ (x : ℕ). eqb (numAt 2 s x) 0) g)
+    ∙ all-ext (λ k. eqb (numAt 2 s (o + 2 * k)) 0) (λ k. eqb (numAt 2 s (addressAt n (addressIndex i k))) 0) 12
+    (λ k l. let g : o + 2 * k ≡ addressAt n (addressIndex i k) = omega arith in ap (λ (x : ℕ). eqb (numAt 2 s x) 0) g)
 
 -- what they say
 pub attributes-none : (s : List ℕ) (i : ℕ) → attributesZero s i ≡ true → (kindOf s i ≡ 0) × ((spareOf s i ≡ 0) × ((linksOf s i ≡ 0) × ((sizeOf s i ≡ 0) × (parentOf s i ≡ 0))))
 unfolding attributesZero
 attributes-none s i = r-and (r-eq (kindOf s i) 0) (r-and (r-eq (spareOf s i) 0) (r-and (r-eq (linksOf s i) 0) (r-and (r-eq (sizeOf s i) 0) (r-eq (parentOf s i) 0)))) .to
 
-pub addresses-none : (s : List ℕ) (n i : ℕ) → addressesZero s n i ≡ true → (k : ℕ) → k < 12 → addressOf s n (place i 0 + k) ≡ 0
+pub addresses-none : (s : List ℕ) (n i : ℕ) → addressesZero s n i ≡ true → (k : ℕ) → k < 12 → addressOf s n (addressIndex i 0 + k) ≡ 0
 unfolding addressesZero
 addresses-none s n i h k l =
-    let e : place i 0 + k ≡ place i k = omega arith in
-    ap (addressOf s n) e ∙ eqb-true (addressOf s n (place i k)) 0 (all-at (λ j. eqb (addressOf s n (place i j)) 0) 12 h k l)
+    let e : addressIndex i 0 + k ≡ addressIndex i k = omega arith in
+    ap (addressOf s n) e ∙ eqb-true (addressOf s n (addressIndex i k)) 0 (all-at (λ j. eqb (addressOf s n (addressIndex i j)) 0) 12 h k l)

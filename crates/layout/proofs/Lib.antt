@@ -1,3 +1,4 @@
+pub mod AllowedLaws
 pub mod InodeLaws
 pub mod View
 pub mod FrameLaws

@@ -20,7 +20,7 @@ use Rattle.octets.proofs.WordLaws.{length-words, word-at}
 use Rattle.layout.specs.declared.header.Header.{Header}
 use Rattle.layout.specs.declared.inode.Inode.{Inode}
 use Rattle.layout.specs.Header.{headerOf, putHeader, putFree, putComplete}
-use Rattle.layout.specs.Inode.{InodeFits, attributesAt, addressAt, place, kindOf, spareOf, linksOf, sizeOf, parentOf, addressOf, attributeEntry, putAttributes, putAddresses, putInode, putLinks, putAddress}
+use Rattle.layout.specs.Inode.{InodeFits, attributesAt, addressAt, addressIndex, kindOf, spareOf, linksOf, sizeOf, parentOf, addressOf, attributeEntry, putAttributes, putAddresses, putInode, putLinks, putAddress}
 use Rattle.layout.specs.Block.{blockAt, putInBlock, zeroBlock}
 use Rattle.layout.proofs.View.{View, viewOf, contentOf, within, below, overlay, withHeader, withLinks, withAttributes, withAddress, withContent, freeCounts, completion}
 use Rattle.layout.proofs.FrameLaws.{length-entry, length-attributes, header-past, kind-apart, spare-apart, links-apart, size-apart, parent-apart, address-apart, kind-put, spare-put, links-put, size-put, parent-put}
@@ -348,35 +348,35 @@ view-address n s x b l f =
 -- the twelve of an inode
 module _ (n : ℕ) (s : List ℕ) (i : ℕ) (vs : List ℕ) (f : InodeFits s n i) (e : length vs ≡ 12) where
   start : ℕ
-  start = addressAt n (place i 0)
+  start = addressAt n (addressIndex i 0)
 
   long : length (wordBytes vs) ≡ 24
   long = length-words vs ∙ omega arith
 
-  address-new : (j : ℕ) → j < 12 → addressOf (splice s start (wordBytes vs)) n (place i 0 + j) ≡ getD vs j 0
+  address-new : (j : ℕ) → j < 12 → addressOf (splice s start (wordBytes vs)) n (addressIndex i 0 + j) ≡ getD vs j 0
   unfolding start addressOf
   address-new j l =
       let g = long in
       let a = f .low in
       let b = f .high in
       let c = f .area in
-      let q : addressAt n (place i 0 + j) ≡ addressAt n (place i 0) + 2 * j = omega arith in
+      let q : addressAt n (addressIndex i 0 + j) ≡ addressAt n (addressIndex i 0) + 2 * j = omega arith in
       ap (numAt 2 (splice s start (wordBytes vs))) q ∙ num-in 2 s start (wordBytes vs) (2 * j) (omega arith) (omega arith) ∙ word-at vs j (omega arith)
 
-  addresses-over : below (12 * n) (addressOf (splice s start (wordBytes vs)) n) ≡ overlay (below (12 * n) (addressOf s n)) (place i 0) vs
+  addresses-over : below (12 * n) (addressOf (splice s start (wordBytes vs)) n) ≡ overlay (below (12 * n) (addressOf s n)) (addressIndex i 0) vs
   unfolding start
   addresses-over =
       let g = long in
       let a = f .low in
       let b = f .high in
       let c = f .area in
-      is-overlay (below (12 * n) (addressOf s n)) (below (12 * n) (addressOf (splice s start (wordBytes vs)) n)) (place i 0) vs
-      (λ j l. below-in (12 * n) (addressOf (splice s start (wordBytes vs)) n) (place i 0 + j) (omega arith) ∙ address-new j (omega arith))
+      is-overlay (below (12 * n) (addressOf s n)) (below (12 * n) (addressOf (splice s start (wordBytes vs)) n)) (addressIndex i 0) vs
+      (λ j l. below-in (12 * n) (addressOf (splice s start (wordBytes vs)) n) (addressIndex i 0 + j) (omega arith) ∙ address-new j (omega arith))
       (λ x l. is-below (12 * n) x
       (λ m. below-in (12 * n) (addressOf (splice s start (wordBytes vs)) n) x m ∙ address-apart s start (wordBytes vs) n x (omega arith) ∙ sym (below-in (12 * n) (addressOf s n) x m))
       (λ m. below-out (12 * n) (addressOf (splice s start (wordBytes vs)) n) x m ∙ sym (below-out (12 * n) (addressOf s n) x m)))
 
-  pub view-addresses : viewOf n (putAddresses s n i vs) ≡ withAddress (viewOf n s) (overlay (viewOf n s .address) (place i 0) vs)
+  pub view-addresses : viewOf n (putAddresses s n i vs) ≡ withAddress (viewOf n s) (overlay (viewOf n s .address) (addressIndex i 0) vs)
   unfolding putAddresses start viewOf
   view-addresses =
       let g = long in
@@ -389,11 +389,11 @@ pub inode-fits : (s t : List ℕ) (n i : ℕ) → length t ≡ length s → Inod
 inode-fits s t n i e f = record { low = f .low; high = f .high; few = f .few; area = let a = f .area in omega arith }
 
 pub view-inode : (n : ℕ) (s : List ℕ) (i : ℕ) (v : Inode) → InodeFits s n i → length (v .addresses) ≡ 12 →
-    viewOf n (putInode s n i v) ≡ withAddress (withAttributes (viewOf n s) i v) (overlay (viewOf n s .address) (place i 0) (v .addresses))
+    viewOf n (putInode s n i v) ≡ withAddress (withAttributes (viewOf n s) i v) (overlay (viewOf n s .address) (addressIndex i 0) (v .addresses))
 unfolding putInode
 view-inode n s i v f e =
     view-addresses n (putAttributes s i v) i (v .addresses) (inode-fits s (putAttributes s i v) n i (length-attributes s i v) f) e
-    ∙ ap (λ (w : View). withAddress w (overlay (w .address) (place i 0) (v .addresses))) (view-attributes n s i f v)
+    ∙ ap (λ (w : View). withAddress w (overlay (w .address) (addressIndex i 0) (v .addresses))) (view-attributes n s i f v)
 
 -- bytes in a block
 pub view-in-block : (n : ℕ) (s : List ℕ) (b o : ℕ) (xs : List ℕ) → blockAt n b + o + length xs ≤ length s →

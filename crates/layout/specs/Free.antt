@@ -9,17 +9,22 @@ use Rattle.bounded.specs.declared.Found.{Found}
 use Rattle.layout.specs.Sizes.{addressCount}
 use Rattle.layout.specs.Inode.{kindOf, addressOf, freeKind}
 
-unfoldable pub isFree : List ℕ → ℕ → Bool
-isFree s i = eqb (kindOf s i) freeKind
+-- inode i is free
+abbrev pub inodeFree : List ℕ → ℕ → Bool
+inodeFree s i = eqb (kindOf s i) freeKind
 
 -- the lowest free inode
 unfoldable pub freeInode : List ℕ → ℕ → Found
-freeInode s n = firstFrom (isFree s) 1 n
+freeInode s n = firstFrom (inodeFree s) 1 n
 
 -- some address of some inode names block b
-unfoldable pub named : List ℕ → ℕ → ℕ → Bool
-named s n b = someBelow (λ x. eqb (addressOf s n x) b) (addressCount * n)
+unfoldable pub blockNamed : List ℕ → ℕ → ℕ → Bool
+blockNamed s n b = someBelow (λ x. eqb (addressOf s n x) b) (addressCount * n)
+
+-- none does
+abbrev pub blockFree : List ℕ → ℕ → ℕ → Bool
+blockFree s n b = not (blockNamed s n b)
 
 -- the lowest of the b blocks that no address names
 unfoldable pub freeBlock : List ℕ → ℕ → ℕ → Found
-freeBlock s n b = firstFrom (λ c. not (named s n c)) 1 b
+freeBlock s n b = firstFrom (blockFree s n) 1 b

@@ -37,5 +37,5 @@ putHeader s h =
     putNum 2 (putComplete (putFree (putNum 2 (putNum 2 s 0 (h .inodes)) 2 (h .blocks)) (h .«free_inodes») (h .«free_blocks»)) (h .complete)) 10 (h .root)
 
 -- "the rest 0": bytes 9 and 12 to 15
-unfoldable pub reservedZero : List ℕ → Bool
-reservedZero s = eqb (numAt 1 s 9) 0 && eqb (numAt 4 s 12) 0
+unfoldable pub headerRestZero : List ℕ → Bool
+headerRestZero s = eqb (numAt 1 s 9) 0 && eqb (numAt 4 s 12) 0

@@ -49,8 +49,8 @@ putAttributes s i v = splice s (attributesAt i) (attributeEntry v)
 
 -- ---- "then N address entries of 24 bytes: twelve 16-bit block numbers, 0 for none"
 -- the addresses of all inodes in a row: address k of inode i has number place i k, from 0
-abbrev pub place : ℕ → ℕ → ℕ
-place i k = addressCount * (i - 1) + k
+abbrev pub addressIndex : ℕ → ℕ → ℕ
+addressIndex i k = addressCount * (i - 1) + k
 
 abbrev pub addressAt : ℕ → ℕ → ℕ
 addressAt n x = headerBytes + attributeBytes * n + 2 * x
@@ -62,10 +62,10 @@ unfoldable pub putAddress : List ℕ → ℕ → ℕ → ℕ → List ℕ
 putAddress s n x b = putNum 2 s (addressAt n x) b
 
 unfoldable pub addressesOf : List ℕ → ℕ → ℕ → List ℕ
-addressesOf s n i = table (λ k. addressOf s n (place i k)) addressCount
+addressesOf s n i = table (λ k. addressOf s n (addressIndex i k)) addressCount
 
 unfoldable pub putAddresses : List ℕ → ℕ → ℕ → List ℕ → List ℕ
-putAddresses s n i vs = splice s (addressAt n (place i 0)) (wordBytes vs)
+putAddresses s n i vs = splice s (addressAt n (addressIndex i 0)) (wordBytes vs)
 
 -- ---- both entries of an inode
 unfoldable pub inodeOf : List ℕ → ℕ → ℕ → Inode
@@ -106,7 +106,7 @@ unfoldable pub attributesZero : List ℕ → ℕ → Bool
 attributesZero s i = eqb (kindOf s i) 0 && (eqb (spareOf s i) 0 && (eqb (linksOf s i) 0 && (eqb (sizeOf s i) 0 && eqb (parentOf s i) 0)))
 
 unfoldable pub addressesZero : List ℕ → ℕ → ℕ → Bool
-addressesZero s n i = allBelow (λ k. eqb (addressOf s n (place i k)) 0) addressCount
+addressesZero s n i = allBelow (λ k. eqb (addressOf s n (addressIndex i k)) 0) addressCount
 
 -- "attributes and addresses become zero"
 unfoldable pub zeroInode : Inode

@@ -1,5 +1,5 @@
 -- The numbers of document 01's "Bytes", each under one name.
-use Prim.Native.Nat.{ℕ, _+_}
+use Prim.Native.Nat.{ℕ, _+_, _*_}
 
 -- "Header, 16 bytes"
 abbrev pub headerBytes : ℕ
@@ -21,15 +21,11 @@ abbrev pub attributeBytes : ℕ
 attributeBytes = 8
 
 -- "N address entries of 24 bytes: twelve 16-bit block numbers"
-abbrev pub addressBytes : ℕ
-addressBytes = 24
-
 abbrev pub addressCount : ℕ
 addressCount = 12
 
--- "fewer than twelve blocks": the most that a directory takes
-abbrev pub mostDirectoryBlocks : ℕ
-mostDirectoryBlocks = addressCount
+abbrev pub addressBytes : ℕ
+addressBytes = 2 * addressCount
 
 -- both entries of an inode: "16 + 32 × N + 64 × B"
 abbrev pub inodeBytes : ℕ
@@ -39,9 +35,17 @@ inodeBytes = attributeBytes + addressBytes
 abbrev pub blockBytes : ℕ
 blockBytes = 64
 
+-- "A size of s uses the first s/64 addresses": the most blocks of an inode, from which the limits of a file, of a copy's image and of its steps follow
+abbrev pub mostBlocks : ℕ
+mostBlocks = addressCount
+
 -- "at most 768 bytes"
 abbrev pub mostFileBytes : ℕ
-mostFileBytes = 768
+mostFileBytes = blockBytes * mostBlocks
+
+-- "fewer than twelve blocks": the most that a directory takes, from which its slots follow
+abbrev pub mostDirectoryBlocks : ℕ
+mostDirectoryBlocks = 12
 
 -- byte 8: "1 if complete, else 0"
 abbrev pub isComplete : ℕ

@@ -1,20 +1,42 @@
 // Blocks: where they stand, how many a size uses, and which an inode uses.
 ghost use mathlib.Core.Path.{_≡_};
 ghost use Prim.Native.Nat.{_<_, _≤_};
+ghost use Rattle.bounded.specs.Count.{count};
 ghost use Rattle.layout.specs.Sizes.{addressCount, mostInodes, mostImageBlocks};
 ghost use Rattle.layout.specs.Inode.{InodeFits};
-ghost use Rattle.layout.specs.Block.{storeLength, Sized, blockAt, zeroBlock, blocksUsed, kthBlock};
+ghost use Rattle.layout.specs.Block.{storeLength, allowed, Sized, blockAt, zeroBlock, blocksUsed, kthBlock};
 use crate::inode::address;
 use crate::sizes::ADDRESS_COUNT;
 use crate::sizes::BLOCK_BYTES;
 use crate::sizes::HEADER_BYTES;
 use crate::sizes::INODE_BYTES;
+use crate::sizes::MOST_INODES;
 
 pub fn store_length(n: usize, b: usize) -> usize
     requires { ⌜ (n ≤ mostInodes) × (b ≤ mostImageBlocks) ⌝ }
     ensures { λ r. ⌜ r ≡ storeLength n b ⌝ }
 {
     HEADER_BYTES + INODE_BYTES * n + BLOCK_BYTES * b
+}
+
+// Counts and length of a store or an image are allowed, with at most `limit` blocks.
+pub fn allowed(limit: usize, n: usize, b: usize, length: usize) -> bool
+    requires { ⌜ limit ≤ mostImageBlocks ⌝ }
+    ensures { λ r. ⌜ r ≡ allowed limit n b length ⌝ }
+{
+    if n < 1 {
+        return false;
+    }
+    if MOST_INODES < n {
+        return false;
+    }
+    if b < 1 {
+        return false;
+    }
+    if limit < b {
+        return false;
+    }
+    length == store_length(n, b)
 }
 
 pub fn block_at(n: usize, b: usize) -> usize

@@ -5,8 +5,9 @@ ghost use lib.ListN.{length, getD};
 ghost use lib.Dec.{eqb};
 ghost use Rattle.bounded.specs.Search.{firstFrom};
 ghost use Rattle.bounded.specs.Seen.{Seen};
+ghost use Rattle.bounded.specs.Count.{count};
 ghost use Rattle.layout.specs.Sizes.{headerBytes, inodeBytes, addressCount, mostInodes, mostImageBlocks};
-ghost use Rattle.layout.specs.Inode.{InodeFits, addressOf, place};
+ghost use Rattle.layout.specs.Inode.{InodeFits, addressOf, addressIndex};
 ghost use Rattle.layout.specs.Free.{freeInode, freeBlock};
 use crate::inode::address;
 use crate::inode::addresses_zero;
@@ -29,7 +30,7 @@ pub fn free_inode(s: &[u8], n: usize) -> Found
 
 // The addresses of inode i are noted in the map. Most inodes have none.
 fn note_blocks(s: &[u8], n: usize, i: usize, map: &mut [u8; 4097])
-    requires { ⌜ InodeFits (now s) n i × Seen (addressOf (now s) n) (mostImageBlocks + 1) (place i 0) (now map) ⌝ }
+    requires { ⌜ InodeFits (now s) n i × Seen (addressOf (now s) n) (mostImageBlocks + 1) (addressIndex i 0) (now map) ⌝ }
     requires { ⌜ ((x : ℕ) → x < addressCount * n → addressOf (now s) n x ≤ mostImageBlocks) ⌝ }
     ensures { λ _. ⌜ Seen (addressOf (now (s .entry)) n) (mostImageBlocks + 1) (addressCount * i) (now (map .exit)) ⌝ }
 {

@@ -3,7 +3,7 @@ ghost use mathlib.Core.Path.{_≡_};
 ghost use Prim.Native.Nat.{_≤_};
 ghost use lib.ListN.{length};
 ghost use Rattle.layout.specs.Sizes.{headerBytes};
-ghost use Rattle.layout.specs.Header.{headerOf, putHeader, putFree, putComplete, reservedZero};
+ghost use Rattle.layout.specs.Header.{headerOf, putHeader, putFree, putComplete, headerRestZero};
 
 pub struct Header {
     pub inodes: u16,
@@ -59,7 +59,7 @@ pub fn put_complete(s: &mut [u8], v: u8)
 // The header's other bytes are 0.
 pub fn reserved_zero(s: &[u8]) -> bool
     requires { ⌜ headerBytes ≤ length (now s) ⌝ }
-    ensures { λ r. ⌜ r ≡ reservedZero (now (s .entry)) ⌝ }
+    ensures { λ r. ⌜ r ≡ headerRestZero (now (s .entry)) ⌝ }
 {
     if octets::get_8(s, 9) != 0 {
         return false;

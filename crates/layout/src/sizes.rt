@@ -11,11 +11,18 @@ pub const ATTRIBUTE_BYTES: usize = 8;
 
 pub const ADDRESS_COUNT: usize = 12;
 
-pub const INODE_BYTES: usize = 32;
+pub const ADDRESS_BYTES: usize = 2 * ADDRESS_COUNT;
+
+pub const INODE_BYTES: usize = ATTRIBUTE_BYTES + ADDRESS_BYTES;
 
 pub const BLOCK_BYTES: usize = 64;
 
-pub const MOST_FILE_BYTES: usize = 768;
+// The most blocks of an inode, from which other limits follow.
+pub const MOST_BLOCKS: usize = ADDRESS_COUNT;
+
+pub const MOST_FILE_BYTES: usize = BLOCK_BYTES * MOST_BLOCKS;
+
+pub const MOST_DIRECTORY_BLOCKS: usize = 12;
 
 pub const FREE: u8 = 0;
 
@@ -25,5 +32,7 @@ pub const DIRECTORY: u8 = 2;
 
 pub const ROOT: usize = 1;
 
-// Byte 8 of a store or a finished image.
+// Byte 8 of a store or a finished image, and of one whose copy runs.
 pub const COMPLETE: u8 = 1;
+
+pub const NOT_COMPLETE: u8 = 0;

@@ -4,18 +4,19 @@ use mathlib.Core.Path.{_≡_, refl, sym, ap, ap₂, _∙_}
 use mathlib.Core.Bool.{Bool, true, false}
 use mathlib.Core.List.{List, [], _++_}
 use native.Mathlib.Omega.{arith}
-use Rattle.bounded.specs.Search.{pick, firstFrom}
+use Rattle.bounded.specs.Search.{firstFrom}
 use Rattle.bounded.specs.declared.Found.{Found}
 use Rattle.bounded.specs.declared.Found.the-variants.{At, Absent}
 use Rattle.bounded.proofs.BoolLaws.{clash}
 use Rattle.bounded.proofs.SearchLaws.{found-lowest}
 use Rattle.octets.specs.Octets.{splice}
-use Rattle.layout.specs.Sizes.{mostInodes, mostImageBlocks}
+use Rattle.layout.specs.Sizes.{mostInodes}
 use Rattle.layout.specs.Header.{headerOf}
 use Rattle.layout.specs.declared.header.Header.{Header}
 use Rattle.directory.specs.Slot.{mostSlots}
 use Rattle.sound.specs.Sound.{Sound, inodesIn}
 use Rattle.sound.specs.Place.{filled}
+use Rattle.sound.specs.declared.Form.the-variants.{Image}
 use Rattle.text.specs.Put.{Put}
 use Rattle.listing.specs.Listing.{replyText, headText, entryText, entriesFrom, listing, printedText, entriesLeft, leftText, Printed}
 use Rattle.listing.specs.declared.Part.{Part}
@@ -57,7 +58,7 @@ part-unlisted o v f m d s k h z = part-none (leftText o v f m d) k s (rw h (unli
 pub count-is : (m : List ℕ) (h : Header) → h ≡ headerOf m → h .inodes ≡ inodesIn m
 count-is m h e = ap (λ (x : Header). x .inodes) e
 
-pub count-few : (m : List ℕ) (n : ℕ) → Sound mostImageBlocks true m → n ≡ inodesIn m → n ≤ mostInodes
+pub count-few : (m : List ℕ) (n : ℕ) → Sound Image m → n ≡ inodesIn m → n ≤ mostInodes
 count-few m n h e = let f = h .framed in let l = f .most-inodes in omega arith
 
 listed : (o : Bool) (v : ℕ) (m d : List ℕ) (k : ℕ) → 2 ≤ k → leftText o v true m d k ≡ entriesLeft m k

@@ -8,7 +8,6 @@ use borrow.Author.Tests.{eq-eqb, ne-eqb, lt-ltb, le-ltb}
 use lib.ListN.{take, drop}
 use Rattle.bounded.specs.Reflect.{Reflects}
 use Rattle.octets.proofs.PartLaws.{cut}
-use Rattle.layout.specs.Sizes.{mostImageBlocks}
 use Rattle.layout.specs.Inode.{InodeFits, kindOf, directoryKind}
 use Rattle.names.specs.Entry.{entryInode, isEmpty}
 use Rattle.directory.specs.Slot.{mostSlots, slots, slotAt, entryOf, DirFits}
@@ -16,6 +15,7 @@ use Rattle.sound.specs.Sound.{Sound, inodesIn}
 use Rattle.sound.specs.Place.{isSlot, entryAt, filled, naming}
 use Rattle.sound.proofs.PlaceLaws.{slot-is, filled-is, naming-entry}
 use Rattle.sound.proofs.FactLaws.{inode-fits, dir-fits}
+use Rattle.sound.specs.declared.Form.the-variants.{Image}
 use Rattle.listing.specs.Listing.{placeText, inodeText, nameText, entryText}
 
 module _ (s : List ℕ) (n p : ℕ) where
@@ -50,7 +50,7 @@ module _ (s : List ℕ) (n p : ℕ) where
   unfolding entryText
   entry-text x i g h = rw (h, g) refl
 
-module _ (s : List ℕ) (n p : ℕ) (h : Sound mostImageBlocks true s) (c : n ≡ inodesIn s) (l : p < mostSlots * n) where
+module _ (s : List ℕ) (n p : ℕ) (h : Sound Image s) (c : n ≡ inodesIn s) (l : p < mostSlots * n) where
   pub place-fits : DirFits s n (p / mostSlots + 1)
   place-fits = subst (λ (x : ℕ). DirFits s x (p / mostSlots + 1)) (sym c) (dir-fits h (p / mostSlots + 1) (omega arith) (omega arith))
 

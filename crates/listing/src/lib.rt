@@ -4,7 +4,7 @@ ghost use mathlib.Core.Bool.{true};
 ghost use Prim.Native.Nat.{_+_, _*_, _-_, _<_, _≤_};
 ghost use lib.ListN.{length};
 ghost use Rattle.bounded.specs.Search.{firstFrom};
-ghost use Rattle.layout.specs.Sizes.{headerBytes, mostImageBlocks};
+ghost use Rattle.layout.specs.Sizes.{headerBytes};
 ghost use Rattle.layout.specs.Inode.{InodeFits};
 ghost use Rattle.names.specs.Name.{nameBytes};
 ghost use Rattle.names.specs.Entry.{entryBytes, nameLength};
@@ -12,6 +12,7 @@ ghost use Rattle.directory.specs.Slot.{mostSlots};
 ghost use Rattle.desk.specs.Sizes.{deskHeaderBytes};
 ghost use Rattle.sound.specs.Sound.{Sound, inodesIn};
 ghost use Rattle.sound.specs.Place.{filled};
+ghost use Rattle.sound.specs.declared.Form.the-variants.{Image};
 ghost use Rattle.text.specs.Put.{Put};
 ghost use Rattle.listing.specs.Listing.{wordText, replyText, countsText, headText, placeText, kindText, inodeText, nameText, entryText, entriesLeft, leftText, Printed};
 use bounded::Found;
@@ -140,7 +141,7 @@ fn put_name(out: &mut [u8], o: usize, entry: &[u8]) -> usize
 
 // An entry stands at place p of the image.
 fn is_filled(m: &[u8], n: usize, p: usize) -> bool
-    requires { ⌜ Sound mostImageBlocks true (now m) × (n ≡ inodesIn (now m)) × (p < mostSlots * n) ⌝ }
+    requires { ⌜ Sound Image (now m) × (n ≡ inodesIn (now m)) × (p < mostSlots * n) ⌝ }
     ensures { λ r. ⌜ r ≡ filled (now (m .entry)) n p ⌝ }
 {
     let e = p / MOST_SLOTS + 1;
@@ -157,7 +158,7 @@ fn is_filled(m: &[u8], n: usize, p: usize) -> bool
 
 // The next place at which an entry stands, by directory and slot.
 fn next_entry(m: &[u8], n: usize, from: usize) -> Found
-    requires { ⌜ Sound mostImageBlocks true (now m) × (n ≡ inodesIn (now m)) ⌝ }
+    requires { ⌜ Sound Image (now m) × (n ≡ inodesIn (now m)) ⌝ }
     ensures { λ r. ⌜ r ≡ firstFrom (filled (now (m .entry)) n) from (mostSlots * n - from) ⌝ }
 {
     for p in from..MOST_SLOTS * n {
@@ -170,7 +171,7 @@ fn next_entry(m: &[u8], n: usize, from: usize) -> Found
 
 // The line of the entry that stands at place p.
 fn put_entry(out: &mut [u8], o: usize, m: &[u8], n: usize, p: usize) -> usize
-    requires { ⌜ (o + 122 ≤ length (now out)) × Sound mostImageBlocks true (now m) × (n ≡ inodesIn (now m)) × (p < mostSlots * n) × (filled (now m) n p ≡ true) ⌝ }
+    requires { ⌜ (o + 122 ≤ length (now out)) × Sound Image (now m) × (n ≡ inodesIn (now m)) × (p < mostSlots * n) × (filled (now m) n p ≡ true) ⌝ }
     ensures { λ r. ⌜ Put (now (out .entry)) o (entryText (now (m .entry)) n p) r (now (out .exit)) ⌝ }
 {
     let e = p / MOST_SLOTS + 1;
@@ -185,7 +186,7 @@ fn put_entry(out: &mut [u8], o: usize, m: &[u8], n: usize, p: usize) -> usize
 
 // The next entry from place k - 2 on.
 fn put_listed(out: &mut [u8], m: &[u8], k: usize) -> Part
-    requires { ⌜ (122 ≤ length (now out)) × Sound mostImageBlocks true (now m) × (2 ≤ k) ⌝ }
+    requires { ⌜ (122 ≤ length (now out)) × Sound Image (now m) × (2 ≤ k) ⌝ }
     ensures { λ r. ⌜ Printed (entriesLeft (now (m .entry))) k (now (out .entry)) r (now (out .exit)) ⌝ }
 {
     let h = Header::read(m);
@@ -215,7 +216,7 @@ pub fn put_part(
     d: &[u8],
     k: usize,
 ) -> Part
-    requires { ⌜ (122 ≤ length (now out)) × (finished ≡ true → Sound mostImageBlocks true (now m)) × (headerBytes ≤ length (now m)) × (deskHeaderBytes ≤ length (now d)) ⌝ }
+    requires { ⌜ (122 ≤ length (now out)) × (finished ≡ true → Sound Image (now m)) × (headerBytes ≤ length (now m)) × (deskHeaderBytes ≤ length (now d)) ⌝ }
     ensures { λ r. ⌜ Printed (leftText ok number finished (now (m .entry)) (now (d .entry))) k (now (out .entry)) r (now (out .exit)) ⌝ }
 {
     if k == 0 {

@@ -25,7 +25,7 @@ use Rattle.checkpoint.specs.Fit.{blocksFit, deskFits, imageFits}
 use Rattle.checkpoint.specs.Live.{World, left, refuse, threeGuards, leavesIn}
 use Rattle.checkpoint.proofs.Copy.FitLaws.{desk-framed-is, desk-fits-is, image-fits-is, notes-fit-is}
 use Rattle.tallies.specs.Addressed.{Addressed}
-use Rattle.guards.proofs.GuardLaws.{passed}
+use Rattle.guards.proofs.GuardLaws.{passed, desk-passed}
 use Rattle.live.specs.Fits.{Fits, Readable}
 
 -- ---- what the guards let through
@@ -51,7 +51,7 @@ image-addressed m d l w f =
 pub let-through : (s m d : List ℕ) (n b : ℕ) → threeGuards s m d ≡ Pass n b → Fits s d n × (b ≡ blocksIn s) × Readable m d n
 let-through s m d n b g =
     let p = passed s m d n b g in
-    let f = desk-framed-is d .to (p .desk) in
+    let f = desk-framed-is d .to (desk-passed p) in
     let l = f .1 .1 in
     let k = notes-fit-is s m d .to (p .notes) in
     let e = p .inodes ∙ sym (k .1 .0) in

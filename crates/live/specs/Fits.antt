@@ -4,15 +4,15 @@ use mathlib.Core.Path.{_≡_}
 use mathlib.Core.Bool.{true, false}
 use mathlib.Core.List.{List}
 use lib.ListN.{length}
-use Rattle.layout.specs.Sizes.{mostStoreBlocks}
 use Rattle.desk.specs.Sizes.{deskLength}
 use Rattle.sound.specs.Sound.{Sound, inodesIn}
+use Rattle.sound.specs.declared.Form.the-variants.{Store}
 use Rattle.checkpoint.specs.Fit.{isRunning}
 use Rattle.tallies.specs.Addressed.{Addressed}
 
 -- store and desk
 pub record Fits (s d : List ℕ) (n : ℕ) : Type 0 where
-  pub sound : Sound mostStoreBlocks false s
+  pub sound : Sound Store s
   pub inodes : n ≡ inodesIn s
   pub long : deskLength n ≤ length d
 

@@ -17,7 +17,7 @@ use Rattle.bounded.proofs.BoolLaws.{and-true, and-left, and-right, clash, fails
 use Rattle.bounded.proofs.SearchLaws.{lowest-found, absent-of}
 use Rattle.bounded.proofs.TableLaws.{length-table, getD-table}
 use Rattle.bounded.proofs.ReflectLaws.{r-eq, r-and, r-all, r-says, r-fails, reflects-ext}
-use Rattle.octets.specs.Octets.{Octets, part, splice, numAt, toBytes, putNum, zeroed, copied}
+use Rattle.octets.specs.Octets.{Octets, part, splice, numAt, toBytes, putNum, zeroed, pasted}
 use Rattle.octets.proofs.PartLaws.{length-part, length-inside, part-all, cut, getD-part, length-zeroed, length-copied, splice-in, splice-out}
 use Rattle.octets.proofs.NumLaws.{num-ext, num-inj, num-zero, zero-num, length-toBytes, length-num}
 use Rattle.names.specs.Name.{nameBytes, legalName}
@@ -205,8 +205,8 @@ unfolding entryName
 octets-name e h = octets-part e nameAt (nameLength e) h
 
 -- zero bytes from o on, and a name copied there
-pub name-filled : (d : List ℕ) (o : ℕ) (name : List ℕ) → length name ≤ nameBytes → o + nameBytes ≤ length d → ((k : ℕ) → k < nameBytes → getD d (o + k) 0 ≡ 0) → (k : ℕ) → k < nameBytes → getD (copied d o name 0 (length name)) (o + k) 0 ≡ getD name k 0
-unfolding copied
+pub name-filled : (d : List ℕ) (o : ℕ) (name : List ℕ) → length name ≤ nameBytes → o + nameBytes ≤ length d → ((k : ℕ) → k < nameBytes → getD d (o + k) 0 ≡ 0) → (k : ℕ) → k < nameBytes → getD (pasted d o name 0 (length name)) (o + k) 0 ≡ getD name k 0
+unfolding pasted
 name-filled d o name l f z k m = rw (part-all name (length name) refl) (go (decLt k (length name)))
   where
     go : Dec (k < length name) → getD (splice d o name) (o + k) 0 ≡ getD name k 0
@@ -214,10 +214,10 @@ name-filled d o name l f z k m = rw (part-all name (length name) refl) (go (decL
     go (no h) = splice-out d o name (o + k) (omega arith) ∙ z k m ∙ sym (List·getD-eq-default name 0 (omega arith))
 
 -- the words of a name that is copied to 14 zero bytes
-pub words-filled : (name : List ℕ) → length name ≤ nameBytes → wordsAt (copied (replicate nameBytes 0) 0 name 0 (length name)) 0 ≡ wordsAt name 0
+pub words-filled : (name : List ℕ) → length name ≤ nameBytes → wordsAt (pasted (replicate nameBytes 0) 0 name 0 (length name)) 0 ≡ wordsAt name 0
 unfolding wordsAt
 words-filled name l =
-    let w = bytes-words (copied (replicate nameBytes 0) 0 name 0 (length name)) 0 name 0
+    let w = bytes-words (pasted (replicate nameBytes 0) 0 name 0 (length name)) 0 name 0
     (λ k m.
     name-filled (replicate nameBytes 0) 0 name l (omega arith) (λ j n. getD-replicate nameBytes (0 + j) 0 0 (omega arith)) k m
     ∙ ap (λ (j : ℕ). getD name j 0) (sym (zero-add k))) in
@@ -232,7 +232,7 @@ module _ (e : List ℕ) (i : ℕ) (name : List ℕ) (f : length e ≡ entryBytes
   numbered = putNum 2 zeros 0 i
 
   abbrev whole : List ℕ
-  whole = copied numbered nameAt name 0 (length name)
+  whole = pasted numbered nameAt name 0 (length name)
 
   zero-there : (k : ℕ) → k < nameBytes → getD numbered (nameAt + k) 0 ≡ 0
   unfolding putNum zeroed
@@ -248,7 +248,7 @@ module _ (e : List ℕ) (i : ℕ) (name : List ℕ) (f : length e ≡ entryBytes
   length-numbered = length-num 2 zeros 0 i ∙ length-zeroed e 0 entryBytes ∙ f
 
   number-there : (k : ℕ) → k < nameAt → getD whole k 0 ≡ getD (entryFor i name) k 0
-  unfolding copied putNum entryFor
+  unfolding pasted putNum entryFor
   number-there k m =
       let n = length-toBytes 2 i in
       let z : length zeros ≡ entryBytes = length-zeroed e 0 entryBytes ∙ f in
@@ -257,7 +257,7 @@ module _ (e : List ℕ) (i : ℕ) (name : List ℕ) (f : length e ≡ entryBytes
       ∙ splice-in zeros 0 (toBytes 2 i) k (omega arith) (omega arith)
       ∙ sym (List·getD-append (toBytes 2 i) (table (λ j. getD name j 0) nameBytes) 0 k (omega arith))
 
-  pub entry-put : copied (putNum 2 (zeroed e 0 entryBytes) 0 i) nameAt name 0 (length name) ≡ entryFor i name
+  pub entry-put : pasted (putNum 2 (zeroed e 0 entryBytes) 0 i) nameAt name 0 (length name) ≡ entryFor i name
   entry-put = ext-getD 0 whole (entryFor i name) (same ∙ sym (length-entry i name)) (λ k m. at k (omega (arith, same)) (decLt k nameAt))
     where
       same : length whole ≡ entryBytes

@@ -9,7 +9,7 @@ use native.Mathlib.Numerals.{add-one}
 use lib.ListN.{getD, set, take, drop, length, replicate, length-set, length-take, length-drop, length-replicate, replicate-append-replicate}
 use lib.Seq.{set-comm, set-set, sets, sets-eq, drop-drop, getD-set-same, getD-set-other, getD-take, getD-drop, ext-getD, take-suc}
 use borrow.Rule.Slice.PartMut.{putMid}
-use Rattle.octets.specs.Octets.{part, splice, Apart, zeroed, copied}
+use Rattle.octets.specs.Octets.{part, splice, Apart, zeroed, pasted}
 
 -- ---- lengths, and single bytes
 pub length-splice : (s : List ℕ) (o : ℕ) (xs : List ℕ) → length (splice s o xs) ≡ length s
@@ -193,8 +193,8 @@ pub length-zeroed : (s : List ℕ) (o k : ℕ) → length (zeroed s o k) ≡ len
 unfolding zeroed
 length-zeroed s o k = length-splice s o (replicate k 0)
 
-pub length-copied : (d : List ℕ) (o : ℕ) (s : List ℕ) (p k : ℕ) → length (copied d o s p k) ≡ length d
-unfolding copied
+pub length-copied : (d : List ℕ) (o : ℕ) (s : List ℕ) (p k : ℕ) → length (pasted d o s p k) ≡ length d
+unfolding pasted
 length-copied d o s p k = length-splice d o (part s p k)
 
 pub zeroed-none : (s : List ℕ) (o : ℕ) → s ≡ zeroed s o 0
@@ -206,22 +206,22 @@ unfolding zeroed
 zeroed-more s o k =
     splice-snoc s o (replicate k 0) k 0 (length-replicate k 0) ∙ ap (splice s o) (replicate-append-replicate k 1 0)
 
-pub copied-none : (d : List ℕ) (o : ℕ) (s : List ℕ) (p : ℕ) → d ≡ copied d o s p 0
-unfolding copied part splice
+pub copied-none : (d : List ℕ) (o : ℕ) (s : List ℕ) (p : ℕ) → d ≡ pasted d o s p 0
+unfolding pasted part splice
 copied-none d o s p = refl
 
 pub part-more : (s : List ℕ) (p k : ℕ) → p + k < length s → part s p (k + 1) ≡ part s p k ++ (getD s (p + k) 0 ∷ [])
 unfolding part
 part-more s p k h = rw (add-one, take-suc (drop p s) k 0 (rw length-drop (omega arith)), getD-drop)
 
-pub copied-more : (d : List ℕ) (o : ℕ) (s : List ℕ) (p k : ℕ) → p + k < length s → set (copied d o s p k) (o + k) (getD s (p + k) 0) ≡ copied d o s p (k + 1)
-unfolding copied
+pub copied-more : (d : List ℕ) (o : ℕ) (s : List ℕ) (p k : ℕ) → p + k < length s → set (pasted d o s p k) (o + k) (getD s (p + k) 0) ≡ pasted d o s p (k + 1)
+unfolding pasted
 copied-more d o s p k h =
     splice-snoc d o (part s p k) k (getD s (p + k) 0) (length-inside s p k (omega arith)) ∙ ap (splice d o) (sym (part-more s p k h))
 
 -- within one list, for two ranges apart: the byte to copy next is still there
-pub copied-kept : (s : List ℕ) (o p k j : ℕ) → Apart o k p k → j < k → p + k ≤ length s → getD (copied s o s p j) (p + j) 0 ≡ getD s (p + j) 0
-unfolding copied
+pub copied-kept : (s : List ℕ) (o p k j : ℕ) → Apart o k p k → j < k → p + k ≤ length s → getD (pasted s o s p j) (p + j) 0 ≡ getD s (p + j) 0
+unfolding pasted
 copied-kept s o p k j h l f =
     let n : length (part s p j) ≡ j = length-inside s p j (omega arith) in
     splice-out s o (part s p j) (p + j) (omega arith)

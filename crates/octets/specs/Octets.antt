@@ -41,8 +41,8 @@ unfoldable pub zeroed : List ℕ → ℕ → ℕ → List ℕ
 zeroed s o k = splice s o (replicate k 0)
 
 -- d with, from o on, the k bytes of s that stand from p on
-unfoldable pub copied : List ℕ → ℕ → List ℕ → ℕ → ℕ → List ℕ
-copied d o s p k = splice d o (part s p k)
+unfoldable pub pasted : List ℕ → ℕ → List ℕ → ℕ → ℕ → List ℕ
+pasted d o s p k = splice d o (part s p k)
 
 -- numbers of two bytes each, one after the other
 unfoldable pub wordBytes : List ℕ → List ℕ

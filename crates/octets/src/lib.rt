@@ -5,7 +5,7 @@ ghost use Prim.Native.Nat.{_+_, _*_, _<_, _≤_};
 ghost use lib.Dec.{eqb};
 ghost use lib.ListN.{length, getD};
 ghost use Rattle.bounded.specs.Below.{allBelow};
-ghost use Rattle.octets.specs.Octets.{numAt, putNum, zeroed, copied};
+ghost use Rattle.octets.specs.Octets.{numAt, putNum, zeroed, pasted};
 ghost use Rattle.octets.specs.Flags.{flags};
 
 // Eight bytes, each 1, 127 or 128.
@@ -111,7 +111,7 @@ pub fn zero_range(s: &mut [u8], o: usize, k: usize)
 // The k bytes of s from p on go to d, from o on.
 pub fn copy_range(d: &mut [u8], o: usize, s: &[u8], p: usize, k: usize)
     requires { ⌜ (o + k ≤ length (now d)) × (p + k ≤ length (now s)) ⌝ }
-    ensures { λ _. ⌜ now (d .exit) ≡ copied (now (d .entry)) o (now (s .entry)) p k ⌝ }
+    ensures { λ _. ⌜ now (d .exit) ≡ pasted (now (d .entry)) o (now (s .entry)) p k ⌝ }
 {
     for j in 0..k {
         d[o + j] = s[p + j];

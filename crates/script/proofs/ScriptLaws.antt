@@ -7,10 +7,10 @@ use native.Mathlib.Omega.{arith}
 use lib.ListN.{length, take, drop, replicate}
 use lib.Seq.{take-all}
 use Rattle.octets.specs.Octets.{part}
-use Rattle.layout.specs.Sizes.{mostImageBlocks}
 use Rattle.sound.specs.Sound.{Sound}
+use Rattle.sound.specs.declared.Form.the-variants.{Image}
 use Rattle.answers.specs.declared.Answer.{Answer}
-use Rattle.format.specs.Format.{Outcome, left, layOutStore, layOutDesk}
+use Rattle.format.specs.Format.{LaidOut, laidOut, layOutStore, layOutDesk}
 use Rattle.text.specs.Pieces.{placeOf}
 use Rattle.checkpoint.specs.Live.{World}
 use Rattle.checkpoint.specs.Shown.{world}
@@ -24,9 +24,9 @@ pub after-line : (l : List ℕ) (w : World) (r : Reply) (s m d : List ℕ) → r
 after-line l w r s m d e = ap (λ (x : Ran). world (x .store) (x .image) (x .desk)) e
 
 -- a copy that has finished in the line is sound
-pub finished-sound : (l : List ℕ) (w : World) (r : Reply) (s m d : List ℕ) → FinishesSound w → ran r (world s m d) ≡ lineRuns l w → r .finished ≡ true → Sound mostImageBlocks true m
+pub finished-sound : (l : List ℕ) (w : World) (r : Reply) (s m d : List ℕ) → FinishesSound w → ran r (world s m d) ≡ lineRuns l w → r .finished ≡ true → Sound Image m
 unfolding linesRun
-finished-sound l w r s m d h e f = subst (λ (x : Ran). x .reply .finished ≡ true → Sound mostImageBlocks true (x .image)) (sym e) (h [] l) f
+finished-sound l w r s m d h e f = subst (λ (x : Ran). x .reply .finished ≡ true → Sound Image (x .image)) (sym e) (h [] l) f
 
 -- and so it is for the lines after it
 pub later-sound : (l : List ℕ) (w v : World) → v ≡ worldAfter l w → FinishesSound w → FinishesSound v
@@ -54,7 +54,7 @@ unfolding scriptLines
 whole-script s w l e = rw (e, take-all mostBytes s l) refl
 
 -- the fresh buffers are those that were laid out
-pub laid-fresh : (s d t u : List ℕ) (a b : Answer) → s ≡ replicate 4624 0 → d ≡ replicate 160 0 → left a t ≡ layOutStore s scriptInodes scriptBlocks → left b u ≡ layOutDesk d scriptInodes
+pub laid-fresh : (s d t u : List ℕ) (a b : Answer) → s ≡ replicate 4624 0 → d ≡ replicate 160 0 → laidOut a t ≡ layOutStore s scriptInodes scriptBlocks → laidOut b u ≡ layOutDesk d scriptInodes
     → world t (replicate 8720 0) u ≡ fresh
 unfolding fresh
-laid-fresh s d t u a b p q e f = rw (ap (λ (o : Outcome). o .buffer) e, ap (λ (o : Outcome). o .buffer) f, p, q) refl
+laid-fresh s d t u a b p q e f = rw (ap (λ (o : LaidOut). o .buffer) e, ap (λ (o : LaidOut). o .buffer) f, p, q) refl

@@ -3,9 +3,10 @@ ghost use mathlib.Core.Path.{_≡_};
 ghost use mathlib.Core.Bool.{true};
 ghost use Prim.Native.Nat.{_<_, _≤_};
 ghost use lib.ListN.{length};
-ghost use Rattle.layout.specs.Sizes.{headerBytes, mostImageBlocks};
+ghost use Rattle.layout.specs.Sizes.{headerBytes};
 ghost use Rattle.desk.specs.Sizes.{deskHeaderBytes};
 ghost use Rattle.sound.specs.Sound.{Sound};
+ghost use Rattle.sound.specs.declared.Form.the-variants.{Image};
 use libc::STDOUT_FILENO;
 use listing::Part;
 use listing::put_part;
@@ -16,7 +17,7 @@ use text::pieces::front;
 const PARTS: usize = 12291;
 
 fn part(ok: bool, number: usize, finished: bool, m: &[u8], d: &[u8], k: usize) -> Part
-    requires { ⌜ (finished ≡ true → Sound mostImageBlocks true (now m)) × (headerBytes ≤ length (now m)) × (deskHeaderBytes ≤ length (now d)) ⌝ }
+    requires { ⌜ (finished ≡ true → Sound Image (now m)) × (headerBytes ≤ length (now m)) × (deskHeaderBytes ≤ length (now d)) ⌝ }
     ensures { λ r. ⌜ (r .more ≡ true → k < r .next) × (r .more ≡ true → r .next ≤ 12290) ⌝ }
 {
     let mut out = [0u8; 122];
@@ -26,7 +27,7 @@ fn part(ok: bool, number: usize, finished: bool, m: &[u8], d: &[u8], k: usize) -
 }
 
 pub fn line(r: Reply, m: &[u8], d: &[u8])
-    requires { ⌜ (r .finished ≡ true → Sound mostImageBlocks true (now m)) × (headerBytes ≤ length (now m)) × (deskHeaderBytes ≤ length (now d)) ⌝ }
+    requires { ⌜ (r .finished ≡ true → Sound Image (now m)) × (headerBytes ≤ length (now m)) × (deskHeaderBytes ≤ length (now d)) ⌝ }
 {
     let mut k = 0;
     while k < PARTS {

@@ -9,12 +9,13 @@ use lib.Dec.{eqb}
 use lib.ListN.{length, replicate, length-replicate}
 use Rattle.bounded.specs.Search.{pick}
 use Rattle.bounded.proofs.BoolLaws.{clash, and-right}
-use Rattle.layout.specs.Sizes.{mostInodes, mostImageBlocks, isComplete}
+use Rattle.layout.specs.Sizes.{mostInodes, isComplete}
 use Rattle.layout.specs.Header.{headerOf}
-use Rattle.desk.specs.Sizes.{deskLength, running}
+use Rattle.desk.specs.Sizes.{deskLength, running, deskAllowed}
 use Rattle.desk.specs.Desk.{deskOf}
 use Rattle.desk.specs.declared.Desk.{Desk}
 use Rattle.sound.specs.Sound.{Sound, inodesIn}
+use Rattle.sound.specs.declared.Form.the-variants.{Image}
 use Rattle.answers.specs.declared.Answer.{Answer}
 use Rattle.answers.specs.declared.Answer.the-variants.{Done, Refused}
 use Rattle.answers.specs.declared.Refusal.{Refusal}
@@ -24,12 +25,12 @@ use Rattle.answers.proofs.RefusalLaws.{not-none}
 use Rattle.files.specs.declared.Guard.{Guard}
 use Rattle.files.specs.declared.Guard.the-variants.{Pass, Stop}
 use Rattle.files.specs.Guard.{onGuard}
-use Rattle.format.specs.Format.{deskAllowed, layOutDesk}
+use Rattle.format.specs.Format.{layOutDesk}
 use Rattle.format.proofs.FreshLaws.{desk-fresh}
 use Rattle.checkpoint.specs.Fit.{isRunning, imageBlocks}
-use Rattle.checkpoint.specs.Live.{World, Outcome, refuse, threeGuards, guarded, start, step}
+use Rattle.checkpoint.specs.Live.{World, Outcome, refuse, threeGuards, start, step}
 use Rattle.checkpoint.specs.Shown.{Shown, shown}
-use Rattle.checkpoint.specs.List.{Event, call, steps, asks, starts, outcome, next, accepted, completes}
+use Rattle.checkpoint.specs.List.{Event, call, advances, asks, starts, outcome, next, accepted, completes}
 use Rattle.checkpoint.proofs.RefusedLaws.{start-refused}
 use Rattle.checkpoint.proofs.Run.Going.{Running, incomplete, next-is}
 use Rattle.checkpoint.proofs.Run.Turned.{Stepped, on, ends, halts, stepped}
@@ -49,15 +50,15 @@ module _ (w : World) (i : isRunning (w .desk) ≡ false) where
   refusing (Pass n b) = (WrongState, refl)
   refusing (Stop e) = (e, refl)
 
-  idle-step : (e : Refusal) × (outcome steps w ≡ shown (refuse e (w .store) (w .image) (w .desk)))
-  unfolding outcome step guarded
+  idle-step : (e : Refusal) × (outcome advances w ≡ shown (refuse e (w .store) (w .image) (w .desk)))
+  unfolding outcome step
   idle-step = let r = refusing (threeGuards (w .store) (w .image) (w .desk)) in (r .0, rw i (ap shown (r .1)))
 
-  idle-not : accepted steps w ≡ false
+  idle-not : accepted advances w ≡ false
   idle-not = let r = idle-step in ap (λ (o : Shown). eqb (o .answer .number) 0) (r .1) ∙ not-none (r .0)
 
-  idle-same : next steps w ≡ w
-  idle-same = let r = idle-step in next-is steps w _ (r .1)
+  idle-same : next advances w ≡ w
+  idle-same = let r = idle-step in next-is advances w _ (r .1)
 
 -- ---- a script's worlds: no copy runs, or one runs as the theory of lists has it
 data Reached (w : World) : Type 0 where
@@ -77,53 +78,53 @@ started w i false a = go (start (w .store) (w .image) (w .desk) .answer) refl
     go (Done x) e = absurd (clash (accepted starts w) (ap (λ (y : Answer). eqb (told y .number) 0) e) a)
     go (Refused e) h = subst Reached (sym (next-is starts w _ (ap shown (start-refused (w .store) (w .image) (w .desk) e h)))) (asleep i)
 
-step-reached : (n b : ℕ) (w : World) → Running n b w → Stepped n b w → Reached (next steps w)
+step-reached : (n b : ℕ) (w : World) → Running n b w → Stepped n b w → Reached (next advances w)
 step-reached n b w r (on g q a) = awake n b (g .still)
 step-reached n b w r (ends f) = asleep (idle (finals n b w r f .rest))
 step-reached n b w r (halts f) = asleep (idle (halted n b w r f .rest))
 
 reached-next : (e : Event) (w : World) → Reached w → Reached (next e w)
 reached-next (call c) w (asleep i) = asleep (same-running w (next (call c) w) (call-head c w) i)
-reached-next steps w (asleep i) = subst Reached (sym (idle-same w i)) (asleep i)
+reached-next advances w (asleep i) = subst Reached (sym (idle-same w i)) (asleep i)
 reached-next asks w (asleep i) = subst Reached (sym (asks-same w)) (asleep i)
 reached-next starts w (asleep i) = started w i (accepted starts w) refl
 reached-next (call c) w (awake n b r) = awake n b (call-goes n b w r c .still)
-reached-next steps w (awake n b r) = step-reached n b w r (stepped n b w r)
+reached-next advances w (awake n b r) = step-reached n b w r (stepped n b w r)
 reached-next asks w (awake n b r) = awake n b (asks-goes n b w r .still)
 reached-next starts w (awake n b r) = awake n b (starts-goes n b w r .still)
 
 -- ---- a step that finishes, and the steps after it
 record Finished (w : World) : Type 0 where
-  sound : Sound mostImageBlocks true (w .image)
+  sound : Sound Image (w .image)
   idle : isRunning (w .desk) ≡ false
 
-finishing : (w : World) → Reached w → accepted steps w ≡ true → completes steps w ≡ true → Finished (next steps w)
-finishing w (asleep i) a c = absurd (clash (accepted steps w) a (idle-not w i))
+finishing : (w : World) → Reached w → accepted advances w ≡ true → completes advances w ≡ true → Finished (next advances w)
+finishing w (asleep i) a c = absurd (clash (accepted advances w) a (idle-not w i))
 finishing w (awake n b r) a c = go (stepped n b w r)
   where
-    go : Stepped n b w → Finished (next steps w)
-    go (on g q h) = absurd (clash (eqb (headerOf (next steps w .image) .complete) isComplete) (and-right (accepted steps w) _ c) (incomplete (g .still)))
-    go (ends f) = let x = finals n b w r f in record { sound = subst (Sound mostImageBlocks true) (sym (x .image)) (x .sound); idle = idle (x .rest) }
-    go (halts f) = absurd (clash (accepted steps w) a (ap (λ (t : Told). eqb (t .number) 0) (halted n b w r f .answer)))
+    go : Stepped n b w → Finished (next advances w)
+    go (on g q h) = absurd (clash (eqb (headerOf (next advances w .image) .complete) isComplete) (and-right (accepted advances w) _ c) (incomplete (g .still)))
+    go (ends f) = let x = finals n b w r f in record { sound = subst (Sound Image) (sym (x .image)) (x .sound); idle = idle (x .rest) }
+    go (halts f) = absurd (clash (accepted advances w) a (ap (λ (t : Told). eqb (t .number) 0) (halted n b w r f .answer)))
 
-carried : (w : World) (f : Bool) → Reached w → (f ≡ true → Finished w) → accepted steps w ≡ true → (f || completes steps w) ≡ true → Finished (next steps w)
-carried w true h q a e = absurd (clash (accepted steps w) a (idle-not w (q refl .idle)))
+carried : (w : World) (f : Bool) → Reached w → (f ≡ true → Finished w) → accepted advances w ≡ true → (f || completes advances w) ≡ true → Finished (next advances w)
+carried w true h q a e = absurd (clash (accepted advances w) a (idle-not w (q refl .idle)))
 carried w false h q a e = finishing w h a e
 
 -- what a line leaves
 record Left (r : Ran) : Type 0 where
-  sound : r .reply .finished ≡ true → Sound mostImageBlocks true (r .image)
+  sound : r .reply .finished ≡ true → Sound Image (r .image)
   reached : Reached (record { store = r .store; image = r .image; desk = r .desk })
 
 steps-left : (k : ℕ) (w : World) (f : Bool) → Reached w → (f ≡ true → Finished w) → Left (the.stepped k w f)
 unfolding the.stepped
 steps-left zero w f h q = record { sound = λ e. q e .sound; reached = h }
-steps-left (suc k) w f h q = go (accepted steps w) refl (λ a. steps-left k (next steps w) (f || completes steps w) (reached-next steps w h) (carried w f h q a))
+steps-left (suc k) w f h q = go (accepted advances w) refl (λ a. steps-left k (next advances w) (f || completes advances w) (reached-next advances w h) (carried w f h q a))
   where
-    go : (b : Bool) → accepted steps w ≡ b → (accepted steps w ≡ true → Left (the.stepped k (next steps w) (f || completes steps w)))
-        → Left (pick b (the.stepped k (next steps w) (f || completes steps w)) (ran (reply false (outcome steps w .answer .number) f) (next steps w)))
+    go : (b : Bool) → accepted advances w ≡ b → (accepted advances w ≡ true → Left (the.stepped k (next advances w) (f || completes advances w)))
+        → Left (pick b (the.stepped k (next advances w) (f || completes advances w)) (ran (reply false (outcome advances w .answer .number) f) (next advances w)))
     go true a more = more a
-    go false a more = record { sound = λ e. subst (λ (v : World). Sound mostImageBlocks true (v .image)) (sym (idle-same w (q e .idle))) (q e .sound); reached = reached-next steps w h }
+    go false a more = record { sound = λ e. subst (λ (v : World). Sound Image (v .image)) (sym (idle-same w (q e .idle))) (q e .sound); reached = reached-next advances w h }
 
 never : (t : Told) → replyTo t .finished ≡ true → ⊥
 never t e = go (eqb (t .number) 0) e

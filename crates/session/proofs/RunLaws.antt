@@ -26,7 +26,7 @@ use Rattle.desk.specs.declared.Desk.{Desk}
 use Rattle.files.specs.Effect.{Call}
 use Rattle.checkpoint.specs.Live.{World, left, live, step}
 use Rattle.checkpoint.specs.Shown.{world, Shown, shown}
-use Rattle.checkpoint.specs.List.{Event, steps, outcome, next, refusalOf, accepted, completes}
+use Rattle.checkpoint.specs.List.{Event, advances, outcome, next, refusalOf, accepted, completes}
 use Rattle.commands.proofs.CommandLaws.{NoneBelow, above}
 use Rattle.lines.specs.Ask.{Ask, event, stepping, none, forms, asked, askOf, formIn, formOf, num}
 use Rattle.session.specs.Reply.{Ran, reply, ran, replyTo, stepped, answered, lineRuns, eventOf, eventIn, Turned}
@@ -59,25 +59,25 @@ refused-reply a f n e h = rw (e, h, not-none f) refl
 
 -- ---- a step
 module _ (s m d m₂ d₂ : List ℕ) (a : Answer) (e : shown (left a s m₂ d₂) ≡ shown (step s m d)) where
-  told-step : outcome steps (world s m d) ≡ shown (left a s m₂ d₂)
+  told-step : outcome advances (world s m d) ≡ shown (left a s m₂ d₂)
   unfolding outcome
   told-step = sym e
 
-  number-is : refusalOf steps (world s m d) ≡ told a .number
+  number-is : refusalOf advances (world s m d) ≡ told a .number
   number-is = ap (λ (o : Shown). o .answer .number) told-step
 
-  left-after : next steps (world s m d) ≡ world s m₂ d₂
+  left-after : next advances (world s m d) ≡ world s m₂ d₂
   unfolding next
   left-after = ap (λ (o : Shown). world (o .store) (o .image) (o .desk)) told-step
 
   pub turned-done : (x : ℕ) (f : Bool) → a ≡ Done x → f ≡ eqb (headerOf m₂ .complete) isComplete → Turned (record { number = 0; finished = f }) (world s m d) m₂ d₂
   turned-done x f h q =
-      let z : refusalOf steps (world s m d) ≡ 0 = number-is ∙ rw h refl in
+      let z : refusalOf advances (world s m d) ≡ 0 = number-is ∙ rw h refl in
       record { number = sym z; finished = rw (z, left-after) q; after = left-after }
 
   pub turned-refused : (r : Refusal) (n : ℕ) → a ≡ Refused r → n ≡ refusalNumber r → Turned (record { number = n; finished = false }) (world s m d) m₂ d₂
   turned-refused r n h q =
-      let z : refusalOf steps (world s m d) ≡ refusalNumber r = number-is ∙ rw h refl in
+      let z : refusalOf advances (world s m d) ≡ refusalNumber r = number-is ∙ rw h refl in
       record { number = q ∙ sym z; finished = rw (z, not-none r) refl; after = left-after }
 
 -- ---- steps, one after the other; j are left
@@ -87,16 +87,16 @@ step-begin n w = let q : n ≡ n - 0 = omega arith in ap (λ (i : ℕ). stepped 
 picked : (b : Bool) (x y : Ran) → b ≡ true → pick b x y ≡ x
 picked b x y e = rw e refl
 
-step-more : (k : ℕ) (w : World) (f : Bool) → accepted steps w ≡ true → stepped (suc k) w f ≡ stepped k (next steps w) (f || completes steps w)
+step-more : (k : ℕ) (w : World) (f : Bool) → accepted advances w ≡ true → stepped (suc k) w f ≡ stepped k (next advances w) (f || completes advances w)
 unfolding stepped
-step-more k w f e = picked (accepted steps w) _ _ e
+step-more k w f e = picked (accepted advances w) _ _ e
 
 module _ (s m d m₂ d₂ : List ℕ) (t : Turn) (f : Bool) (j : ℕ) (l : 0 < j) (h : Turned t (world s m d) m₂ d₂) where
   pub step-refused : (t .number ≡ 0 → ⊥) → ran (reply false (t .number) f) (world s m₂ d₂) ≡ stepped j (world s m d) f
   unfolding stepped
   step-refused g =
       let q : j ≡ suc (j - 1) = omega arith in
-      let z : eqb (refusalOf steps (world s m d)) 0 ≡ false = ne-eqb _ 0 (λ y. g (h .number ∙ y)) in
+      let z : eqb (refusalOf advances (world s m d)) 0 ≡ false = ne-eqb _ 0 (λ y. g (h .number ∙ y)) in
       rw (q, z, h .after, ← h .number) refl
 
   pub step-on : t .number ≡ 0 → (k : ℕ) (o : Bool) → k + 1 ≡ j → o ≡ (f || t .finished) → stepped j (world s m d) f ≡ stepped k (world s m₂ d₂) o

@@ -9,7 +9,7 @@ use Rattle.answers.specs.Told.{Told}
 use Rattle.desk.specs.Desk.{deskOf}
 use Rattle.checkpoint.specs.Live.{World}
 use Rattle.checkpoint.specs.Shown.{world}
-use Rattle.checkpoint.specs.List.{Event, steps, asks, outcome, next, refusalOf, accepted, completes}
+use Rattle.checkpoint.specs.List.{Event, advances, asks, outcome, next, refusalOf, accepted, completes}
 use Rattle.lines.specs.Ask.{Ask, event, stepping, none, asked, askOf}
 use Rattle.session.specs.declared.Reply.{Reply}
 use Rattle.session.specs.declared.Turn.{Turn}
@@ -41,7 +41,7 @@ replyTo t = pick (eqb (t .number) 0) (reply true (valueIn (t .values)) false) (r
 unfoldable pub stepped : ℕ → World → Bool → Ran
 stepped zero w f = ran (reply true (deskOf (w .desk) .steps) f) w
 stepped (suc k) w f =
-    pick (accepted steps w) (stepped k (next steps w) (f || completes steps w)) (ran (reply false (refusalOf steps w) f) (next steps w))
+    pick (accepted advances w) (stepped k (next advances w) (f || completes advances w)) (ran (reply false (refusalOf advances w) f) (next advances w))
 
 -- "Any other line prints `no 0`."
 abbrev pub answered : Ask → World → Ran
@@ -67,6 +67,6 @@ eventIn j l = eventOf (asked j l)
 
 -- one step from w on left the image m and the desk d
 pub record Turned (t : Turn) (w : World) (m d : List ℕ) : Type 0 where
-  pub number : t .number ≡ refusalOf steps w
-  pub finished : t .finished ≡ completes steps w
-  pub after : next steps w ≡ world (w .store) m d
+  pub number : t .number ≡ refusalOf advances w
+  pub finished : t .finished ≡ completes advances w
+  pub after : next advances w ≡ world (w .store) m d

@@ -4,10 +4,10 @@ use mathlib.Core.Path.{_≡_}
 use mathlib.Core.Bool.{true}
 use mathlib.Core.List.{List, [], _∷_, _++_}
 use lib.ListN.{replicate}
-use Rattle.layout.specs.Sizes.{mostImageBlocks}
 use Rattle.layout.specs.Block.{storeLength}
 use Rattle.desk.specs.Sizes.{deskLength}
 use Rattle.sound.specs.Sound.{Sound}
+use Rattle.sound.specs.declared.Form.the-variants.{Image}
 use Rattle.format.specs.Format.{layOutStore, layOutDesk}
 use Rattle.checkpoint.specs.Live.{World}
 use Rattle.checkpoint.specs.Shown.{world}
@@ -33,7 +33,7 @@ linesPrint (l ∷ ls) w = printed l w ++ linesPrint ls (worldAfter l w)
 -- whatever lines follow, the copy that a line finishes is sound
 abbrev pub FinishesSound : World → Type 0
 FinishesSound w =
-    (ls : List (List ℕ)) (l : List ℕ) → lineRuns l (linesRun ls w) .reply .finished ≡ true → Sound mostImageBlocks true (lineRuns l (linesRun ls w) .image)
+    (ls : List (List ℕ)) (l : List ℕ) → lineRuns l (linesRun ls w) .reply .finished ≡ true → Sound Image (lineRuns l (linesRun ls w) .image)
 
 -- "on a fresh store, N 16 and B 64, image 128 blocks"
 abbrev pub scriptInodes : ℕ

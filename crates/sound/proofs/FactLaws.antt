@@ -9,32 +9,39 @@ use Rattle.bounded.specs.Reflect.{Reflects}
 use Rattle.bounded.proofs.CountLaws.{met-once}
 use Rattle.bounded.proofs.ReflectLaws.{r-eq, r-some, r-no}
 use Rattle.layout.specs.Sizes.{addressCount, mostImageBlocks, rootInode}
-use Rattle.layout.specs.Inode.{InodeFits, kindOf, sizeOf, addressOf, place, directoryKind}
+use Rattle.layout.specs.Inode.{InodeFits, kindOf, sizeOf, addressOf, addressIndex, directoryKind}
 use Rattle.layout.specs.Block.{Sized, blocksUsed, kthBlock}
-use Rattle.layout.specs.Free.{named}
+use Rattle.layout.specs.Free.{blockNamed}
 use Rattle.directory.specs.Slot.{mostSlots, DirFits}
-use Rattle.sound.specs.Sound.{inodesIn, blocksIn, Sound}
+use Rattle.sound.specs.Sound.{inodesIn, blocksIn, Sound, limitOf}
 use Rattle.sound.specs.Place.{naming, IsDir}
 use Rattle.sound.proofs.PlaceLaws.{naming-filled}
 use Rattle.sound.proofs.SoundLaws.{InParent, in-parent, all-counted}
+use Rattle.sound.specs.declared.Form.{Form}
+use Rattle.sound.specs.declared.Form.the-variants.{Store, Image}
 
 -- ---- the blocks that some address names
 module _ (s : List ℕ) (n c : ℕ) where
-  pub named-is : Reflects (named s n c) ((x : ℕ) × (x < addressCount * n) × (addressOf s n x ≡ c))
-  unfolding named
+  pub named-is : Reflects (blockNamed s n c) ((x : ℕ) × (x < addressCount * n) × (addressOf s n x ≡ c))
+  unfolding blockNamed
   named-is = r-some (addressCount * n) (λ x. r-eq (addressOf s n x) c)
 
-  pub unnamed : named s n c ≡ false → (x : ℕ) → x < addressCount * n → addressOf s n x ≡ c → ⊥
+  pub unnamed : blockNamed s n c ≡ false → (x : ℕ) → x < addressCount * n → addressOf s n x ≡ c → ⊥
   unnamed e x l q = r-no named-is e (x, l, q)
 
-module _ {limit : ℕ} {blank : Bool} {s : List ℕ} (h : Sound limit blank s) where
+-- no form allows more blocks than an image may have
+pub limit-few : (f : Form) → limitOf f ≤ mostImageBlocks
+limit-few Store = omega arith
+limit-few Image = omega arith
+
+module _ {f : Form} {s : List ℕ} (h : Sound f s) where
   -- ---- lengths and sizes
-  pub sized : limit ≤ mostImageBlocks → Sized s (inodesIn s) (blocksIn s)
-  sized l = let f = h .framed in record { inodes = f .most-inodes; blocks = omega arith; long = f .long }
+  pub sized : Sized s (inodesIn s) (blocksIn s)
+  sized = let w = h .framed in let l = limit-few f in record { inodes = w .most-inodes; blocks = omega (arith, w .most-blocks); long = w .long }
 
   module _ (i : ℕ) (l : 1 ≤ i) (m : i ≤ inodesIn s) where
     pub inode-fits : InodeFits s (inodesIn s) i
-    inode-fits = let f = h .framed in record { low = l; high = m; few = f .most-inodes; area = omega arith }
+    inode-fits = let w = h .framed in record { low = l; high = m; few = w .most-inodes; area = omega (arith, w .long) }
 
     pub used-few : blocksUsed (sizeOf s i) ≤ addressCount
     unfolding blocksUsed
@@ -59,7 +66,7 @@ module _ {limit : ℕ} {blank : Bool} {s : List ℕ} (h : Sound limit blank s) w
       i : ℕ
       i = x / 12 + 1
 
-      e : place i (x % 12) ≡ x
+      e : addressIndex i (x % 12) ≡ x
       e = omega arith
 
       go : Dec (x % 12 < blocksUsed (sizeOf s i)) → addressOf s (inodesIn s) x ≤ blocksIn s
@@ -76,12 +83,12 @@ module _ {limit : ℕ} {blank : Bool} {s : List ℕ} (h : Sound limit blank s) w
       let q = used-few j c d in
       let x = used-block i a b k u .0 in
       let y = used-block j c d l v .0 in
-      both (decLt (place i k) (place j l)) (decLt (place j l) (place i k))
-      (λ z. h .once (place i k) (place j l) z (omega arith) y e)
-      (λ z. h .once (place j l) (place i k) z (omega arith) x (sym e))
+      both (decLt (addressIndex i k) (addressIndex j l)) (decLt (addressIndex j l) (addressIndex i k))
+      (λ z. h .once (addressIndex i k) (addressIndex j l) z (omega arith) y e)
+      (λ z. h .once (addressIndex j l) (addressIndex i k) z (omega arith) x (sym e))
       (omega arith) (omega arith)
     where
-      both : Dec (place i k < place j l) → Dec (place j l < place i k) → (place i k < place j l → ⊥) → (place j l < place i k → ⊥) → k < 12 → l < 12 → (i ≡ j) × (k ≡ l)
+      both : Dec (addressIndex i k < addressIndex j l) → Dec (addressIndex j l < addressIndex i k) → (addressIndex i k < addressIndex j l → ⊥) → (addressIndex j l < addressIndex i k → ⊥) → k < 12 → l < 12 → (i ≡ j) × (k ≡ l)
       both (yes z) w f g m n = absurd (f z)
       both (no z) (yes w) f g m n = absurd (g w)
       both (no z) (no w) f g m n = (omega arith, omega arith)

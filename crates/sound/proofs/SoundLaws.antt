@@ -5,34 +5,31 @@ use mathlib.Core.Bool.{Bool, true, false, _&&_}
 use mathlib.Core.List.{List}
 use native.Mathlib.Omega.{arith}
 use lib.ListN.{length, getD}
-use Rattle.bounded.specs.Count.{count, tally}
+use Rattle.bounded.specs.Count.{tally, countTo}
 use Rattle.bounded.specs.Climb.{Leads, Closed}
 use Rattle.bounded.specs.Reflect.{Reflects}
 use Rattle.bounded.proofs.CountLaws.{met-at}
 use Rattle.bounded.proofs.ReflectLaws.{r-eq, r-le, r-lt, r-true, r-false, r-and, r-then, r-not, r-where, r-imp, r-else, r-all, r-to, r-differ, r-leads, r-says}
-use Rattle.layout.specs.Sizes.{mostInodes, mostFileBytes, addressCount, blockBytes, rootInode}
-use Rattle.layout.specs.Header.{headerOf, reservedZero}
-use Rattle.layout.specs.Inode.{kindOf, spareOf, linksOf, sizeOf, parentOf, addressOf, place, freeKind, fileKind, directoryKind}
-use Rattle.layout.specs.Block.{storeLength, blockOf, blocksUsed, kthBlock}
+use Rattle.layout.specs.Sizes.{mostFileBytes, addressCount, blockBytes, rootInode}
+use Rattle.layout.specs.Header.{headerOf, headerRestZero}
+use Rattle.layout.specs.Inode.{kindOf, spareOf, linksOf, sizeOf, parentOf, addressOf, addressIndex, freeKind, fileKind, directoryKind}
+use Rattle.layout.specs.Block.{blockOf, blocksUsed, kthBlock}
+use Rattle.layout.proofs.AllowedLaws.{allowed-is}
+use Rattle.layout.specs.Free.{inodeFree, blockFree}
 use Rattle.names.specs.Entry.{legalEntry}
 use Rattle.directory.specs.Slot.{mostSlots}
 use Rattle.sound.specs.Place.{IsDir, dirOf, slotOf, isSlot, entryAt, filled, naming}
-use Rattle.sound.specs.Inode.{InodeSound, tailByte, attributesB, addressesB, zeroTailB, inodeB}
-use Rattle.sound.specs.Entry.{EntrySound, sameNames, sibling, namedB, newNameB, entryB}
-use Rattle.sound.specs.Link.{LinkSound, countedB, leadB}
-use Rattle.sound.specs.Sound.{inodesIn, blocksIn, Framed, Sound, freeB, unnamedB, framedB, headerB, freeCountsB, zeroBlockB, blanksB, bodyB, soundB, limitOf, blankOf, isSound}
+use Rattle.sound.specs.Inode.{InodeSound, tailByte}
+use Rattle.sound.specs.Entry.{EntrySound, sameNames, sibling}
+use Rattle.sound.specs.Link.{LinkSound}
+use Rattle.sound.specs.Sound.{inodesIn, blocksIn, Framed, Sound, limitOf, blankOf}
 use Rattle.sound.specs.declared.Form.{Form}
 use Rattle.sound.proofs.PlaceLaws.{slot-is, naming-slot, naming-filled}
+use Rattle.sound.specs.Test.{attributesB, addressesB, zeroTailB, inodeB, namingB, newNameB, entryB, countedB, leadB, framedB, headerB, freeCountsB, blankBlockB, blanksB, bodyB, isSound}
 
-pub framed : (limit : ℕ) (s : List ℕ) → Reflects (framedB limit s) (Framed limit s)
+pub framed : (f : Form) (s : List ℕ) → Reflects (framedB f s) (Framed f s)
 unfolding framedB
-framed limit s =
-    r-says (λ p. record { some-inodes = p .0; most-inodes = p .1 .0; some-blocks = p .1 .1 .0; most-blocks = p .1 .1 .1 .0; long = p .1 .1 .1 .1 })
-    (λ r. (r .some-inodes, (r .most-inodes, (r .some-blocks, (r .most-blocks, r .long)))))
-    (r-and (r-le 1 (inodesIn s))
-    (r-and (r-le (inodesIn s) mostInodes)
-    (r-and (r-le 1 (blocksIn s))
-    (r-and (r-le (blocksIn s) limit) (r-eq (length s) (storeLength (inodesIn s) (blocksIn s)))))))
+framed f s = allowed-is (limitOf f) (inodesIn s) (blocksIn s) (length s)
 
 -- ---- an inode by itself
 module _ (s : List ℕ) (i : ℕ) where
@@ -62,7 +59,7 @@ module _ (s : List ℕ) (n b i : ℕ) where
   abbrev Address : ℕ → Type 0
   Address k =
       (k < blocksUsed (sizeOf s i) → (1 ≤ kthBlock s n i k) × (kthBlock s n i k ≤ b))
-      × (blocksUsed (sizeOf s i) ≤ k → addressOf s n (place i k) ≡ 0)
+      × (blocksUsed (sizeOf s i) ≤ k → addressOf s n (addressIndex i k) ≡ 0)
 
   addresses : Reflects (addressesB s n b i) ((k : ℕ) → k < addressCount → Address k)
   unfolding addressesB
@@ -70,7 +67,7 @@ module _ (s : List ℕ) (n b i : ℕ) where
       r-all addressCount
       (λ k.
       r-and (r-imp (r-lt k (blocksUsed (sizeOf s i))) (r-and (r-le 1 (kthBlock s n i k)) (r-le (kthBlock s n i k) b)))
-      (r-imp (r-le (blocksUsed (sizeOf s i)) k) (r-eq (addressOf s n (place i k)) 0)))
+      (r-imp (r-le (blocksUsed (sizeOf s i)) k) (r-eq (addressOf s n (addressIndex i k)) 0)))
 
   abbrev ZeroTail : Type 0
   ZeroTail = kindOf s i ≡ fileKind → (sizeOf s i % blockBytes ≡ 0 → ⊥) → (o : ℕ) → o < blockBytes → sizeOf s i % blockBytes ≤ o → tailByte s n i o ≡ 0
@@ -111,8 +108,8 @@ module _ (s : List ℕ) (n p : ℕ) where
       × ((naming s n p ≡ rootInode → ⊥)
       × (kindOf s (naming s n p) ≡ directoryKind → parentOf s (naming s n p) ≡ dirOf p)))))
 
-  names : Reflects (namedB s n p) Names
-  unfolding namedB
+  names : Reflects (namingB s n p) Names
+  unfolding namingB
   names =
       r-and (r-true (legalEntry (entryAt s n p)))
       (r-and (r-le 1 (naming s n p))
@@ -211,38 +208,38 @@ module _ (s : List ℕ) (n : ℕ) where
 
 -- ---- the whole
 module _ (s : List ℕ) where
-  header-is : Reflects (headerB s) ((headerOf s .complete ≡ 1) × ((headerOf s .root ≡ rootInode) × ((reservedZero s ≡ true) × ((kindOf s rootInode ≡ directoryKind) × (parentOf s rootInode ≡ 0)))))
+  header-is : Reflects (headerB s) ((headerOf s .complete ≡ 1) × ((headerOf s .root ≡ rootInode) × ((headerRestZero s ≡ true) × ((kindOf s rootInode ≡ directoryKind) × (parentOf s rootInode ≡ 0)))))
   unfolding headerB
   header-is =
       r-and (r-eq (headerOf s .complete) 1)
       (r-and (r-eq (headerOf s .root) rootInode)
-      (r-and (r-true (reservedZero s)) (r-and (r-eq (kindOf s rootInode) directoryKind) (r-eq (parentOf s rootInode) 0))))
+      (r-and (r-true (headerRestZero s)) (r-and (r-eq (kindOf s rootInode) directoryKind) (r-eq (parentOf s rootInode) 0))))
 
-  free-counts-is : Reflects (freeCountsB s) ((headerOf s .«free_inodes» ≡ count (freeB s) (inodesIn s)) × (headerOf s .«free_blocks» ≡ count (unnamedB s (inodesIn s)) (blocksIn s)))
+  free-counts-is : Reflects (freeCountsB s) ((headerOf s .«free_inodes» ≡ countTo (inodeFree s) (inodesIn s)) × (headerOf s .«free_blocks» ≡ countTo (blockFree s (inodesIn s)) (blocksIn s)))
   unfolding freeCountsB
   free-counts-is =
-      r-and (r-eq (headerOf s .«free_inodes») (count (freeB s) (inodesIn s)))
-      (r-eq (headerOf s .«free_blocks») (count (unnamedB s (inodesIn s)) (blocksIn s)))
+      r-and (r-eq (headerOf s .«free_inodes») (countTo (inodeFree s) (inodesIn s)))
+      (r-eq (headerOf s .«free_blocks») (countTo (blockFree s (inodesIn s)) (blocksIn s)))
 
-  zero-block-is : (k : ℕ) → Reflects (zeroBlockB s (inodesIn s) k) ((o : ℕ) → o < blockBytes → getD (blockOf s (inodesIn s) (k + 1)) o 0 ≡ 0)
-  unfolding zeroBlockB
+  zero-block-is : (k : ℕ) → Reflects (blankBlockB s (inodesIn s) (k + 1)) ((o : ℕ) → o < blockBytes → getD (blockOf s (inodesIn s) (k + 1)) o 0 ≡ 0)
+  unfolding blankBlockB
   zero-block-is k = r-all blockBytes (λ o. r-eq (getD (blockOf s (inodesIn s) (k + 1)) o 0) 0)
 
-  blanks-is : (blank : Bool) → Reflects (blanksB blank s) (blank ≡ true → (k : ℕ) → k < blocksIn s → unnamedB s (inodesIn s) k ≡ true → (o : ℕ) → o < blockBytes → getD (blockOf s (inodesIn s) (k + 1)) o 0 ≡ 0)
+  blanks-is : (f : Form) → Reflects (blanksB f s) (blankOf f ≡ true → (k : ℕ) → k < blocksIn s → blockFree s (inodesIn s) (k + 1) ≡ true → (o : ℕ) → o < blockBytes → getD (blockOf s (inodesIn s) (k + 1)) o 0 ≡ 0)
   unfolding blanksB
-  blanks-is blank =
-      r-imp (r-true blank) (r-all (blocksIn s) (λ k. r-imp (r-true (unnamedB s (inodesIn s) k)) (zero-block-is k)))
+  blanks-is f =
+      r-imp (r-true (blankOf f)) (r-all (blocksIn s) (λ k. r-imp (r-true (blockFree s (inodesIn s) (k + 1))) (zero-block-is k)))
 
-pub all-counted : {limit : ℕ} {blank : Bool} {s : List ℕ} → Sound limit blank s → AllCounted s (inodesIn s)
+pub all-counted : {f : Form} {s : List ℕ} → Sound f s → AllCounted s (inodesIn s)
 all-counted {s = s} h i l m = counted-of s (inodesIn s) i (h .links i l m)
 
 -- of a store whose length is right
-pub body : (limit : ℕ) (blank : Bool) (s : List ℕ) → Framed limit s → Reflects (bodyB blank s) (Sound limit blank s)
+pub body : (f : Form) (s : List ℕ) → Framed f s → Reflects (bodyB f s) (Sound f s)
 unfolding bodyB
-body limit blank s f =
+body f s framed =
     r-says
     (λ p. record {
-      framed = f;
+      framed = framed;
       complete = p .0 .0;
       root-number = p .0 .1 .0;
       reserved = p .0 .1 .1 .0;
@@ -263,11 +260,8 @@ body limit blank s f =
     (r-then (r-all (mostSlots * inodesIn s) (entry-sound s (inodesIn s)))
     (λ e. r-then (r-to (inodesIn s) (λ i l m. counted-is s (inodesIn s) i))
     (λ c. r-and (r-to (inodesIn s) (leads-is s (inodesIn s) e c))
-    (r-and (free-counts-is s) (blanks-is s blank))))))))
+    (r-and (free-counts-is s) (blanks-is s f))))))))
 
-pub sound : (limit : ℕ) (blank : Bool) (s : List ℕ) → Reflects (soundB limit blank s) (Sound limit blank s)
-unfolding soundB
-sound limit blank s = r-says (λ p. p .1) (λ r. (r .framed, r)) (r-then (framed limit s) (body limit blank s))
-
-pub is-sound : (f : Form) (s : List ℕ) → Reflects (isSound f s) (Sound (limitOf f) (blankOf f) s)
-is-sound f s = sound (limitOf f) (blankOf f) s
+pub is-sound : (f : Form) (s : List ℕ) → Reflects (isSound f s) (Sound f s)
+unfolding isSound
+is-sound f s = r-says (λ p. p .1) (λ r. (r .framed, r)) (r-then (framed f s) (body f s))

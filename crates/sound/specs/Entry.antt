@@ -4,7 +4,6 @@ use mathlib.Core.Path.{_≡_}
 use mathlib.Core.Bool.{Bool, true, false, not, _&&_, _||_}
 use mathlib.Core.List.{List}
 use lib.Dec.{eqb, leb}
-use Rattle.bounded.specs.Below.{allBelow}
 use Rattle.octets.specs.Octets.{part}
 use Rattle.layout.specs.Sizes.{rootInode}
 use Rattle.layout.specs.Inode.{kindOf, parentOf, freeKind, directoryKind}
@@ -33,19 +32,3 @@ pub record EntrySound (s : List ℕ) (n p : ℕ) : Type 0 where
   pub not-root : naming s n p ≡ rootInode → ⊥
   -- "A directory has one entry, in its parent"
   pub parent : kindOf s (naming s n p) ≡ directoryKind → parentOf s (naming s n p) ≡ dirOf p
-
--- ---- the same as tests
-unfoldable pub namedB : List ℕ → ℕ → ℕ → Bool
-namedB s n p =
-    legalEntry (entryAt s n p)
-    && (leb 1 (naming s n p)
-    && (leb (naming s n p) n
-    && (not (eqb (kindOf s (naming s n p)) freeKind)
-    && (not (eqb (naming s n p) rootInode)
-    && (not (eqb (kindOf s (naming s n p)) directoryKind) || eqb (parentOf s (naming s n p)) (dirOf p))))))
-
-unfoldable pub newNameB : List ℕ → ℕ → ℕ → Bool
-newNameB s n p = allBelow (λ t. not (filled s n (sibling p t)) || not (sameNames s n (sibling p t) p)) (slotOf p)
-
-unfoldable pub entryB : List ℕ → ℕ → ℕ → Bool
-entryB s n p = not (filled s n p) || (namedB s n p && newNameB s n p)

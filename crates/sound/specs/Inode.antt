@@ -5,9 +5,8 @@ use mathlib.Core.Bool.{Bool, not, _&&_, _||_}
 use mathlib.Core.List.{List}
 use lib.Dec.{eqb, leb, ltb}
 use lib.ListN.{getD}
-use Rattle.bounded.specs.Below.{allBelow}
 use Rattle.layout.specs.Sizes.{addressCount, blockBytes, mostFileBytes}
-use Rattle.layout.specs.Inode.{kindOf, spareOf, linksOf, sizeOf, parentOf, addressOf, place, freeKind, fileKind, directoryKind}
+use Rattle.layout.specs.Inode.{kindOf, spareOf, linksOf, sizeOf, parentOf, addressOf, addressIndex, freeKind, fileKind, directoryKind}
 use Rattle.layout.specs.Block.{blockOf, blocksUsed, kthBlock}
 
 -- byte o of the block that the size ends in
@@ -23,39 +22,10 @@ pub record InodeSound (s : List ℕ) (n b i : ℕ) : Type 0 where
   -- "A size of s uses the first s/64 addresses, rounded up; the rest are 0; at most 768 bytes."
   pub size : sizeOf s i ≤ mostFileBytes
   pub used : (k : ℕ) → k < addressCount → k < blocksUsed (sizeOf s i) → (1 ≤ kthBlock s n i k) × (kthBlock s n i k ≤ b)
-  pub rest : (k : ℕ) → k < addressCount → blocksUsed (sizeOf s i) ≤ k → addressOf s n (place i k) ≡ 0
+  pub rest : (k : ℕ) → k < addressCount → blocksUsed (sizeOf s i) ≤ k → addressOf s n (addressIndex i k) ≡ 0
   -- "Directory sizes are multiples of 64."
   pub directory : kindOf s i ≡ directoryKind → sizeOf s i % blockBytes ≡ 0
   -- "File bytes past the size in the last block are zero."
   pub tail : kindOf s i ≡ fileKind → (sizeOf s i % blockBytes ≡ 0 → ⊥) → (o : ℕ) → o < blockBytes → sizeOf s i % blockBytes ≤ o → tailByte s n i o ≡ 0
   -- "parent directory (2; 0 for files and root)"
   pub parent : kindOf s i ≡ fileKind → parentOf s i ≡ 0
-
--- ---- the same as tests
-abbrev pub usedB : List ℕ → ℕ → ℕ → ℕ → ℕ → Bool
-usedB s n b i k = not (ltb k (blocksUsed (sizeOf s i))) || (leb 1 (kthBlock s n i k) && leb (kthBlock s n i k) b)
-
-abbrev pub restB : List ℕ → ℕ → ℕ → ℕ → Bool
-restB s n i k = not (leb (blocksUsed (sizeOf s i)) k) || eqb (addressOf s n (place i k)) 0
-
-abbrev pub tailB : List ℕ → ℕ → ℕ → ℕ → Bool
-tailB s n i o = not (leb (sizeOf s i % blockBytes) o) || eqb (tailByte s n i o) 0
-
-unfoldable pub attributesB : List ℕ → ℕ → Bool
-attributesB s i =
-    leb (kindOf s i) directoryKind
-    && (eqb (spareOf s i) 0
-    && ((not (eqb (kindOf s i) freeKind) || (eqb (linksOf s i) 0 && (eqb (sizeOf s i) 0 && eqb (parentOf s i) 0)))
-    && (leb (sizeOf s i) mostFileBytes
-    && ((not (eqb (kindOf s i) directoryKind) || eqb (sizeOf s i % blockBytes) 0)
-    && (not (eqb (kindOf s i) fileKind) || eqb (parentOf s i) 0)))))
-
-unfoldable pub addressesB : List ℕ → ℕ → ℕ → ℕ → Bool
-addressesB s n b i = allBelow (λ k. usedB s n b i k && restB s n i k) addressCount
-
-unfoldable pub zeroTailB : List ℕ → ℕ → ℕ → Bool
-zeroTailB s n i =
-    not (eqb (kindOf s i) fileKind) || (eqb (sizeOf s i % blockBytes) 0 || allBelow (tailB s n i) blockBytes)
-
-unfoldable pub inodeB : List ℕ → ℕ → ℕ → ℕ → Bool
-inodeB s n b i = attributesB s i && (addressesB s n b i && zeroTailB s n i)

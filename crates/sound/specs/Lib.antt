@@ -3,3 +3,4 @@ pub mod Inode
 pub mod Entry
 pub mod Link
 pub mod Sound
+pub mod Test

@@ -20,13 +20,3 @@ pub record LinkSound (s : List ℕ) (n i : ℕ) : Type 0 where
   pub one : kindOf s i ≡ directoryKind → (i ≡ rootInode → ⊥) → linksOf s i ≡ 1
   -- "parents lead to root"
   pub leads : kindOf s i ≡ directoryKind → Leads (parentOf s) rootInode i
-
--- ---- the same as tests; n steps up are enough
-unfoldable pub countedB : List ℕ → ℕ → ℕ → Bool
-countedB s n i =
-    eqb (linksOf s i) (tally (naming s n) (mostSlots * n) i)
-    && ((eqb (kindOf s i) freeKind || (eqb i rootInode || leb 1 (linksOf s i)))
-    && (not (eqb (kindOf s i) directoryKind) || (eqb i rootInode || eqb (linksOf s i) 1)))
-
-unfoldable pub leadB : List ℕ → ℕ → ℕ → Bool
-leadB s n i = not (eqb (kindOf s i) directoryKind) || leadsB (parentOf s) rootInode n i

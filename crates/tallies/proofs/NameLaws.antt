@@ -10,7 +10,7 @@ use borrow.Author.Tests.{eq-eqb, ne-eqb, eqb-true, le-leb}
 use lib.Dec.{eqb}
 use lib.ListN.{length, getD, set, take, drop}
 use Rattle.bounded.specs.Below.{someBelow}
-use Rattle.bounded.specs.Count.{Tallied, tally, count}
+use Rattle.bounded.specs.Count.{Tallied, tally, countTo}
 use Rattle.bounded.specs.Search.{pick, firstFrom}
 use Rattle.bounded.specs.Seen.{Seen}
 use Rattle.bounded.proofs.BoolLaws.{clash, chain-end}
@@ -24,17 +24,16 @@ use Rattle.octets.proofs.PartLaws.{cut}
 use Rattle.octets.proofs.NumLaws.{length-num}
 use Rattle.layout.specs.Sizes.{mostInodes, mostImageBlocks, addressCount, isComplete}
 use Rattle.layout.specs.Header.{putFree, putComplete}
-use Rattle.layout.specs.Inode.{kindOf, directoryKind, addressOf, place, putLinks}
+use Rattle.layout.specs.Inode.{kindOf, directoryKind, addressOf, addressIndex, putLinks}
 use Rattle.layout.specs.Block.{blockAt, kthBlock}
-use Rattle.layout.specs.Free.{named}
+use Rattle.layout.specs.Free.{blockNamed, inodeFree, blockFree}
 use Rattle.names.specs.Entry.{entryInode}
 use Rattle.directory.specs.Slot.{mostSlots, slotAt, entryOf}
 use Rattle.desk.specs.Desk.{copiedOf}
 use Rattle.sound.specs.Place.{placeOf}
-use Rattle.sound.specs.Sound.{freeB, unnamedB}
 use Rattle.sound.proofs.PlaceLaws.{place-dir, place-slot}
 use Rattle.checker.proofs.EntryLaws.{tally-skips}
-use Rattle.checkpoint.specs.Image.{hasSlot, slotNames, imageNaming, isNamed}
+use Rattle.checkpoint.specs.Image.{hasSlot, slotNames, imageNaming, inodeNamed}
 use Rattle.checkpoint.specs.Notes.{isCopied}
 use Rattle.checkpoint.specs.Copier.{nextInode, putCounts, finishImage}
 use Rattle.checkpoint.proofs.Copy.NamingLaws.{has-slot-is}
@@ -84,7 +83,7 @@ module _ (m : List ℕ) (n e t : ℕ) (l : 1 ≤ e) (h : t < mostSlots) where
 
 pub block-inside : (m : List ℕ) (n e k : ℕ) → Addressed m n → 1 ≤ e → e ≤ n → k < addressCount → (16 + 32 * n + 64 * kthBlock m n e k ≤ length m) × (kthBlock m n e k ≤ 4096)
 unfolding kthBlock
-block-inside m n e k h l u b = (h .inside (place e k) (omega arith), h .most (place e k) (omega arith))
+block-inside m n e k h l u b = (h .inside (addressIndex e k) (omega arith), h .most (addressIndex e k) (omega arith))
 
 -- slot j of the k-th block, which starts at o
 module _ (m : List ℕ) (n e k : ℕ) (l : 1 ≤ e) (h : k < addressCount) where
@@ -137,9 +136,9 @@ some-tally f m v = go (someBelow (λ p. eqb (f p) v) m) refl
 -- the search over the counts is the search over the slots
 module _ (m d counts : List ℕ) (n : ℕ) (few : n ≤ mostInodes) (t : Tallied (imageNaming m n) 1 257 (mostSlots * n) counts) where
   pub next-read : firstFrom (λ i. not (isCopied d n i) && not (eqb (getD counts i 0) 0)) 1 n ≡ nextInode m d n
-  unfolding nextInode isNamed
+  unfolding nextInode inodeNamed
   next-read =
-      first-ext (λ i. not (isCopied d n i) && not (eqb (getD counts i 0) 0)) (λ i. not (isCopied d n i) && isNamed m n i) 1 n
+      first-ext (λ i. not (isCopied d n i) && not (eqb (getD counts i 0) 0)) (λ i. not (isCopied d n i) && inodeNamed m n i) 1 n
       (λ i l h. ap (λ (b : Bool). not (isCopied d n i) && b)
       (ap (λ (x : ℕ). not (eqb x 0)) (t .each i l (omega arith)) ∙ some-tally (imageNaming m n) (mostSlots * n) i))
 
@@ -158,10 +157,10 @@ unfolding putCounts putLinks
 length-counts m n zero = refl
 length-counts m n (suc k) = length-num 2 (putCounts m m n k) _ _ ∙ length-counts m n k
 
-pub unnamed-read : (m map : List ℕ) (n b : ℕ) → b ≤ mostImageBlocks → Seen (addressOf m n) (mostImageBlocks + 1) (addressCount * n) map → count (λ k. eqb (getD map (k + 1) 0) 0) b ≡ count (unnamedB m n) b
-unfolding named
+pub unnamed-read : (m map : List ℕ) (n b : ℕ) → b ≤ mostImageBlocks → Seen (addressOf m n) (mostImageBlocks + 1) (addressCount * n) map → countTo (λ c. eqb (getD map c 0) 0) b ≡ countTo (blockFree m n) b
+unfolding blockNamed
 unnamed-read m map n b l s =
-    count-ext (λ k. eqb (getD map (k + 1) 0) 0) (unnamedB m n) b (λ k h. seen-test (addressOf m n) (mostImageBlocks + 1) (addressCount * n) (k + 1) map s (omega arith))
+    count-ext (λ k. eqb (getD map (k + 1) 0) 0) (λ k. blockFree m n (k + 1)) b (λ k h. seen-test (addressOf m n) (mostImageBlocks + 1) (addressCount * n) (k + 1) map s (omega arith))
 
 -- ---- the copied byte
 module _ (d : List ℕ) (n i : ℕ) where
@@ -176,7 +175,7 @@ module _ (d : List ℕ) (n i : ℕ) where
   copied-read x l h e = chain-end _ _ _ (le-leb 1 i l) (chain-end _ _ _ (le-leb i n h) (ap (λ (y : ℕ). eqb y 1) e))
 
 pub finish-read : (m map t u v : List ℕ) (n b i k : ℕ) → b ≤ mostImageBlocks → Seen (addressOf m n) (mostImageBlocks + 1) (addressCount * n) map
-    → i ≡ count (freeB m) n → k ≡ count (λ j. eqb (getD map (j + 1) 0) 0) b → t ≡ putCounts m m n n → u ≡ putFree t i k → v ≡ putComplete u isComplete → v ≡ finishImage m n b
+    → i ≡ countTo (inodeFree m) n → k ≡ countTo (λ c. eqb (getD map c 0) 0) b → t ≡ putCounts m m n n → u ≡ putFree t i k → v ≡ putComplete u isComplete → v ≡ finishImage m n b
 unfolding finishImage
 finish-read m map t u v n b i k l s e f p q r =
     r ∙ ap (λ (x : List ℕ). putComplete x 1) (q ∙ rw (p, e, f, unnamed-read m map n b l s))

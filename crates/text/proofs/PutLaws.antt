@@ -12,14 +12,14 @@ use lib.ListN.{length, getD, take, length-append}
 use lib.Seq.{take-suc, take-length}
 use Rattle.io.specs.Digits.{digits, glyph, Fewest}
 use Rattle.bounded.specs.Search.{pick}
-use Rattle.octets.specs.Octets.{splice, copied}
+use Rattle.octets.specs.Octets.{splice, pasted}
 use Rattle.octets.proofs.PartLaws.{part-all, splice-append, length-splice}
 use Rattle.text.specs.Letters.{letters}
 use Rattle.text.specs.Put.{Put, places, decimalText, pairs, bytesText}
 
 -- ---- text
-pub put-copied : (s : List ℕ) (o : ℕ) (xs t : List ℕ) → t ≡ copied s o xs 0 (length xs) → Put s o xs (o + length xs) t
-unfolding copied
+pub put-copied : (s : List ℕ) (o : ℕ) (xs t : List ℕ) → t ≡ pasted s o xs 0 (length xs) → Put s o xs (o + length xs) t
+unfolding pasted
 put-copied s o xs t h = record { ends = refl; holds = h ∙ ap (splice s o) (part-all xs (length xs) refl) }
 
 -- one text after the other

@@ -18,12 +18,12 @@ use Rattle.bounded.specs.declared.Found.the-variants.{At}
 use Rattle.bounded.proofs.BoolLaws.{fails, same-test, chain-end, and-false-l, and-false-r, and-true}
 use Rattle.bounded.proofs.BelowLaws.{none-some, some-none}
 use Rattle.bounded.proofs.CountLaws.{count-none, count-pos}
-use Rattle.octets.specs.Octets.{part, splice, zeroed, copied}
+use Rattle.octets.specs.Octets.{part, splice, zeroed, pasted}
 use Rattle.octets.proofs.PartLaws.{length-splice, length-inside, part-all, part-same, cut, lent}
 use Rattle.layout.specs.Sizes.{addressCount}
-use Rattle.layout.specs.Inode.{kindOf, directoryKind, addressOf, sizeOf, place, putAddress}
+use Rattle.layout.specs.Inode.{kindOf, directoryKind, addressOf, sizeOf, addressIndex, putAddress}
 use Rattle.layout.specs.Block.{blockAt, blockOf, putInBlock, kthBlock, blocksUsed}
-use Rattle.layout.specs.Free.{named, freeBlock}
+use Rattle.layout.specs.Free.{blockNamed, freeBlock}
 use Rattle.names.specs.Entry.{entryInode}
 use Rattle.directory.specs.Slot.{DirFits}
 use Rattle.desk.specs.Desk.{markOf}
@@ -39,18 +39,18 @@ count-none-is p m =
     (λ t. eq-eqb (count p m) 0 (count-none p m (some-none p m (not-true (someBelow p m) t))))
 
 module _ (m : List ℕ) (n b c : ℕ) where
-  pub own-low : c < 1 → false ≡ leb 1 c && (leb c b && not (named m n c))
+  pub own-low : c < 1 → false ≡ leb 1 c && (leb c b && not (blockNamed m n c))
   own-low h = sym (and-false-l _ _ (lt-leb 1 c h))
 
-  pub own-high : 1 ≤ c → b < c → false ≡ leb 1 c && (leb c b && not (named m n c))
+  pub own-high : 1 ≤ c → b < c → false ≡ leb 1 c && (leb c b && not (blockNamed m n c))
   own-high l h = chain-end _ _ _ (le-leb 1 c l) (sym (and-false-l _ _ (lt-leb c b h)))
 
-  pub own-counted : (r : ℕ) → r ≡ tally (addressOf m n) (addressCount * n) c → 1 ≤ c → c ≤ b → eqb r 0 ≡ leb 1 c && (leb c b && not (named m n c))
-  unfolding named
+  pub own-counted : (r : ℕ) → r ≡ tally (addressOf m n) (addressCount * n) c → 1 ≤ c → c ≤ b → eqb r 0 ≡ leb 1 c && (leb c b && not (blockNamed m n c))
+  unfolding blockNamed
   own-counted r e l h =
       chain-end _ _ _ (le-leb 1 c l) (chain-end _ _ _ (le-leb c b h) (ap (λ (x : ℕ). eqb x 0) e ∙ count-none-is (λ x. eqb (addressOf m n x) c) (addressCount * n)))
 
-  module _ (r : Bool) (e : r ≡ leb 1 c && (leb c b && not (named m n c))) where
+  module _ (r : Bool) (e : r ≡ leb 1 c && (leb c b && not (blockNamed m n c))) where
     pub target-own : r ≡ true → At c ≡ targetBlock m n b c
     unfolding targetBlock
     target-own q = sym (ap (λ (t : Bool). pick t (At c) (freeBlock m n b)) (sym e ∙ q))
@@ -98,9 +98,9 @@ module _ (s : List ℕ) (n i k : ℕ) (f : DirFits s n i) (l : k < blocksUsed (s
   block-few = let w = f .few in omega arith
 
   -- x has the store's block
-  module _ (x y : List ℕ) (a o : ℕ) (e : length x ≡ 64) (p : a ≡ kthBlock s n i k) (q : o ≡ blockAt n a) (r : y ≡ copied x 0 s o 64) where
+  module _ (x y : List ℕ) (a o : ℕ) (e : length x ≡ 64) (p : a ≡ kthBlock s n i k) (q : o ≡ blockAt n a) (r : y ≡ pasted x 0 s o 64) where
     pub block-read : y ≡ blockOf s n (kthBlock s n i k)
-    unfolding copied blockOf
+    unfolding pasted blockOf
     block-read =
         let b = block-here in
         let w = ap (blockAt n) p in
@@ -133,6 +133,6 @@ module _ (s m d : List ℕ) (n i k c : ℕ) (f : DirFits s n i) (l : k < blocksU
   unfolding blockOf
   block-long = length-copied-block d n i k s ∙ length-inside s (blockAt n (kthBlock s n i k)) 64 (block-here s n i k f l .1)
 
-  pub block-put : (o : ℕ) (y a : List ℕ) → o ≡ blockAt n c → o + 64 ≤ length m → y ≡ copiedBlock s d n i k → a ≡ putAddress (putMid o (o + 64 - o) m y) n (place i k) c → a ≡ stepImage s m d n (copy i k c)
+  pub block-put : (o : ℕ) (y a : List ℕ) → o ≡ blockAt n c → o + 64 ≤ length m → y ≡ copiedBlock s d n i k → a ≡ putAddress (putMid o (o + 64 - o) m y) n (addressIndex i k) c → a ≡ stepImage s m d n (copy i k c)
   block-put o y a e h q r =
-      r ∙ ap (λ (t : List ℕ). putAddress t n (place i k) c) (lent m o 64 y (ap length q ∙ block-long) h ∙ in-block m n c o y e ∙ ap (putInBlock m n c 0) q)
+      r ∙ ap (λ (t : List ℕ). putAddress t n (addressIndex i k) c) (lent m o 64 y (ap length q ∙ block-long) h ∙ in-block m n c o y e ∙ ap (putInBlock m n c 0) q)

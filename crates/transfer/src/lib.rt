@@ -8,7 +8,7 @@ ghost use Rattle.bounded.specs.Count.{tally};
 ghost use Rattle.layout.specs.Sizes.{mostImageBlocks, addressCount, blockBytes};
 ghost use Rattle.layout.specs.Inode.{sizeOf, addressOf};
 ghost use Rattle.layout.specs.Block.{blocksUsed};
-ghost use Rattle.layout.specs.Free.{named};
+ghost use Rattle.layout.specs.Free.{blockNamed};
 ghost use Rattle.directory.specs.Slot.{DirFits, slotsInBlock};
 ghost use Rattle.desk.specs.Sizes.{deskLength};
 ghost use Rattle.checkpoint.specs.Copier.{targetBlock, copiedEntry, copiedEntries, copiedBlock};
@@ -40,7 +40,7 @@ fn times_named(m: &[u8], n: usize, c: u16) -> u16
 // Block c is one of the b blocks of the image, and no address names it.
 fn is_unnamed(m: &[u8], n: usize, b: usize, c: usize) -> bool
     requires { ⌜ Addressed (now m) n × (b ≤ mostImageBlocks) ⌝ }
-    ensures { λ r. ⌜ r ≡ leb 1 c && (leb c b && not (named (now (m .entry)) n c)) ⌝ }
+    ensures { λ r. ⌜ r ≡ leb 1 c && (leb c b && not (blockNamed (now (m .entry)) n c)) ⌝ }
 {
     if c < 1 {
         return false;

@@ -12,15 +12,16 @@ use Rattle.answers.specs.declared.Answer.the-variants.{Done, Refused}
 use Rattle.answers.specs.Refusal.{refusalNumber}
 use Rattle.answers.specs.Told.{Told, told}
 use Rattle.answers.proofs.RefusalLaws.{number-range}
+use Rattle.answers.specs.Order.{Row, firstOf, inOrder}
 use Rattle.files.specs.Effect.{lookUp, read, create, write, shorten, link, unlink, rename}
 use Rattle.checkpoint.specs.Live.{World, Outcome}
 use Rattle.checkpoint.specs.Shown.{toldStatus}
-use Rattle.checkpoint.specs.Table.{Row, firstOf, ascendsFrom, askTable}
-use Rattle.checkpoint.specs.List.{Event, call, steps, asks, starts, outcome}
+use Rattle.checkpoint.specs.Table.{askTable}
+use Rattle.checkpoint.specs.List.{Event, call, advances, asks, starts, outcome}
 use Rattle.checkpoint.proofs.DecisionLaws.{asStatus}
 use Rattle.checkpoint.proofs.TableLaws.{look-up-table, read-table, create-table, write-table, shorten-table, link-table, unlink-table, rename-table, look-up-alone, read-alone}
 use Rattle.checkpoint.proofs.CopierTables.{start-table, step-table, status-table}
-use Rattle.checkpoint.proofs.RowLaws.{look-up-ascends, read-ascends, create-ascends, write-ascends, shorten-ascends, link-ascends, unlink-ascends, rename-ascends, start-ascends, step-ascends, status-ascends}
+use Rattle.checkpoint.proofs.RowLaws.{look-up-in-order, read-in-order, create-in-order, write-in-order, shorten-in-order, link-in-order, unlink-in-order, rename-in-order, start-in-order, step-in-order, status-in-order}
 use Rattle.watch.specs.Answered.{ByTable, result, holds, passes, Answered, tableOf, resultOf}
 
 -- ---- tables
@@ -55,22 +56,22 @@ module _ (w : World) where
   by-table (call (unlink d name)) = by-answer _ _ _ (unlink-table w d name)
   by-table (call (rename d name e other)) = by-answer _ _ _ (rename-table w d name e other)
   by-table starts = by-answer _ _ _ (start-table (w .store) (w .image) (w .desk))
-  by-table steps = by-answer _ _ _ (step-table (w .store) (w .image) (w .desk))
+  by-table advances = by-answer _ _ _ (step-table (w .store) (w .image) (w .desk))
   by-table asks = rw (status-table (w .store) (w .image) (w .desk)) (by-first (λ a. toldStatus (asStatus a (w .desk))) _ 0 refl (λ e. refl) (askTable (w .store) (w .image) (w .desk)))
 
-  table-ascends : (e : Event) → ascendsFrom 0 (tableOf e w) ≡ true
+  table-in-order : (e : Event) → inOrder 0 (tableOf e w) ≡ true
   unfolding tableOf
-  table-ascends (call (lookUp d name)) = look-up-ascends (w .store) d name
-  table-ascends (call (read i o out)) = read-ascends (w .store) i o
-  table-ascends (call (create d name k)) = create-ascends (w .store) (w .image) (w .desk) d name
-  table-ascends (call (write i o xs)) = write-ascends (w .store) (w .image) (w .desk) i o xs
-  table-ascends (call (shorten i z)) = shorten-ascends (w .store) (w .image) (w .desk) i z
-  table-ascends (call (link d name i)) = link-ascends (w .store) (w .image) (w .desk) d name i
-  table-ascends (call (unlink d name)) = unlink-ascends (w .store) (w .image) (w .desk) d name
-  table-ascends (call (rename d name e other)) = rename-ascends (w .store) (w .image) (w .desk) d name e other
-  table-ascends starts = start-ascends (w .store) (w .image) (w .desk)
-  table-ascends steps = step-ascends (w .store) (w .image) (w .desk)
-  table-ascends asks = status-ascends (w .store) (w .image) (w .desk)
+  table-in-order (call (lookUp d name)) = look-up-in-order (w .store) d name
+  table-in-order (call (read i o out)) = read-in-order (w .store) i o
+  table-in-order (call (create d name k)) = create-in-order (w .store) (w .image) (w .desk) d name
+  table-in-order (call (write i o xs)) = write-in-order (w .store) (w .image) (w .desk) i o xs
+  table-in-order (call (shorten i z)) = shorten-in-order (w .store) (w .image) (w .desk) i z
+  table-in-order (call (link d name i)) = link-in-order (w .store) (w .image) (w .desk) d name i
+  table-in-order (call (unlink d name)) = unlink-in-order (w .store) (w .image) (w .desk) d name
+  table-in-order (call (rename d name e other)) = rename-in-order (w .store) (w .image) (w .desk) d name e other
+  table-in-order starts = start-in-order (w .store) (w .image) (w .desk)
+  table-in-order advances = step-in-order (w .store) (w .image) (w .desk)
+  table-in-order asks = status-in-order (w .store) (w .image) (w .desk)
 
   pub answered : (e : Event) → Answered (resultOf e w) (tableOf e w) (outcome e w .answer)
-  answered e = record { by = by-table e; ascends = table-ascends e; sixteen = at-most (by-table e) }
+  answered e = record { by = by-table e; in-order = table-in-order e; sixteen = at-most (by-table e) }

@@ -5,11 +5,12 @@ use mathlib.Core.Bool.{Bool, true, false}
 use mathlib.Core.List.{List, [], _∷_, _++_}
 use borrow.Author.Tests.{eqb-true, eq-eqb}
 use Rattle.bounded.specs.Search.{pick}
+use Rattle.bounded.specs.Count.{count}
 use Rattle.answers.specs.Told.{told}
 use Rattle.files.specs.Effect.{Call}
 use Rattle.files.specs.Plain.{plain}
 use Rattle.checkpoint.specs.Live.{World}
-use Rattle.checkpoint.specs.List.{Event, call, steps, asks, starts, outcome, next, accepted, run, Finish, acceptedSteps, isBusy, Reply, replies, heard, plainReplies}
+use Rattle.checkpoint.specs.List.{Event, call, advances, asks, starts, outcome, next, accepted, run, Finish, acceptedSteps, isBusy, Reply, replies, heard, plainReplies}
 use Rattle.checkpoint.specs.Progress.{noRestart}
 use Rattle.checkpoint.specs.Demand.{Demand}
 use Rattle.checkpoint.proofs.Demands.{demands}
@@ -22,7 +23,7 @@ steps-told : (es : List Event) (w : World) (c : ℕ) → stepsTold es (received 
 unfolding stepsTold received acceptedSteps
 steps-told [] w c = refl
 steps-told (starts ∷ es) w c = steps-told es (next starts w) (pick (accepted starts w) 0 c)
-steps-told (steps ∷ es) w c = steps-told es (next steps w) (pick (accepted steps w) (suc c) c)
+steps-told (advances ∷ es) w c = steps-told es (next advances w) (pick (accepted advances w) (suc c) c)
 steps-told (call x ∷ es) w c = steps-told es (next (call x) w) c
 steps-told (asks ∷ es) w c = steps-told es (next asks w) c
 
@@ -30,7 +31,7 @@ fed-heard : (es : List Event) (w : World) → fed es (received es w) ≡ heard e
 unfolding fed received heard outcome
 fed-heard [] w = refl
 fed-heard (call c ∷ es) w = ap (λ (cs : List Call). pick (isBusy c w) cs (c ∷ cs)) (fed-heard es (next (call c) w))
-fed-heard (steps ∷ es) w = fed-heard es (next steps w)
+fed-heard (advances ∷ es) w = fed-heard es (next advances w)
 fed-heard (asks ∷ es) w = fed-heard es (next asks w)
 fed-heard (starts ∷ es) w = fed-heard es (next starts w)
 
@@ -48,7 +49,7 @@ replied-numbers : (es : List Event) (w : World) → replied es (received es w) �
 unfolding replied received replies outcome
 replied-numbers [] w = refl
 replied-numbers (call c ∷ es) w = one-more (isBusy c w) _ (replies es (next (call c) w)) _ (replied-numbers es (next (call c) w))
-replied-numbers (steps ∷ es) w = replied-numbers es (next steps w)
+replied-numbers (advances ∷ es) w = replied-numbers es (next advances w)
 replied-numbers (asks ∷ es) w = replied-numbers es (next asks w)
 replied-numbers (starts ∷ es) w = replied-numbers es (next starts w)
 

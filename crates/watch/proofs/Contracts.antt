@@ -7,12 +7,12 @@ use contract.Lifetimes.{Lfts}
 use denote.Ref.{now}
 use denote.Triple.Clauses.{AtExit}
 use borrow.Fn.Kinds.{PK, RK, Out, Dens, resT, endedOf}
-use Rattle.sound.specs.Sound.{isSound}
+use Rattle.sound.specs.Test.{isSound}
 use Rattle.answers.specs.Told.{told}
-use Rattle.format.specs.Format.{left, layOutStore, layOutDesk}
+use Rattle.format.specs.Format.{laidOut, layOutStore, layOutDesk}
 use Rattle.files.specs.Effect.{lookUp, read, create, write, shorten, link, unlink, rename}
 use Rattle.checkpoint.specs.Shown.{world, toldStatus}
-use Rattle.checkpoint.specs.List.{call, steps, asks, starts}
+use Rattle.checkpoint.specs.List.{call, advances, asks, starts}
 use Rattle.watch.specs.Made.{got, Did, looked-up, has-read, created, written, shortened, linked, unlinked, renamed, started, stepped, asked}
 use Rattle.files.proofs.plain.look_up.Kinds as look-up-kinds
 use Rattle.files.proofs.plain.look_up.Reads as look-up-reads
@@ -87,7 +87,7 @@ pub start-made : Gives 3 start-kinds.ps start-kinds.r start-reads.Learnt (λ κs
 start-made κs a z e h = started z h
 
 pub step-made : Gives 3 step-kinds.ps step-kinds.r step-reads.Learnt (λ κs a z e.
-    Did steps (world (now (a .0)) (now (a .1 .0)) (now (a .1 .1 .0))) (got (told z) []) (world (now (a .0)) (now (e .1 .0)) (now (e .1 .1 .0))))
+    Did advances (world (now (a .0)) (now (a .1 .0)) (now (a .1 .1 .0))) (got (told z) []) (world (now (a .0)) (now (e .1 .0)) (now (e .1 .1 .0))))
 step-made κs a z e h = stepped z h
 
 pub state-made : Gives 3 state-kinds.ps state-kinds.r state-reads.Learnt (λ κs a z e.
@@ -95,10 +95,10 @@ pub state-made : Gives 3 state-kinds.ps state-kinds.r state-reads.Learnt (λ κs
 state-made κs a z e h = asked z h
 
 -- ---- the layout calls, of which `FirstDemand` (specs/Answered.antt) has the same hypothesis
-pub lay-store-made : Gives 1 lay-store-kinds.ps lay-store-kinds.r lay-store-reads.Learnt (λ κs a z e. left z (now (e .0)) ≡ layOutStore (now (a .0)) (a .1 .0) (a .1 .1 .0))
+pub lay-store-made : Gives 1 lay-store-kinds.ps lay-store-kinds.r lay-store-reads.Learnt (λ κs a z e. laidOut z (now (e .0)) ≡ layOutStore (now (a .0)) (a .1 .0) (a .1 .1 .0))
 lay-store-made κs a z e h = h
 
-pub lay-desk-made : Gives 1 lay-desk-kinds.ps lay-desk-kinds.r lay-desk-reads.Learnt (λ κs a z e. left z (now (e .0)) ≡ layOutDesk (now (a .0)) (a .1 .0))
+pub lay-desk-made : Gives 1 lay-desk-kinds.ps lay-desk-kinds.r lay-desk-reads.Learnt (λ κs a z e. laidOut z (now (e .0)) ≡ layOutDesk (now (a .0)) (a .1 .0))
 lay-desk-made κs a z e h = h
 
 -- ---- the check, of which it has the same too

@@ -4,15 +4,18 @@ use mathlib.Core.Path.{_≡_, refl, ap}
 use mathlib.Core.Bool.{Bool, true, false, not}
 use mathlib.Core.List.{List, [], _∷_}
 use lib.ListN.{length}
+use Rattle.layout.specs.Block.{allowed}
+use Rattle.layout.specs.Sizes.{mostStoreBlocks}
+use Rattle.desk.specs.Sizes.{deskAllowed}
 use Rattle.bounded.specs.Search.{pick}
 use Rattle.sound.proofs.SoundLaws.{is-sound}
 use Rattle.answers.specs.declared.Refusal.the-variants.{BadBuffer}
 use Rattle.answers.specs.declared.Answer.{Answer}
 use Rattle.answers.specs.declared.Answer.the-variants.{Done, Refused}
 use Rattle.answers.specs.Told.{Told, told}
-use Rattle.format.specs.Format.{Outcome, left, storeAllowed, deskAllowed, freshStore, freshDesk, layOutStore, layOutDesk}
+use Rattle.answers.specs.Order.{row}
+use Rattle.format.specs.Format.{LaidOut, laidOut, freshStore, freshDesk, layOutStore, layOutDesk}
 use Rattle.checkpoint.specs.Live.{World}
-use Rattle.checkpoint.specs.Table.{row}
 use Rattle.checkpoint.specs.List.{Event}
 use Rattle.watch.specs.Made.{Received, Did}
 use Rattle.watch.specs.Answered.{ByTable, Answers, result, holds, passes, LayAnswers, FirstDemand}
@@ -26,24 +29,24 @@ calls {e} {w} {v} {a} d =
     rw (h .world, h .got) (record { answered = answered w e; keeps = keeps w e; out = out-keeps w e; stops = stops w e })
 
 -- ---- a layout call: b says whether count and length are allowed, fresh is what it lays out
-lay-by : (b : Bool) (s fresh : List ℕ) (t : Told) → t ≡ pick b (left (Done 0) fresh) (left (Refused BadBuffer) s) .answer → ByTable (0 ∷ []) (row (not b) BadBuffer ∷ []) t
+lay-by : (b : Bool) (s fresh : List ℕ) (t : Told) → t ≡ pick b (laidOut (Done 0) fresh) (laidOut (Refused BadBuffer) s) .answer → ByTable (0 ∷ []) (row (not b) BadBuffer ∷ []) t
 lay-by true s fresh t h = rw h (passes refl result)
 lay-by false s fresh t h = rw h (holds refl)
 
-lay-keeps : (b : Bool) (s fresh t : List ℕ) (r : Answer) → left r t ≡ pick b (left (Done 0) fresh) (left (Refused BadBuffer) s) → (told r .number ≡ 0 → ⊥) → t ≡ s
-lay-keeps true s fresh t r h n = absurd (n (ap (λ (o : Outcome). o .answer .number) h))
-lay-keeps false s fresh t r h n = ap (λ (o : Outcome). o .buffer) h
+lay-keeps : (b : Bool) (s fresh t : List ℕ) (r : Answer) → laidOut r t ≡ pick b (laidOut (Done 0) fresh) (laidOut (Refused BadBuffer) s) → (told r .number ≡ 0 → ⊥) → t ≡ s
+lay-keeps true s fresh t r h n = absurd (n (ap (λ (o : LaidOut). o .answer .number) h))
+lay-keeps false s fresh t r h n = ap (λ (o : LaidOut). o .buffer) h
 
-lays : (b : Bool) (s fresh t : List ℕ) (r : Answer) → left r t ≡ pick b (left (Done 0) fresh) (left (Refused BadBuffer) s) → LayAnswers (row (not b) BadBuffer ∷ []) s r t
+lays : (b : Bool) (s fresh t : List ℕ) (r : Answer) → laidOut r t ≡ pick b (laidOut (Done 0) fresh) (laidOut (Refused BadBuffer) s) → LayAnswers (row (not b) BadBuffer ∷ []) s r t
 lays b s fresh t r h =
-    let p = lay-by b s fresh (told r) (ap (λ (o : Outcome). o .answer) h) in
-    record { answered = record { by = p; ascends = refl; sixteen = at-most p }; keeps = lay-keeps b s fresh t r h }
+    let p = lay-by b s fresh (told r) (ap (λ (o : LaidOut). o .answer) h) in
+    record { answered = record { by = p; in-order = refl; sixteen = at-most p }; keeps = lay-keeps b s fresh t r h }
 
 pub first-demand : FirstDemand
 unfolding layOutStore layOutDesk
 first-demand = record {
   calls = λ d. calls d;
-  lays-store = λ {s} {t} r n b h. lays (storeAllowed n b (length s)) s (freshStore n b) t r h;
+  lays-store = λ {s} {t} r n b h. lays (allowed mostStoreBlocks n b (length s)) s (freshStore n b) t r h;
   lays-desk = λ {d} {t} r n h. lays (deskAllowed n (length d)) d (freshDesk n) t r h;
   checks = λ f s r h. rw h (is-sound f s);
 }

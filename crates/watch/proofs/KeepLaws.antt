@@ -8,24 +8,25 @@ use native.Mathlib.Omega.{arith}
 use borrow.Author.Tests.{eqb-true, ltb-true, not-false}
 use lib.Dec.{ltb}
 use lib.ListN.{length}
+use Rattle.sound.specs.Test.{framedB}
+use Rattle.sound.specs.declared.Form.the-variants.{Store}
 use Rattle.bounded.proofs.BoolLaws.{and-left, and-right}
-use Rattle.layout.specs.Sizes.{mostStoreBlocks}
 use Rattle.desk.specs.Sizes.{deskHeaderBytes}
 use Rattle.desk.specs.Desk.{deskOf, putDesk}
 use Rattle.desk.specs.Next.{stopping}
-use Rattle.sound.specs.Sound.{framedB}
 use Rattle.answers.specs.declared.Refusal.{Refusal}
 use Rattle.answers.specs.declared.Refusal.the-variants.{BadBuffer, UnsoundStore, BadDesk, IllegalName, WrongInode, NameAbsent, NameTaken, NotEmpty, PastEnd, IntoItself, NoInode, NoBlocks, NoSlot, Busy, WrongState, ImageFull}
 use Rattle.answers.specs.declared.Answer.{Answer}
 use Rattle.answers.specs.declared.Answer.the-variants.{Done, Refused}
 use Rattle.answers.specs.Refusal.{refusalNumber}
 use Rattle.answers.specs.Told.{Told}
+use Rattle.answers.specs.Order.{Row}
 use Rattle.files.specs.Effect.{lookUp, read, create, write, shorten, link, unlink, rename}
 use Rattle.checkpoint.specs.Fit.{deskFramed}
 use Rattle.checkpoint.specs.Live.{World, Outcome, live, start, step}
 use Rattle.checkpoint.specs.Shown.{world, numberOf}
-use Rattle.checkpoint.specs.Table.{Row, liveRows, lookUpTable, readTable, createTable, writeTable, shortenTable, linkTable, unlinkTable, renameTable, startTable, stepTable}
-use Rattle.checkpoint.specs.List.{Event, call, steps, asks, starts, outcome, next, refusalOf}
+use Rattle.checkpoint.specs.Table.{liveRows, lookUpTable, readTable, createTable, writeTable, shortenTable, linkTable, unlinkTable, renameTable, startTable, stepTable}
+use Rattle.checkpoint.specs.List.{Event, call, advances, asks, starts, outcome, next, refusalOf}
 use Rattle.checkpoint.specs.Progress.{Stopped}
 use Rattle.checkpoint.proofs.Copy.FitLaws.{desk-framed-is}
 use Rattle.checkpoint.proofs.RefusedLaws.{Keeps, live-refused, start-refused, step-refused, step-full}
@@ -71,7 +72,7 @@ not-full (holds {r} {rs} p) l h =
     omega arith
 not-full (passes {r} {rs} p b) l h = not-full b (and-right (ltb (refusalNumber (r .refusal)) (refusalNumber ImageFull)) (lacksFull rs) l) h
 
-step-alone : (w : World) (e : Event) → (e ≡ steps) ⊎ (lacksFull (tableOf e w) ≡ true)
+step-alone : (w : World) (e : Event) → (e ≡ advances) ⊎ (lacksFull (tableOf e w) ≡ true)
 unfolding tableOf lookUpTable readTable createTable writeTable shortenTable linkTable unlinkTable renameTable startTable
 step-alone w (call (lookUp d name)) = inr refl
 step-alone w (call (read i o out)) = inr refl
@@ -82,31 +83,31 @@ step-alone w (call (link d name i)) = inr refl
 step-alone w (call (unlink d name)) = inr refl
 step-alone w (call (rename d name e other)) = inr refl
 step-alone w starts = inr refl
-step-alone w steps = inl refl
+step-alone w advances = inl refl
 step-alone w asks = inr refl
 
 -- the guards let it through
 framed-if-full : (s m d : List ℕ) {vs : List ℕ} {rs : List Row} {t : Told} → ByTable vs (liveRows s m d rs) t → t .number ≡ refusalNumber ImageFull → deskFramed d ≡ true
 framed-if-full s m d (holds h) k = absurd (omega arith)
-framed-if-full s m d (passes h b) k = and-right (framedB mostStoreBlocks s) (deskFramed d) (not-false (framedB mostStoreBlocks s && deskFramed d) h)
+framed-if-full s m d (passes h b) k = and-right (framedB Store s) (deskFramed d) (not-false (framedB Store s && deskFramed d) h)
 
 module _ (w : World) where
   abbrev stoppedDesk : List ℕ
   stoppedDesk = putDesk (w .desk) (stopping (deskOf (w .desk)))
 
   -- what it leaves
-  full-leaves : refusalOf steps w ≡ refusalNumber ImageFull → next steps w ≡ world (w .store) (w .image) stoppedDesk
+  full-leaves : refusalOf advances w ≡ refusalNumber ImageFull → next advances w ≡ world (w .store) (w .image) stoppedDesk
   unfolding next outcome
   full-leaves h = ap (λ (o : Outcome). world (o .store) (o .image) (o .desk)) (step-full (w .store) (w .image) (w .desk) (answer-full (step (w .store) (w .image) (w .desk) .answer) h))
 
-  desk-there : refusalOf steps w ≡ refusalNumber ImageFull → deskHeaderBytes ≤ length (w .desk)
+  desk-there : refusalOf advances w ≡ refusalNumber ImageFull → deskHeaderBytes ≤ length (w .desk)
   unfolding tableOf stepTable
-  desk-there h = let l = desk-framed-is (w .desk) .to (framed-if-full (w .store) (w .image) (w .desk) (by-table w steps) h) .1 .1 in omega arith
+  desk-there h = let l = desk-framed-is (w .desk) .to (framed-if-full (w .store) (w .image) (w .desk) (by-table w advances) h) .1 .1 in omega arith
 
-  full-stops : refusalOf steps w ≡ refusalNumber ImageFull → Stopped w (next steps w)
+  full-stops : refusalOf advances w ≡ refusalNumber ImageFull → Stopped w (next advances w)
   full-stops h = rw (full-leaves h) (stop-leaves w (desk-there h))
 
-  pub stops : (e : Event) → refusalOf e w ≡ refusalNumber ImageFull → (e ≡ steps) × Stopped w (next e w)
+  pub stops : (e : Event) → refusalOf e w ≡ refusalNumber ImageFull → (e ≡ advances) × Stopped w (next e w)
   stops e h = elim (step-alone w e) [
     | inl s ↦ (s, rw s (full-stops (rw s at h)))
     | inr l ↦ absurd (not-full (by-table w e) l h)
@@ -125,12 +126,12 @@ module _ (w : World) where
   unfolding next outcome
   keeps (call c) n f = kept (live c w) (live-refused c w) n
   keeps starts n f = kept (start (w .store) (w .image) (w .desk)) (start-refused (w .store) (w .image) (w .desk)) n
-  keeps steps n f = kept (step (w .store) (w .image) (w .desk)) (λ e h. step-refused (w .store) (w .image) (w .desk) e (λ z. f (ap numberOf h ∙ ap refusalNumber z)) h) n
+  keeps advances n f = kept (step (w .store) (w .image) (w .desk)) (λ e h. step-refused (w .store) (w .image) (w .desk) e (λ z. f (ap numberOf h ∙ ap refusalNumber z)) h) n
   keeps asks n f = refl
 
   -- a read's out-buffer
   pub out-keeps : (e : Event) → (refusalOf e w ≡ 0 → ⊥) → outAfter e w ≡ lentTo e
   out-keeps (call c) n = out-kept c w (λ a. n (eqb-true (refusalOf (call c) w) 0 a))
   out-keeps starts n = refl
-  out-keeps steps n = refl
+  out-keeps advances n = refl
   out-keeps asks n = refl

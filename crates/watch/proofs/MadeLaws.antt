@@ -6,7 +6,7 @@ use mathlib.Core.List.{List, [], _∷_}
 use Rattle.answers.specs.declared.Answer.{Answer}
 use Rattle.answers.specs.Told.{Told, told}
 use Rattle.files.specs.Effect.{Call}
-use Rattle.files.specs.Plain.{Shown as ShownAlone}
+use Rattle.files.specs.Plain.{PlainShown}
 use Rattle.checkpoint.specs.Live.{World, left, storeAlone, live}
 use Rattle.checkpoint.specs.Shown.{world, Shown, shown}
 use Rattle.checkpoint.specs.List.{Event, call, outcome, next, run}
@@ -32,13 +32,13 @@ module _ (w : World) where
   by-live c n r v h = by-outcome (call c) (told r) (v .store) (v .image) (v .desk) [] h (sym (no-out w c n))
 
   -- one on the store alone
-  abbrev beside : ShownAlone → Shown
+  abbrev beside : PlainShown → Shown
   beside o = record { answer = o .answer; store = o .store; image = w .image; desk = w .desk }
 
 pub did : {e : Event} {w v : World} {a : Received} → Did e w a v → AsDefined e w a v
 unfolding outcome
 did {w = w} (looked-up {dir} {name} r h) = by-outcome w _ (told r) _ _ _ _ (ap (beside w) h ∙ sym (ap shown (look-up-alone w dir name))) (sym (look-up-out w dir name))
-did {w = w} (has-read {inode} {offset} {out} r h) = by-outcome w _ (told r) _ _ _ _ (ap (beside w) h ∙ sym (ap shown (read-alone w inode offset out))) (ap (λ (o : ShownAlone). o .out) h ∙ sym (read-out w inode offset out))
+did {w = w} (has-read {inode} {offset} {out} r h) = by-outcome w _ (told r) _ _ _ _ (ap (beside w) h ∙ sym (ap shown (read-alone w inode offset out))) (ap (λ (o : PlainShown). o .out) h ∙ sym (read-out w inode offset out))
 did {w = w} {v = v} (created r h) = by-live w _ refl r v h
 did {w = w} {v = v} (written r h) = by-live w _ refl r v h
 did {w = w} {v = v} (shortened r h) = by-live w _ refl r v h

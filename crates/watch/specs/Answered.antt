@@ -7,19 +7,24 @@ use mathlib.Core.List.{List, [], _∷_}
 use lib.ListN.{length}
 use Rattle.layout.specs.Inode.{sizeOf}
 use Rattle.layout.specs.Free.{freeInode}
+use Rattle.layout.specs.Block.{allowed}
+use Rattle.layout.specs.Sizes.{mostStoreBlocks}
 use Rattle.desk.specs.Desk.{deskOf}
+use Rattle.desk.specs.Sizes.{deskAllowed}
 use Rattle.bounded.specs.Reflect.{Reflects}
 use Rattle.sound.specs.declared.Form.{Form}
-use Rattle.sound.specs.Sound.{Sound, inodesIn, limitOf, blankOf, isSound}
+use Rattle.sound.specs.Sound.{Sound, inodesIn}
+use Rattle.sound.specs.Test.{isSound}
 use Rattle.answers.specs.declared.Answer.{Answer}
 use Rattle.answers.specs.declared.Refusal.the-variants.{BadBuffer, ImageFull}
 use Rattle.answers.specs.Refusal.{refusalNumber}
 use Rattle.answers.specs.Told.{Told, told}
-use Rattle.format.specs.Format.{left, storeAllowed, deskAllowed, layOutStore, layOutDesk}
+use Rattle.answers.specs.Order.{Row, row, inOrder}
+use Rattle.format.specs.Format.{laidOut, layOutStore, layOutDesk}
 use Rattle.files.specs.Effect.{lookUp, read, create, write, shorten, link, unlink, rename, given}
 use Rattle.checkpoint.specs.Live.{World}
-use Rattle.checkpoint.specs.Table.{Row, row, ascendsFrom, orZero, inodeFor, lookUpTable, readTable, createTable, writeTable, shortenTable, linkTable, unlinkTable, renameTable, startTable, stepTable, askTable}
-use Rattle.checkpoint.specs.List.{Event, call, steps, asks, starts}
+use Rattle.checkpoint.specs.Table.{orZero, inodeFor, lookUpTable, readTable, createTable, writeTable, shortenTable, linkTable, unlinkTable, renameTable, startTable, stepTable, askTable}
+use Rattle.checkpoint.specs.List.{Event, call, advances, asks, starts}
 use Rattle.checkpoint.specs.Progress.{Stopped}
 use Rattle.watch.specs.Made.{Received, Did}
 
@@ -30,10 +35,10 @@ pub data ByTable (vs : List ℕ) : List Row → Told → Type 0 where
   holds : {r : Row} {rs : List Row} → r .holds ≡ true → ByTable vs (r ∷ rs) (record { number = refusalNumber (r .refusal); values = [] })
   passes : {r : Row} {rs : List Row} {t : Told} → r .holds ≡ false → ByTable vs rs t → ByTable vs (r ∷ rs) t
 
--- the table's numbers go up, so the first is the lowest; no number is above the sixteenth's
+-- the table stands in the order of looking; no number is above the sixteenth's
 pub record Answered (vs : List ℕ) (rs : List Row) (t : Told) : Type 0 where
   pub by : ByTable vs rs t
-  pub ascends : ascendsFrom 0 rs ≡ true
+  pub in-order : inOrder 0 rs ≡ true
   pub sixteen : t .number ≤ refusalNumber ImageFull
 
 -- ---- the calls in lists
@@ -48,7 +53,7 @@ tableOf (call (link d name i)) w = linkTable (w .store) (w .image) (w .desk) d n
 tableOf (call (unlink d name)) w = unlinkTable (w .store) (w .image) (w .desk) d name
 tableOf (call (rename d name e other)) w = renameTable (w .store) (w .image) (w .desk) d name e other
 tableOf starts w = startTable (w .store) (w .image) (w .desk)
-tableOf steps w = stepTable (w .store) (w .image) (w .desk)
+tableOf advances w = stepTable (w .store) (w .image) (w .desk)
 tableOf asks w = askTable (w .store) (w .image) (w .desk)
 
 -- "Create and look up answer the inode, read its count, write and shorten the new size, step the steps so far"; state "gives state, locked inode and steps"; the others 0
@@ -62,14 +67,14 @@ resultOf (call (link d name i)) w = 0 ∷ []
 resultOf (call (unlink d name)) w = 0 ∷ []
 resultOf (call (rename d name e other)) w = 0 ∷ []
 resultOf starts w = 0 ∷ []
-resultOf steps w = (deskOf (w .desk) .steps + 1) ∷ []
+resultOf advances w = (deskOf (w .desk) .steps + 1) ∷ []
 resultOf asks w = deskOf (w .desk) .state ∷ deskOf (w .desk) .locked ∷ deskOf (w .desk) .steps ∷ []
 
 -- the out-buffer that came in, [] for a call that has none
 abbrev pub lentTo : Event → List ℕ
 lentTo (call c) = given c
 lentTo starts = []
-lentTo steps = []
+lentTo advances = []
 lentTo asks = []
 
 -- the call e made on the world w: its caller got a, and v was left
@@ -79,11 +84,11 @@ pub record Answers (e : Event) (w : World) (a : Received) (v : World) : Type 0 w
   pub keeps : (a .answer .number ≡ 0 → ⊥) → (a .answer .number ≡ refusalNumber ImageFull → ⊥) → v ≡ w
   pub out : (a .answer .number ≡ 0 → ⊥) → a .out ≡ lentTo e
   -- "save that 16 marks the copy stopped and unlocks what was being copied"; it comes to a step alone
-  pub stops : a .answer .number ≡ refusalNumber ImageFull → (e ≡ steps) × Stopped w v
+  pub stops : a .answer .number ≡ refusalNumber ImageFull → (e ≡ advances) × Stopped w v
 
 -- ---- the layout calls: refusal 1 "by the numbers told"
 abbrev pub storeLayTable : List ℕ → ℕ → ℕ → List Row
-storeLayTable s n b = row (not (storeAllowed n b (length s))) BadBuffer ∷ []
+storeLayTable s n b = row (not (allowed mostStoreBlocks n b (length s))) BadBuffer ∷ []
 
 abbrev pub deskLayTable : List ℕ → ℕ → List Row
 deskLayTable d n = row (not (deskAllowed n (length d))) BadBuffer ∷ []
@@ -96,6 +101,6 @@ pub record LayAnswers (rs : List Row) (s : List ℕ) (r : Answer) (t : List ℕ)
 -- ---- demand 1: each call as its contract promises it. The check refuses nothing: it "takes any bytes and answers yes or no"; demand 2: "The soundness check says yes to a store that meets its conditions and no to every other."
 pub record FirstDemand : Type 0 where
   pub calls : {e : Event} {w v : World} {a : Received} → Did e w a v → Answers e w a v
-  pub lays-store : {s t : List ℕ} (r : Answer) (inodes blocks : ℕ) → left r t ≡ layOutStore s inodes blocks → LayAnswers (storeLayTable s inodes blocks) s r t
-  pub lays-desk : {d t : List ℕ} (r : Answer) (inodes : ℕ) → left r t ≡ layOutDesk d inodes → LayAnswers (deskLayTable d inodes) d r t
-  pub checks : (f : Form) (s : List ℕ) (r : Bool) → r ≡ isSound f s → Reflects r (Sound (limitOf f) (blankOf f) s)
+  pub lays-store : {s t : List ℕ} (r : Answer) (inodes blocks : ℕ) → laidOut r t ≡ layOutStore s inodes blocks → LayAnswers (storeLayTable s inodes blocks) s r t
+  pub lays-desk : {d t : List ℕ} (r : Answer) (inodes : ℕ) → laidOut r t ≡ layOutDesk d inodes → LayAnswers (deskLayTable d inodes) d r t
+  pub checks : (f : Form) (s : List ℕ) (r : Bool) → r ≡ isSound f s → Reflects r (Sound f s)

@@ -6,21 +6,21 @@ use mathlib.Core.List.{List, [], _∷_, _++_}
 use lib.Dec.{eqb}
 use lib.ListN.{length}
 use Rattle.bounded.specs.Search.{pick}
-use Rattle.layout.specs.Sizes.{mostImageBlocks}
-use Rattle.desk.specs.Sizes.{running}
+use Rattle.desk.specs.Sizes.{running, stepsAnInode}
 use Rattle.desk.specs.Desk.{deskOf}
 use Rattle.sound.specs.Sound.{Sound}
+use Rattle.sound.specs.declared.Form.the-variants.{Image}
 use Rattle.answers.specs.declared.Refusal.the-variants.{Busy}
 use Rattle.answers.specs.Refusal.{refusalNumber}
 use Rattle.answers.specs.Told.{told}
 use Rattle.files.specs.Effect.{Call}
 use Rattle.files.specs.Plain.{plain}
 use Rattle.checkpoint.specs.declared.Status.the-variants.{Is}
-use Rattle.checkpoint.specs.Fit.{isRunning, imageAllowed, stepsAnInode}
+use Rattle.checkpoint.specs.Fit.{isRunning, imageAllowed}
 use Rattle.checkpoint.specs.Live.{World, outOf}
 use Rattle.checkpoint.specs.Shown.{toldStatus}
-use Rattle.checkpoint.specs.List.{Ready, Event, call, steps, asks, starts, outcome, next, run, Finish, Kept, stateAfter, plainRun}
-use Rattle.checkpoint.specs.Finished.{countOf, Copied}
+use Rattle.checkpoint.specs.List.{Ready, Event, call, advances, asks, starts, outcome, next, run, Finish, Kept, stateAfter, plainRun}
+use Rattle.checkpoint.specs.Finished.{countOf, InCopy}
 use Rattle.checkpoint.specs.Progress.{noRestart}
 use Rattle.checkpoint.specs.Demand.{Demand}
 use Rattle.watch.specs.Made.{Received, got, Did, Made}
@@ -28,7 +28,7 @@ use Rattle.watch.specs.Made.{Received, got, Did, Made}
 -- ---- told by the definitions: what the callers of a list get, from the world w on
 abbrev pub outAfter : Event → World → List ℕ
 outAfter (call c) w = outOf c w
-outAfter steps w = []
+outAfter advances w = []
 outAfter asks w = []
 outAfter starts w = []
 
@@ -45,7 +45,7 @@ unfoldable pub stepsTold : List Event → List Received → ℕ → ℕ
 stepsTold [] rs c = c
 stepsTold (e ∷ es) [] c = c
 stepsTold (starts ∷ es) (a ∷ rs) c = stepsTold es rs (pick (refusedWith 0 a) 0 c)
-stepsTold (steps ∷ es) (a ∷ rs) c = stepsTold es rs (pick (refusedWith 0 a) (suc c) c)
+stepsTold (advances ∷ es) (a ∷ rs) c = stepsTold es rs (pick (refusedWith 0 a) (suc c) c)
 stepsTold (call x ∷ es) (a ∷ rs) c = stepsTold es rs c
 stepsTold (asks ∷ es) (a ∷ rs) c = stepsTold es rs c
 
@@ -54,7 +54,7 @@ unfoldable pub fed : List Event → List Received → List Call
 fed [] rs = []
 fed (e ∷ es) [] = []
 fed (call c ∷ es) (a ∷ rs) = pick (refusedWith (refusalNumber Busy) a) (fed es rs) (c ∷ fed es rs)
-fed (steps ∷ es) (a ∷ rs) = fed es rs
+fed (advances ∷ es) (a ∷ rs) = fed es rs
 fed (asks ∷ es) (a ∷ rs) = fed es rs
 fed (starts ∷ es) (a ∷ rs) = fed es rs
 
@@ -63,7 +63,7 @@ unfoldable pub replied : List Event → List Received → List Received
 replied [] rs = []
 replied (e ∷ es) [] = []
 replied (call c ∷ es) (a ∷ rs) = pick (refusedWith (refusalNumber Busy) a) (replied es rs) (a ∷ replied es rs)
-replied (steps ∷ es) (a ∷ rs) = replied es rs
+replied (advances ∷ es) (a ∷ rs) = replied es rs
 replied (asks ∷ es) (a ∷ rs) = replied es rs
 replied (starts ∷ es) (a ∷ rs) = replied es rs
 
@@ -79,9 +79,9 @@ pub record Delivered (es : List Event) (w : World) (rs : List Received) (u : Wor
   pub got : rs ≡ received es w
   -- The list may go on after the finish: fs are its events up to the finish, and until a start is accepted the copy stays.
   -- "If the copy finishes, every entry that stood at its start, and that was not unlinked or moved before the finish, nor any entry above it, is in the finished copy"
-  pub entries : (fs gs : List Event) → es ≡ fs ++ gs → Finish fs w → noRestart gs (run fs w) ≡ true → (p : ℕ) → Kept fs w p → Copied fs w (u .image) p
+  pub entries : (fs gs : List Event) → es ≡ fs ++ gs → Finish fs w → noRestart gs (run fs w) ≡ true → (p : ℕ) → Kept fs w p → InCopy fs w (u .image) p
   -- "A copy finished as under 3 is sound."
-  pub sound : (fs gs : List Event) → es ≡ fs ++ gs → Finish fs w → noRestart gs (run fs w) ≡ true → Sound mostImageBlocks true (u .image)
+  pub sound : (fs gs : List Event) → es ≡ fs ++ gs → Finish fs w → noRestart gs (run fs w) ≡ true → Sound Image (u .image)
   -- "Finished or not, the copy's accepted steps are the number that the state question reports"
   pub reports : {a : Received} {x : World} → Did asks u a x → a .answer ≡ toldStatus (Is (stateAfter es w running) (deskOf (u .desk) .locked) (stepsTold es rs 0))
   -- "and at most 14 times the inode count, plus 1"

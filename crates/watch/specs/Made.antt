@@ -7,11 +7,11 @@ use Rattle.answers.specs.declared.Answer.{Answer}
 use Rattle.answers.specs.Told.{Told, told}
 use Rattle.entries.specs.declared.Kind.{Kind}
 use Rattle.files.specs.Effect.{lookUp, read, create, write, shorten, link, unlink, rename}
-use Rattle.files.specs.Plain.{plain, left as leftAlone, shown as shownAlone}
+use Rattle.files.specs.Plain.{plain, plainLeft, plainShown}
 use Rattle.checkpoint.specs.declared.Status.{Status}
 use Rattle.checkpoint.specs.Live.{World, left, live, start, step, status}
 use Rattle.checkpoint.specs.Shown.{world, shown, toldStatus}
-use Rattle.checkpoint.specs.List.{Event, call, steps, asks, starts}
+use Rattle.checkpoint.specs.List.{Event, call, advances, asks, starts}
 
 -- what a caller gets: the answer by the paper's numbers, and a read's out-buffer ([] for the other calls)
 pub record Received : Type 0 where
@@ -25,10 +25,10 @@ got t out = record { answer = t; out = out }
 pub data Did : Event → World → Received → World → Type 0 where
   -- "Look up and read take the store alone" (files/src/plain.rt)
   looked-up : {dir : ℕ} {name : List ℕ} {w : World} (r : Answer)
-      → shownAlone (leftAlone r (w .store) []) ≡ shownAlone (plain (lookUp dir name) (w .store))
+      → plainShown (plainLeft r (w .store) []) ≡ plainShown (plain (lookUp dir name) (w .store))
       → Did (call (lookUp dir name)) w (got (told r) []) w
   has-read : {inode offset : ℕ} {out filled : List ℕ} {w : World} (r : Answer)
-      → shownAlone (leftAlone r (w .store) filled) ≡ shownAlone (plain (read inode offset out) (w .store))
+      → plainShown (plainLeft r (w .store) filled) ≡ plainShown (plain (read inode offset out) (w .store))
       → Did (call (read inode offset out)) w (got (told r) filled) w
   -- the file calls over the three buffers (watch/src/lib.rt)
   created : {dir : ℕ} {name : List ℕ} {kind : Kind} {w v : World} (r : Answer)
@@ -55,7 +55,7 @@ pub data Did : Event → World → Received → World → Type 0 where
       → Did starts w (got (told r) []) (world (w .store) image desk)
   stepped : {w : World} {image desk : List ℕ} (r : Answer)
       → shown (left r (w .store) image desk) ≡ shown (step (w .store) (w .image) (w .desk))
-      → Did steps w (got (told r) []) (world (w .store) image desk)
+      → Did advances w (got (told r) []) (world (w .store) image desk)
   asked : {w : World} (r : Status)
       → toldStatus r ≡ toldStatus (status (w .store) (w .image) (w .desk))
       → Did asks w (got (toldStatus r) []) w

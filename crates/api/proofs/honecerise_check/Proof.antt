@@ -4,8 +4,8 @@ use denote.Ref.{now}
 use borrow.Author.Tests.{eq-eqb, ne-eqb}
 use Rattle.bounded.specs.Count.{one}
 use Rattle.bounded.specs.Search.{pick}
-use Rattle.sound.specs.Sound.{isSound}
 use Rattle.sound.specs.declared.Form.the-variants.{Store, Image}
+use Rattle.sound.specs.Test.{isSound}
 use Rattle.api.specs.Api.{checked}
 use borrow.Author.Needs.{needs}
 use Rattle.api.proofs.honecerise_check.Statement.{statement}

@@ -11,7 +11,7 @@ use lib.ListN.{length, replicate}
 use Rattle.bounded.proofs.SumLaws.{sum-ext}
 use Rattle.bounded.specs.Search.{pick}
 use Rattle.octets.specs.Octets.{part, splice}
-use Rattle.layout.specs.Sizes.{addressCount, mostStoreBlocks}
+use Rattle.layout.specs.Sizes.{addressCount}
 use Rattle.layout.specs.Inode.{kindOf, sizeOf, freeKind, directoryKind}
 use Rattle.layout.specs.Block.{blockOf, blocksUsed, kthBlock}
 use Rattle.names.specs.Entry.{entryBytes, entryInode}
@@ -21,6 +21,7 @@ use Rattle.desk.specs.declared.Desk.{Desk}
 use Rattle.desk.specs.Desk.{deskOf, markOf}
 use Rattle.sound.specs.Place.{placeOf}
 use Rattle.sound.specs.Sound.{Sound, inodesIn}
+use Rattle.sound.specs.declared.Form.the-variants.{Store}
 use Rattle.changes.proofs.StoreLaws.{dir-of}
 use Rattle.changes.proofs.SoundTreeLaws.{body-at}
 use Rattle.files.specs.Effect.{Entry, placeIn, Effect}
@@ -58,13 +59,13 @@ module _ (d e : List ℕ) (n i k : ℕ) (l : k < addressCount) (marks : (t : ℕ
       ∙ ap (λ (y : List ℕ). pick (eqb (kindOf s i) directoryKind) y (blockOf s n (kthBlock s n i k))) (entries-same (blockOf s n (kthBlock s n i k)) slotsInBlock (omega arith))
 
 -- ---- another store, and other marks: the locked inode stays, and so do its marks
-module _ {n b : ℕ} {s m d : List ℕ} (k : Sound mostStoreBlocks false s) (x : n ≡ inodesIn s) (h : Laid n b s m d) (t e : List ℕ) (a : MarksAlone n d e)
+module _ {n b : ℕ} {s m d : List ℕ} (k : Sound Store s) (x : n ≡ inodesIn s) (h : Laid n b s m d) (t e : List ℕ) (a : MarksAlone n d e)
     (stays : deskOf d .locked ≢ 0 → Stays s t n (deskOf d .locked)) (marks : deskOf d .locked ≢ 0 → (u : ℕ) → u < mostSlots → markOf e n (deskOf d .locked) u ≡ markOf d n (deskOf d .locked) u) where
   lock-same : deskOf e .locked ≡ deskOf d .locked
   lock-same = ap (λ (z : Desk). z .locked) (a .head)
 
-  copied-same : deskOf e .copied ≡ deskOf d .copied
-  copied-same = ap (λ (z : Desk). z .copied) (a .head)
+  copied-same : deskOf e .progress ≡ deskOf d .progress
+  copied-same = ap (λ (z : Desk). z .progress) (a .head)
 
   desk : DeskLaid n b e
   desk =
@@ -82,7 +83,7 @@ module _ {n b : ℕ} {s m d : List ℕ} (k : Sound mostStoreBlocks false s) (x :
         none = λ z. copied-same ∙ f .none (sym l ∙ z);
       }
 
-  opened-here : deskOf d .locked ≢ 0 → Open n b t m e (deskOf d .locked) (deskOf d .copied)
+  opened-here : deskOf d .locked ≢ 0 → Open n b t m e (deskOf d .locked) (deskOf d .progress)
   opened-here z =
       let o = h .opened z in
       let r = stays z in
@@ -95,14 +96,14 @@ module _ {n b : ℕ} {s m d : List ℕ} (k : Sound mostStoreBlocks false s) (x :
         links = o .links;
         size = o .size;
         parent = o .parent;
-        few = subst (λ (y : ℕ). deskOf d .copied ≤ blocksUsed y) (sym (r .inode .size)) f;
+        few = subst (λ (y : ℕ). deskOf d .progress ≤ blocksUsed y) (sym (r .inode .size)) f;
         named = o .named;
         rest = o .rest;
         blocks = λ j l. o .blocks j l ∙ sym (block-same d e n (deskOf d .locked) j (omega arith) (marks z) (same-copied a) s t (omega arith) r);
       }
 
-  opened : deskOf e .locked ≢ 0 → Open n b t m e (deskOf e .locked) (deskOf e .copied)
-  opened z = subst (λ (y : Desk). Open n b t m e (y .locked) (y .copied)) (sym (a .head)) (opened-here (λ w. z (lock-same ∙ w)))
+  opened : deskOf e .locked ≢ 0 → Open n b t m e (deskOf e .locked) (deskOf e .progress)
+  opened z = subst (λ (y : Desk). Open n b t m e (y .locked) (y .progress)) (sym (a .head)) (opened-here (λ w. z (lock-same ∙ w)))
 
   costs : (j : ℕ) → j < n → cost m d n j ≡ cost m e n j
   unfolding cost
@@ -110,7 +111,7 @@ module _ {n b : ℕ} {s m d : List ℕ} (k : Sound mostStoreBlocks false s) (x :
 
   so-far : costSoFar d ≡ costSoFar e
   unfolding costSoFar
-  so-far = ap (λ (z : Desk). pick (eqb (z .locked) 0) 0 (1 + z .copied)) (sym (a .head))
+  so-far = ap (λ (z : Desk). pick (eqb (z .locked) 0) 0 (1 + z .progress)) (sym (a .head))
 
   pub notes-laid : Laid n b t m e
   notes-laid = record {
@@ -130,7 +131,7 @@ module _ {n b : ℕ} {s m d : List ℕ} (k : Sound mostStoreBlocks false s) (x :
 pub stands-ranged : (s : List ℕ) (n : ℕ) (y : Entry) → Stands s n y → Ranged n y
 stands-ranged s n y r = record { low = r .low; high = r .high; small = r .small }
 
-pub stands-whole : (s : List ℕ) (n : ℕ) → Sound mostStoreBlocks false s → n ≡ inodesIn s → (y : Entry) → Stands s n y → Whole n y
+pub stands-whole : (s : List ℕ) (n : ℕ) → Sound Store s → n ≡ inodesIn s → (y : Entry) → Stands s n y → Whole n y
 stands-whole s n k e y r =
     let l = r .low in
     let o = r .high in
@@ -143,7 +144,7 @@ pub away-from : (n i t : ℕ) (ys : List Entry) → t < mostSlots → 1 ≤ i �
 away-from n i t [] u l r a = tt
 away-from n i t (y ∷ ys) u l r a = ((λ z. let v = r .0 .low in let w = r .0 .small in a .0 (omega arith)), away-from n i t ys u l (r .1) (a .1))
 
-module _ {n b : ℕ} {s m d : List ℕ} (k : Sound mostStoreBlocks false s) (e : n ≡ inodesIn s) (h : Laid n b s m d) (x : Effect) (f : Lawful s n x) where
+module _ {n b : ℕ} {s m d : List ℕ} (k : Sound Store s) (e : n ≡ inodesIn s) (h : Laid n b s m d) (x : Effect) (f : Lawful s n x) where
   pub taken-whole : All (Whole n) (x .taken)
   taken-whole = all-map _ _ (x .taken) (stands-whole s n k e) (f .stood)
 

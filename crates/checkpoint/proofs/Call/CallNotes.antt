@@ -12,7 +12,7 @@ use lib.ListN.{length}
 use Rattle.bounded.specs.Search.{pick}
 use Rattle.directory.specs.Slot.{mostSlots}
 use Rattle.desk.specs.Sizes.{deskLength}
-use Rattle.desk.specs.Desk.{deskOf, reservedZero, copiedOf, markOf, setMark, clearMark}
+use Rattle.desk.specs.Desk.{deskOf, deskRestZero, copiedOf, markOf, setMark, clearMark}
 use Rattle.desk.proofs.DeskLaws.{length-setMark, length-clearMark, desk-setMark, desk-clearMark, reserved-setMark, reserved-clearMark, copied-setMark, copied-clearMark, mark-setMark-same, mark-setMark-slot, mark-setMark-other, mark-clearMark-slot, mark-clearMark-other}
 use Rattle.sound.specs.Place.{placeOf}
 use Rattle.files.specs.Effect.{Entry, placeIn}
@@ -43,7 +43,7 @@ idle-call m d n ys zs e = (cut-idle m d n ys e, ap (λ (x : List ℕ). setMarks 
 pub record MarksAlone (n : ℕ) (d e : List ℕ) : Type 0 where
   pub long : length e ≡ length d
   pub head : deskOf e ≡ deskOf d
-  pub reserved : reservedZero e ≡ reservedZero d
+  pub reserved : deskRestZero e ≡ deskRestZero d
   pub copied : (i : ℕ) → 1 ≤ i → i ≤ n → copiedOf e i ≡ copiedOf d i
 
 notes-stay : (n : ℕ) (d : List ℕ) → MarksAlone n d d

@@ -10,7 +10,7 @@ use lib.ListN.{getD}
 use Rattle.bounded.specs.Search.{pick}
 use Rattle.bounded.specs.Table.{table}
 use Rattle.bounded.proofs.TableLaws.{table-ext}
-use Rattle.layout.specs.Sizes.{mostStoreBlocks, blockBytes}
+use Rattle.layout.specs.Sizes.{blockBytes}
 use Rattle.layout.specs.Inode.{kindOf, sizeOf, parentOf, freeKind, fileKind}
 use Rattle.layout.specs.Block.{blockOf, blocksUsed}
 use Rattle.layout.proofs.ViewLaws.{within-in, within-out, within-ext, in-range, below-in, below-out, is-below}
@@ -19,6 +19,7 @@ use Rattle.desk.specs.declared.Desk.{Desk}
 use Rattle.desk.specs.Desk.{deskOf, markOf}
 use Rattle.sound.specs.Place.{dirOf, slotOf, filled, naming, placeOf}
 use Rattle.sound.specs.Sound.{Sound, inodesIn}
+use Rattle.sound.specs.declared.Form.the-variants.{Store}
 use Rattle.changes.proofs.BaredLaws.{naming-none}
 use Rattle.content.specs.Content.{fileByte, fileBytes}
 use Rattle.files.specs.Effect.{Entry, placeIn, Effect}
@@ -56,7 +57,7 @@ file-same : (m v : List ℕ) (n i : ℕ) → sizeOf v i ≡ sizeOf m i → ((o :
 unfolding fileBytes
 file-same m v n i e f = ap (table (λ j. fileByte v n i (0 + j))) e ∙ table-ext (λ j. fileByte v n i (0 + j)) (λ j. fileByte m n i (0 + j)) (sizeOf m i) (λ j l. f (0 + j) (omega arith))
 
-module _ {n b : ℕ} {s m d : List ℕ} (k : Sound mostStoreBlocks false s) (e : n ≡ inodesIn s) (h : Laid n b s m d) (x : Effect) (f : Lawful s n x) (apart : Parted x) (a : anyLocked d (x .touches) ≡ false) where
+module _ {n b : ℕ} {s m d : List ℕ} (k : Sound Store s) (e : n ≡ inodesIn s) (h : Laid n b s m d) (x : Effect) (f : Lawful s n x) (apart : Parted x) (a : anyLocked d (x .touches) ≡ false) where
   abbrev image : List ℕ
   image = cutEntries m d n (x .taken)
 

@@ -11,13 +11,14 @@ use lib.Dec.{eqb}
 use lib.ListN.{length}
 use Rattle.bounded.specs.Search.{pick}
 use Rattle.bounded.proofs.BoolLaws.{clash, holds, and-left, and-right}
-use Rattle.layout.specs.Sizes.{addressCount, mostStoreBlocks}
+use Rattle.layout.specs.Sizes.{addressCount}
 use Rattle.layout.specs.Inode.{kindOf, sizeOf, fileKind}
 use Rattle.layout.specs.Block.{blocksUsed, kthBlock}
 use Rattle.directory.specs.Slot.{mostSlots, clearEntry}
 use Rattle.sound.specs.Place.{entryAt, naming}
 use Rattle.sound.specs.Sound.{Sound, inodesIn}
 use Rattle.sound.proofs.PlaceLaws.{naming-slot, naming-filled, place-dir, place-slot, slot-place}
+use Rattle.sound.specs.declared.Form.the-variants.{Store}
 use Rattle.changes.proofs.SameLaws.{SameInode, SameBlock, inode-stays}
 use Rattle.changes.proofs.EntryWriteLaws.{SlotIn}
 use Rattle.files.specs.Effect.{Entry, placeIn}
@@ -85,7 +86,7 @@ module _ {n b : ℕ} {s m d : List ℕ} (h : Laid n b s m d) (y : Entry) (r : Wh
       let f : isCopied d n (y .directory) ≡ true = holds (isCopied d n (y .directory)) (λ w. let v = h .blank (y .directory) (k .low) (k .high) w in omega arith) in
       rw (g, f, c) (eq-eqb (slotNames m n (y .directory) (y .slot)) (y .inode) (slot-names ∙ e))
 
-  pub image-laid : Sound mostStoreBlocks false s → n ≡ inodesIn s → Laid n b s (cutImage m d n (y .directory) (y .slot) (y .inode)) d
+  pub image-laid : Sound Store s → n ≡ inodesIn s → Laid n b s (cutImage m d n (y .directory) (y .slot) (y .inode)) d
   unfolding cutImage
   image-laid k x = go test refl
     where
@@ -94,7 +95,7 @@ module _ {n b : ℕ} {s m d : List ℕ} (h : Laid n b s m d) (y : Entry) (r : Wh
       go false e = h
 
 -- ---- all that a call takes
-pub entries-laid : {n b : ℕ} {s m d : List ℕ} → Sound mostStoreBlocks false s → n ≡ inodesIn s → Laid n b s m d → (ys : List Entry) → All (Whole n) ys → Laid n b s (cutEntries m d n ys) d
+pub entries-laid : {n b : ℕ} {s m d : List ℕ} → Sound Store s → n ≡ inodesIn s → Laid n b s m d → (ys : List Entry) → All (Whole n) ys → Laid n b s (cutEntries m d n ys) d
 unfolding cutEntries
 entries-laid k x h [] r = h
 entries-laid k x h (y ∷ ys) r = entries-laid k x (image-laid h y (r .0) k x) ys (r .1)

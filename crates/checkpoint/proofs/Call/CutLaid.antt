@@ -10,16 +10,17 @@ use borrow.Author.Tests.{not-true}
 use lib.ListN.{getD}
 use Rattle.bounded.specs.Search.{pick}
 use Rattle.bounded.proofs.SumLaws.{sum-ext}
-use Rattle.layout.specs.Sizes.{addressCount, blockBytes, mostStoreBlocks}
-use Rattle.layout.specs.Inode.{sizeOf, place}
+use Rattle.layout.specs.Sizes.{addressCount, blockBytes}
+use Rattle.layout.specs.Inode.{sizeOf, addressIndex}
 use Rattle.layout.specs.Block.{blockOf, blocksUsed, kthBlock}
-use Rattle.layout.specs.Free.{named}
+use Rattle.layout.specs.Free.{blockNamed, blockFree}
 use Rattle.names.specs.Entry.{isEmpty}
 use Rattle.directory.specs.Slot.{mostSlots, clearEntry}
 use Rattle.desk.specs.Desk.{deskOf}
 use Rattle.sound.specs.Place.{isSlot, entryAt, placeOf}
-use Rattle.sound.specs.Sound.{Sound, inodesIn, unnamedB}
+use Rattle.sound.specs.Sound.{Sound, inodesIn}
 use Rattle.sound.proofs.FactLaws.{unnamed}
+use Rattle.sound.specs.declared.Form.the-variants.{Store}
 use Rattle.changes.proofs.StoreLaws.{dir-of}
 use Rattle.changes.proofs.KeepLaws.{inode-kept}
 use Rattle.changes.proofs.AddressLaws.{same-named, same-differ}
@@ -30,14 +31,14 @@ use Rattle.checkpoint.proofs.Copy.NamingLaws.{used-other}
 use Rattle.checkpoint.proofs.Call.CutLaws.{inside, in-use, slot-same, cut-inode, cut-block, cut-file, cut-empty, cut-other}
 
 -- no more than twelve blocks are copied
-pub copied-few : {n b : ℕ} {s m d : List ℕ} → Sound mostStoreBlocks false s → n ≡ inodesIn s → Laid n b s m d → deskOf d .locked ≢ 0 → deskOf d .copied ≤ addressCount
+pub copied-few : {n b : ℕ} {s m d : List ℕ} → Sound Store s → n ≡ inodesIn s → Laid n b s m d → deskOf d .locked ≢ 0 → deskOf d .progress ≤ addressCount
 copied-few {n} {b} {s} {m} {d} k x h z =
     let o = h .opened z in
     let u = o .few in
     let v = dir-of s n k x (deskOf d .locked) (o .low) (h .desk .high) .few in
     omega arith
 
-module _ {n b : ℕ} {s m d : List ℕ} (k : Sound mostStoreBlocks false s) (x : n ≡ inodesIn s) (h : Laid n b s m d) (e t : ℕ) (slot : SlotIn m n e t) where
+module _ {n b : ℕ} {s m d : List ℕ} (k : Sound Store s) (x : n ≡ inodesIn s) (h : Laid n b s m d) (e t : ℕ) (slot : SlotIn m n e t) where
   abbrev cut : List ℕ
   cut = clearEntry m n e t
 
@@ -47,7 +48,7 @@ module _ {n b : ℕ} {s m d : List ℕ} (k : Sound mostStoreBlocks false s) (x :
   not-locked : deskOf d .locked ≢ e
   not-locked z = used-other h e (slot .low) (slot .high) (in-use h e t slot) (sym z)
 
-  opened : deskOf d .locked ≢ 0 → Open n b s cut d (deskOf d .locked) (deskOf d .copied)
+  opened : deskOf d .locked ≢ 0 → Open n b s cut d (deskOf d .locked) (deskOf d .progress)
   unfolding kthBlock
   opened z =
       let o = h .opened z in
@@ -74,17 +75,17 @@ module _ {n b : ℕ} {s m d : List ℕ} (k : Sound mostStoreBlocks false s) (x :
   addresses j a c = cut-inode h e t slot j a c .blocks
 
   -- a block that no address names is not the one written
-  other-block : (i : ℕ) → unnamedB m n i ≡ true → i + 1 ≢ kthBlock m n e (t / 4)
+  other-block : (i : ℕ) → blockFree m n (i + 1) ≡ true → i + 1 ≢ kthBlock m n e (t / 4)
   unfolding kthBlock
   other-block i u z =
       let a = slot .low in
       let c = slot .high in
       let f = slot .small in
-      unnamed m n (i + 1) (not-true (named m n (i + 1)) u) (place e (t / 4)) (omega arith) (sym z)
+      unnamed m n (i + 1) (not-true (blockNamed m n (i + 1)) u) (addressIndex e (t / 4)) (omega arith) (sym z)
 
-  blanks : (i : ℕ) → i < b → unnamedB cut n i ≡ true → (o : ℕ) → o < blockBytes → getD (blockOf cut n (i + 1)) o 0 ≡ 0
+  blanks : (i : ℕ) → i < b → blockFree cut n (i + 1) ≡ true → (o : ℕ) → o < blockBytes → getD (blockOf cut n (i + 1)) o 0 ≡ 0
   blanks i l u o v =
-      let w : unnamedB m n i ≡ true = ap not (sym (same-named m cut n addresses (i + 1))) ∙ u in
+      let w : blockFree m n (i + 1) ≡ true = ap not (sym (same-named m cut n addresses (i + 1))) ∙ u in
       ap (λ (y : List ℕ). getD y o 0) (inside h e t slot .others (i + 1) (omega arith) (other-block i w)) ∙ h .blanks i l w o v
 
   fair : (p : ℕ) → p < mostSlots * n → isSlot cut p ≡ true → Fair (entryAt cut n p)

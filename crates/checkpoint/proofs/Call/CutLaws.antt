@@ -10,7 +10,7 @@ use lib.ListN.{length}
 use Rattle.bounded.specs.Count.{Differ}
 use Rattle.octets.specs.Octets.{Apart}
 use Rattle.layout.specs.Sizes.{addressCount}
-use Rattle.layout.specs.Inode.{kindOf, sizeOf, addressOf, place, freeKind, fileKind, directoryKind}
+use Rattle.layout.specs.Inode.{kindOf, sizeOf, addressOf, addressIndex, freeKind, fileKind, directoryKind}
 use Rattle.layout.specs.Block.{blocksUsed, kthBlock}
 use Rattle.names.specs.Entry.{isEmpty}
 use Rattle.names.proofs.EntryLaws.{empty-inode, empty-zeros}
@@ -30,11 +30,11 @@ pub one-address : (m : List ℕ) (n i k j l : ℕ) → Differ (addressOf m n) (a
     → 1 ≤ kthBlock m n j l → kthBlock m n i k ≡ kthBlock m n j l → (i ≡ j) × (k ≡ l)
 unfolding kthBlock
 one-address m n i k j l h a b c d u v o e =
-    both (decLt (place i k) (place j l)) (decLt (place j l) (place i k))
-    (λ z. h (place i k) (place j l) z (omega arith) o e)
-    (λ z. h (place j l) (place i k) z (omega arith) (omega arith) (sym e))
+    both (decLt (addressIndex i k) (addressIndex j l)) (decLt (addressIndex j l) (addressIndex i k))
+    (λ z. h (addressIndex i k) (addressIndex j l) z (omega arith) o e)
+    (λ z. h (addressIndex j l) (addressIndex i k) z (omega arith) (omega arith) (sym e))
   where
-    both : Dec (place i k < place j l) → Dec (place j l < place i k) → (place i k < place j l → ⊥) → (place j l < place i k → ⊥) → (i ≡ j) × (k ≡ l)
+    both : Dec (addressIndex i k < addressIndex j l) → Dec (addressIndex j l < addressIndex i k) → (addressIndex i k < addressIndex j l → ⊥) → (addressIndex j l < addressIndex i k → ⊥) → (i ≡ j) × (k ≡ l)
     both (yes z) w f g = absurd (f z)
     both (no z) (yes w) f g = absurd (g w)
     both (no z) (no w) f g = (omega arith, omega arith)

@@ -9,7 +9,6 @@ use borrow.Author.Tests.{eq-eqb}
 use lib.Dec.{eqb}
 use Rattle.bounded.specs.Search.{pick}
 use Rattle.bounded.proofs.BoolLaws.{clash, or-l}
-use Rattle.layout.specs.Sizes.{mostStoreBlocks}
 use Rattle.directory.specs.Slot.{mostSlots}
 use Rattle.sound.specs.Place.{filled, naming}
 use Rattle.sound.specs.Sound.{Sound, inodesIn, blocksIn}
@@ -32,7 +31,7 @@ use Rattle.checkpoint.specs.Shown.{numberOf}
 use Rattle.checkpoint.specs.List.{Ready, call, outcome, next, accepted, takenFrom, anyAt, takes}
 use Rattle.checkpoint.proofs.Call.PartedLaws.{Parted, taken-made-apart}
 
-pub ready-sound : (w : World) → Ready w → Sound mostStoreBlocks false (w .store)
+pub ready-sound : (w : World) → Ready w → Sound Store (w .store)
 ready-sound w r = is-sound Store (w .store) .to (r .sound)
 
 -- ---- where refusals 1 to 3 do not come, the plan decides, and the copy's timing
@@ -104,7 +103,7 @@ live-accepted c w r a =
     b : ℕ
     b = blocksIn s
 
-    h : Sound mostStoreBlocks false s
+    h : Sound Store s
     h = ready-sound w r
 
     free : (x : Effect) (f : Bool) → anyLocked (w .desk) (x .touches) ≡ f → done w (pick f (refused Busy) (does x)) ≡ true → f ≡ false

@@ -14,17 +14,18 @@ use Rattle.bounded.proofs.BoolLaws.{clash, holds, and-left, and-right, and-true
 use Rattle.bounded.specs.Reflect.{Reflects}
 use Rattle.bounded.proofs.ReflectLaws.{r-eq, r-some}
 use Rattle.bounded.proofs.SearchLaws.{found-lowest, none-below}
-use Rattle.layout.specs.Sizes.{mostStoreBlocks, addressCount, rootInode}
+use Rattle.layout.specs.Sizes.{addressCount, rootInode}
 use Rattle.layout.specs.Inode.{sizeOf}
 use Rattle.layout.specs.Block.{blocksUsed, kthBlock}
-use Rattle.layout.specs.Free.{named}
+use Rattle.layout.specs.Free.{blockNamed}
 use Rattle.layout.proofs.ViewLaws.{below-out, is-below}
 use Rattle.directory.specs.Slot.{mostSlots}
 use Rattle.desk.specs.Desk.{deskOf}
 use Rattle.sound.specs.Place.{naming}
 use Rattle.sound.specs.Sound.{Sound, inodesIn}
+use Rattle.sound.specs.declared.Form.the-variants.{Store}
 use Rattle.copying.specs.Holds.{Ended}
-use Rattle.checkpoint.specs.Image.{imageNaming, isNamed}
+use Rattle.checkpoint.specs.Image.{imageNaming, inodeNamed}
 use Rattle.checkpoint.specs.Notes.{isCopied}
 use Rattle.checkpoint.specs.Copier.{Step, lock, copy, close, finish, full, nextInode, targetBlock, lockedStep, freeStep, stepOf}
 use Rattle.checkpoint.proofs.Copy.Seen.{shelfOf, seen}
@@ -34,8 +35,8 @@ use Rattle.checkpoint.proofs.Copy.TargetLaws.{target-at, target-absent}
 use Rattle.checkpoint.proofs.Copy.RoomLaws.{laid-room}
 
 -- some image directory names inode i
-pub named-in-image : (m : List ℕ) (n i : ℕ) → Reflects (isNamed m n i) ((p : ℕ) × (p < mostSlots * n) × (imageNaming m n p ≡ i))
-unfolding isNamed
+pub named-in-image : (m : List ℕ) (n i : ℕ) → Reflects (inodeNamed m n i) ((p : ℕ) × (p < mostSlots * n) × (imageNaming m n p ≡ i))
+unfolding inodeNamed
 named-in-image m n i = r-some (mostSlots * n) (λ p. r-eq (imageNaming m n p) i)
 
 pub data Chosen (s m d : List ℕ) (n : ℕ) : Step → Type 0 where
@@ -43,51 +44,51 @@ pub data Chosen (s m d : List ℕ) (n : ℕ) : Step → Type 0 where
   will-lock : (l : ℕ) → deskOf d .locked ≡ 0 → 1 ≤ l → l ≤ n → isCopied d n l ≡ false
       → ((l ≡ rootInode) ⊎ ((p : ℕ) × (p < mostSlots * n) × (imageNaming m n p ≡ l))) → Chosen s m d n (lock l)
   -- 3
-  will-copy : (c : ℕ) → deskOf d .locked ≢ 0 → deskOf d .copied < blocksUsed (sizeOf s (deskOf d .locked))
-      → targetBlock m n (deskOf d .blocks) (kthBlock s n (deskOf d .locked) (deskOf d .copied)) ≡ At c → Chosen s m d n (copy (deskOf d .locked) (deskOf d .copied) c)
+  will-copy : (c : ℕ) → deskOf d .locked ≢ 0 → deskOf d .progress < blocksUsed (sizeOf s (deskOf d .locked))
+      → targetBlock m n (deskOf d .blocks) (kthBlock s n (deskOf d .locked) (deskOf d .progress)) ≡ At c → Chosen s m d n (copy (deskOf d .locked) (deskOf d .progress) c)
   -- 4
-  will-close : deskOf d .locked ≢ 0 → blocksUsed (sizeOf s (deskOf d .locked)) ≤ deskOf d .copied → Chosen s m d n (close (deskOf d .locked))
+  will-close : deskOf d .locked ≢ 0 → blocksUsed (sizeOf s (deskOf d .locked)) ≤ deskOf d .progress → Chosen s m d n (close (deskOf d .locked))
   -- 5
   will-finish : deskOf d .locked ≡ 0 → isCopied d n rootInode ≡ true
       → ((p : ℕ) → p < mostSlots * n → 1 ≤ imageNaming m n p → imageNaming m n p ≤ n → isCopied d n (imageNaming m n p) ≡ true) → Chosen s m d n finish
   -- 16
-  no-room : deskOf d .locked ≢ 0 → deskOf d .copied < blocksUsed (sizeOf s (deskOf d .locked))
-      → ((c : ℕ) → 1 ≤ c → c ≤ deskOf d .blocks → named m n c ≡ true) → Chosen s m d n full
+  no-room : deskOf d .locked ≢ 0 → deskOf d .progress < blocksUsed (sizeOf s (deskOf d .locked))
+      → ((c : ℕ) → 1 ≤ c → c ≤ deskOf d .blocks → blockNamed m n c ≡ true) → Chosen s m d n full
 
 module _ (s m d : List ℕ) (n : ℕ) where
   -- ---- something is locked
   module _ (z : deskOf d .locked ≢ 0) where
-    block : deskOf d .copied < blocksUsed (sizeOf s (deskOf d .locked)) → (r : Found)
-        → targetBlock m n (deskOf d .blocks) (kthBlock s n (deskOf d .locked) (deskOf d .copied)) ≡ r
-        → Chosen s m d n (onFound r (λ c. copy (deskOf d .locked) (deskOf d .copied) c) full)
+    block : deskOf d .progress < blocksUsed (sizeOf s (deskOf d .locked)) → (r : Found)
+        → targetBlock m n (deskOf d .blocks) (kthBlock s n (deskOf d .locked) (deskOf d .progress)) ≡ r
+        → Chosen s m d n (onFound r (λ c. copy (deskOf d .locked) (deskOf d .progress) c) full)
     block l (At c) e = will-copy c z l e
-    block l Absent e = no-room z l (target-absent m n (deskOf d .blocks) (kthBlock s n (deskOf d .locked) (deskOf d .copied)) e)
+    block l Absent e = no-room z l (target-absent m n (deskOf d .blocks) (kthBlock s n (deskOf d .locked) (deskOf d .progress)) e)
 
-    chosen-locked : Chosen s m d n (lockedStep s m n (deskOf d .blocks) (deskOf d .locked) (deskOf d .copied))
+    chosen-locked : Chosen s m d n (lockedStep s m n (deskOf d .blocks) (deskOf d .locked) (deskOf d .progress))
     unfolding lockedStep
-    chosen-locked = go (ltb (deskOf d .copied) (blocksUsed (sizeOf s (deskOf d .locked)))) refl
+    chosen-locked = go (ltb (deskOf d .progress) (blocksUsed (sizeOf s (deskOf d .locked)))) refl
       where
-        go : (t : Bool) → ltb (deskOf d .copied) (blocksUsed (sizeOf s (deskOf d .locked))) ≡ t
-            → Chosen s m d n (pick t (onFound (targetBlock m n (deskOf d .blocks) (kthBlock s n (deskOf d .locked) (deskOf d .copied))) (λ c. copy (deskOf d .locked) (deskOf d .copied) c) full) (close (deskOf d .locked)))
-        go true e = block (ltb-true _ _ e) (targetBlock m n (deskOf d .blocks) (kthBlock s n (deskOf d .locked) (deskOf d .copied))) refl
+        go : (t : Bool) → ltb (deskOf d .progress) (blocksUsed (sizeOf s (deskOf d .locked))) ≡ t
+            → Chosen s m d n (pick t (onFound (targetBlock m n (deskOf d .blocks) (kthBlock s n (deskOf d .locked) (deskOf d .progress))) (λ c. copy (deskOf d .locked) (deskOf d .progress) c) full) (close (deskOf d .locked)))
+        go true e = block (ltb-true _ _ e) (targetBlock m n (deskOf d .blocks) (kthBlock s n (deskOf d .locked) (deskOf d .progress))) refl
         go false e = will-close z (ltb-false _ _ e)
 
   -- ---- nothing is locked
   abbrev wanted : ℕ → Bool
-  wanted i = not (isCopied d n i) && isNamed m n i
+  wanted i = not (isCopied d n i) && inodeNamed m n i
 
   module _ (z : deskOf d .locked ≡ 0) where
     next : isCopied d n rootInode ≡ true → (r : Found) → firstFrom wanted 1 n ≡ r → Chosen s m d n (onFound r lock finish)
     next c (At i) e =
         let w = found-lowest wanted 1 n i e in
         let k = w .below in
-        let g : isNamed m n i ≡ true = and-right (not (isCopied d n i)) (isNamed m n i) (w .holds) in
-        will-lock i z (w .from) (omega arith) (not-true (isCopied d n i) (and-left (not (isCopied d n i)) (isNamed m n i) (w .holds))) (inr (named-in-image m n i .to g))
+        let g : inodeNamed m n i ≡ true = and-right (not (isCopied d n i)) (inodeNamed m n i) (w .holds) in
+        will-lock i z (w .from) (omega arith) (not-true (isCopied d n i) (and-left (not (isCopied d n i)) (inodeNamed m n i) (w .holds))) (inr (named-in-image m n i .to g))
     next c Absent e =
         will-finish z c (λ p l a b.
         let i = imageNaming m n p in
-        let g : isNamed m n i ≡ true = named-in-image m n i .from (p, l, refl) in
-        holds (isCopied d n i) (λ q. clash (wanted i) (and-true (not (isCopied d n i)) (isNamed m n i) (ap not q) g) (none-below wanted 1 n e i a (omega arith))))
+        let g : inodeNamed m n i ≡ true = named-in-image m n i .from (p, l, refl) in
+        holds (isCopied d n i) (λ q. clash (wanted i) (and-true (not (isCopied d n i)) (inodeNamed m n i) (ap not q) g) (none-below wanted 1 n e i a (omega arith))))
 
     chosen-free : 1 ≤ n → Chosen s m d n (freeStep m d n)
     unfolding freeStep nextInode
@@ -101,7 +102,7 @@ module _ (s m d : List ℕ) (n : ℕ) where
   unfolding stepOf
   chosen l = go (eqb (deskOf d .locked) 0) refl
     where
-      go : (t : Bool) → eqb (deskOf d .locked) 0 ≡ t → Chosen s m d n (pick t (freeStep m d n) (lockedStep s m n (deskOf d .blocks) (deskOf d .locked) (deskOf d .copied)))
+      go : (t : Bool) → eqb (deskOf d .locked) 0 ≡ t → Chosen s m d n (pick t (freeStep m d n) (lockedStep s m n (deskOf d .blocks) (deskOf d .locked) (deskOf d .progress)))
       go true e = chosen-free (eqb-true (deskOf d .locked) 0 e) l
       go false e = chosen-locked (eqb-false (deskOf d .locked) 0 e)
 
@@ -119,7 +120,7 @@ chosen-ended {n} {b} {s} {m} {d} h (will-finish z c f) high = record {
         rw e (unfold seen in f p l (omega arith) (omega arith))
 
 -- "With 12 × N image blocks or more, 16 never comes in a run."
-pub never-full : {n b : ℕ} {s m d : List ℕ} → Laid n b s m d → Sound mostStoreBlocks false s → n ≡ inodesIn s → addressCount * n ≤ b → stepOf s m d n ≢ full
+pub never-full : {n b : ℕ} {s m d : List ℕ} → Laid n b s m d → Sound Store s → n ≡ inodesIn s → addressCount * n ≤ b → stepOf s m d n ≢ full
 never-full {n} {b} {s} {m} {d} h sound e enough q = go (stepOf s m d n) q (chosen s m d n (h .frame .some-inodes))
   where
     go : (x : Step) → x ≡ full → Chosen s m d n x → ⊥
@@ -130,6 +131,6 @@ never-full {n} {b} {s} {m} {d} h sound e enough q = go (stepOf s m d n) q (chose
     go x q (no-room z l all) =
         let r = laid-room h sound e z l enough in
         let k = h .desk .blocks in
-        let w = target-at m n b (kthBlock s n (deskOf d .locked) (deskOf d .copied)) (r .0) (r .1) in
+        let w = target-at m n b (kthBlock s n (deskOf d .locked) (deskOf d .progress)) (r .0) (r .1) in
         let v = w .high in
-        clash (named m n (r .0)) (all (r .0) (w .low) (omega arith)) (w .free)
+        clash (blockNamed m n (r .0)) (all (r .0) (w .low) (omega arith)) (w .free)

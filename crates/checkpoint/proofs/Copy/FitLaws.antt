@@ -12,54 +12,55 @@ use Rattle.bounded.specs.Search.{pick}
 use Rattle.bounded.specs.Reflect.{Reflects}
 use Rattle.bounded.proofs.BoolLaws.{clash}
 use Rattle.bounded.proofs.ReflectLaws.{r-eq, r-le, r-true, r-and, r-or, r-all, r-imp}
-use Rattle.layout.specs.Sizes.{mostInodes, mostStoreBlocks, mostImageBlocks, addressCount, rootInode, notComplete}
+use Rattle.layout.specs.Sizes.{mostInodes, mostStoreBlocks, mostImageBlocks, addressCount, rootInode, notComplete, mostBlocks}
 use Rattle.layout.specs.Header.{headerOf}
 use Rattle.layout.specs.Inode.{sizeOf, addressOf}
 use Rattle.layout.specs.Block.{storeLength, blocksUsed, kthBlock}
-use Rattle.desk.specs.Sizes.{deskLength, stopped}
-use Rattle.desk.specs.Desk.{deskOf, copiedOf, reservedZero}
+use Rattle.desk.specs.Sizes.{deskLength, stopped, stepsAnInode}
+use Rattle.desk.specs.Desk.{deskOf, copiedOf, deskRestZero}
 use Rattle.sound.specs.Sound.{Sound, inodesIn}
 use Rattle.sound.specs.declared.Form.the-variants.{Store}
 use Rattle.sound.proofs.SoundLaws.{framed, is-sound}
 use Rattle.changes.proofs.StoreLaws.{dir-of}
 use Rattle.changes.proofs.AddressLaws.{address-kth, kth-bound}
-use Rattle.checkpoint.specs.Fit.{deskFramed, isRunning, stepsAnInode, mostSteps, blocksFit, mostCopied, deskFits, imageFits, notesFit}
+use Rattle.checkpoint.specs.Fit.{deskFramed, isRunning, mostSteps, blocksFit, deskFits, imageFits, notesFit}
 use Rattle.checkpoint.specs.Notes.{isCopied}
 use Rattle.checkpoint.specs.List.{Ready}
 use Rattle.checkpoint.proofs.Copy.Laid.{Laid, cost}
 use Rattle.bounded.proofs.SumLaws.{sum-most, sum-spare}
+use Rattle.desk.proofs.DeskLaws.{desk-allowed}
 use Rattle.checkpoint.proofs.Step.LockLaws.{free-cost, locked-cost}
 
 -- ---- the tests and what they say
 pub desk-framed-is : (d : List ℕ) → Reflects (deskFramed d) ((1 ≤ deskOf d .inodes) × ((deskOf d .inodes ≤ mostInodes) × (length d ≡ deskLength (deskOf d .inodes))))
 unfolding deskFramed
-desk-framed-is d = r-and (r-le 1 (deskOf d .inodes)) (r-and (r-le (deskOf d .inodes) mostInodes) (r-eq (length d) (deskLength (deskOf d .inodes))))
+desk-framed-is d = desk-allowed (deskOf d .inodes) (length d)
 
 pub desk-fits-is : (d : List ℕ) → Reflects (deskFits d)
     ((deskOf d .state ≤ stopped)
     × ((blocksFit d ≡ true)
-    × ((reservedZero d ≡ true)
+    × ((deskRestZero d ≡ true)
     × (((k : ℕ) → k < deskOf d .inodes → copiedOf d (k + 1) ≤ 1)
     × ((deskOf d .locked ≤ deskOf d .inodes)
-    × ((deskOf d .copied ≤ mostCopied)
-    × (((isRunning d ≡ true) ⊎ ((deskOf d .locked ≡ 0) × (deskOf d .copied ≡ 0)))
+    × ((deskOf d .progress ≤ mostBlocks)
+    × (((isRunning d ≡ true) ⊎ ((deskOf d .locked ≡ 0) × (deskOf d .progress ≡ 0)))
     × (deskOf d .steps ≤ mostSteps d))))))))
 unfolding deskFits
 desk-fits-is d =
     r-and (r-le (deskOf d .state) stopped)
     (r-and (r-true (blocksFit d))
-    (r-and (r-true (reservedZero d))
+    (r-and (r-true (deskRestZero d))
     (r-and (r-all (deskOf d .inodes) (λ k. r-le (copiedOf d (k + 1)) 1))
     (r-and (r-le (deskOf d .locked) (deskOf d .inodes))
-    (r-and (r-le (deskOf d .copied) mostCopied)
-    (r-and (r-or (r-true (isRunning d)) (r-and (r-eq (deskOf d .locked) 0) (r-eq (deskOf d .copied) 0)))
+    (r-and (r-le (deskOf d .progress) mostBlocks)
+    (r-and (r-or (r-true (isRunning d)) (r-and (r-eq (deskOf d .locked) 0) (r-eq (deskOf d .progress) 0)))
     (r-le (deskOf d .steps) (mostSteps d))))))))
 
 -- "fields 6-9 not zero unless running"
-pub idle-free : (d : List ℕ) → deskFits d ≡ true → isRunning d ≡ false → (deskOf d .locked ≡ 0) × (deskOf d .copied ≡ 0)
+pub idle-free : (d : List ℕ) → deskFits d ≡ true → isRunning d ≡ false → (deskOf d .locked ≡ 0) × (deskOf d .progress ≡ 0)
 idle-free d fits idle = go (desk-fits-is d .to fits .1 .1 .1 .1 .1 .1 .0)
   where
-    go : (isRunning d ≡ true) ⊎ ((deskOf d .locked ≡ 0) × (deskOf d .copied ≡ 0)) → (deskOf d .locked ≡ 0) × (deskOf d .copied ≡ 0)
+    go : (isRunning d ≡ true) ⊎ ((deskOf d .locked ≡ 0) × (deskOf d .progress ≡ 0)) → (deskOf d .locked ≡ 0) × (deskOf d .progress ≡ 0)
     go (inl t) = absurd (clash (isRunning d) t idle)
     go (inr z) = z
 
@@ -87,9 +88,9 @@ module _ {n b : ℕ} {s m d : List ℕ} (h : Laid n b s m d) where
   -- ---- the image
   -- an address is at most b: that of an inode by itself, and that of the locked one
   pub laid-address : (x : ℕ) → x < addressCount * n → addressOf m n x ≤ b
-  laid-address x l = rw (address-kth m n x) (go (ℕ-discrete (x / 12 + 1) (deskOf d .locked)) (decLt (x % 12) (deskOf d .copied)))
+  laid-address x l = rw (address-kth m n x) (go (ℕ-discrete (x / 12 + 1) (deskOf d .locked)) (decLt (x % 12) (deskOf d .progress)))
     where
-      go : Dec (x / 12 + 1 ≡ deskOf d .locked) → Dec (x % 12 < deskOf d .copied) → kthBlock m n (x / 12 + 1) (x % 12) ≤ b
+      go : Dec (x / 12 + 1 ≡ deskOf d .locked) → Dec (x % 12 < deskOf d .progress) → kthBlock m n (x / 12 + 1) (x % 12) ≤ b
       go (no q) y = kth-bound m n b (x / 12 + 1) (x % 12) (omega arith) (h .inodes (x / 12 + 1) (omega arith) (omega arith) q)
       go (yes q) (yes y) = rw q (h .opened (λ z. omega arith) .named (x % 12) (omega arith) y .1)
       go (yes q) (no y) =
@@ -127,12 +128,12 @@ module _ {n b : ℕ} {s m d : List ℕ} (h : Laid n b s m d) where
   unfolding cost
   cost-none j e = rw e
 
-  module _ (sound : Sound mostStoreBlocks false s) (e : n ≡ inodesIn s) where
+  module _ (sound : Sound Store s) (e : n ≡ inodesIn s) where
     -- "more than 12 blocks copied" never
-    pub laid-copied : deskOf d .copied ≤ addressCount
+    pub laid-copied : deskOf d .progress ≤ addressCount
     laid-copied = go (ℕ-discrete (deskOf d .locked) 0)
       where
-        go : Dec (deskOf d .locked ≡ 0) → deskOf d .copied ≤ 12
+        go : Dec (deskOf d .locked ≡ 0) → deskOf d .progress ≤ 12
         go (yes z) = let c = h .desk .none z in omega arith
         go (no z) =
             let o = h .opened z .few in
@@ -156,7 +157,7 @@ module _ {n b : ℕ} {s m d : List ℕ} (h : Laid n b s m d) where
             let u = h .desk .high in
             let i : deskOf d .locked - 1 + 1 ≡ deskOf d .locked = omega arith in
             let v = cost-none (deskOf d .locked - 1) (rw i (h .opened z .new)) in
-            let r = sum-spare (cost m d n) 14 (1 + deskOf d .copied) (deskOf d .locked - 1) n cost-most (omega arith) (omega arith) in
+            let r = sum-spare (cost m d n) 14 (1 + deskOf d .progress) (deskOf d .locked - 1) n cost-most (omega arith) (omega arith) in
             omega arith
 
     -- ---- the desk
@@ -188,7 +189,7 @@ module _ {n b : ℕ} {s m d : List ℕ} (h : Laid n b s m d) where
 
     pub laid-ready : Ready (record { store = s; image = m; desk = d })
     laid-ready = record {
-      framed = framed mostStoreBlocks s .from (sound .framed);
+      framed = framed Store s .from (sound .framed);
       sound = is-sound Store s .from sound;
       desk = laid-framed;
       notes = laid-notes;

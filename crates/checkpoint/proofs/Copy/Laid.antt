@@ -10,9 +10,10 @@ use Rattle.bounded.specs.Search.{pick}
 use Rattle.bounded.specs.Count.{Differ}
 use Rattle.bounded.specs.Sum.{sum}
 use Rattle.layout.specs.Sizes.{mostInodes, mostImageBlocks, addressCount, blockBytes, rootInode, notComplete}
-use Rattle.layout.specs.Header.{headerOf, reservedZero}
-use Rattle.layout.specs.Inode.{kindOf, spareOf, linksOf, sizeOf, parentOf, addressOf, place, freeKind}
+use Rattle.layout.specs.Header.{headerOf, headerRestZero}
+use Rattle.layout.specs.Inode.{kindOf, spareOf, linksOf, sizeOf, parentOf, addressOf, addressIndex, freeKind}
 use Rattle.layout.specs.Block.{storeLength, blockOf, blocksUsed, kthBlock}
+use Rattle.layout.specs.Free.{blockFree}
 use Rattle.names.specs.Entry.{isEmpty, entryInode, legalEntry}
 use Rattle.directory.specs.Slot.{mostSlots}
 use Rattle.desk.specs.Sizes.{deskLength, running}
@@ -20,7 +21,6 @@ use Rattle.desk.specs.Desk.{deskOf, copiedOf}
 use Rattle.desk.specs.Desk as desk
 use Rattle.sound.specs.Place.{isSlot, entryAt}
 use Rattle.sound.specs.Inode.{InodeSound}
-use Rattle.sound.specs.Sound.{unnamedB}
 use Rattle.changes.proofs.SameLaws.{SameFrame}
 use Rattle.checkpoint.specs.Notes.{isCopied}
 use Rattle.checkpoint.specs.Copier.{copiedBlock}
@@ -31,11 +31,11 @@ pub record DeskLaid (n b : ℕ) (d : List ℕ) : Type 0 where
   pub inodes : deskOf d .inodes ≡ n
   pub blocks : deskOf d .blocks ≡ b
   pub state : deskOf d .state ≡ running
-  pub reserved : desk.reservedZero d ≡ true
+  pub reserved : desk.deskRestZero d ≡ true
   pub bytes : (i : ℕ) → 1 ≤ i → i ≤ n → copiedOf d i ≤ 1
   pub high : deskOf d .locked ≤ n
   -- with nothing locked no block is counted
-  pub none : deskOf d .locked ≡ 0 → deskOf d .copied ≡ 0
+  pub none : deskOf d .locked ≡ 0 → deskOf d .progress ≡ 0
 
 -- the image's frame
 pub record Frame (n b : ℕ) (m : List ℕ) : Type 0 where
@@ -48,7 +48,7 @@ pub record Frame (n b : ℕ) (m : List ℕ) : Type 0 where
   pub blocks : headerOf m .blocks ≡ b
   pub root : headerOf m .root ≡ rootInode
   pub complete : headerOf m .complete ≡ notComplete
-  pub reserved : reservedZero m ≡ true
+  pub reserved : headerRestZero m ≡ true
 
 pub frame-kept : {n b : ℕ} {m t : List ℕ} → SameFrame m t → Frame n b m → Frame n b t
 frame-kept g f = record {
@@ -74,7 +74,7 @@ pub record Open (n b : ℕ) (s m d : List ℕ) (l k : ℕ) : Type 0 where
   pub parent : parentOf m l ≡ 0
   pub few : k ≤ blocksUsed (sizeOf s l)
   pub named : (j : ℕ) → j < addressCount → j < k → (1 ≤ kthBlock m n l j) × (kthBlock m n l j ≤ b)
-  pub rest : (j : ℕ) → j < addressCount → k ≤ j → addressOf m n (place l j) ≡ 0
+  pub rest : (j : ℕ) → j < addressCount → k ≤ j → addressOf m n (addressIndex l j) ≡ 0
   pub blocks : (j : ℕ) → j < k → blockOf m n (kthBlock m n l j) ≡ copiedBlock s d n l j
 
 -- an image entry: empty, or it names an inode and has a legal name
@@ -87,7 +87,7 @@ cost m d n j = pick (isCopied d n (j + 1)) (2 + blocksUsed (sizeOf m (j + 1))) 0
 
 -- the steps that the locked inode has taken so far
 unfoldable pub costSoFar : List ℕ → ℕ
-costSoFar d = pick (eqb (deskOf d .locked) 0) 0 (1 + deskOf d .copied)
+costSoFar d = pick (eqb (deskOf d .locked) 0) 0 (1 + deskOf d .progress)
 
 pub record Laid (n b : ℕ) (s m d : List ℕ) : Type 0 where
   pub desk : DeskLaid n b d
@@ -95,10 +95,10 @@ pub record Laid (n b : ℕ) (s m d : List ℕ) : Type 0 where
   -- an inode that is not locked is sound by itself, and one that is not copied is blank
   pub inodes : (i : ℕ) → 1 ≤ i → i ≤ n → i ≢ deskOf d .locked → InodeSound m n b i
   pub blank : (i : ℕ) → 1 ≤ i → i ≤ n → isCopied d n i ≡ false → kindOf m i ≡ freeKind
-  pub opened : deskOf d .locked ≢ 0 → Open n b s m d (deskOf d .locked) (deskOf d .copied)
+  pub opened : deskOf d .locked ≢ 0 → Open n b s m d (deskOf d .locked) (deskOf d .progress)
   -- no image block is named twice, and those that none names are zero
   pub once : Differ (addressOf m n) (addressCount * n)
-  pub blanks : (k : ℕ) → k < b → unnamedB m n k ≡ true → (o : ℕ) → o < blockBytes → getD (blockOf m n (k + 1)) o 0 ≡ 0
+  pub blanks : (k : ℕ) → k < b → blockFree m n (k + 1) ≡ true → (o : ℕ) → o < blockBytes → getD (blockOf m n (k + 1)) o 0 ≡ 0
   pub fair : (p : ℕ) → p < mostSlots * n → isSlot m p ≡ true → Fair (entryAt m n p)
   -- every accepted step is accounted for
   pub steps : deskOf d .steps ≡ sum (cost m d n) n + costSoFar d

@@ -9,20 +9,21 @@ use native.Mathlib.Omega.{arith}
 use Rattle.bounded.specs.declared.Found.{Found}
 use Rattle.bounded.specs.declared.Found.the-variants.{At, Absent}
 use Rattle.bounded.proofs.CountLaws.{pigeons}
-use Rattle.layout.specs.Sizes.{mostStoreBlocks, addressCount}
-use Rattle.layout.specs.Inode.{sizeOf, addressOf, place}
+use Rattle.layout.specs.Sizes.{addressCount}
+use Rattle.layout.specs.Inode.{sizeOf, addressOf, addressIndex}
 use Rattle.layout.specs.Block.{blocksUsed, kthBlock}
-use Rattle.layout.specs.Free.{named}
+use Rattle.layout.specs.Free.{blockNamed}
 use Rattle.desk.specs.Desk.{deskOf}
 use Rattle.sound.specs.Sound.{Sound, inodesIn}
 use Rattle.sound.proofs.FactLaws.{named-is}
+use Rattle.sound.specs.declared.Form.the-variants.{Store}
 use Rattle.changes.proofs.StoreLaws.{dir-of}
 use Rattle.checkpoint.specs.Copier.{targetBlock}
 use Rattle.checkpoint.proofs.Copy.Laid.{Laid}
 use Rattle.checkpoint.proofs.Copy.TargetLaws.{target-absent}
 
 -- where each of b blocks is named, and address x names none, there are more than b addresses
-module _ (m : List ℕ) (n b x : ℕ) (l : x < addressCount * n) (z : addressOf m n x ≡ 0) (all : (c : ℕ) → 1 ≤ c → c ≤ b → named m n c ≡ true) where
+module _ (m : List ℕ) (n b x : ℕ) (l : x < addressCount * n) (z : addressOf m n x ≡ 0) (all : (c : ℕ) → 1 ≤ c → c ≤ b → blockNamed m n c ≡ true) where
   -- an address of block i + 1, and then x
   by : (i : ℕ) → Dec (i < b) → ℕ
   by i (yes h) = named-is m n (i + 1) .to (all (i + 1) (omega arith) (omega arith)) .0
@@ -64,16 +65,16 @@ module _ (m : List ℕ) (n b x : ℕ) (l : x < addressCount * n) (z : addressOf 
       omega arith
 
 -- "With 12 × N image blocks or more, 16 never comes in a run."
-pub laid-room : {n b : ℕ} {s m d : List ℕ} → Laid n b s m d → Sound mostStoreBlocks false s → n ≡ inodesIn s
-    → deskOf d .locked ≢ 0 → deskOf d .copied < blocksUsed (sizeOf s (deskOf d .locked)) → addressCount * n ≤ b
-    → (c : ℕ) × (targetBlock m n b (kthBlock s n (deskOf d .locked) (deskOf d .copied)) ≡ At c)
+pub laid-room : {n b : ℕ} {s m d : List ℕ} → Laid n b s m d → Sound Store s → n ≡ inodesIn s
+    → deskOf d .locked ≢ 0 → deskOf d .progress < blocksUsed (sizeOf s (deskOf d .locked)) → addressCount * n ≤ b
+    → (c : ℕ) × (targetBlock m n b (kthBlock s n (deskOf d .locked) (deskOf d .progress)) ≡ At c)
 laid-room {n} {b} {s} {m} {d} h sound e lock more enough = go (targetBlock m n b (kthBlock s n l k)) refl
   where
     l : ℕ
     l = deskOf d .locked
 
     k : ℕ
-    k = deskOf d .copied
+    k = deskOf d .progress
 
     go : (r : Found) → targetBlock m n b (kthBlock s n l k) ≡ r → (c : ℕ) × (targetBlock m n b (kthBlock s n l k) ≡ At c)
     go (At c) q = (c, q)
@@ -82,5 +83,5 @@ laid-room {n} {b} {s} {m} {d} h sound e lock more enough = go (targetBlock m n b
         let high = h .desk .high in
         let w = dir-of s n sound e l low high .few in
         let f : k < 12 = omega arith in
-        let x = more-addresses m n b (place l k) (omega arith) (h .opened lock .rest k f (omega arith)) (target-absent m n b (kthBlock s n l k) q) in
+        let x = more-addresses m n b (addressIndex l k) (omega arith) (h .opened lock .rest k f (omega arith)) (target-absent m n b (kthBlock s n l k) q) in
         absurd (omega arith)

@@ -10,7 +10,7 @@ use Rattle.bounded.specs.Search.{pick}
 use Rattle.bounded.specs.declared.Found.the-variants.{At, Absent}
 use Rattle.bounded.proofs.BoolLaws.{and-left, and-right}
 use Rattle.bounded.proofs.SearchLaws.{none-below}
-use Rattle.layout.specs.Free.{named, freeBlock}
+use Rattle.layout.specs.Free.{blockNamed, freeBlock}
 use Rattle.changes.proofs.FreeLaws.{FreeBlock, free-block}
 use Rattle.checkpoint.specs.Copier.{targetBlock}
 
@@ -18,24 +18,24 @@ module _ (m : List ℕ) (n b x : ℕ) where
   -- it exists, and no address names it
   pub target-at : (c : ℕ) → targetBlock m n b x ≡ At c → FreeBlock m n b c
   unfolding targetBlock
-  target-at c = go (leb 1 x && (leb x b && not (named m n x))) refl
+  target-at c = go (leb 1 x && (leb x b && not (blockNamed m n x))) refl
     where
-      go : (t : Bool) → leb 1 x && (leb x b && not (named m n x)) ≡ t → pick t (At x) (freeBlock m n b) ≡ At c → FreeBlock m n b c
+      go : (t : Bool) → leb 1 x && (leb x b && not (blockNamed m n x)) ≡ t → pick t (At x) (freeBlock m n b) ≡ At c → FreeBlock m n b c
       go true q e =
           let z : x ≡ c = cc in
-          let w = and-right (leb 1 x) (leb x b && not (named m n x)) q in
+          let w = and-right (leb 1 x) (leb x b && not (blockNamed m n x)) q in
           rw (← z) (record {
-            low = leb-true 1 x (and-left (leb 1 x) (leb x b && not (named m n x)) q);
-            high = leb-true x b (and-left (leb x b) (not (named m n x)) w);
-            free = not-true (named m n x) (and-right (leb x b) (not (named m n x)) w);
+            low = leb-true 1 x (and-left (leb 1 x) (leb x b && not (blockNamed m n x)) q);
+            high = leb-true x b (and-left (leb x b) (not (blockNamed m n x)) w);
+            free = not-true (blockNamed m n x) (and-right (leb x b) (not (blockNamed m n x)) w);
           })
       go false q e = free-block m n b c e
 
   -- where there is none, every block is named
-  pub target-absent : targetBlock m n b x ≡ Absent → (c : ℕ) → 1 ≤ c → c ≤ b → named m n c ≡ true
+  pub target-absent : targetBlock m n b x ≡ Absent → (c : ℕ) → 1 ≤ c → c ≤ b → blockNamed m n c ≡ true
   unfolding targetBlock freeBlock
-  target-absent e c l h = go (leb 1 x && (leb x b && not (named m n x))) e
+  target-absent e c l h = go (leb 1 x && (leb x b && not (blockNamed m n x))) e
     where
-      go : (t : Bool) → pick t (At x) (freeBlock m n b) ≡ Absent → named m n c ≡ true
+      go : (t : Bool) → pick t (At x) (freeBlock m n b) ≡ Absent → blockNamed m n c ≡ true
       go true e = let z : _≡_ {A = ℕ} 0 1 = cc in absurd (omega arith)
-      go false e = not-false (named m n c) (none-below (λ a. not (named m n a)) 1 b (unfold freeBlock in e) c l (omega arith))
+      go false e = not-false (blockNamed m n c) (none-below (λ a. not (blockNamed m n a)) 1 b (unfold freeBlock in e) c l (omega arith))

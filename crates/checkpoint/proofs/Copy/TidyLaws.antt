@@ -8,7 +8,7 @@ use native.Mathlib.Decide.{ℕ-discrete}
 use native.Mathlib.Omega.{arith}
 use Rattle.bounded.proofs.CountLaws.{met-at}
 use Rattle.octets.specs.Octets.{part}
-use Rattle.layout.specs.Sizes.{mostStoreBlocks, rootInode}
+use Rattle.layout.specs.Sizes.{rootInode}
 use Rattle.layout.specs.Inode.{kindOf, parentOf, freeKind, directoryKind}
 use Rattle.names.specs.Name.{nameBytes}
 use Rattle.names.specs.Entry.{nameAt, sameName}
@@ -17,13 +17,14 @@ use Rattle.sound.specs.Place.{dirOf, naming}
 use Rattle.sound.specs.Entry.{sameNames}
 use Rattle.sound.specs.Sound.{Sound, inodesIn}
 use Rattle.sound.proofs.PlaceLaws.{naming-filled}
+use Rattle.sound.specs.declared.Form.the-variants.{Store}
 use Rattle.changes.proofs.TreeLaws.{Tree, Names, Dir, entry-one, leads-same}
 use Rattle.changes.proofs.SoundTreeLaws.{nodesOf, names-at, above-at, tree-at}
 use Rattle.copying.specs.View.{Tidy}
 use Rattle.checkpoint.proofs.Copy.Seen.{shelfOf}
 use Rattle.checkpoint.proofs.Copy.SeenLaws.{names-in, names-below, names-low, entry-in, kind-some, kind-in, parent-in}
 
-module _ (s : List ℕ) (n : ℕ) (h : Sound mostStoreBlocks false s) (x : n ≡ inodesIn s) where
+module _ (s : List ℕ) (n : ℕ) (h : Sound Store s) (x : n ≡ inodesIn s) where
   tree : Tree n (nodesOf s n)
   tree = tree-at s n h x
 

@@ -5,9 +5,11 @@ use mathlib.Core.Bool.{true, false}
 use native.Mathlib.Omega.{arith}
 use borrow.Author.Tests.{eq-eqb, le-leb}
 use lib.ListN.{length}
-use Rattle.layout.specs.Sizes.{mostStoreBlocks, mostImageBlocks}
-use Rattle.layout.specs.Block.{storeLength}
+use Rattle.bounded.specs.Count.{count}
+use Rattle.layout.specs.Sizes.{mostImageBlocks}
+use Rattle.layout.specs.Block.{storeLength, Allowed}
 use Rattle.sound.specs.Sound.{Sound, inodesIn, blocksIn}
+use Rattle.sound.specs.declared.Form.the-variants.{Store}
 use Rattle.answers.specs.declared.Refusal.the-variants.{WrongState}
 use Rattle.files.specs.Effect.{Call, Effect, Planned, does, refused, planned}
 use Rattle.files.proofs.Lawful.{Each, Lawful}
@@ -18,28 +20,26 @@ use Rattle.copying.proofs.HoldsLaws.{holds-does}
 use Rattle.checkpoint.specs.Fit.{imageAllowed, imageBlocks}
 use Rattle.checkpoint.specs.Notes.{cutEntries, clearMarks, setMarks}
 use Rattle.checkpoint.specs.Busy.{anyLocked}
-use Rattle.checkpoint.specs.Live.{World, refuse, decision, leavesIn, live, started, start}
+use Rattle.checkpoint.specs.Live.{World, refuse, decision, leavesIn, live, started}
 use Rattle.checkpoint.specs.Shown.{shown}
 use Rattle.checkpoint.specs.List.{call, asks, starts, outcome, next}
-use Rattle.checkpoint.proofs.DecisionLaws.{Allowed, each-decided}
+use Rattle.checkpoint.proofs.DecisionLaws.{Unhindered, each-decided}
 use Rattle.checkpoint.proofs.Copy.Seen.{seen}
 use Rattle.checkpoint.proofs.Call.PartedLaws.{Parted, taken-made-apart}
 use Rattle.checkpoint.proofs.Copy.TidyLaws.{store-tidy}
 use Rattle.checkpoint.proofs.Call.CallLaid.{call-laid}
 use Rattle.checkpoint.proofs.Call.CallSeen.{call-called}
-use Rattle.checkpoint.proofs.Run.Going.{seenIn, Running, ready, runs, locked-used, guards-pass, leftIn, next-is}
+use Rattle.checkpoint.proofs.Run.Going.{seenIn, Running, ready, runs, locked-used, guards-pass, leftIn, next-is, start-passes}
 use Rattle.checkpoint.proofs.Run.Turned.{Goes}
+use Rattle.checkpoint.proofs.Step.StartLaws.{image-allowed-is}
 
 -- an image of the length of b blocks is allowed, and b are told by its length
 pub blocks-told : (n b k : ℕ) → k ≡ storeLength n b → imageBlocks n k ≡ b
 unfolding imageBlocks
 blocks-told n b k e = omega arith
 
-pub image-allowed : (n b k : ℕ) → 1 ≤ b → b ≤ mostImageBlocks → k ≡ storeLength n b → imageAllowed n k ≡ true
-unfolding imageAllowed
-image-allowed n b k l m e =
-    let h = blocks-told n b k e in
-    rw (h, le-leb 1 b l, le-leb b mostImageBlocks m, eq-eqb k (storeLength n b) e) refl
+pub image-allowed : (n b k : ℕ) → Allowed mostImageBlocks n b k → imageAllowed n k ≡ true
+image-allowed n b k h = image-allowed-is n k .from (rw (blocks-told n b k (h .long)) h)
 
 each-both : (P Q : Effect → Type 0) (q : Planned) → Each P q → Each Q q → Each (λ x. P x × Q x) q
 each-both P Q (refused e) a b = tt
@@ -65,7 +65,7 @@ module _ (n b : ℕ) (w : World) (r : Running n b w) where
   abbrev made : Effect → World
   made x = record { store = x .store; image = cutEntries (w .image) (w .desk) n (x .taken); desk = setMarks (clearMarks (w .desk) n (x .taken)) n (x .made) }
 
-  made-tidy : (x : Effect) → n ≡ inodesIn (x .store) → Sound mostStoreBlocks false (x .store) → Tidy n (seenIn n (made x) .store)
+  made-tidy : (x : Effect) → n ≡ inodesIn (x .store) → Sound Store (x .store) → Tidy n (seenIn n (made x) .store)
   unfolding seen
   made-tidy x c h = store-tidy (x .store) n h c
 
@@ -83,7 +83,7 @@ module _ (n b : ℕ) (w : World) (r : Running n b w) where
         deed = d;
       }
 
-  decided : (c : Call) (q : Planned) → decision c w ≡ q → Each (Allowed (λ x. Lawful (w .store) n x × Parted x) w) q → Goes n b w (leftIn (leavesIn w q))
+  decided : (c : Call) (q : Planned) → decision c w ≡ q → Each (Unhindered (λ x. Lawful (w .store) n x × Parted x) w) q → Goes n b w (leftIn (leavesIn w q))
   decided c (refused e) h k = same-goes w refl
   decided c (does x) h k =
       subst (λ (i : ℕ). Goes n b w (record { store = x .store; image = cutEntries (w .image) (w .desk) i (x .taken); desk = setMarks (clearMarks (w .desk) i (x .taken)) i (x .made) }))
@@ -101,11 +101,12 @@ module _ (n b : ℕ) (w : World) (r : Running n b w) where
   asks-goes = same-goes (next asks w) (asks-same w)
 
   pub start-busy : outcome starts w ≡ shown (refuse WrongState (w .store) (w .image) (w .desk))
-  unfolding outcome start started
+  unfolding outcome started
   start-busy =
-      let a : imageAllowed (inodesIn (w .store)) (length (w .image)) ≡ true = rw (sym (r .count)) (image-allowed n b (length (w .image)) (r .laid .frame .some-blocks) (r .laid .frame .most-blocks) (r .laid .frame .long)) in
-      let g = ready r in
-      rw (a, g .framed, g .desk) (ap shown (guards-pass w g _) ∙ rw (runs r) refl)
+      let f = r .laid .frame in
+      let fits : Allowed mostImageBlocks n b (length (w .image)) = record { some-inodes = f .some-inodes; most-inodes = f .most-inodes; some-blocks = f .some-blocks; most-blocks = f .most-blocks; long = f .long } in
+      let a : imageAllowed (inodesIn (w .store)) (length (w .image)) ≡ true = rw (sym (r .count)) (image-allowed n b (length (w .image)) fits) in
+      ap shown (start-passes w (ready r) a) ∙ rw (runs r) refl
 
   pub starts-goes : Goes n b w (next starts w)
   starts-goes = same-goes (next starts w) (next-is starts w _ start-busy)

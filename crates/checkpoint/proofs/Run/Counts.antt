@@ -7,6 +7,7 @@ use native.Mathlib.Omega.{arith}
 use lib.Dec.{eqb}
 use Rattle.bounded.specs.Search.{pick}
 use Rattle.bounded.proofs.BoolLaws.{and-false-l, and-false-r}
+use Rattle.bounded.specs.Count.{count}
 use Rattle.desk.specs.declared.Desk.{Desk}
 use Rattle.desk.specs.Desk.{deskOf, setMark, clearMark}
 use Rattle.desk.proofs.DeskLaws.{desk-setMark, desk-clearMark}
@@ -15,15 +16,15 @@ use Rattle.answers.specs.Refusal.{refusalNumber}
 use Rattle.answers.specs.Told.{Told}
 use Rattle.layout.specs.Sizes.{isComplete, notComplete}
 use Rattle.layout.specs.Header.{headerOf}
-use Rattle.desk.specs.Sizes.{running, finished, stopped}
+use Rattle.desk.specs.Sizes.{running, finished, stopped, stepsAnInode}
 use Rattle.sound.specs.Sound.{inodesIn}
 use Rattle.files.specs.Effect.{Call, Entry, Planned, does, refused}
 use Rattle.checkpoint.specs.declared.Status.the-variants.{Is}
-use Rattle.checkpoint.specs.Fit.{isRunning, stepsAnInode}
+use Rattle.checkpoint.specs.Fit.{isRunning}
 use Rattle.checkpoint.specs.Notes.{noteMade, noteTaken, clearMarks, setMarks}
 use Rattle.checkpoint.specs.Live.{World, decision, leavesIn, live}
 use Rattle.checkpoint.specs.Shown.{Shown, toldStatus}
-use Rattle.checkpoint.specs.List.{Event, call, steps, asks, starts, outcome, next, accepted, run, acceptedSteps, refusalOf, completes, stateAfter}
+use Rattle.checkpoint.specs.List.{Event, call, advances, asks, starts, outcome, next, accepted, run, acceptedSteps, refusalOf, completes, stateAfter}
 use Rattle.checkpoint.specs.Demand.{Reported}
 use Rattle.checkpoint.proofs.Copy.FitLaws.{laid-steps, notes-fit-is, desk-fits-is}
 use Rattle.checkpoint.proofs.Run.Going.{Running, next-is, incomplete}
@@ -78,23 +79,23 @@ abbrev pub stepsIn : World → ℕ
 stepsIn w = deskOf (w .desk) .steps
 
 module _ (n b : ℕ) (w : World) where
-  step-count : Running n b w → Stepped n b w → (c : ℕ) → stepsIn w ≡ c → stepsIn (next steps w) ≡ pick (accepted steps w) (suc c) c
+  step-count : Running n b w → Stepped n b w → (c : ℕ) → stepsIn w ≡ c → stepsIn (next advances w) ≡ pick (accepted advances w) (suc c) c
   step-count r (on g k a) c h = rw (ap (λ (x : Told). eqb (x .number) 0) a) (let e = k in omega arith)
   step-count r (ends f) c h =
       let k = finals n b w r f in
-      let a : accepted steps w ≡ true = ap (λ (x : Told). eqb (x .number) 0) (k .answer) in
+      let a : accepted advances w ≡ true = ap (λ (x : Told). eqb (x .number) 0) (k .answer) in
       rw a (let e = k .counts in omega arith)
   step-count r (halts f) c h =
       let k = halted n b w r f in
-      let a : accepted steps w ≡ false = ap (λ (x : Told). eqb (x .number) 0) (k .answer) in
+      let a : accepted advances w ≡ false = ap (λ (x : Told). eqb (x .number) 0) (k .answer) in
       rw a (k .counts ∙ h)
 
   same-count : (e : Event) → next e w ≡ w → (c : ℕ) → stepsIn w ≡ c → stepsIn (next e w) ≡ c
   same-count e v c h = ap stepsIn v ∙ h
 
-  count-steps : Going n b w → (c : ℕ) → stepsIn w ≡ c → stepsIn (next steps w) ≡ pick (accepted steps w) (suc c) c
+  count-steps : Going n b w → (c : ℕ) → stepsIn w ≡ c → stepsIn (next advances w) ≡ pick (accepted advances w) (suc c) c
   count-steps (runs r) c h = step-count r (stepped n b w r) c h
-  count-steps (rests r) c h = rw (not-accepted steps w _ (step-idle n b w r) refl) (same-count steps (next-is steps w _ (step-idle n b w r)) c h)
+  count-steps (rests r) c h = rw (not-accepted advances w _ (step-idle n b w r) refl) (same-count advances (next-is advances w _ (step-idle n b w r)) c h)
 
   count-starts : Going n b w → (c : ℕ) → stepsIn w ≡ c → stepsIn (next starts w) ≡ pick (accepted starts w) 0 c
   count-starts (runs r) c h = rw (not-accepted starts w _ (start-busy n b w r) refl) (same-count starts (next-is starts w _ (start-busy n b w r)) c h)
@@ -105,7 +106,7 @@ pub steps-counted : (n b : ℕ) (es : List Event) (w : World) (c : ℕ) → Goin
 unfolding run acceptedSteps
 steps-counted n b [] w c g h = h
 steps-counted n b (call x ∷ es) w c g h = steps-counted n b es (next (call x) w) c (going-next n b w (call x) g) (ap (λ (y : Desk). y .steps) (call-head x w) ∙ h)
-steps-counted n b (steps ∷ es) w c g h = steps-counted n b es (next steps w) (pick (accepted steps w) (suc c) c) (going-next n b w steps g) (count-steps n b w g c h)
+steps-counted n b (advances ∷ es) w c g h = steps-counted n b es (next advances w) (pick (accepted advances w) (suc c) c) (going-next n b w advances g) (count-steps n b w g c h)
 steps-counted n b (asks ∷ es) w c g h = steps-counted n b es (next asks w) c (going-next n b w asks g) (same-count n b w asks (asks-same w) c h)
 steps-counted n b (starts ∷ es) w c g h = steps-counted n b es (next starts w) (pick (accepted starts w) 0 c) (going-next n b w starts g) (count-starts n b w g c h)
 
@@ -126,26 +127,26 @@ stateIn w = deskOf (w .desk) .state
 
 module _ (n b : ℕ) (w : World) where
   step-state : Running n b w → Stepped n b w → (c : ℕ) → stateIn w ≡ c
-      → stateIn (next steps w) ≡ pick (completes steps w) finished (pick (eqb (refusalOf steps w) (refusalNumber ImageFull)) stopped c)
+      → stateIn (next advances w) ≡ pick (completes advances w) finished (pick (eqb (refusalOf advances w) (refusalNumber ImageFull)) stopped c)
   step-state r (on g k a) c h =
-      let x : completes steps w ≡ false = and-false-r (accepted steps w) (eqb (headerOf (next steps w .image) .complete) isComplete) (incomplete (g .still)) in
-      let y : eqb (refusalOf steps w) (refusalNumber ImageFull) ≡ false = ap (λ (z : Told). eqb (z .number) (refusalNumber ImageFull)) a in
+      let x : completes advances w ≡ false = and-false-r (accepted advances w) (eqb (headerOf (next advances w .image) .complete) isComplete) (incomplete (g .still)) in
+      let y : eqb (refusalOf advances w) (refusalNumber ImageFull) ≡ false = ap (λ (z : Told). eqb (z .number) (refusalNumber ImageFull)) a in
       rw (x, y) (g .still .laid .desk .state ∙ sym (r .laid .desk .state) ∙ h)
   step-state r (ends f) c h = rw (completed n b w r f) (finals n b w r f .state)
   step-state r (halts f) c h =
       let k = halted n b w r f in
-      let a : accepted steps w ≡ false = ap (λ (x : Told). eqb (x .number) 0) (k .answer) in
-      let x : completes steps w ≡ false = and-false-l (accepted steps w) (eqb (headerOf (next steps w .image) .complete) isComplete) a in
-      let y : eqb (refusalOf steps w) (refusalNumber ImageFull) ≡ true = ap (λ (z : Told). eqb (z .number) (refusalNumber ImageFull)) (k .answer) in
+      let a : accepted advances w ≡ false = ap (λ (x : Told). eqb (x .number) 0) (k .answer) in
+      let x : completes advances w ≡ false = and-false-l (accepted advances w) (eqb (headerOf (next advances w .image) .complete) isComplete) a in
+      let y : eqb (refusalOf advances w) (refusalNumber ImageFull) ≡ true = ap (λ (z : Told). eqb (z .number) (refusalNumber ImageFull)) (k .answer) in
       rw (x, y) (k .state)
 
-  state-steps : Going n b w → (c : ℕ) → stateIn w ≡ c → stateIn (next steps w) ≡ pick (completes steps w) finished (pick (eqb (refusalOf steps w) (refusalNumber ImageFull)) stopped c)
+  state-steps : Going n b w → (c : ℕ) → stateIn w ≡ c → stateIn (next advances w) ≡ pick (completes advances w) finished (pick (eqb (refusalOf advances w) (refusalNumber ImageFull)) stopped c)
   state-steps (runs r) c h = step-state r (stepped n b w r) c h
   state-steps (rests r) c h =
       let e = step-idle n b w r in
-      let x : completes steps w ≡ false = and-false-l (accepted steps w) (eqb (headerOf (next steps w .image) .complete) isComplete) (not-accepted steps w _ e refl) in
-      let y : eqb (refusalOf steps w) (refusalNumber ImageFull) ≡ false = ap (λ (z : Shown). eqb (z .answer .number) (refusalNumber ImageFull)) e in
-      rw (x, y) (ap stateIn (next-is steps w _ e) ∙ h)
+      let x : completes advances w ≡ false = and-false-l (accepted advances w) (eqb (headerOf (next advances w .image) .complete) isComplete) (not-accepted advances w _ e refl) in
+      let y : eqb (refusalOf advances w) (refusalNumber ImageFull) ≡ false = ap (λ (z : Shown). eqb (z .answer .number) (refusalNumber ImageFull)) e in
+      rw (x, y) (ap stateIn (next-is advances w _ e) ∙ h)
 
   state-starts : Going n b w → (c : ℕ) → stateIn w ≡ c → stateIn (next starts w) ≡ pick (accepted starts w) running c
   state-starts (runs r) c h = rw (not-accepted starts w _ (start-busy n b w r) refl) (ap stateIn (next-is starts w _ (start-busy n b w r)) ∙ h)
@@ -155,7 +156,7 @@ pub state-told : (n b : ℕ) (es : List Event) (w : World) (c : ℕ) → Going n
 unfolding run stateAfter
 state-told n b [] w c g h = h
 state-told n b (call x ∷ es) w c g h = state-told n b es (next (call x) w) c (going-next n b w (call x) g) (ap (λ (y : Desk). y .state) (call-head x w) ∙ h)
-state-told n b (steps ∷ es) w c g h = state-told n b es (next steps w) _ (going-next n b w steps g) (state-steps n b w g c h)
+state-told n b (advances ∷ es) w c g h = state-told n b es (next advances w) _ (going-next n b w advances g) (state-steps n b w g c h)
 state-told n b (asks ∷ es) w c g h = state-told n b es (next asks w) c (going-next n b w asks g) (ap stateIn (asks-same w) ∙ h)
 state-told n b (starts ∷ es) w c g h = state-told n b es (next starts w) (pick (accepted starts w) running c) (going-next n b w starts g) (state-starts n b w g c h)
 

@@ -12,24 +12,26 @@ use Rattle.bounded.specs.Search.{pick}
 use Rattle.bounded.specs.Below.{allBelow}
 use Rattle.bounded.proofs.BoolLaws.{and-true, or-l, or-r}
 use Rattle.bounded.proofs.BelowLaws.{all-of}
-use Rattle.layout.specs.Sizes.{mostInodes, mostImageBlocks, isComplete, notComplete}
+use Rattle.bounded.specs.Count.{count}
+use Rattle.layout.specs.Sizes.{mostInodes, mostImageBlocks, isComplete, notComplete, mostBlocks}
 use Rattle.layout.specs.Header.{headerOf}
-use Rattle.desk.specs.Sizes.{deskHeaderBytes, deskLength, idle, running, finished, stopped}
+use Rattle.desk.specs.Sizes.{deskHeaderBytes, deskLength, idle, running, finished, stopped, stepsAnInode}
 use Rattle.desk.specs.declared.Desk.{Desk}
-use Rattle.desk.specs.Desk.{deskOf, putDesk, copiedOf, reservedZero}
+use Rattle.desk.specs.Desk.{deskOf, putDesk, copiedOf, deskRestZero}
 use Rattle.desk.specs.Next.{finishing, stopping}
-use Rattle.desk.proofs.DeskLaws.{desk-putDesk, length-putDesk, copied-putDesk, reserved-putDesk}
+use Rattle.desk.proofs.DeskLaws.{desk-putDesk, length-putDesk, copied-putDesk, reserved-putDesk, desk-allowed}
 use Rattle.sound.specs.Sound.{Sound, inodesIn}
+use Rattle.sound.specs.declared.Form.the-variants.{Image}
 use Rattle.copying.specs.Deed.{Quiet}
 use Rattle.copying.proofs.EndLaws.{tidy-image}
 use Rattle.answers.specs.declared.Refusal.the-variants.{ImageFull}
 use Rattle.answers.specs.declared.Answer.the-variants.{Done, Refused}
 use Rattle.answers.specs.Told.{Told, told}
-use Rattle.checkpoint.specs.Fit.{deskFramed, deskFits, blocksFit, isRunning, mostSteps, mostCopied, stepsAnInode, notesFit, imageFits}
+use Rattle.checkpoint.specs.Fit.{deskFramed, deskFits, blocksFit, isRunning, mostSteps, notesFit, imageFits}
 use Rattle.checkpoint.specs.Copier.{Step, finish, full, stepOf, finishImage}
 use Rattle.checkpoint.specs.Live.{World, doStep}
 use Rattle.checkpoint.specs.Shown.{Shown, shown}
-use Rattle.checkpoint.specs.List.{steps, outcome, next, accepted, completes}
+use Rattle.checkpoint.specs.List.{advances, outcome, next, accepted, completes}
 use Rattle.checkpoint.proofs.Copy.Laid.{DeskLaid}
 use Rattle.checkpoint.proofs.Copy.FitLaws.{laid-steps}
 use Rattle.checkpoint.proofs.Step.FinishFacts as facts
@@ -44,7 +46,7 @@ pub record AtRest (n b : ℕ) (h : Desk) : Type 0 where
   pub blocks : h .blocks ≡ b
   pub state : (h .state ≡ finished) ⊎ (h .state ≡ stopped)
   pub locked : h .locked ≡ 0
-  pub copied : h .copied ≡ 0
+  pub progress : h .progress ≡ 0
   pub steps : h .steps ≤ stepsAnInode * n + 1
 
 module _ (n b : ℕ) (d : List ℕ) (k : DeskLaid n b d) (h : Desk) (r : AtRest n b h) where
@@ -66,8 +68,8 @@ module _ (n b : ℕ) (d : List ℕ) (k : DeskLaid n b d) (h : Desk) (r : AtRest 
   locked-is : deskOf (putDesk d h) .locked ≡ 0
   locked-is = ap (λ (x : Desk). x .locked) is ∙ r .locked
 
-  copied-is : deskOf (putDesk d h) .copied ≡ 0
-  copied-is = ap (λ (x : Desk). x .copied) is ∙ r .copied
+  progress-is : deskOf (putDesk d h) .progress ≡ 0
+  progress-is = ap (λ (x : Desk). x .progress) is ∙ r .progress
 
   steps-is : deskOf (putDesk d h) .steps ≡ h .steps
   steps-is = ap (λ (x : Desk). x .steps) is
@@ -84,8 +86,7 @@ module _ (n b : ℕ) (d : List ℕ) (k : DeskLaid n b d) (h : Desk) (r : AtRest 
   rest-framed l m =
       let e : length (putDesk d h) ≡ deskLength n = length-putDesk d h ∙ k .long in
       let i = inodes-is in
-      let x = deskOf (putDesk d h) .inodes in
-      and-true (leb 1 x) _ (le-leb 1 x (omega arith)) (and-true (leb x mostInodes) _ (le-leb x mostInodes (omega arith)) (eq-eqb (length (putDesk d h)) (deskLength x) (omega arith)))
+      desk-allowed (deskOf (putDesk d h) .inodes) (length (putDesk d h)) .from (omega arith, (omega arith, omega arith))
 
   rest-blocks : 1 ≤ b → b ≤ mostImageBlocks → blocksFit (putDesk d h) ≡ true
   unfolding blocksFit
@@ -115,15 +116,15 @@ module _ (n b : ℕ) (d : List ℕ) (k : DeskLaid n b d) (h : Desk) (r : AtRest 
   rest-fits l m =
       let x = deskOf (putDesk d h) in
       let lo = locked-is in
-      let co = copied-is in
+      let co = progress-is in
       and-true (leb (x .state) stopped) _ (le-leb (x .state) stopped (elim rest-state [ inl f ↦ omega arith | inr f ↦ omega arith ]))
       (and-true (blocksFit (putDesk d h)) _ (rest-blocks l m)
-      (and-true (reservedZero (putDesk d h)) _ (reserved-putDesk d h ∙ k .reserved)
+      (and-true (deskRestZero (putDesk d h)) _ (reserved-putDesk d h ∙ k .reserved)
       (and-true (allBelow (λ j. leb (copiedOf (putDesk d h) (j + 1)) 1) (x .inodes)) _ rest-bytes
       (and-true (leb (x .locked) (x .inodes)) _ (le-leb (x .locked) (x .inodes) (omega arith))
-      (and-true (leb (x .copied) mostCopied) _ (le-leb (x .copied) mostCopied (omega arith))
-      (and-true (isRunning (putDesk d h) || (eqb (x .locked) 0 && eqb (x .copied) 0)) _
-      (or-r (isRunning (putDesk d h)) _ (and-true (eqb (x .locked) 0) _ (eq-eqb (x .locked) 0 lo) (eq-eqb (x .copied) 0 co)))
+      (and-true (leb (x .progress) mostBlocks) _ (le-leb (x .progress) mostBlocks (omega arith))
+      (and-true (isRunning (putDesk d h) || (eqb (x .locked) 0 && eqb (x .progress) 0)) _
+      (or-r (isRunning (putDesk d h)) _ (and-true (eqb (x .locked) 0) _ (eq-eqb (x .locked) 0 lo) (eq-eqb (x .progress) 0 co)))
       rest-steps))))))
 
 module _ (n b : ℕ) (w : World) (r : Running n b w) where
@@ -154,7 +155,7 @@ module _ (n b : ℕ) (w : World) (r : Running n b w) where
   few-steps : deskOf (w .desk) .steps ≤ stepsAnInode * n
   few-steps = laid-steps (r .laid) (r .sound) (r .count)
 
-  outcome-is : (p : Step) → stepOf (w .store) (w .image) (w .desk) n ≡ p → outcome steps w ≡ shown (doStep (w .store) (w .image) (w .desk) n p)
+  outcome-is : (p : Step) → stepOf (w .store) (w .image) (w .desk) n ≡ p → outcome advances w ≡ shown (doStep (w .store) (w .image) (w .desk) n p)
   outcome-is p e = step-is r ∙ ap (λ (q : Step). shown (doStep (w .store) (w .image) (w .desk) n q)) e
 
   header : (h : Desk) → deskOf (putDesk (w .desk) h) ≡ h
@@ -162,24 +163,24 @@ module _ (n b : ℕ) (w : World) (r : Running n b w) where
 
   -- ---- the last step
   pub record Finals : Type 0 where
-    pub image : next steps w .image ≡ finishImage (w .image) n b
-    pub store : next steps w .store ≡ w .store
-    pub desk : next steps w .desk ≡ putDesk (w .desk) (finishing (deskOf (w .desk)))
-    pub rest : Resting n b (next steps w)
-    pub state : deskOf (next steps w .desk) .state ≡ finished
-    pub locked : deskOf (next steps w .desk) .locked ≡ deskOf (w .desk) .locked
-    pub counts : deskOf (next steps w .desk) .steps ≡ deskOf (w .desk) .steps + 1
-    pub answer : outcome steps w .answer ≡ told (Done (deskOf (w .desk) .steps + 1))
-    pub sound : Sound mostImageBlocks true (finishImage (w .image) n b)
-    pub quiet : Quiet (seenIn n w) (seenIn n (next steps w))
+    pub image : next advances w .image ≡ finishImage (w .image) n b
+    pub store : next advances w .store ≡ w .store
+    pub desk : next advances w .desk ≡ putDesk (w .desk) (finishing (deskOf (w .desk)))
+    pub rest : Resting n b (next advances w)
+    pub state : deskOf (next advances w .desk) .state ≡ finished
+    pub locked : deskOf (next advances w .desk) .locked ≡ deskOf (w .desk) .locked
+    pub counts : deskOf (next advances w .desk) .steps ≡ deskOf (w .desk) .steps + 1
+    pub answer : outcome advances w .answer ≡ told (Done (deskOf (w .desk) .steps + 1))
+    pub sound : Sound Image (finishImage (w .image) n b)
+    pub quiet : Quiet (seenIn n w) (seenIn n (next advances w))
 
   -- the world that it leaves
   abbrev done : World
   done = record { store = w .store; image = finishImage (w .image) n b; desk = putDesk (w .desk) (finishing (deskOf (w .desk))) }
 
-  done-is : Finishes n b w → next steps w ≡ done
+  done-is : Finishes n b w → next advances w ≡ done
   done-is f =
-      next-is steps w _ (outcome-is finish (f .is))
+      next-is advances w _ (outcome-is finish (f .is))
       ∙ ap (λ (m : List ℕ). record { store = w .store; image = m; desk = putDesk (w .desk) (finishing (deskOf (w .desk))) }) (ap (finishImage (w .image) n) (r .laid .desk .blocks))
 
   done-rest : Finishes n b w → Resting n b done
@@ -192,7 +193,7 @@ module _ (n b : ℕ) (w : World) (r : Running n b w) where
         blocks = r .laid .desk .blocks;
         state = inl refl;
         locked = f .none;
-        copied = r .laid .desk .none (f .none);
+        progress = r .laid .desk .none (f .none);
         steps = omega arith;
       }
 
@@ -215,27 +216,27 @@ module _ (n b : ℕ) (w : World) (r : Running n b w) where
 
   -- ---- 16
   pub record Halted : Type 0 where
-    pub is : next steps w ≡ record { store = w .store; image = w .image; desk = putDesk (w .desk) (stopping (deskOf (w .desk))) }
-    pub rest : Resting n b (next steps w)
-    pub state : deskOf (next steps w .desk) .state ≡ stopped
-    pub counts : deskOf (next steps w .desk) .steps ≡ deskOf (w .desk) .steps
-    pub answer : outcome steps w .answer ≡ told (Refused ImageFull)
+    pub is : next advances w ≡ record { store = w .store; image = w .image; desk = putDesk (w .desk) (stopping (deskOf (w .desk))) }
+    pub rest : Resting n b (next advances w)
+    pub state : deskOf (next advances w .desk) .state ≡ stopped
+    pub counts : deskOf (next advances w .desk) .steps ≡ deskOf (w .desk) .steps
+    pub answer : outcome advances w .answer ≡ told (Refused ImageFull)
 
   pub halted : Fills n b w → Halted
   halted f =
       let o = outcome-is full (f .is) in
-      let v = next-is steps w _ o in
+      let v = next-is advances w _ o in
       let h = header (stopping (deskOf (w .desk))) in
       let few = few-steps in
       record {
         is = v;
-        rest = rw v (comes-to-rest (w .image) (stopping (deskOf (w .desk))) refl (r .laid .frame .complete) record { inodes = r .laid .desk .inodes; blocks = r .laid .desk .blocks; state = inr refl; locked = refl; copied = refl; steps = omega arith });
+        rest = rw v (comes-to-rest (w .image) (stopping (deskOf (w .desk))) refl (r .laid .frame .complete) record { inodes = r .laid .desk .inodes; blocks = r .laid .desk .blocks; state = inr refl; locked = refl; progress = refl; steps = omega arith });
         state = ap (λ (x : World). deskOf (x .desk) .state) v ∙ ap (λ (x : Desk). x .state) h;
         counts = ap (λ (x : World). deskOf (x .desk) .steps) v ∙ ap (λ (x : Desk). x .steps) h;
         answer = ap (λ (o : Shown). o .answer) o;
       }
 
-  pub completed : Finishes n b w → completes steps w ≡ true
+  pub completed : Finishes n b w → completes advances w ≡ true
   completed f =
       let k = finals f in
-      and-true (accepted steps w) _ (ap (λ (a : Told). eqb (a .number) 0) (k .answer)) (ap (λ (m : List ℕ). eqb (headerOf m .complete) isComplete) (k .image) ∙ ap (λ (x : ℕ). eqb x isComplete) (k .sound .complete))
+      and-true (accepted advances w) _ (ap (λ (a : Told). eqb (a .number) 0) (k .answer)) (ap (λ (m : List ℕ). eqb (headerOf m .complete) isComplete) (k .image) ∙ ap (λ (x : ℕ). eqb x isComplete) (k .sound .complete))

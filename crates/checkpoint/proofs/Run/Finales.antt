@@ -16,7 +16,7 @@ use Rattle.copying.specs.Holds.{Fresh}
 use Rattle.copying.specs.History.{Recorded}
 use Rattle.checkpoint.specs.Live.{World}
 use Rattle.checkpoint.specs.Shown.{Shown}
-use Rattle.checkpoint.specs.List.{Event, call, steps, asks, starts, next, accepted, completes, run, Finish, last, more}
+use Rattle.checkpoint.specs.List.{Event, call, advances, asks, starts, next, accepted, completes, run, Finish, last, more}
 use Rattle.checkpoint.proofs.Copy.Seen.{seen}
 use Rattle.checkpoint.proofs.Copy.TidyLaws.{store-tidy}
 use Rattle.checkpoint.proofs.Run.Moments.{at}
@@ -34,7 +34,7 @@ views n es w j = seenIn n (at es w j)
 module _ (n b : ℕ) where
   -- what rests never finishes
   rest-never : (es : List Event) (w : World) → Resting n b w → Finish es w → ⊥
-  rest-never es w r (last c) = clash (accepted steps w) (and-left (accepted steps w) _ c) (ap (λ (o : Shown). eqb (o .answer .number) 0) (step-idle n b w r))
+  rest-never es w r (last c) = clash (accepted advances w) (and-left (accepted advances w) _ c) (ap (λ (o : Shown). eqb (o .answer .number) 0) (step-idle n b w r))
   rest-never (e ∷ es) w r (more q c f) = rest-never es (next e w) (still-next n b e w r q .rest) f
 
   pub record Finale (es : List Event) (w : World) : Type 0 where
@@ -42,7 +42,7 @@ module _ (n b : ℕ) where
     pub before : World
     pub runs : Running n b before
     pub finishes : Finishes n b before
-    pub is : run es w ≡ next steps before
+    pub is : run es w ≡ next advances before
     pub deeds : (j : ℕ) → j < length es → Deed n (seenIn n (at es w j)) (seenIn n (at es w (suc j)))
     pub tidy : (j : ℕ) → j ≤ length es → Tidy n (seenIn n (at es w j) .store)
 
@@ -71,15 +71,15 @@ module _ (n b : ℕ) where
       tidy (suc j) l = f .tidy j (omega arith)
 
   -- the last step
-  locked-same : (w : World) (r : Running n b w) (f : Finishes n b w) → seenIn n (next steps w) .locked ≡ seenIn n w .locked
+  locked-same : (w : World) (r : Running n b w) (f : Finishes n b w) → seenIn n (next advances w) .locked ≡ seenIn n w .locked
   unfolding seen
   locked-same w r f = finals n b w r f .locked
 
-  store-same : (w : World) (r : Running n b w) (f : Finishes n b w) → Tidy n (seenIn n (next steps w) .store)
+  store-same : (w : World) (r : Running n b w) (f : Finishes n b w) → Tidy n (seenIn n (next advances w) .store)
   unfolding seen
   store-same w r f = let k = finals n b w r f in rw (k .store) (store-tidy (w .store) n (r .sound) (r .count))
 
-  final : (w : World) → Running n b w → Finishes n b w → Finale (steps ∷ []) w
+  final : (w : World) → Running n b w → Finishes n b w → Finale (advances ∷ []) w
   unfolding at run
   final w r f = record {
     before = w;
@@ -90,36 +90,36 @@ module _ (n b : ℕ) where
     tidy = λ j l. tidy j l;
   }
     where
-      deeds : (j : ℕ) → j < 1 → Deed n (seenIn n (at (steps ∷ []) w j)) (seenIn n (at (steps ∷ []) w (suc j)))
+      deeds : (j : ℕ) → j < 1 → Deed n (seenIn n (at (advances ∷ []) w j)) (seenIn n (at (advances ∷ []) w (suc j)))
       deeds zero l = rests (finals n b w r f .quiet) (locked-same w r f)
       deeds (suc j) l = absurd (omega arith)
 
-      tidy : (j : ℕ) → j ≤ 1 → Tidy n (seenIn n (at (steps ∷ []) w j) .store)
+      tidy : (j : ℕ) → j ≤ 1 → Tidy n (seenIn n (at (advances ∷ []) w j) .store)
       tidy zero l = runs-tidy r
       tidy (suc zero) l = store-same w r f
       tidy (suc (suc j)) l = absurd (omega arith)
 
   -- a step that finishes, and one that does not
-  not-on : (w : World) → Goes n b w (next steps w) → completes steps w ≡ true → ⊥
-  not-on w g c = clash (eqb (headerOf (next steps w .image) .complete) isComplete) (and-right (accepted steps w) _ c) (incomplete (g .still))
+  not-on : (w : World) → Goes n b w (next advances w) → completes advances w ≡ true → ⊥
+  not-on w g c = clash (eqb (headerOf (next advances w .image) .complete) isComplete) (and-right (accepted advances w) _ c) (incomplete (g .still))
 
-  not-halts : (w : World) → accepted steps w ≡ false → completes steps w ≡ true → ⊥
-  not-halts w a c = clash (accepted steps w) (and-left (accepted steps w) _ c) a
+  not-halts : (w : World) → accepted advances w ≡ false → completes advances w ≡ true → ⊥
+  not-halts w a c = clash (accepted advances w) (and-left (accepted advances w) _ c) a
 
-  last-step : (w : World) → Running n b w → Stepped n b w → completes steps w ≡ true → Finale (steps ∷ []) w
+  last-step : (w : World) → Running n b w → Stepped n b w → completes advances w ≡ true → Finale (advances ∷ []) w
   last-step w r (on g c a) q = absurd (not-on w g q)
   last-step w r (ends f) q = final w r f
   last-step w r (halts f) q = absurd (not-halts w (ap (λ (a : Told). eqb (a .number) 0) (halted n b w r f .answer)) q)
 
-  one-step : (es : List Event) (w : World) → Running n b w → Stepped n b w → completes steps w ≡ false → Finish es (next steps w) → (Running n b (next steps w) → Finale es (next steps w)) → Finale (steps ∷ es) w
-  one-step es w r (on g c a) q f rec = front steps es w r (g .deed) (rec (g .still))
-  one-step es w r (ends k) q f rec = absurd (clash (completes steps w) (completed n b w r k) q)
-  one-step es w r (halts k) q f rec = absurd (rest-never es (next steps w) (halted n b w r k .rest) f)
+  one-step : (es : List Event) (w : World) → Running n b w → Stepped n b w → completes advances w ≡ false → Finish es (next advances w) → (Running n b (next advances w) → Finale es (next advances w)) → Finale (advances ∷ es) w
+  one-step es w r (on g c a) q f rec = front advances es w r (g .deed) (rec (g .still))
+  one-step es w r (ends k) q f rec = absurd (clash (completes advances w) (completed n b w r k) q)
+  one-step es w r (halts k) q f rec = absurd (rest-never es (next advances w) (halted n b w r k .rest) f)
 
   pub finale : (es : List Event) (w : World) → Running n b w → Finish es w → Finale es w
   finale es w r (last q) = last-step w r (stepped n b w r) q
   finale (call c ∷ es) w r (more p q f) = let g = call-goes n b w r c in front (call c) es w r (g .deed) (finale es (next (call c) w) (g .still) f)
-  finale (steps ∷ es) w r (more p q f) = one-step es w r (stepped n b w r) q f (λ k. finale es (next steps w) k f)
+  finale (advances ∷ es) w r (more p q f) = one-step es w r (stepped n b w r) q f (λ k. finale es (next advances w) k f)
   finale (asks ∷ es) w r (more p q f) = let g = asks-goes n b w r in front asks es w r (g .deed) (finale es (next asks w) (g .still) f)
   finale (starts ∷ es) w r (more p q f) = let g = starts-goes n b w r in front starts es w r (g .deed) (finale es (next starts w) (g .still) f)
 

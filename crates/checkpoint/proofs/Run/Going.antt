@@ -6,24 +6,26 @@ use mathlib.Core.Bool.{true, false}
 use native.Mathlib.Omega.{arith}
 use borrow.Author.Tests.{eq-eqb, ne-eqb}
 use lib.Dec.{eqb}
-use Rattle.layout.specs.Sizes.{mostStoreBlocks, isComplete}
+use Rattle.layout.specs.Sizes.{isComplete}
 use Rattle.layout.specs.Header.{headerOf}
 use Rattle.layout.specs.Inode.{kindOf, freeKind}
 use Rattle.layout.proofs.ViewLaws.{within-in}
 use Rattle.desk.specs.Sizes.{running}
 use Rattle.desk.specs.Desk.{deskOf}
 use Rattle.sound.specs.Sound.{Sound, inodesIn}
+use Rattle.sound.specs.declared.Form.the-variants.{Store}
 use Rattle.copying.specs.View.{View}
 use Rattle.copying.specs.Holds.{Holds}
-use Rattle.checkpoint.specs.Fit.{isRunning}
+use Rattle.checkpoint.specs.Fit.{isRunning, imageAllowed}
 use Rattle.checkpoint.specs.Copier.{lock, stepOf}
-use Rattle.checkpoint.specs.Live.{World, Outcome, guarded, doStep, step}
+use Rattle.checkpoint.specs.Live.{World, Outcome, guarded, doStep, step, threeGuards, start, started}
 use Rattle.checkpoint.specs.Shown.{Shown, shown}
-use Rattle.checkpoint.specs.List.{Ready, Event, steps, outcome, next}
-use Rattle.checkpoint.proofs.DecisionLaws.{guarded-is}
+use Rattle.checkpoint.specs.List.{Ready, Event, advances, outcome, next}
+use Rattle.checkpoint.proofs.DecisionLaws.{three-is, start-is}
 use Rattle.checkpoint.proofs.Copy.Seen.{shelfOf, seen}
 use Rattle.checkpoint.proofs.Copy.Laid.{Laid}
 use Rattle.checkpoint.proofs.Copy.FitLaws.{laid-ready}
+use lib.ListN.{length}
 
 -- the view of a world
 abbrev pub seenIn : ℕ → World → View
@@ -31,7 +33,7 @@ seenIn n w = seen n (w .store) (w .image) (w .desk)
 
 pub record Running (n b : ℕ) (w : World) : Type 0 where
   pub count : n ≡ inodesIn (w .store)
-  pub sound : Sound mostStoreBlocks false (w .store)
+  pub sound : Sound Store (w .store)
   pub laid : Laid n b (w .store) (w .image) (w .desk)
   pub holds : Holds n (seenIn n w)
 
@@ -55,10 +57,13 @@ locked-used {n} {b} {w} r z f =
     h .used (within-in n (kindOf (w .store)) (deskOf (w .desk) .locked) (omega arith) l ∙ f)
 
 -- ---- behind the guards
-pub guards-pass : (w : World) → Ready w → (o : Outcome) → guarded (w .store) (w .image) (w .desk) o ≡ o
-guards-pass w r o = guarded-is (w .store) (w .image) (w .desk) o ∙ rw (r .framed, r .desk, r .sound, r .notes) refl
+pub guards-pass : (w : World) → Ready w → (o : Outcome) → guarded (threeGuards (w .store) (w .image) (w .desk)) (w .store) (w .image) (w .desk) o ≡ o
+guards-pass w r o = three-is (w .store) (w .image) (w .desk) o ∙ rw (r .framed, r .desk, r .sound, r .notes) refl
 
-pub step-is : {n b : ℕ} {w : World} → Running n b w → outcome steps w ≡ shown (doStep (w .store) (w .image) (w .desk) n (stepOf (w .store) (w .image) (w .desk) n))
+pub start-passes : (w : World) → Ready w → imageAllowed (inodesIn (w .store)) (length (w .image)) ≡ true → start (w .store) (w .image) (w .desk) ≡ started (w .store) (w .image) (w .desk)
+start-passes w r a = start-is (w .store) (w .image) (w .desk) ∙ rw (r .framed, r .desk, a, r .sound, r .notes) refl
+
+pub step-is : {n b : ℕ} {w : World} → Running n b w → outcome advances w ≡ shown (doStep (w .store) (w .image) (w .desk) n (stepOf (w .store) (w .image) (w .desk) n))
 unfolding outcome step
 step-is {n} {b} {w} r =
     ap shown (guards-pass w (ready r) _)

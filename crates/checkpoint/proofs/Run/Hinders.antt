@@ -10,10 +10,10 @@ use lib.ListN.{length}
 use Rattle.bounded.proofs.SearchLaws.{pick-not}
 use Rattle.bounded.proofs.BoolLaws.{clash, and-left, and-right, or-cases}
 use Rattle.desk.specs.Desk.{deskOf}
-use Rattle.layout.specs.Sizes.{mostStoreBlocks}
 use Rattle.layout.specs.Inode.{fileKind, directoryKind, isKind, isDirectory}
 use Rattle.names.specs.Name.{legalName}
 use Rattle.sound.specs.Sound.{Sound, inodesIn}
+use Rattle.sound.specs.declared.Form.the-variants.{Store}
 use Rattle.answers.specs.declared.Refusal.{Refusal}
 use Rattle.answers.specs.declared.Refusal.the-variants.{IllegalName, WrongInode}
 use Rattle.changes.proofs.StoreLaws.{kind-some}
@@ -65,7 +65,7 @@ same-directory s n b d name e other h =
     never : (f : Refusal) → NoRename f ≡ Same → ⊥
     never f q = let z : _≡_ {A = ℕ} 0 1 = cc in omega arith
 
-module _ (s : List ℕ) (b : ℕ) (h : Sound mostStoreBlocks false s) where
+module _ (s : List ℕ) (b : ℕ) (h : Sound Store s) where
   abbrev n : ℕ
   n = inodesIn s
 

@@ -7,6 +7,7 @@ use mathlib.Core.List.{List}
 use native.Mathlib.Omega.{arith}
 use lib.ListN.{length}
 use Rattle.bounded.proofs.BoolLaws.{holds}
+use Rattle.bounded.specs.Count.{count}
 use Rattle.layout.specs.Inode.{kindOf, freeKind, fileKind}
 use Rattle.directory.specs.Slot.{mostSlots}
 use Rattle.sound.specs.Entry.{EntrySound}
@@ -20,7 +21,7 @@ use Rattle.copying.proofs.HistoryLaws.{told-holds}
 use Rattle.copying.proofs.EndLaws.{all-honest, kept-there, kept-body, kept-kind}
 use Rattle.checkpoint.specs.Live.{World}
 use Rattle.checkpoint.specs.List.{Event, run, Moment, Kept}
-use Rattle.checkpoint.specs.Finished.{countOf, HadName, HadBytes, Copied, Names, Throughout, Honest, OneMoment, Finished}
+use Rattle.checkpoint.specs.Finished.{countOf, HadName, HadBytes, InCopy, Names, Throughout, Honest, OneMoment, Finished}
 use Rattle.checkpoint.proofs.Run.Moments.{at, moment-at, Parts, parts}
 use Rattle.checkpoint.proofs.Run.Going.{Running}
 use Rattle.checkpoint.proofs.Run.Lists.{Going, runs, counted, going-at}
@@ -112,7 +113,7 @@ module _ (b : ℕ) (es : List Event) (w : World) (r : Running (countOf w) b w) (
         let a = fin .alike j (naming (w .store) n p) first-low first-high (subst (λ (i : ℕ). Alike (t j .store) (t k .image) i) first-names (h .2)) in
         had-bytes n es w v (naming (w .store) n p) (at es w j) (moment-at es w j) refl (count-at j) a (sym (a .kind) ∙ ap (kindOf (v .image)) (sym same-inode) ∙ same-kind ∙ e)
 
-    copied : Copied es w (v .image) p
+    copied : InCopy es w (v .image) p
     copied = record {
       stands = let l = first-low in let e = same-inode in naming-filled (v .image) n p (omega arith);
       inode = same-inode;

@@ -4,7 +4,6 @@ use mathlib.Core.Path.{_≡_, sym, ap, _∙_, subst}
 use mathlib.Core.Bool.{true}
 use mathlib.Core.List.{List}
 use lib.ListN.{length}
-use Rattle.layout.specs.Sizes.{mostImageBlocks}
 use Rattle.layout.specs.Inode.{kindOf, sizeOf, parentOf, fileKind}
 use Rattle.layout.proofs.ViewLaws.{within-in, below-in}
 use Rattle.directory.specs.Slot.{mostSlots}
@@ -12,6 +11,7 @@ use Rattle.desk.specs.Sizes.{finished}
 use Rattle.desk.specs.Desk.{deskOf}
 use Rattle.sound.specs.Place.{entryAt, naming}
 use Rattle.sound.specs.Sound.{Sound, inodesIn}
+use Rattle.sound.specs.declared.Form.the-variants.{Image}
 use Rattle.content.specs.Content.{fileBytes}
 use Rattle.copying.specs.View.{View}
 use Rattle.copying.specs.Deed.{Alike}
@@ -19,7 +19,7 @@ use Rattle.copying.specs.Holds.{Fresh, Ended}
 use Rattle.copying.specs.History.{Recorded}
 use Rattle.checkpoint.specs.Copier.{finishImage}
 use Rattle.checkpoint.specs.Live.{World}
-use Rattle.checkpoint.specs.List.{Event, steps, next, run}
+use Rattle.checkpoint.specs.List.{Event, advances, next, run}
 use Rattle.checkpoint.proofs.Copy.Seen.{seen, shelfOf}
 use Rattle.checkpoint.proofs.Step.FinishSeen.{finish-inodes}
 use Rattle.checkpoint.proofs.Run.Moments.{at, at-end}
@@ -70,7 +70,7 @@ pub record Last (n : ℕ) (es : List Event) (w : World) : Type 0 where
   pub kind : (i : ℕ) → 1 ≤ i → i ≤ n → views n es w (length es) .image .kind i ≡ kindOf (run es w .image) i
   pub entry : (j p : ℕ) → views n es w (length es) .image .entry p ≡ views n es w j .store .entry p → entryAt (run es w .image) n p ≡ entryAt (at es w j .store) n p
   pub alike : (j i : ℕ) → 1 ≤ i → i ≤ n → Alike (views n es w j .store) (views n es w (length es) .image) i → AlikeIn n (at es w j .store) (run es w .image) i
-  pub sound : Sound mostImageBlocks true (run es w .image)
+  pub sound : Sound Image (run es w .image)
   pub count : inodesIn (run es w .image) ≡ n
   pub state : deskOf (run es w .desk) .state ≡ finished
 
@@ -87,7 +87,7 @@ module _ (n b : ℕ) (es : List Event) (w : World) (fr : Fresh (seenIn n w)) (f 
   last-view : t k ≡ seenIn n v
   last-view = ap (seenIn n) (at-end es w)
 
-  ended-last : Ended (seenIn n (next steps (f .before)))
+  ended-last : Ended (seenIn n (next advances (f .before)))
   ended-last =
       let q = finals n b (f .before) (f .runs) (f .finishes) .quiet in
       let e = f .finishes .ended in

@@ -5,18 +5,23 @@ use mathlib.Core.Bool.{true, false}
 use mathlib.Core.List.{List, [], _∷_}
 use lib.Dec.{eqb}
 use lib.ListN.{length}
+use Rattle.layout.specs.Block.{Allowed}
+use Rattle.layout.specs.Sizes.{mostImageBlocks}
 use Rattle.sound.specs.Sound.{inodesIn}
+use Rattle.sound.proofs.SoundLaws.{framed}
 use Rattle.answers.specs.declared.Answer.the-variants.{Done}
 use Rattle.answers.specs.Told.{Told, told}
 use Rattle.checkpoint.specs.Fit.{imageAllowed, isRunning}
-use Rattle.checkpoint.specs.Live.{World, Outcome, started, start}
-use Rattle.checkpoint.specs.List.{Ready, Event, call, steps, asks, starts, outcome, next, accepted, run, Moment, here, after}
-use Rattle.checkpoint.proofs.Run.Going.{Running, ready, guards-pass}
+use Rattle.checkpoint.specs.Live.{World, Outcome, started}
+use Rattle.checkpoint.specs.List.{Ready, Event, call, advances, asks, starts, outcome, next, accepted, run, Moment, here, after}
+use Rattle.checkpoint.proofs.Run.Going.{Running, ready, guards-pass, start-passes}
 use Rattle.checkpoint.proofs.Run.Turned.{Stepped, on, ends, halts, stepped}
 use Rattle.checkpoint.proofs.Run.Calls.{blocks-told, image-allowed, call-goes, asks-goes, starts-goes}
 use Rattle.checkpoint.proofs.Run.Starts.{Fresher, opens, opened-runs}
 use Rattle.checkpoint.proofs.Run.Rests.{Resting, idle, call-kept, asks-kept, steps-kept}
 use Rattle.checkpoint.proofs.Run.Ends.{finals, halted}
+use native.Mathlib.Omega.{arith}
+use Rattle.sound.specs.declared.Form.the-variants.{Store}
 
 pub data Going (n b : ℕ) (w : World) : Type 0 where
   runs : Running n b w → Going n b w
@@ -32,11 +37,15 @@ counted (rests r) = r .count
 
 -- a start is accepted where the buffers fit and no copy runs
 pub start-accepts : (w : World) → Ready w → isRunning (w .desk) ≡ false → imageAllowed (inodesIn (w .store)) (length (w .image)) ≡ true → outcome starts w .answer ≡ told (Done 0)
-unfolding outcome start started
-start-accepts w r i a = rw (a, r .framed, r .desk) (ap (λ (o : Outcome). told (o .answer)) (guards-pass w r _) ∙ rw i refl)
+unfolding outcome started
+start-accepts w r i a = ap (λ (o : Outcome). told (o .answer)) (start-passes w r a) ∙ rw i refl
 
 pub start-done : (n b : ℕ) (w : World) → Resting n b w → outcome starts w .answer ≡ told (Done 0)
-start-done n b w r = start-accepts w (r .fit) (idle r) (rw (sym (r .count)) (image-allowed n b (length (w .image)) (r .some-blocks) (r .most-blocks) (r .long)))
+start-done n b w r =
+    let f = framed Store (w .store) .to (r .fit .framed) in
+    let c = r .count in
+    let fits : Allowed mostImageBlocks n b (length (w .image)) = record { some-inodes = omega (arith, f .some-inodes); most-inodes = omega (arith, f .most-inodes); some-blocks = r .some-blocks; most-blocks = r .most-blocks; long = r .long } in
+    start-accepts w (r .fit) (idle r) (rw (sym (r .count)) (image-allowed n b (length (w .image)) fits))
 
 pub start-taken : (n b : ℕ) (w : World) → Resting n b w → accepted starts w ≡ true
 start-taken n b w r = ap (λ (a : Told). eqb (a .number) 0) (start-done n b w r)
@@ -44,18 +53,18 @@ start-taken n b w r = ap (λ (a : Told). eqb (a .number) 0) (start-done n b w r)
 pub start-anew : (n b : ℕ) (w : World) → Resting n b w → Fresher n b (next starts w)
 start-anew n b w r = opened-runs n b w (opens w (start-taken n b w r)) (r .count) (blocks-told n b (length (w .image)) (r .long))
 
-step-going : (n b : ℕ) (w : World) → Running n b w → Stepped n b w → Going n b (next steps w)
+step-going : (n b : ℕ) (w : World) → Running n b w → Stepped n b w → Going n b (next advances w)
 step-going n b w r (on g c a) = runs (g .still)
 step-going n b w r (ends f) = rests (finals n b w r f .rest)
 step-going n b w r (halts f) = rests (halted n b w r f .rest)
 
 pub going-next : (n b : ℕ) (w : World) (e : Event) → Going n b w → Going n b (next e w)
 going-next n b w (call c) (runs r) = runs (call-goes n b w r c .still)
-going-next n b w steps (runs r) = step-going n b w r (stepped n b w r)
+going-next n b w advances (runs r) = step-going n b w r (stepped n b w r)
 going-next n b w asks (runs r) = runs (asks-goes n b w r .still)
 going-next n b w starts (runs r) = runs (starts-goes n b w r .still)
 going-next n b w (call c) (rests r) = rests (call-kept n b w r c .rest)
-going-next n b w steps (rests r) = rests (steps-kept n b w r .rest)
+going-next n b w advances (rests r) = rests (steps-kept n b w r .rest)
 going-next n b w asks (rests r) = rests (asks-kept n b w r .rest)
 going-next n b w starts (rests r) = runs (start-anew n b w r .runs)
 

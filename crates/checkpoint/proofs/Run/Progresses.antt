@@ -11,7 +11,7 @@ use lib.ListN.{length, getD}
 use Rattle.bounded.proofs.BoolLaws.{clash, and-left, and-right}
 use Rattle.layout.specs.Sizes.{addressCount, isComplete}
 use Rattle.layout.specs.Header.{headerOf}
-use Rattle.desk.specs.Sizes.{finished, stopped}
+use Rattle.desk.specs.Sizes.{finished, stopped, stepsAnInode}
 use Rattle.desk.specs.declared.Desk.{Desk}
 use Rattle.desk.specs.Desk.{deskOf}
 use Rattle.desk.specs.Next.{finishing}
@@ -19,10 +19,10 @@ use Rattle.desk.proofs.DeskLaws.{length-putDesk}
 use Rattle.answers.specs.declared.Refusal.the-variants.{ImageFull}
 use Rattle.answers.specs.Told.{Told}
 use Rattle.answers.specs.Refusal.{refusalNumber}
-use Rattle.checkpoint.specs.Fit.{isRunning, stepsAnInode}
+use Rattle.checkpoint.specs.Fit.{isRunning}
 use Rattle.checkpoint.specs.Live.{World}
 use Rattle.checkpoint.specs.Shown.{Shown}
-use Rattle.checkpoint.specs.List.{Event, call, steps, asks, starts, next, accepted, restarts, run, refusalOf, completes}
+use Rattle.checkpoint.specs.List.{Event, call, advances, asks, starts, next, accepted, restarts, run, refusalOf, completes}
 use Rattle.checkpoint.specs.Finished.{countOf}
 use Rattle.checkpoint.specs.Progress.{ImageTaken, Ended, Progress, noRestart, tried, Roomy, GetsDone, Timing}
 use Rattle.checkpoint.proofs.Copy.FitLaws.{laid-steps}
@@ -40,20 +40,20 @@ use Rattle.checkpoint.proofs.Run.Counts.{stepsIn, call-head}
 
 -- ---- a step while the copy runs
 module _ (n b : ℕ) (w : World) where
-  moved : Running n b w → Stepped n b w → (refusalOf steps w ≡ refusalNumber ImageFull → ⊥) → accepted steps w ≡ true
+  moved : Running n b w → Stepped n b w → (refusalOf advances w ≡ refusalNumber ImageFull → ⊥) → accepted advances w ≡ true
   moved r (on g c a) z = ap (λ (x : Told). eqb (x .number) 0) a
   moved r (ends f) z = ap (λ (x : Told). eqb (x .number) 0) (finals n b w r f .answer)
   moved r (halts f) z = absurd (z (ap (λ (x : Told). x .number) (halted n b w r f .answer)))
 
-  taken-at : Result steps w → refusalOf steps w ≡ refusalNumber ImageFull → ImageTaken w
+  taken-at : Result advances w → refusalOf advances w ≡ refusalNumber ImageFull → ImageTaken w
   taken-at (done h) e = absurd (omega arith)
   taken-at (refuses lo hi v) e = absurd (omega arith)
   taken-at (fills h s r) e = r
 
   -- the step that sets byte 8
-  ended : Running n b w → Stepped n b w → completes steps w ≡ true → Ended w (next steps w)
-  ended r (on g c a) q = absurd (clash (eqb (headerOf (next steps w .image) .complete) isComplete) (and-right (accepted steps w) _ q) (incomplete (g .still)))
-  ended r (halts f) q = absurd (clash (accepted steps w) (and-left (accepted steps w) _ q) (ap (λ (x : Told). eqb (x .number) 0) (halted n b w r f .answer)))
+  ended : Running n b w → Stepped n b w → completes advances w ≡ true → Ended w (next advances w)
+  ended r (on g c a) q = absurd (clash (eqb (headerOf (next advances w .image) .complete) isComplete) (and-right (accepted advances w) _ q) (incomplete (g .still)))
+  ended r (halts f) q = absurd (clash (accepted advances w) (and-left (accepted advances w) _ q) (ap (λ (x : Told). eqb (x .number) 0) (halted n b w r f .answer)))
   ended r (ends f) q =
       let k = finals n b w r f in
       let l = r .laid .desk .long in
@@ -65,11 +65,11 @@ module _ (n b : ℕ) (w : World) where
       }
 
   pub progress : Going n b w → Progress w
-  progress (runs r) = record { moves = λ _ z. moved r (stepped n b w r) z; fills = taken-at (result n b w steps (runs r)); ends = ended r (stepped n b w r) }
+  progress (runs r) = record { moves = λ _ z. moved r (stepped n b w r) z; fills = taken-at (result n b w advances (runs r)); ends = ended r (stepped n b w r) }
   progress (rests r) = record {
     moves = λ z _. absurd (clash (isRunning (w .desk)) z (idle r));
-    fills = taken-at (result n b w steps (rests r));
-    ends = λ q. absurd (clash (accepted steps w) (and-left (accepted steps w) _ q) (ap (λ (x : Shown). eqb (x .answer .number) 0) (step-idle n b w r)));
+    fills = taken-at (result n b w advances (rests r));
+    ends = λ q. absurd (clash (accepted advances w) (and-left (accepted advances w) _ q) (ap (λ (x : Shown). eqb (x .answer .number) 0) (step-idle n b w r)));
   }
 
   -- "15 start while running, step while not"
@@ -105,7 +105,7 @@ pub record Still (n b : ℕ) (w v : World) : Type 0 where
 module _ (n b : ℕ) where
   pub still-next : (e : Event) (w : World) → Resting n b w → restarts e w ≡ false → Still n b w (next e w)
   still-next (call c) w r q = let k = call-kept n b w r c in record { rest = k .rest; image = k .image; desk = k .desk }
-  still-next steps w r q = let k = steps-kept n b w r in record { rest = k .rest; image = k .image; desk = k .desk }
+  still-next advances w r q = let k = steps-kept n b w r in record { rest = k .rest; image = k .image; desk = k .desk }
   still-next asks w r q = let k = asks-kept n b w r in record { rest = k .rest; image = k .image; desk = k .desk }
   still-next starts w r q = absurd (clash (accepted starts w) (start-taken n b w r) q)
 
@@ -130,16 +130,16 @@ module _ (n b : ℕ) where
   gets-more e es w k (whole h c) = whole h c
   gets-more e es w k (short h v r f) = short h v r f
 
-  step-gets : (es : List Event) (w : World) → ((v : World) → Running n b v → noRestart es v ≡ true → Gets es v) → (r : Running n b w) → noRestart es (next steps w) ≡ true → Stepped n b w → Gets (steps ∷ es) w
+  step-gets : (es : List Event) (w : World) → ((v : World) → Running n b v → noRestart es v ≡ true → Gets es v) → (r : Running n b w) → noRestart es (next advances w) ≡ true → Stepped n b w → Gets (advances ∷ es) w
   unfolding run tried
-  step-gets es w rec r q (on g c a) = gets-more steps es w (let k = c in omega arith) (rec (next steps w) (g .still) q)
+  step-gets es w rec r q (on g c a) = gets-more advances es w (let k = c in omega arith) (rec (next advances w) (g .still) q)
   step-gets es w rec r q (ends f) =
       let k = finals n b w r f in
-      let l = still-run es (next steps w) (k .rest) q in
+      let l = still-run es (next advances w) (k .rest) q in
       whole (ap (λ (d : List ℕ). deskOf d .state) (l .desk) ∙ k .state) (ap (λ (m : List ℕ). headerOf m .complete) (l .image ∙ k .image) ∙ k .sound .complete)
   step-gets es w rec r q (halts f) =
       let k = halted n b w r f in
-      let l = still-run es (next steps w) (k .rest) q in
+      let l = still-run es (next advances w) (k .rest) q in
       short (ap (λ (d : List ℕ). deskOf d .state) (l .desk) ∙ k .state) w r f
 
   pub gets : (es : List Event) (w : World) → Running n b w → noRestart es w ≡ true → Gets es w
@@ -151,7 +151,7 @@ module _ (n b : ℕ) where
   gets (call c ∷ es) w r q =
       let h = no-restart (call c) es w q in
       gets-more (call c) es w (ap (λ (d : Desk). d .steps + tried es) (call-head c w)) (gets es (next (call c) w) (call-goes n b w r c .still) (h .1))
-  gets (steps ∷ es) w r q = step-gets es w (gets es) r (no-restart steps es w q .1) (stepped n b w r)
+  gets (advances ∷ es) w r q = step-gets es w (gets es) r (no-restart advances es w q .1) (stepped n b w r)
   gets (asks ∷ es) w r q =
       let h = no-restart asks es w q in
       gets-more asks es w (ap (λ (v : World). stepsIn v + tried es) (asks-same w)) (gets es (next asks w) (asks-goes n b w r .still) (h .1))

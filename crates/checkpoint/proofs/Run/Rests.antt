@@ -10,14 +10,15 @@ use lib.Dec.{eqb}
 use lib.ListN.{length}
 use Rattle.bounded.specs.Search.{pick}
 use Rattle.bounded.proofs.BoolLaws.{and-left}
-use Rattle.layout.specs.Sizes.{mostStoreBlocks, mostImageBlocks, isComplete, notComplete}
+use Rattle.layout.specs.Sizes.{mostImageBlocks, isComplete, notComplete}
 use Rattle.layout.specs.Header.{headerOf}
 use Rattle.layout.specs.Block.{storeLength}
 use Rattle.desk.specs.Sizes.{running, finished, stopped}
 use Rattle.desk.specs.Desk.{deskOf}
-use Rattle.sound.specs.Sound.{Sound, framedB, soundB, inodesIn, blocksIn}
+use Rattle.sound.specs.Sound.{Sound, inodesIn, blocksIn}
 use Rattle.sound.specs.declared.Form.the-variants.{Store}
 use Rattle.sound.proofs.SoundLaws.{is-sound}
+use Rattle.sound.specs.Test.{framedB, isSound}
 use Rattle.answers.specs.declared.Refusal.the-variants.{WrongState}
 use Rattle.files.specs.Effect.{Call, Entry, Planned, does, refused}
 use Rattle.files.proofs.Lawful.{Each, Lawful}
@@ -26,8 +27,8 @@ use Rattle.checkpoint.specs.Fit.{isRunning, notesFit}
 use Rattle.checkpoint.specs.Notes.{noteMade, noteTaken, cutsImage, cutImage, cutEntries, clearMarks, setMarks}
 use Rattle.checkpoint.specs.Live.{World, refuse, decision, leavesIn, live, step}
 use Rattle.checkpoint.specs.Shown.{shown}
-use Rattle.checkpoint.specs.List.{Ready, call, steps, asks, outcome, next}
-use Rattle.checkpoint.proofs.DecisionLaws.{Allowed, each-decided}
+use Rattle.checkpoint.specs.List.{Ready, call, advances, asks, outcome, next}
+use Rattle.checkpoint.proofs.DecisionLaws.{Unhindered, each-decided}
 use Rattle.checkpoint.proofs.Run.Calls.{asks-same}
 use Rattle.checkpoint.proofs.Run.Going.{guards-pass, leftIn, next-is}
 
@@ -62,19 +63,19 @@ module _ (d : List ℕ) (i : isRunning d ≡ false) (n : ℕ) where
   no-set (x ∷ xs) = rw i (no-set xs)
 
 -- the buffers fit another sound store of as many inodes
-refit : (w : World) (s : List ℕ) → Ready w → Sound mostStoreBlocks false s → inodesIn s ≡ inodesIn (w .store) → Ready (record { store = s; image = w .image; desk = w .desk })
-unfolding soundB notesFit
+refit : (w : World) (s : List ℕ) → Ready w → Sound Store s → inodesIn s ≡ inodesIn (w .store) → Ready (record { store = s; image = w .image; desk = w .desk })
+unfolding isSound notesFit
 refit w s r h e =
     let k = is-sound Store s .from h in
     record {
-      framed = and-left (framedB mostStoreBlocks s) _ k;
+      framed = and-left (framedB Store s) _ k;
       sound = k;
       desk = r .desk;
       notes = rw e (r .notes);
     }
 
 module _ (n b : ℕ) (w : World) (r : Resting n b w) where
-  sound : Sound mostStoreBlocks false (w .store)
+  sound : Sound Store (w .store)
   sound = is-sound Store (w .store) .to (r .fit .sound)
 
   -- store, image and desk after a call
@@ -83,7 +84,7 @@ module _ (n b : ℕ) (w : World) (r : Resting n b w) where
     pub image : v .image ≡ w .image
     pub desk : v .desk ≡ w .desk
 
-  stays : (s : List ℕ) → Sound mostStoreBlocks false s → inodesIn s ≡ inodesIn (w .store) → Kept (record { store = s; image = w .image; desk = w .desk })
+  stays : (s : List ℕ) → Sound Store s → inodesIn s ≡ inodesIn (w .store) → Kept (record { store = s; image = w .image; desk = w .desk })
   stays s h e = record {
     rest = record { count = r .count ∙ sym e; fit = refit w s (r .fit) h e; long = r .long; some-blocks = r .some-blocks; most-blocks = r .most-blocks; state = r .state; byte = r .byte };
     image = refl;
@@ -100,7 +101,7 @@ module _ (n b : ℕ) (w : World) (r : Resting n b w) where
       rw (no-cut (w .desk) i (inodesIn (w .store)) (w .image) (x .taken), no-clear (w .desk) i (inodesIn (w .store)) (x .taken), no-set (w .desk) i (inodesIn (w .store)) (x .made))
       (stays (x .store) (k .sound) (k .frame .inodes))
 
-  drop-allowed : (q : Planned) → Each (Allowed (Lawful (w .store) (inodesIn (w .store))) w) q → Each (Lawful (w .store) (inodesIn (w .store))) q
+  drop-allowed : (q : Planned) → Each (Unhindered (Lawful (w .store) (inodesIn (w .store))) w) q → Each (Lawful (w .store) (inodesIn (w .store))) q
   drop-allowed (refused e) k = tt
   drop-allowed (does x) k = k .0
 
@@ -113,9 +114,9 @@ module _ (n b : ℕ) (w : World) (r : Resting n b w) where
   pub asks-kept : Kept (next asks w)
   asks-kept = same-kept (next asks w) (asks-same w)
 
-  pub step-idle : outcome steps w ≡ shown (refuse WrongState (w .store) (w .image) (w .desk))
+  pub step-idle : outcome advances w ≡ shown (refuse WrongState (w .store) (w .image) (w .desk))
   unfolding outcome step
   step-idle = ap shown (guards-pass w (r .fit) _) ∙ rw (idle r) refl
 
-  pub steps-kept : Kept (next steps w)
-  steps-kept = same-kept (next steps w) (next-is steps w _ step-idle)
+  pub steps-kept : Kept (next advances w)
+  steps-kept = same-kept (next advances w) (next-is advances w _ step-idle)

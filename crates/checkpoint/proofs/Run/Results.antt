@@ -14,12 +14,12 @@ use Rattle.answers.specs.declared.Answer.{Answer}
 use Rattle.answers.specs.declared.Answer.the-variants.{Done, Refused}
 use Rattle.answers.specs.Told.{Told, told}
 use Rattle.checkpoint.specs.declared.Status.the-variants.{Is}
-use Rattle.layout.specs.Free.{named}
+use Rattle.layout.specs.Free.{blockNamed}
 use Rattle.files.specs.Effect.{Call}
 use Rattle.checkpoint.proofs.DecisionLaws.{asStatus, status-is}
 use Rattle.checkpoint.specs.Live.{World, Outcome, refuse, live}
 use Rattle.checkpoint.specs.Shown.{numberOf, Shown, shown, toldStatus}
-use Rattle.checkpoint.specs.List.{Event, call, steps, asks, starts, outcome, next, refusalOf}
+use Rattle.checkpoint.specs.List.{Event, call, advances, asks, starts, outcome, next, refusalOf}
 use Rattle.checkpoint.specs.Progress.{ImageTaken, Stopped}
 use Rattle.checkpoint.specs.Demand.{Refusals}
 use Rattle.checkpoint.proofs.PlainAnswers.{plain-never}
@@ -71,7 +71,7 @@ module _ (n b : ℕ) (w : World) (g : Going n b w) (c : Call) where
 
 -- ---- a step
 module _ (n b : ℕ) (w : World) where
-  stop-is : Running n b w → Fills n b w → Stopped w (next steps w)
+  stop-is : Running n b w → Fills n b w → Stopped w (next advances w)
   stop-is r f = let l = r .laid .desk .long in rw (halted n b w r f .is) (stop-leaves w (omega arith))
 
   taken-is : Running n b w → Fills n b w → ImageTaken w
@@ -80,15 +80,15 @@ module _ (n b : ℕ) (w : World) where
       let e = r .laid .frame .long in
       let k = r .laid .desk .blocks in
       let c = r .count in
-      record { locked = omega arith; more = f .left; taken = λ x l m. subst (λ (i : ℕ). named (w .image) i x ≡ true) c (f .all x l (omega arith)) }
+      record { locked = omega arith; more = f .left; taken = λ x l m. subst (λ (i : ℕ). blockNamed (w .image) i x ≡ true) c (f .all x l (omega arith)) }
 
   number-is : (e : Event) (x : Told) → outcome e w .answer ≡ x → refusalOf e w ≡ x .number
   number-is e x h = ap (λ (y : Told). y .number) h
 
-  step-result : Running n b w → Stepped n b w → Result steps w
-  step-result r (on g c a) = done (number-is steps _ a)
-  step-result r (ends f) = done (number-is steps _ (finals n b w r f .answer))
-  step-result r (halts f) = fills (number-is steps _ (halted n b w r f .answer)) (stop-is r f) (taken-is r f)
+  step-result : Running n b w → Stepped n b w → Result advances w
+  step-result r (on g c a) = done (number-is advances _ a)
+  step-result r (ends f) = done (number-is advances _ (finals n b w r f .answer))
+  step-result r (halts f) = fills (number-is advances _ (halted n b w r f .answer)) (stop-is r f) (taken-is r f)
 
   wrong : (e : Event) → outcome e w ≡ shown (refuse WrongState (w .store) (w .image) (w .desk)) → Result e w
   wrong e h = let k = number-is e (told (Refused WrongState)) (ap (λ (o : Shown). o .answer) h) in refuses (omega arith) (omega arith) (next-is e w _ h)
@@ -101,8 +101,8 @@ module _ (n b : ℕ) (w : World) where
   pub result : (e : Event) → Going n b w → Result e w
   result (call c) g = call-result n b w g c
   result asks g = done (number-is asks _ (asked g))
-  result steps (runs r) = step-result r (stepped n b w r)
-  result steps (rests r) = wrong steps (step-idle n b w r)
+  result advances (runs r) = step-result r (stepped n b w r)
+  result advances (rests r) = wrong advances (step-idle n b w r)
   result starts (runs r) = wrong starts (start-busy n b w r)
   result starts (rests r) = done (number-is starts (told (Done 0)) (start-done n b w r))
 

@@ -9,15 +9,17 @@ use lib.Dec.{eqb, leb}
 use lib.ListN.{length}
 use Rattle.bounded.specs.Search.{pick}
 use Rattle.bounded.proofs.BoolLaws.{clash, and-left, and-right}
-use Rattle.layout.specs.Sizes.{mostInodes, mostStoreBlocks}
+use Rattle.layout.specs.Sizes.{mostInodes}
+use Rattle.layout.specs.Block.{allowed}
 use Rattle.desk.specs.Sizes.{deskHeaderBytes, deskLength}
 use Rattle.desk.specs.declared.Desk.{Desk}
 use Rattle.desk.specs.Desk.{deskOf, clearNotes}
 use Rattle.desk.specs.Next.{starting}
 use Rattle.desk.proofs.DeskLaws.{desk-putDesk, length-clearNotes}
-use Rattle.sound.specs.Sound.{Sound, isSound, framedB, inodesIn}
+use Rattle.sound.specs.Sound.{Sound, inodesIn}
 use Rattle.sound.specs.declared.Form.the-variants.{Store}
 use Rattle.sound.proofs.SoundLaws.{is-sound}
+use Rattle.sound.specs.Test.{framedB, isSound}
 use Rattle.answers.specs.declared.Answer.the-variants.{Done}
 use Rattle.answers.specs.declared.Refusal.the-variants.{BadBuffer, UnsoundStore, BadDesk, WrongState}
 use Rattle.copying.specs.View.{Tidy}
@@ -28,11 +30,12 @@ use Rattle.checkpoint.specs.Copier.{startImage, startDesk}
 use Rattle.checkpoint.specs.Live.{World, Outcome, left, refuse, started, start}
 use Rattle.checkpoint.specs.Shown.{numberOf, shown}
 use Rattle.checkpoint.specs.List.{Ready, starts, outcome, next, accepted}
-use Rattle.checkpoint.proofs.DecisionLaws.{guarded-is}
+use Rattle.checkpoint.proofs.DecisionLaws.{start-is}
 use Rattle.checkpoint.proofs.Copy.Seen.{seen}
 use Rattle.checkpoint.proofs.Copy.TidyLaws.{store-tidy}
 use Rattle.checkpoint.proofs.Step.StartLaws.{start-laid, start-fresh}
 use Rattle.checkpoint.proofs.Run.Going.{seenIn, Running, next-is}
+use Rattle.checkpoint.proofs.Copy.FitLaws.{desk-framed-is}
 
 -- what it leaves
 abbrev pub opened : World → World
@@ -48,22 +51,11 @@ pub record Opens (v : World) : Type 0 where
   pub idle : isRunning (v .desk) ≡ false
   pub is : next starts v ≡ opened v
 
--- the start as a chain of tests
-chain : (s m d : List ℕ) → start s m d ≡
-    pick (framedB mostStoreBlocks s && (deskFramed d && not (imageAllowed (inodesIn s) (length m)))) (refuse BadBuffer s m d)
-    (pick (not (framedB mostStoreBlocks s && deskFramed d)) (refuse BadBuffer s m d)
-    (pick (not (isSound Store s)) (refuse UnsoundStore s m d)
-    (pick (not (notesFit s m d)) (refuse BadDesk s m d)
-    (pick (isRunning d) (refuse WrongState s m d)
-    (left (Done 0) s (startImage (inodesIn s) (length m)) (startDesk d (inodesIn s) (imageBlocks (inodesIn s) (length m))))))))
-unfolding start started
-chain s m d = ap (pick (framedB mostStoreBlocks s && (deskFramed d && not (imageAllowed (inodesIn s) (length m)))) (refuse BadBuffer s m d)) (guarded-is s m d _)
-
 pub opens : (v : World) → accepted starts v ≡ true → Opens v
-unfolding outcome
+unfolding outcome started
 opens v a =
-    go (framedB mostStoreBlocks s) (deskFramed d) (imageAllowed (inodesIn s) (length m)) (isSound Store s) (notesFit s m d) (isRunning d) refl refl refl refl refl refl
-    (sym (ap (λ (o : Outcome). eqb (numberOf (o .answer)) 0) (chain s m d)) ∙ a) (chain s m d)
+    go (framedB Store s) (deskFramed d) (imageAllowed (inodesIn s) (length m)) (isSound Store s) (notesFit s m d) (isRunning d) refl refl refl refl refl refl
+    (sym (ap (λ (o : Outcome). eqb (numberOf (o .answer)) 0) (start-is s m d)) ∙ a) (start-is s m d)
   where
     s : List ℕ
     s = v .store
@@ -79,13 +71,12 @@ opens v a =
 
     tests : (f g i k n r : Bool) → Outcome
     tests f g i k n r =
-        pick (f && (g && not i)) (refuse BadBuffer s m d)
-        (pick (not (f && g)) (refuse BadBuffer s m d)
+        pick (not (f && (g && i))) (refuse BadBuffer s m d)
         (pick (not k) (refuse UnsoundStore s m d)
         (pick (not n) (refuse BadDesk s m d)
-        (pick r (refuse WrongState s m d) o))))
+        (pick r (refuse WrongState s m d) o)))
 
-    go : (f g i k n r : Bool) → framedB mostStoreBlocks s ≡ f → deskFramed d ≡ g → imageAllowed (inodesIn s) (length m) ≡ i → isSound Store s ≡ k → notesFit s m d ≡ n → isRunning d ≡ r
+    go : (f g i k n r : Bool) → framedB Store s ≡ f → deskFramed d ≡ g → imageAllowed (inodesIn s) (length m) ≡ i → isSound Store s ≡ k → notesFit s m d ≡ n → isRunning d ≡ r
         → eqb (numberOf (tests f g i k n r .answer)) 0 ≡ true → start s m d ≡ tests f g i k n r → Opens v
     go true true true true true false p q t u x y h e = record {
       ready = record { framed = p; sound = u; desk = q; notes = x };
@@ -113,7 +104,7 @@ module _ (v : World) (h : Opens v) where
   abbrev b : ℕ
   b = imageBlocks (inodesIn (v .store)) (length (v .image))
 
-  sound : Sound mostStoreBlocks false (v .store)
+  sound : Sound Store (v .store)
   sound = is-sound Store (v .store) .to (h .ready .sound)
 
   fits : deskFits (v .desk) ≡ true
@@ -132,10 +123,8 @@ module _ (v : World) (h : Opens v) where
   tidy = store-tidy (v .store) n sound refl
 
   long : deskHeaderBytes ≤ length (clearNotes (v .desk) n)
-  unfolding deskFramed
   long =
-      let k = deskOf (v .desk) .inodes in
-      let e = eqb-true (length (v .desk)) (deskLength k) (and-right (leb k mostInodes) _ (and-right (leb 1 k) (leb k mostInodes && eqb (length (v .desk)) (deskLength k)) (h .ready .desk))) in
+      let e = desk-framed-is (v .desk) .to (h .ready .desk) .1 .1 in
       let f = length-clearNotes (v .desk) n in
       omega arith
 

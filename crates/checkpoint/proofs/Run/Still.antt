@@ -10,6 +10,7 @@ use lib.Dec.{eqb}
 use lib.ListN.{length}
 use Rattle.bounded.proofs.BoolLaws.{clash, holds-or-fails, same-test}
 use Rattle.bounded.proofs.CountLaws.{count-ext}
+use Rattle.bounded.specs.Count.{count}
 use Rattle.layout.specs.Sizes.{rootInode}
 use Rattle.layout.specs.Inode.{kindOf, linksOf, freeKind}
 use Rattle.layout.proofs.ViewLaws.{within-in}
@@ -20,6 +21,7 @@ use Rattle.sound.specs.Entry.{EntrySound}
 use Rattle.sound.specs.Link.{LinkSound}
 use Rattle.sound.specs.Sound.{Sound, inodesIn, blocksIn}
 use Rattle.sound.proofs.PlaceLaws.{naming-filled}
+use Rattle.sound.specs.declared.Form.{Form}
 use Rattle.copying.specs.View.{View, Shelf}
 use Rattle.copying.specs.Deed.{Alike}
 use Rattle.copying.specs.History.{Spell}
@@ -43,8 +45,8 @@ pub record Parts (s : List ℕ) (n : ℕ) : Type 0 where
   pub entries : (p : ℕ) → p < mostSlots * n → filled s n p ≡ true → EntrySound s n p
   pub links : (i : ℕ) → 1 ≤ i → i ≤ n → LinkSound s n i
 
-parts-of : (limit : ℕ) (blank : Bool) (s : List ℕ) (n : ℕ) → Sound limit blank s → inodesIn s ≡ n → Parts s n
-parts-of limit blank s n h e = subst (Parts s) e (record { blocks = blocksIn s; inodes = h .inodes; entries = h .entries; links = h .links })
+parts-of : (f : Form) (s : List ℕ) (n : ℕ) → Sound f s → inodesIn s ≡ n → Parts s n
+parts-of f s n h e = subst (Parts s) e (record { blocks = blocksIn s; inodes = h .inodes; entries = h .entries; links = h .links })
 
 -- a place is filled where it names an inode
 filled-same : (s t : List ℕ) (n p : ℕ) → Parts s n → p < mostSlots * n → naming t n p ≡ naming s n p → filled s n p ≡ true → filled t n p ≡ true
@@ -67,10 +69,10 @@ module _ (b : ℕ) (es : List Event) (w : World) (r : Running (countOf w) b w) (
   m = run es w .image
 
   in-store : Parts s n
-  in-store = parts-of _ _ s n (r .sound) refl
+  in-store = parts-of _ s n (r .sound) refl
 
   in-copy : Parts m n
-  in-copy = parts-of _ _ m n (fin .sound) (fin .count)
+  in-copy = parts-of _ m n (fin .sound) (fin .count)
 
   -- the store's view at every moment is the first
   store-at : (j : ℕ) → at es w j .store ≡ s

@@ -14,7 +14,7 @@ use Rattle.files.specs.Effect.{Call}
 use Rattle.files.proofs.Lawful.{Lawful}
 use Rattle.copying.specs.History.{Stood, Chain, top, below}
 use Rattle.checkpoint.specs.Live.{World}
-use Rattle.checkpoint.specs.List.{Event, call, steps, asks, starts, next, accepted, takes, Untouched, Kept}
+use Rattle.checkpoint.specs.List.{Event, call, advances, asks, starts, next, accepted, takes, Untouched, Kept}
 use Rattle.checkpoint.specs.List as list
 use Rattle.checkpoint.proofs.PlainLaws.{steps-keep, asks-keep, starts-keep}
 use Rattle.checkpoint.proofs.Copy.Seen.{seen, shelfOf}
@@ -39,7 +39,7 @@ module _ (n b : ℕ) (w : World) (g : Going n b w) (p : ℕ) (l : p < mostSlots 
   pub event-names : (e : Event) → takes e w p ≡ false → naming (next e w .store) n p ≡ naming (w .store) n p
   unfolding next
   event-names (call c) t = call-names c t
-  event-names steps t = ap (λ (s : List ℕ). naming s n p) (steps-keep w)
+  event-names advances t = ap (λ (s : List ℕ). naming s n p) (steps-keep w)
   event-names asks t = ap (λ (s : List ℕ). naming s n p) (asks-keep w)
   event-names starts t = ap (λ (s : List ℕ). naming s n p) (starts-keep w)
 

@@ -15,7 +15,7 @@ use Rattle.files.specs.Effect.{Call, Entry, placeIn, Effect, Planned, onPlanned
 use Rattle.files.proofs.Lawful.{All, Away, Lawful}
 use Rattle.files.proofs.EffectFacts.{all-both}
 use Rattle.checkpoint.specs.Live.{World}
-use Rattle.checkpoint.specs.List.{Event, call, steps, asks, starts, next, accepted, anyAt, takes}
+use Rattle.checkpoint.specs.List.{Event, call, advances, asks, starts, next, accepted, anyAt, takes}
 use Rattle.checkpoint.specs.Finished.{countOf}
 use Rattle.checkpoint.specs.Demand.{Takes}
 use Rattle.checkpoint.proofs.Call.LiveLaws.{live-accepted}
@@ -47,7 +47,7 @@ module _ (w : World) (p : ℕ) where
 
   event-empties : (n b : ℕ) → Going n b w → (e : Event) → takes e w p ≡ true → (filled (w .store) (countOf w) p ≡ true) × (filled (next e w .store) (countOf w) p ≡ false)
   event-empties n b g (call c) t = call-empties n b g c t
-  event-empties n b g steps t = absurd (clash false t refl)
+  event-empties n b g advances t = absurd (clash false t refl)
   event-empties n b g asks t = absurd (clash false t refl)
   event-empties n b g starts t = absurd (clash false t refl)
 

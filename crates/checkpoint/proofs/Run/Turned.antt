@@ -8,7 +8,7 @@ use native.Mathlib.Omega.{arith}
 use lib.ListN.{length}
 use Rattle.layout.specs.Inode.{sizeOf}
 use Rattle.layout.specs.Block.{blocksUsed, kthBlock}
-use Rattle.layout.specs.Free.{named}
+use Rattle.layout.specs.Free.{blockNamed}
 use Rattle.desk.specs.Sizes.{deskHeaderBytes}
 use Rattle.desk.specs.declared.Desk.{Desk}
 use Rattle.desk.specs.Next.{locking, copyingOne, unlocking}
@@ -24,8 +24,9 @@ use Rattle.answers.specs.Told.{told}
 use Rattle.checkpoint.specs.Copier.{Step, lock, copy, close, finish, full, stepOf, targetBlock}
 use Rattle.checkpoint.specs.Live.{World, doStep}
 use Rattle.checkpoint.specs.Shown.{Shown, shown}
-use Rattle.checkpoint.specs.List.{steps, outcome, next}
+use Rattle.checkpoint.specs.List.{advances, outcome, next}
 use Rattle.bounded.specs.declared.Found.the-variants.{At}
+use Rattle.bounded.specs.Count.{count}
 use Rattle.checkpoint.proofs.Copy.Seen.{seen}
 use Rattle.checkpoint.proofs.Copy.Laid.{Laid}
 use Rattle.checkpoint.proofs.Copy.TidyLaws.{store-tidy}
@@ -46,8 +47,8 @@ pub record Finishes (n b : ℕ) (w : World) : Type 0 where
 -- the next step is refused with 16
 pub record Fills (n b : ℕ) (w : World) : Type 0 where
   pub locked : deskOf (w .desk) .locked ≢ 0
-  pub left : deskOf (w .desk) .copied < blocksUsed (sizeOf (w .store) (deskOf (w .desk) .locked))
-  pub all : (c : ℕ) → 1 ≤ c → c ≤ deskOf (w .desk) .blocks → named (w .image) n c ≡ true
+  pub left : deskOf (w .desk) .progress < blocksUsed (sizeOf (w .store) (deskOf (w .desk) .locked))
+  pub all : (c : ℕ) → 1 ≤ c → c ≤ deskOf (w .desk) .blocks → blockNamed (w .image) n c ≡ true
   pub is : stepOf (w .store) (w .image) (w .desk) n ≡ full
 
 -- the copy runs on, and the theory knows what was done
@@ -57,7 +58,7 @@ pub record Goes (n b : ℕ) (w v : World) : Type 0 where
 
 -- a step: it goes on with one accepted, or it finishes, or 16
 pub data Stepped (n b : ℕ) (w : World) : Type 0 where
-  on : Goes n b w (next steps w) → deskOf (next steps w .desk) .steps ≡ deskOf (w .desk) .steps + 1 → outcome steps w .answer ≡ told (Done (deskOf (w .desk) .steps + 1)) → Stepped n b w
+  on : Goes n b w (next advances w) → deskOf (next advances w .desk) .steps ≡ deskOf (w .desk) .steps + 1 → outcome advances w .answer ≡ told (Done (deskOf (w .desk) .steps + 1)) → Stepped n b w
   ends : Finishes n b w → Stepped n b w
   halts : Fills n b w → Stepped n b w
 
@@ -82,13 +83,13 @@ module _ (n b : ℕ) (w : World) (r : Running n b w) where
   }
 
   -- the outcome, once it is known what the step does
-  does-is : (p : Step) → stepOf (w .store) (w .image) (w .desk) n ≡ p → outcome steps w ≡ shown (doStep (w .store) (w .image) (w .desk) n p)
+  does-is : (p : Step) → stepOf (w .store) (w .image) (w .desk) n ≡ p → outcome advances w ≡ shown (doStep (w .store) (w .image) (w .desk) n p)
   does-is p e = step-is r ∙ ap (λ (q : Step). shown (doStep (w .store) (w .image) (w .desk) n q)) e
 
   step-on : (p : Step) → stepOf (w .store) (w .image) (w .desk) n ≡ p → Goes n b w (after p) → deskOf (after p .desk) .steps ≡ deskOf (w .desk) .steps + 1
       → doStep (w .store) (w .image) (w .desk) n p .answer ≡ Done (deskOf (w .desk) .steps + 1) → Stepped n b w
   step-on p e g c a =
-      let h : next steps w ≡ after p = next-is steps w _ (does-is p e) in
+      let h : next advances w ≡ after p = next-is advances w _ (does-is p e) in
       on (rw h g) (ap (λ (v : World). deskOf (v .desk) .steps) h ∙ c) (ap (λ (o : Shown). o .answer) (does-is p e) ∙ ap told a)
 
   long : deskHeaderBytes ≤ length (w .desk)
@@ -101,10 +102,10 @@ module _ (n b : ℕ) (w : World) (r : Running n b w) where
       (ap (λ (x : Desk). x .steps) (desk-putDesk (w .desk) (locking (deskOf (w .desk)) l) long))
       refl
   chose p e (will-copy c z l t) =
-      let g : targetBlock (w .image) n b (kthBlock (w .store) n (deskOf (w .desk) .locked) (deskOf (w .desk) .copied)) ≡ At c
-      = ap (λ (x : ℕ). targetBlock (w .image) n x (kthBlock (w .store) n (deskOf (w .desk) .locked) (deskOf (w .desk) .copied))) (sym (r .laid .desk .blocks)) ∙ t in
-      step-on (copy (deskOf (w .desk) .locked) (deskOf (w .desk) .copied) c) e
-      (goes (after (copy (deskOf (w .desk) .locked) (deskOf (w .desk) .copied) c)) refl
+      let g : targetBlock (w .image) n b (kthBlock (w .store) n (deskOf (w .desk) .locked) (deskOf (w .desk) .progress)) ≡ At c
+      = ap (λ (x : ℕ). targetBlock (w .image) n x (kthBlock (w .store) n (deskOf (w .desk) .locked) (deskOf (w .desk) .progress))) (sym (r .laid .desk .blocks)) ∙ t in
+      step-on (copy (deskOf (w .desk) .locked) (deskOf (w .desk) .progress) c) e
+      (goes (after (copy (deskOf (w .desk) .locked) (deskOf (w .desk) .progress) c)) refl
       (copy-laid (r .laid) (r .sound) (r .count) z l c g)
       (rests (copy-quiet (r .laid) (r .sound) (r .count) z l c g) (copy-now (r .laid) (r .sound) (r .count) z l c g)))
       (ap (λ (x : Desk). x .steps) (desk-putDesk (w .desk) (copyingOne (deskOf (w .desk))) long))

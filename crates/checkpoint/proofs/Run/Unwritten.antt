@@ -18,7 +18,7 @@ use Rattle.files.specs.Effect.{Call, Effect, Planned, onPlanned}
 use Rattle.files.proofs.Lawful.{Apart, Keeps, Lawful}
 use Rattle.files.proofs.LawfulSteady.{blocks-of}
 use Rattle.checkpoint.specs.Live.{World}
-use Rattle.checkpoint.specs.List.{Event, call, steps, asks, starts, next, accepted, takes, Untouched, Moment, here, after, Kept}
+use Rattle.checkpoint.specs.List.{Event, call, advances, asks, starts, next, accepted, takes, Untouched, Moment, here, after, Kept}
 use Rattle.checkpoint.specs.List as list
 use Rattle.checkpoint.specs.School.{writtenBy, anyIs, writes, Unwritten}
 use Rattle.checkpoint.proofs.PlainLaws.{steps-keep, asks-keep, starts-keep}
@@ -90,7 +90,7 @@ module _ (n b : ℕ) (w : World) (g : Going n b w) (p : ℕ) (l : p < mostSlots 
   event-kept : (e : Event) → takes e w p ≡ false → writes e w i ≡ false → FileKept (next e w .store)
   unfolding next
   event-kept (call c) t u = call-kept c t u
-  event-kept steps t u = store-kept _ (steps-keep w)
+  event-kept advances t u = store-kept _ (steps-keep w)
   event-kept asks t u = store-kept _ (asks-keep w)
   event-kept starts t u = store-kept _ (starts-keep w)
 

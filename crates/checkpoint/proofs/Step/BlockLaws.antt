@@ -12,7 +12,7 @@ use Rattle.octets.proofs.PartLaws.{part-same}
 use Rattle.octets.proofs.NumLaws.{num-same, num-other, part-other}
 use Rattle.layout.specs.Sizes.{addressCount, blockBytes}
 use Rattle.layout.specs.declared.header.Header.{Header}
-use Rattle.layout.specs.Header.{headerOf, reservedZero}
+use Rattle.layout.specs.Header.{headerOf, headerRestZero}
 use Rattle.layout.specs.Inode.{attributesAt, addressAt, kindOf, spareOf, linksOf, sizeOf, parentOf, addressOf, putAddress}
 use Rattle.layout.specs.Block.{storeLength, blockAt, blockOf, putInBlock}
 use Rattle.layout.proofs.FrameLaws.{length-address, length-in-block, header-past}
@@ -23,7 +23,7 @@ use Rattle.checkpoint.proofs.Copy.Laid.{Frame, frame-kept}
 pub record OneBlock (m t : List ℕ) (n x c : ℕ) (xs : List ℕ) : Type 0 where
   pub long : length t ≡ length m
   pub header : headerOf t ≡ headerOf m
-  pub reserved : reservedZero t ≡ reservedZero m
+  pub reserved : headerRestZero t ≡ headerRestZero m
   pub kinds : (i : ℕ) → 1 ≤ i → i ≤ n → kindOf t i ≡ kindOf m i
   pub spares : (i : ℕ) → 1 ≤ i → i ≤ n → spareOf t i ≡ spareOf m i
   pub links : (i : ℕ) → 1 ≤ i → i ≤ n → linksOf t i ≡ linksOf m i
@@ -43,8 +43,8 @@ module _ (m : List ℕ) (n x c : ℕ) where
   unfolding putAddress putNum
   header-address = header-past m (addressAt n x) (toBytes 2 c) (omega arith)
 
-  reserved-address : reservedZero named ≡ reservedZero m
-  unfolding reservedZero putAddress
+  reserved-address : headerRestZero named ≡ headerRestZero m
+  unfolding headerRestZero putAddress
   reserved-address =
       ap₂ (λ (a b : ℕ). eqb a 0 && eqb b 0) (num-other 1 2 m 9 (addressAt n x) c (omega arith)) (num-other 4 2 m 12 (addressAt n x) c (omega arith))
 

@@ -9,7 +9,7 @@ use native.Mathlib.Omega.{arith}
 use lib.ListN.{length, getD}
 use Rattle.bounded.specs.Update.{Changed, here, there}
 use Rattle.octets.proofs.PartLaws.{length-inside}
-use Rattle.layout.specs.Sizes.{mostStoreBlocks, addressCount, blockBytes}
+use Rattle.layout.specs.Sizes.{addressCount, blockBytes}
 use Rattle.layout.specs.Inode.{InodeFits, kindOf, sizeOf, parentOf, inodeOf, freeKind, fileKind, directoryKind}
 use Rattle.layout.specs.Block.{blockOf, blocksUsed, kthBlock}
 use Rattle.directory.specs.Slot.{slots, entryOf}
@@ -19,6 +19,7 @@ use Rattle.desk.specs.Next.{unlocking}
 use Rattle.desk.proofs.DeskLaws.{length-putDesk, length-putCopied, desk-putDesk, reserved-putDesk, reserved-putCopied, copied-putDesk, copied-same, copied-other, mark-putDesk, mark-putCopied}
 use Rattle.sound.specs.Inode.{InodeSound}
 use Rattle.sound.specs.Sound.{Sound, inodesIn, blocksIn}
+use Rattle.sound.specs.declared.Form.the-variants.{Store}
 use Rattle.changes.proofs.SameLaws.{InInode, NewInode, each-inode, put-attributes, attributes-blocks, attributes-new}
 use Rattle.changes.proofs.KeepLaws.{inode-kept}
 use Rattle.changes.proofs.StoreLaws.{dir-of}
@@ -32,11 +33,11 @@ use Rattle.checkpoint.proofs.Step.PasteLaws.{pasted, file-block, slot-p
 -- the locked inode, in use in a sound store, has all its blocks copied
 pub record Closing (n b : ℕ) (s m d : List ℕ) : Type 0 where
   pub laid : Laid n b s m d
-  pub sound : Sound mostStoreBlocks false s
+  pub sound : Sound Store s
   pub inodes : n ≡ inodesIn s
   pub on : deskOf d .locked ≢ 0
   pub used : kindOf s (deskOf d .locked) ≢ freeKind
-  pub all : blocksUsed (sizeOf s (deskOf d .locked)) ≤ deskOf d .copied
+  pub all : blocksUsed (sizeOf s (deskOf d .locked)) ≤ deskOf d .progress
 
 module _ {n b : ℕ} {s m d : List ℕ} (c : Closing n b s m d) where
   abbrev l : ℕ
@@ -49,7 +50,7 @@ module _ {n b : ℕ} {s m d : List ℕ} (c : Closing n b s m d) where
   abbrev d′ : List ℕ
   d′ = stepDesk d (close l)
 
-  pub lock : Open n b s m d l (deskOf d .copied)
+  pub lock : Open n b s m d l (deskOf d .progress)
   lock = c .laid .opened (c .on)
 
   pub low : 1 ≤ l
@@ -58,7 +59,7 @@ module _ {n b : ℕ} {s m d : List ℕ} (c : Closing n b s m d) where
   pub high : l ≤ n
   high = c .laid .desk .high
 
-  pub full : deskOf d .copied ≡ blocksUsed (sizeOf s l)
+  pub full : deskOf d .progress ≡ blocksUsed (sizeOf s l)
   full = let a = lock .few in let e = c .all in omega arith
 
   -- ---- the desk
@@ -98,7 +99,7 @@ module _ {n b : ℕ} {s m d : List ℕ} (c : Closing n b s m d) where
         reserved = reserved-putDesk (putCopied d l 1) (unlocking (deskOf d)) ∙ reserved-putCopied d l 1 ∙ f .reserved;
         bytes = λ i o q. each-inode (λ i. 1 ≤ i → i ≤ n → copiedOf d′ i ≤ 1) l i (λ _ _. let z = copied-new in omega arith) (λ z _ _. subst (λ (y : ℕ). y ≤ 1) (sym (copied-else i o z)) (f .bytes i o q)) o q;
         high = let z = ap (λ (v : Desk). v .locked) e in omega arith;
-        none = λ _. ap (λ (v : Desk). v .copied) e;
+        none = λ _. ap (λ (v : Desk). v .progress) e;
       }
 
   -- ---- the image

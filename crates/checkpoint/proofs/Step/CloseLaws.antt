@@ -116,7 +116,7 @@ module _ {n b : ℕ} {s m d : List ℕ} (c : Closing n b s m d) where
   unfolding cost
   cost-after = let g = lock c .low in let e : l - 1 + 1 ≡ l = omega arith in rw (e, changed-here refl (copied-closed c l), new-size c)
 
-  so-far : costSoFar d ≡ 1 + deskOf d .copied
+  so-far : costSoFar d ≡ 1 + deskOf d .progress
   unfolding costSoFar
   so-far = rw (ne-eqb (deskOf d .locked) 0 (c .on))
 

@@ -12,18 +12,19 @@ use Rattle.bounded.specs.declared.Found.the-variants.{At}
 use Rattle.bounded.specs.Count.{Differ}
 use Rattle.bounded.proofs.ReflectLaws.{r-fails}
 use Rattle.octets.proofs.PartLaws.{length-inside}
-use Rattle.layout.specs.Sizes.{mostStoreBlocks, addressCount, blockBytes}
-use Rattle.layout.specs.Inode.{kindOf, sizeOf, addressOf, place}
+use Rattle.layout.specs.Sizes.{addressCount, blockBytes}
+use Rattle.layout.specs.Inode.{kindOf, sizeOf, addressOf, addressIndex}
 use Rattle.layout.specs.Block.{blockAt, blockOf, blocksUsed, kthBlock}
-use Rattle.layout.specs.Free.{named}
+use Rattle.layout.specs.Free.{blockNamed, blockFree}
 use Rattle.directory.specs.Slot.{slots}
 use Rattle.desk.specs.declared.Desk.{Desk}
 use Rattle.desk.specs.Desk.{deskOf}
 use Rattle.desk.specs.Next.{copyingOne}
 use Rattle.sound.specs.Place.{dirOf}
-use Rattle.sound.specs.Sound.{Sound, inodesIn, unnamedB}
+use Rattle.sound.specs.Sound.{Sound, inodesIn}
 use Rattle.sound.proofs.PlaceLaws.{slot-is}
 use Rattle.sound.proofs.FactLaws.{named-is, unnamed}
+use Rattle.sound.specs.declared.Form.the-variants.{Store}
 use Rattle.changes.proofs.StoreLaws.{dir-of}
 use Rattle.changes.proofs.FreeLaws.{FreeBlock}
 use Rattle.changes.proofs.KeepLaws.{slot-kept}
@@ -39,14 +40,14 @@ use Rattle.checkpoint.proofs.Copy.WholeLaws.{Whole, whole-sound, whole-
 use Rattle.checkpoint.proofs.Step.BlockLaws.{OneBlock, one-block, one-frame}
 use Rattle.checkpoint.proofs.Copy.TargetLaws.{target-at}
 
-module _ {n b : ℕ} {s m d : List ℕ} (h : Laid n b s m d) (sound : Sound mostStoreBlocks false s) (e : n ≡ inodesIn s)
-    (lock : deskOf d .locked ≢ 0) (more : deskOf d .copied < blocksUsed (sizeOf s (deskOf d .locked))) (c : ℕ)
-    (goes : targetBlock m n b (kthBlock s n (deskOf d .locked) (deskOf d .copied)) ≡ At c) where
+module _ {n b : ℕ} {s m d : List ℕ} (h : Laid n b s m d) (sound : Sound Store s) (e : n ≡ inodesIn s)
+    (lock : deskOf d .locked ≢ 0) (more : deskOf d .progress < blocksUsed (sizeOf s (deskOf d .locked))) (c : ℕ)
+    (goes : targetBlock m n b (kthBlock s n (deskOf d .locked) (deskOf d .progress)) ≡ At c) where
   abbrev l : ℕ
   l = deskOf d .locked
 
   abbrev k : ℕ
-  k = deskOf d .copied
+  k = deskOf d .progress
 
   abbrev after : List ℕ
   after = stepImage s m d n (copy l k c)
@@ -77,12 +78,12 @@ module _ {n b : ℕ} {s m d : List ℕ} (h : Laid n b s m d) (sound : Sound most
       let z = w .inside in
       length-copied-block d n l k s ∙ (unfold blockOf in length-inside s (blockAt n (kthBlock s n l k)) 64 (omega arith))
 
-  wrote : OneBlock m after n (place l k) c (copiedBlock s d n l k)
+  wrote : OneBlock m after n (addressIndex l k) c (copiedBlock s d n l k)
   wrote =
       let a = low in
       let z = high in
       let f = few in
-      one-block m n b (place l k) c (copiedBlock s d n l k) (h .frame .long) (free .low) (free .high) long (omega arith)
+      one-block m n b (addressIndex l k) c (copiedBlock s d n l k) (h .frame .long) (free .low) (free .high) long (omega arith)
 
   -- ---- what stays
   -- an inode that is not locked
@@ -100,11 +101,11 @@ module _ {n b : ℕ} {s m d : List ℕ} (h : Laid n b s m d) (sound : Sound most
           links = w .links i a z;
           size = w .sizes i a z;
           parent = w .parents i a z;
-          blocks = λ j v. w .addresses (place i j) (omega arith) (λ y. q (omega arith));
+          blocks = λ j v. w .addresses (addressIndex i j) (omega arith) (λ y. q (omega arith));
         };
         blocks = λ j v.
             let u : j < 12 = unfold blocksUsed in (let y = r .size in omega arith) in
-            w .blocks (kthBlock m n i j) (r .used j u v .0) (apart (place i j) (omega arith));
+            w .blocks (kthBlock m n i j) (r .used j u v .0) (apart (addressIndex i j) (omega arith));
       }
 
   image : SameImage m after n
@@ -124,7 +125,7 @@ module _ {n b : ℕ} {s m d : List ℕ} (h : Laid n b s m d) (sound : Sound most
   same-notes : SameNotes d notes n
   same-notes = put-desk d (copyingOne (deskOf d)) n
 
-  pub copy-quiet : Quiet (seen n s m d) (seen n s (stepImage s m d n (copy (deskOf d .locked) (deskOf d .copied) c)) (stepDesk d (copy (deskOf d .locked) (deskOf d .copied) c)))
+  pub copy-quiet : Quiet (seen n s m d) (seen n s (stepImage s m d n (copy (deskOf d .locked) (deskOf d .progress) c)) (stepDesk d (copy (deskOf d .locked) (deskOf d .progress) c)))
   unfolding seen
   copy-quiet = record {
     store = refl;
@@ -138,13 +139,13 @@ module _ {n b : ℕ} {s m d : List ℕ} (h : Laid n b s m d) (sound : Sound most
   read : deskOf notes ≡ copyingOne (deskOf d)
   read = put-read (h .desk) (copyingOne (deskOf d))
 
-  pub copy-now : seen n s (stepImage s m d n (copy (deskOf d .locked) (deskOf d .copied) c)) (stepDesk d (copy (deskOf d .locked) (deskOf d .copied) c)) .locked ≡ seen n s m d .locked
+  pub copy-now : seen n s (stepImage s m d n (copy (deskOf d .locked) (deskOf d .progress) c)) (stepDesk d (copy (deskOf d .locked) (deskOf d .progress) c)) .locked ≡ seen n s m d .locked
   unfolding seen
   copy-now = ap (λ (x : Desk). x .locked) read
 
   -- ---- the locked inode has one block more
-  address : (j : ℕ) → j < addressCount → j ≢ k → addressOf after n (place l j) ≡ addressOf m n (place l j)
-  address j a q = let f = few in let o = low in let z = high in wrote .addresses (place l j) (omega arith) (λ y. q (omega arith))
+  address : (j : ℕ) → j < addressCount → j ≢ k → addressOf after n (addressIndex l j) ≡ addressOf m n (addressIndex l j)
+  address j a q = let f = few in let o = low in let z = high in wrote .addresses (addressIndex l j) (omega arith) (λ y. q (omega arith))
 
   old : (j : ℕ) → j < addressCount → j ≢ k → kthBlock after n l j ≡ kthBlock m n l j
   unfolding kthBlock
@@ -188,35 +189,35 @@ module _ {n b : ℕ} {s m d : List ℕ} (h : Laid n b s m d) (sound : Sound most
           let a = low in
           let z = high in
           ap (blockOf after n) (old j x q)
-          ∙ wrote .blocks (kthBlock m n l j) (was .named j x (omega arith) .0) (unfold kthBlock in apart (place l j) (omega arith))
+          ∙ wrote .blocks (kthBlock m n l j) (was .named j x (omega arith) .0) (unfold kthBlock in apart (addressIndex l j) (omega arith))
           ∙ was .blocks j (omega arith) ∙ sym (copied-block d notes n l (same-notes .copied) (same-notes .marks l) s j)
 
   -- ---- the blocks that no address names
   once : Differ (addressOf after n) (addressCount * n)
-  once = differ-new (addressOf m n) (addressOf after n) (addressCount * n) (place l k) c (h .once) apart (wrote .address) (wrote .addresses)
+  once = differ-new (addressOf m n) (addressOf after n) (addressCount * n) (addressIndex l k) c (h .once) apart (wrote .address) (wrote .addresses)
 
-  still-free : (a : ℕ) → 1 ≤ a → named after n a ≡ false → named m n a ≡ false
+  still-free : (a : ℕ) → 1 ≤ a → blockNamed after n a ≡ false → blockNamed m n a ≡ false
   still-free a o q =
-      r-fails (named-is m n a) (λ r. at (r .0) (r .1) (r .2) (ℕ-discrete (r .0) (place l k)))
+      r-fails (named-is m n a) (λ r. at (r .0) (r .1) (r .2) (ℕ-discrete (r .0) (addressIndex l k)))
     where
-      at : (x : ℕ) → x < addressCount * n → addressOf m n x ≡ a → Dec (x ≡ place l k) → ⊥
+      at : (x : ℕ) → x < addressCount * n → addressOf m n x ≡ a → Dec (x ≡ addressIndex l k) → ⊥
       at x y z (yes p) = let v = was .rest k few (omega arith) in let u : addressOf m n x ≡ 0 = ap (addressOf m n) p ∙ v in omega arith
       at x y z (no p) = unnamed after n a q x y (wrote .addresses x y p ∙ z)
 
-  not-taken : (a : ℕ) → named after n a ≡ false → a ≢ c
-  not-taken a q z = let f = few in let o = low in let y = high in unnamed after n a q (place l k) (omega arith) (wrote .address ∙ sym z)
+  not-taken : (a : ℕ) → blockNamed after n a ≡ false → a ≢ c
+  not-taken a q z = let f = few in let o = low in let y = high in unnamed after n a q (addressIndex l k) (omega arith) (wrote .address ∙ sym z)
 
-  blanks : (j : ℕ) → j < b → unnamedB after n j ≡ true → (o : ℕ) → o < blockBytes → getD (blockOf after n (j + 1)) o 0 ≡ 0
+  blanks : (j : ℕ) → j < b → blockFree after n (j + 1) ≡ true → (o : ℕ) → o < blockBytes → getD (blockOf after n (j + 1)) o 0 ≡ 0
   blanks j a q o v =
-      let z = not-true (named after n (j + 1)) q in
+      let z = not-true (blockNamed after n (j + 1)) q in
       ap (λ (x : List ℕ). getD x o 0) (wrote .blocks (j + 1) (omega arith) (not-taken (j + 1) z))
       ∙ h .blanks j a (ap not (still-free (j + 1) (omega arith) z)) o v
 
-  pub copy-laid : Laid n b s (stepImage s m d n (copy (deskOf d .locked) (deskOf d .copied) c)) (stepDesk d (copy (deskOf d .locked) (deskOf d .copied) c))
+  pub copy-laid : Laid n b s (stepImage s m d n (copy (deskOf d .locked) (deskOf d .progress) c)) (stepDesk d (copy (deskOf d .locked) (deskOf d .progress) c))
   copy-laid =
       let g = read in
       let x : deskOf notes .locked ≡ l = ap (λ (y : Desk). y .locked) g in
-      let y : deskOf notes .copied ≡ k + 1 = ap (λ (y : Desk). y .copied) g in
+      let y : deskOf notes .progress ≡ k + 1 = ap (λ (y : Desk). y .progress) g in
       let v : deskOf notes .steps ≡ deskOf d .steps + 1 = ap (λ (y : Desk). y .steps) g in
       let a = locked-cost d lock in
       let z = locked-cost notes (λ w. omega arith) in

@@ -6,27 +6,27 @@ use mathlib.Core.List.{List}
 use native.Mathlib.Omega.{arith}
 use lib.Dec.{eqb}
 use lib.ListN.{length}
-use Rattle.bounded.specs.Count.{count, tally}
+use Rattle.bounded.specs.Count.{tally, countTo}
 use Rattle.octets.specs.Octets.{putNum, toBytes}
 use Rattle.octets.proofs.PartLaws.{part-apart}
 use Rattle.octets.proofs.NumLaws.{num-other, length-toBytes}
 use Rattle.layout.specs.Sizes.{mostInodes, isComplete}
 use Rattle.layout.specs.declared.header.Header.{Header}
-use Rattle.layout.specs.Header.{headerOf, reservedZero, putFree, putComplete}
-use Rattle.layout.specs.Inode.{InodeFits, place, linksOf, parentOf, putLinks}
+use Rattle.layout.specs.Header.{headerOf, headerRestZero, putFree, putComplete}
+use Rattle.layout.specs.Inode.{InodeFits, addressIndex, linksOf, parentOf, putLinks}
 use Rattle.layout.specs.Block.{blockAt, blockOf, kthBlock}
 use Rattle.layout.proofs.View.{completion}
 use Rattle.layout.proofs.FrameLaws.{length-complete, kind-apart, spare-apart, size-apart, links-apart, parent-apart, address-apart}
 use Rattle.layout.proofs.ViewLaws.{header-complete}
+use Rattle.layout.specs.Free.{inodeFree, blockFree}
 use Rattle.directory.specs.Slot.{mostSlots}
-use Rattle.sound.specs.Sound.{freeB, unnamedB}
 use Rattle.changes.proofs.SameLaws.{SameFrame, SameInode, SameBody, SameBlock, same-body, body-then, frame-then, frame-stays, inode-stays, each-inode, put-links, links-new, links-body, links-parent, put-free}
 use Rattle.checkpoint.specs.Image.{imageNaming}
 use Rattle.checkpoint.specs.Copier.{putCounts, finishImage}
 
 -- ---- byte 8
-pub complete-reserved : (s : List ℕ) (v : ℕ) → reservedZero (putComplete s v) ≡ reservedZero s
-unfolding putComplete reservedZero
+pub complete-reserved : (s : List ℕ) (v : ℕ) → headerRestZero (putComplete s v) ≡ headerRestZero s
+unfolding putComplete headerRestZero
 complete-reserved s v = ap₂ (λ (x y : ℕ). eqb x 0 && eqb y 0) (num-other 1 1 s 9 8 v (omega arith)) (num-other 4 1 s 12 8 v (omega arith))
 
 module _ (s : List ℕ) (n v : ℕ) where
@@ -40,7 +40,7 @@ module _ (s : List ℕ) (n v : ℕ) where
         links = links-apart s 8 (toBytes 1 v) j (omega arith);
         size = size-apart s 8 (toBytes 1 v) j (omega arith);
         parent = parent-apart s 8 (toBytes 1 v) j (omega arith);
-        blocks = λ k l. address-apart s 8 (toBytes 1 v) n (place j k) (omega arith);
+        blocks = λ k l. address-apart s 8 (toBytes 1 v) n (addressIndex j k) (omega arith);
       }
 
   pub complete-block : (c : ℕ) → SameBlock s (putComplete s v) n c
@@ -82,11 +82,11 @@ pub record Finished (m t : List ℕ) (n b : ℕ) : Type 0 where
   pub long : length t ≡ length m
   pub inodes : headerOf t .inodes ≡ headerOf m .inodes
   pub blocks : headerOf t .blocks ≡ headerOf m .blocks
-  pub free-inodes : headerOf t .«free_inodes» ≡ count (freeB m) n
-  pub free-blocks : headerOf t .«free_blocks» ≡ count (unnamedB m n) b
+  pub free-inodes : headerOf t .«free_inodes» ≡ countTo (inodeFree m) n
+  pub free-blocks : headerOf t .«free_blocks» ≡ countTo (blockFree m n) b
   pub complete : headerOf t .complete ≡ isComplete
   pub root : headerOf t .root ≡ headerOf m .root
-  pub reserved : reservedZero t ≡ reservedZero m
+  pub reserved : headerRestZero t ≡ headerRestZero m
   pub bodies : (j : ℕ) → 1 ≤ j → j ≤ n → SameBody m t n j
   pub parents : (j : ℕ) → 1 ≤ j → j ≤ n → parentOf t j ≡ parentOf m j
   pub bytes : (c : ℕ) → SameBlock m t n c
@@ -96,11 +96,11 @@ pub finished : (m : List ℕ) (n b : ℕ) → n ≤ mostInodes → 16 + 32 * n �
 unfolding finishImage
 finished m n b few area =
     let t = putCounts m m n n in
-    let u = putFree t (count (freeB m) n) (count (unnamedB m n) b) in
+    let u = putFree t (countTo (inodeFree m) n) (countTo (blockFree m n) b) in
     let w = putComplete u isComplete in
     let h = counts m n few area n (omega arith) in
     let a = h .frame .long in
-    let p = put-free t n (omega arith) (count (freeB m) n) (count (unnamedB m n) b) in
+    let p = put-free t n (omega arith) (countTo (inodeFree m) n) (countTo (blockFree m n) b) in
     let c = p .frame .long in
     let e : headerOf w ≡ completion (headerOf u) isComplete = header-complete u (omega arith) isComplete in
     record {

@@ -16,13 +16,13 @@ use Rattle.bounded.proofs.UpdateLaws.{upd-same, upd-other}
 use Rattle.layout.specs.Sizes.{addressCount, blockBytes, rootInode}
 use Rattle.layout.specs.Inode.{kindOf, linksOf, parentOf, freeKind, directoryKind}
 use Rattle.layout.specs.Block.{blockOf, kthBlock}
+use Rattle.layout.specs.Free.{blockFree}
 use Rattle.names.specs.Entry.{isEmpty, legalEntry}
 use Rattle.directory.specs.Slot.{mostSlots}
 use Rattle.desk.specs.Desk.{deskOf}
 use Rattle.sound.specs.Place.{dirOf, entryAt, filled, naming}
 use Rattle.sound.specs.Entry.{sameNames}
 use Rattle.sound.specs.Inode.{InodeSound}
-use Rattle.sound.specs.Sound.{unnamedB}
 use Rattle.sound.proofs.PlaceLaws.{filled-is, naming-entry}
 use Rattle.changes.proofs.KeepLaws.{Body, SamePlace, place-kept, inode-like, tail-kept, leads-kept}
 use Rattle.changes.proofs.FreeLaws.{same-free}
@@ -68,7 +68,7 @@ module _ {n b : ℕ} {s m d : List ℕ} (h : Laid n b s m d) where
   pub finish-blocks : (j : ℕ) → 1 ≤ j → j ≤ n → (k : ℕ) → k < addressCount → kthBlock t n j k ≡ kthBlock m n j k
   finish-blocks j l o = done .bodies j l o .blocks
 
-  pub finish-blanks : (k : ℕ) → k < b → unnamedB t n k ≡ true → (o : ℕ) → o < blockBytes → getD (blockOf t n (k + 1)) o 0 ≡ 0
+  pub finish-blanks : (k : ℕ) → k < b → blockFree t n (k + 1) ≡ true → (o : ℕ) → o < blockBytes → getD (blockOf t n (k + 1)) o 0 ≡ 0
   finish-blanks k l e o u = ap (λ (x : List ℕ). getD x o 0) (done .bytes (k + 1)) ∙ h .blanks k l (sym (ap not (same-named m t n finish-blocks (k + 1))) ∙ e) o u
 
   -- the counts written are true of what the image then names

@@ -7,16 +7,18 @@ use mathlib.Core.List.{List}
 use native.Mathlib.Omega.{arith}
 use lib.ListN.{length, getD}
 use Rattle.layout.specs.Sizes.{mostInodes, mostImageBlocks, blockBytes, rootInode, isComplete}
-use Rattle.layout.specs.Header.{headerOf, reservedZero}
+use Rattle.layout.specs.Header.{headerOf, headerRestZero}
 use Rattle.layout.specs.Block.{storeLength, blockOf}
 use Rattle.layout.proofs.ViewLaws.{is-below}
+use Rattle.layout.specs.Free.{blockFree}
 use Rattle.directory.specs.Slot.{mostSlots}
 use Rattle.desk.specs.declared.Desk.{Desk}
 use Rattle.desk.specs.Desk.{deskOf}
 use Rattle.desk.specs.Next.{finishing}
 use Rattle.desk.proofs.DeskLaws.{desk-putDesk, copied-putDesk, mark-putDesk}
-use Rattle.sound.specs.Sound.{Sound, inodesIn, blocksIn, unnamedB}
+use Rattle.sound.specs.Sound.{Sound, inodesIn, blocksIn}
 use Rattle.sound.proofs.PlaceLaws.{naming-filled}
+use Rattle.sound.specs.declared.Form.the-variants.{Image}
 use Rattle.changes.proofs.KeepLaws.{Body}
 use Rattle.copying.specs.View.{Tidy}
 use Rattle.copying.specs.Deed.{Quiet}
@@ -34,9 +36,9 @@ record Whole (t : List ℕ) (n b : ℕ) : Type 0 where
   most-blocks : b ≤ mostImageBlocks
   long : length t ≡ storeLength n b
   body : Body t n b
-  blanks : (k : ℕ) → k < b → unnamedB t n k ≡ true → (o : ℕ) → o < blockBytes → getD (blockOf t n (k + 1)) o 0 ≡ 0
+  blanks : (k : ℕ) → k < b → blockFree t n (k + 1) ≡ true → (o : ℕ) → o < blockBytes → getD (blockOf t n (k + 1)) o 0 ≡ 0
 
-whole-sound : (t : List ℕ) → headerOf t .complete ≡ isComplete → headerOf t .root ≡ rootInode → reservedZero t ≡ true → Whole t (inodesIn t) (blocksIn t) → Sound mostImageBlocks true t
+whole-sound : (t : List ℕ) → headerOf t .complete ≡ isComplete → headerOf t .root ≡ rootInode → headerRestZero t ≡ true → Whole t (inodesIn t) (blocksIn t) → Sound Image t
 whole-sound t c r z w = record {
   framed = record { some-inodes = w .some-inodes; most-inodes = w .most-inodes; some-blocks = w .some-blocks; most-blocks = w .most-blocks; long = w .long };
   complete = c;
@@ -61,7 +63,7 @@ module _ {n b : ℕ} {s m d : List ℕ} (h : Laid n b s m d) where
   finish-count = done h .blocks ∙ h .frame .blocks
 
   -- ---- the image is sound
-  pub finish-sound : deskOf d .locked ≡ 0 → Tidy n (seen n s m d .image) → Sound mostImageBlocks true (finishImage m n b)
+  pub finish-sound : deskOf d .locked ≡ 0 → Tidy n (seen n s m d .image) → Sound Image (finishImage m n b)
   unfolding seen
   finish-sound none tidy =
       let t = finishImage m n b in

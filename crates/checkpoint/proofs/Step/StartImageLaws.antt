@@ -13,8 +13,8 @@ use Rattle.octets.proofs.PartLaws.{getD-part}
 use Rattle.octets.proofs.NumLaws.{zero-num}
 use Rattle.layout.specs.Sizes.{addressCount, blockBytes, rootInode, notComplete}
 use Rattle.layout.specs.declared.header.Header.{Header}
-use Rattle.layout.specs.Header.{headerOf, putHeader, reservedZero}
-use Rattle.layout.specs.Inode.{kindOf, spareOf, linksOf, sizeOf, parentOf, addressOf, place}
+use Rattle.layout.specs.Header.{headerOf, putHeader, headerRestZero}
+use Rattle.layout.specs.Inode.{kindOf, spareOf, linksOf, sizeOf, parentOf, addressOf, addressIndex}
 use Rattle.layout.specs.Block.{blockAt, blockOf, blocksUsed}
 use Rattle.layout.proofs.View.{View, viewOf, within, contentOf}
 use Rattle.layout.proofs.FrameLaws.{length-header}
@@ -91,8 +91,8 @@ module _ (n k : ℕ) where
       getD-part (putHeader zeros head) (blockAt n c) 64 o l ∙ ap (λ (x : ℕ). getD (putHeader zeros head) x 0) e
       ∙ ap (λ (v : View). v .content (64 * (c - 1) + o)) (view-header n zeros head) ∙ zero-byte k (16 + 32 * n + (64 * (c - 1) + o))
 
-  pub start-reserved : reservedZero (startImage n k) ≡ true
-  unfolding startImage viewOf reservedZero
+  pub start-reserved : headerRestZero (startImage n k) ≡ true
+  unfolding startImage viewOf headerRestZero
   start-reserved =
       ap₂ (λ (a b : ℕ). eqb a 0 && eqb b 0)
       (ap (λ (v : View). v .reserved) (view-header n zeros head) ∙ zero-number 1 k 9)
@@ -110,7 +110,7 @@ module _ (n k : ℕ) where
         free = λ _. (start-links i l h, (z, start-parent i l h));
         size = omega arith;
         used = λ j _ u. absurd (omega arith);
-        rest = λ j u _. start-address (place i j) (omega arith);
+        rest = λ j u _. start-address (addressIndex i j) (omega arith);
         directory = λ q. absurd (omega arith);
         tail = λ q. absurd (omega arith);
         parent = λ q. absurd (omega arith);

@@ -10,11 +10,12 @@ use lib.ListN.{length}
 use Rattle.bounded.specs.Reflect.{Reflects}
 use Rattle.bounded.proofs.BoolLaws.{clash}
 use Rattle.bounded.proofs.ReflectLaws.{r-eq, r-le, r-and, r-fails}
-use Rattle.layout.specs.Sizes.{mostStoreBlocks, mostImageBlocks}
+use Rattle.layout.specs.Sizes.{mostImageBlocks}
 use Rattle.layout.specs.declared.header.Header.{Header}
 use Rattle.layout.specs.Inode.{kindOf}
-use Rattle.layout.specs.Block.{storeLength}
+use Rattle.layout.specs.Block.{storeLength, allowed, Allowed}
 use Rattle.layout.proofs.ViewLaws.{within-in, within-out, in-range, below-in, below-out, is-below}
+use Rattle.layout.proofs.AllowedLaws.{allowed-is}
 use Rattle.directory.specs.Slot.{mostSlots}
 use Rattle.desk.specs.Sizes.{deskLength}
 use Rattle.desk.specs.declared.Desk.{Desk}
@@ -23,6 +24,7 @@ use Rattle.desk.specs.Next.{starting}
 use Rattle.desk.proofs.DeskLaws.{length-putDesk, length-clearNotes, desk-putDesk, reserved-putDesk, reserved-clearNotes, copied-putDesk, copied-clearNotes, mark-putDesk, mark-clearNotes}
 use Rattle.sound.specs.Place.{dirOf, slotOf, naming}
 use Rattle.sound.specs.Sound.{Sound, inodesIn}
+use Rattle.sound.specs.declared.Form.the-variants.{Store}
 use Rattle.copying.specs.Holds.{Fresh}
 use Rattle.checkpoint.specs.Fit.{deskFramed, imageBlocks, imageAllowed, isRunning, deskFits}
 use Rattle.checkpoint.specs.Notes.{isCopied}
@@ -35,9 +37,9 @@ use Rattle.checkpoint.proofs.Step.LockLaws.{free-cost}
 use Rattle.checkpoint.proofs.Copy.FitLaws.{desk-framed-is, desk-fits-is, idle-free}
 use Rattle.checkpoint.proofs.Step.StartImageLaws.{length-start, start-header, start-kind, start-address, start-byte, start-reserved, start-inode, start-slot, start-naming}
 
-pub image-allowed-is : (n k : ℕ) → Reflects (imageAllowed n k) ((1 ≤ imageBlocks n k) × ((imageBlocks n k ≤ mostImageBlocks) × (k ≡ storeLength n (imageBlocks n k))))
+pub image-allowed-is : (n k : ℕ) → Reflects (imageAllowed n k) (Allowed mostImageBlocks n (imageBlocks n k) k)
 unfolding imageAllowed
-image-allowed-is n k = r-and (r-le 1 (imageBlocks n k)) (r-and (r-le (imageBlocks n k) mostImageBlocks) (r-eq k (storeLength n (imageBlocks n k))))
+image-allowed-is n k = allowed-is mostImageBlocks n (imageBlocks n k) k
 
 -- ---- the desk: its notes cleared, and nothing locked
 module _ (d : List ℕ) (n b : ℕ) (long : length d ≡ deskLength n) where
@@ -79,14 +81,14 @@ module _ (d : List ℕ) (n b : ℕ) (long : length d ≡ deskLength n) where
         reserved = reserved-putDesk (clearNotes d n) (starting (deskOf d) b) ∙ reserved-clearNotes d n ∙ w .1 .1 .0;
         bytes = λ i l h. let a = start-byte-of i l h in omega arith;
         high = omega arith;
-        none = λ _. ap (λ (y : Desk). y .copied) r ∙ z .1;
+        none = λ _. ap (λ (y : Desk). y .progress) r ∙ z .1;
       }
 
   start-locked : deskFits d ≡ true → isRunning d ≡ false → deskOf after .locked ≡ 0
   start-locked fits idle = ap (λ (y : Desk). y .locked) start-read ∙ idle-free d fits idle .0
 
 -- ---- both
-module _ (s m d : List ℕ) (n : ℕ) (sound : Sound mostStoreBlocks false s) (e : n ≡ inodesIn s) (allowed : imageAllowed n (length m) ≡ true)
+module _ (s m d : List ℕ) (n : ℕ) (sound : Sound Store s) (e : n ≡ inodesIn s) (allowed : imageAllowed n (length m) ≡ true)
     (framed : deskFramed d ≡ true) (same : deskOf d .inodes ≡ n) (fits : deskFits d ≡ true) (idle : isRunning d ≡ false) where
   abbrev b : ℕ
   b = imageBlocks n (length m)
@@ -103,14 +105,14 @@ module _ (s m d : List ℕ) (n : ℕ) (sound : Sound mostStoreBlocks false s) (e
   frame : Frame n b image
   frame =
       let w = image-allowed-is n (length m) .to allowed in
-      let k = w .1 .1 in
+      let k = w .long in
       let f = sound .framed in
       let g = start-header n (length m) (omega arith) in
       record {
         some-inodes = rw e (f .some-inodes);
         most-inodes = rw e (f .most-inodes);
-        some-blocks = w .0;
-        most-blocks = w .1 .0;
+        some-blocks = w .some-blocks;
+        most-blocks = w .most-blocks;
         long = length-start n (length m) ∙ k;
         inodes = ap (λ (x : Header). x .inodes) g;
         blocks = ap (λ (x : Header). x .blocks) g;

@@ -3,6 +3,7 @@ use mathlib.Core.Path.{_≡_, sym, _∙_}
 use native.Mathlib.Omega.{arith}
 use denote.Ref.{now}
 use borrow.Author.Needs.{needs}
+use Rattle.bounded.specs.Count.{count}
 use Rattle.octets.proofs.PartLaws.{length-cut}
 use Rattle.names.specs.Entry.{isEmpty}
 use Rattle.directory.specs.Slot.{emptySlot}

@@ -3,6 +3,7 @@ use mathlib.Core.Path.{_≡_, sym, _∙_}
 use native.Mathlib.Omega.{arith}
 use denote.Ref.{now}
 use borrow.Author.Needs.{needs}
+use Rattle.bounded.specs.Count.{count}
 use Rattle.octets.proofs.PartLaws.{length-cut}
 use Rattle.directory.specs.Slot.{findSlot}
 use Rattle.directory.proofs.SlotLaws.{fromBlock, wordsTest, found-below, block-hit, block-skip, blocks-end, find-blocks}

@@ -4,59 +4,62 @@ use mathlib.Core.List.{List}
 use lib.ListN.{length}
 use Rattle.layout.specs.declared.inode.Inode.{Inode}
 use Rattle.layout.specs.Header.{putHeader}
+use Rattle.layout.specs.Sizes.{mostStoreBlocks}
 use Rattle.layout.specs.Inode.{putInode}
-use Rattle.format.specs.Format.{storeAllowed, left}
+use Rattle.layout.specs.Block.{allowed}
+use Rattle.layout.proofs.AllowedLaws.{allowed-is}
+use Rattle.format.specs.Format.{laidOut}
 use Rattle.answers.specs.declared.Answer.the-variants.{Done}
 use Prim.Native.Nat.{ℕ}
 use mathlib.Core.Path.{sym, _∙_}
 use borrow.Author.Tests.{not-true, not-false}
 use native.Mathlib.Omega.{arith}
 use denote.Ref.{now}
-use Rattle.format.proofs.FormatLaws.{store-allowed, store-refused, store-done}
+use Rattle.format.proofs.FormatLaws.{store-refused, store-done}
 use borrow.Author.Needs.{needs}
 use Rattle.format.proofs.lay_out_store.Statement.{statement}
 use Rattle.format.proofs.lay_out_store.Tie as tie
 
 -- the test passed
-allowed : (c : tie.Else1) → storeAllowed (c .before .before .before .args .inodes) (c .before .before .before .args .blocks) (length (now (c .before .before .before .args .buffer))) ≡ true
-allowed c = sym (c .before .store-allowed .ensures) ∙ not-false _ (c .if1 .left)
+passed : (c : tie.Else1) → allowed mostStoreBlocks (c .before .before .before .args .inodes) (c .before .before .before .args .blocks) (length (now (c .before .before .before .args .buffer))) ≡ true
+passed c = sym (c .before .allowed .ensures) ∙ not-false _ (c .if1 .left)
 
-store-allowed-requires : tie.Need-store-allowed-requires
-store-allowed-requires c κs = search needs
+allowed-requires : tie.Need-allowed-requires
+allowed-requires c κs = search needs
 
 returns : tie.Need-returns
-returns c = store-refused _ _ _ (sym (c .before .store-allowed .ensures) ∙ not-true _ (c .if1 .taken))
+returns c = store-refused _ _ _ (sym (c .before .allowed .ensures) ∙ not-true _ (c .if1 .taken))
 
 zero-range-requires : tie.Need-zero-range-requires
 zero-range-requires c κs = search needs
 
 fresh-header-requires : tie.Need-fresh-header-requires
-fresh-header-requires c κs = let r = store-allowed _ _ _ .to (allowed (c .before .before .before .before)) in (r .0, r .1 .0, r .1 .1 .1 .0)
+fresh-header-requires c κs = let r = allowed-is _ _ _ _ .to (passed (c .before .before .before .before)) in (r .some-inodes, r .most-inodes, r .most-blocks)
 
 write-requires : tie.Need-write-requires
-write-requires c κs = let r = store-allowed _ _ _ .to (allowed (c .before .before .before .before .before .before)) in let l = r .1 .1 .1 .1 in omega arith
+write-requires c κs = let r = allowed-is _ _ _ _ .to (passed (c .before .before .before .before .before .before)) in let l = r .long in omega arith
 
 empty-root-requires : tie.Need-empty-root-requires
 empty-root-requires c κs = search needs
 
 write-requires-2 : tie.Need-write-requires-2
-write-requires-2 c κs = let r = store-allowed _ _ _ .to (allowed (c .before .before .before .before .before .before .before .before .before .before .before)) in let l = r .1 .1 .1 .1 in record { low = omega arith; high = r .0; few = r .1 .0; area = omega arith }
+write-requires-2 c κs = let r = allowed-is _ _ _ _ .to (passed (c .before .before .before .before .before .before .before .before .before .before .before)) in let l = r .long in record { low = omega arith; high = r .some-inodes; few = r .most-inodes; area = omega arith }
 
 same-length : tie.Need-same-length
 same-length c = search needs
 
 returns-2 : tie.Need-returns-2
 returns-2 c = let a = c .before .before .before .before .before .before .before .before .before .before .before .before .before .before .before .before .before .args in
-    ap (left (Done 0))
+    ap (laidOut (Done 0))
     (c .before .before .write2 .ensures
     ∙ ap₂ (λ (t : List ℕ) (v : Inode). putInode t (a .inodes) 1 v) (c .before .before .before .before .before .before .before .write .ensures ∙ ap₂ putHeader (c .before .before .before .before .before .before .before .before .before .before .before .before .zero-range .ensures) (c .before .before .before .before .before .before .before .before .before .fresh-header .ensures)) (c .before .before .before .before .empty-root .ensures))
-    ∙ store-done (now (a .buffer)) (a .inodes) (a .blocks) (allowed (c .before .before .before .before .before .before .before .before .before .before .before .before .before .before))
+    ∙ store-done (now (a .buffer)) (a .inodes) (a .blocks) (passed (c .before .before .before .before .before .before .before .before .before .before .before .before .before .before))
 
 pub lay-out-store-spec : {M : Type 1} → statement M
 lay-out-store-spec =
     tie.close
     (tie.spec
-    store-allowed-requires
+    allowed-requires
     returns
     zero-range-requires
     fresh-header-requires

@@ -9,14 +9,14 @@ use Rattle.bounded.specs.Seen.{Seen}
 use Rattle.bounded.proofs.BelowLaws.{all-stopped, all-done, all-none, all-more}
 use Rattle.bounded.proofs.BoolLaws.{chain-on, chain-off, never}
 use Rattle.layout.specs.Block.{blocksUsed}
-use Rattle.layout.specs.Inode.{sizeOf, addressOf, place}
+use Rattle.layout.specs.Inode.{sizeOf, addressOf, addressIndex}
 use Rattle.inodes.specs.Pass.{addressB}
 use Rattle.inodes.proofs.InodeLaws.{seen-as, addresses-are}
 use Rattle.inodes.proofs.addresses_right.Statement.{statement}
 use Rattle.inodes.proofs.addresses_right.Tie as tie
 
 abbrev Inv-loop : tie.InvT-loop
-Inv-loop s n b i map₀ used k₀ map k = (k ≤ 12) × (used ≡ blocksUsed (sizeOf s i)) × (allBelow (addressB s n b i) k ≡ true) × Seen (addressOf s n) 4097 (place i k) map
+Inv-loop s n b i map₀ used k₀ map k = (k ≤ 12) × (used ≡ blocksUsed (sizeOf s i)) × (allBelow (addressB s n b i) k ≡ true) × Seen (addressOf s n) 4097 (addressIndex i k) map
 
 abbrev μ-loop : tie.MeasureT-loop
 μ-loop s n b i map₀ used k₀ map k = 12 - k

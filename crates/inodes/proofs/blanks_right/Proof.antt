@@ -1,19 +1,20 @@
-use Prim.Native.Nat.{_-_, _≤_}
+use Prim.Native.Nat.{_+_, _-_, _≤_}
 use mathlib.Core.Path.{_≡_, _∙_}
 use mathlib.Core.Bool.{true, not, _||_}
 use mathlib.Core.Logic.{⊎-elim}
 use native.Mathlib.Omega.{arith}
 use borrow.Author.Needs.{needs}
-use Rattle.bounded.specs.Below.{allBelow}
+use Rattle.layout.specs.Free.{blockFree}
+use Rattle.sound.specs.Test.{blankBlockB}
+use Rattle.bounded.specs.Below.{allTo}
 use Rattle.bounded.proofs.BoolLaws.{chain-on, chain-off}
 use Rattle.bounded.proofs.BelowLaws.{all-none, all-more, all-stopped, all-done}
-use Rattle.sound.specs.Sound.{unnamedB, zeroBlockB}
 use Rattle.inodes.proofs.InodeLaws.{blank-named, blank-tested}
 use Rattle.inodes.proofs.blanks_right.Statement.{statement}
 use Rattle.inodes.proofs.blanks_right.Tie as tie
 
 abbrev Inv-loop : tie.InvT-loop
-Inv-loop s n b map k₀ k = (k ≤ b) × (allBelow (λ j. not (unnamedB s n j) || zeroBlockB s n j) k ≡ true)
+Inv-loop s n b map k₀ k = (k ≤ b) × (allTo (λ c. not (blockFree s n c) || blankBlockB s n c) k ≡ true)
 
 abbrev μ-loop : tie.MeasureT-loop
 μ-loop s n b map k₀ k = b - k

@@ -6,14 +6,14 @@ use borrow.Author.Needs.{needs}
 use borrow.Author.Tests.{eq-eqb, ne-eqb}
 use lib.Dec.{eqb}
 use lib.ListN.{getD}
-use Rattle.bounded.specs.Count.{count}
+use Rattle.bounded.specs.Count.{countTo}
 use Rattle.bounded.proofs.CountLaws.{count-hit, count-miss, count-le}
 use Rattle.inodes.proofs.InodeLaws.{count-zero}
 use Rattle.inodes.proofs.free_blocks.Statement.{statement}
 use Rattle.inodes.proofs.free_blocks.Tie as tie
 
 abbrev Inv-loop : tie.InvT-loop
-Inv-loop map b free₀ k₀ free k = (k ≤ b) × (free ≡ count (λ x. eqb (getD map (x + 1) 0) 0) k)
+Inv-loop map b free₀ k₀ free k = (k ≤ b) × (free ≡ countTo (λ c. eqb (getD map c 0) 0) k)
 
 abbrev μ-loop : tie.MeasureT-loop
 μ-loop map b free₀ k₀ free k = b - k

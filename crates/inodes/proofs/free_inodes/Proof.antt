@@ -4,15 +4,15 @@ use mathlib.Core.Logic.{⊎-elim}
 use native.Mathlib.Omega.{arith}
 use borrow.Author.Needs.{needs}
 use borrow.Author.Tests.{eq-eqb, ne-eqb}
-use Rattle.bounded.specs.Count.{count}
+use Rattle.layout.specs.Free.{inodeFree}
+use Rattle.bounded.specs.Count.{countTo}
 use Rattle.bounded.proofs.CountLaws.{count-hit, count-miss, count-le}
-use Rattle.sound.specs.Sound.{freeB}
 use Rattle.inodes.proofs.InodeLaws.{count-zero}
 use Rattle.inodes.proofs.free_inodes.Statement.{statement}
 use Rattle.inodes.proofs.free_inodes.Tie as tie
 
 abbrev Inv-loop : tie.InvT-loop
-Inv-loop s n free₀ k₀ free k = (k ≤ n) × (free ≡ count (freeB s) k)
+Inv-loop s n free₀ k₀ free k = (k ≤ n) × (free ≡ countTo (inodeFree s) k)
 
 abbrev μ-loop : tie.MeasureT-loop
 μ-loop s n free₀ k₀ free k = n - k
@@ -27,7 +27,7 @@ kind-requires : tie.Need-kind-requires Inv-loop μ-loop
 kind-requires c κs = search needs
 
 add-free : tie.Need-add-free Inv-loop μ-loop
-add-free c = omega (arith, count-le (freeB (c .before .before .before .before .before .args .s .now)) (c .before .before .before .loop .k))
+add-free c = omega (arith, count-le (λ k. inodeFree (c .before .before .before .before .before .args .s .now) (k + 1)) (c .before .before .before .loop .k))
 
 add-k : tie.Need-add-k Inv-loop μ-loop
 add-k c = search needs
@@ -45,7 +45,7 @@ loop-again c =
     (c .if1 .came)
 
 cast-result : tie.Need-cast-result Inv-loop μ-loop
-cast-result c = omega (arith, count-le (freeB (c .before .before .before .args .s .now)) (c .before .loop .k))
+cast-result c = omega (arith, count-le (λ k. inodeFree (c .before .before .before .args .s .now) (k + 1)) (c .before .loop .k))
 
 returns : tie.Need-returns Inv-loop μ-loop
 returns c = let e : c .before .loop .k ≡ c .before .before .before .args .n = omega arith in rw e at (c .before .loop .inv .1)

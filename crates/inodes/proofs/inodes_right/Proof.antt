@@ -5,13 +5,13 @@ use native.Mathlib.Omega.{arith}
 use borrow.Author.Tests.{not-false}
 use borrow.Author.Needs.{needs}
 use lib.ListN.{length, length-replicate}
+use Rattle.sound.specs.Test.{inodeB}
 use Rattle.bounded.specs.Seen.{Seen}
 use Rattle.bounded.specs.Below.{allBelow}
 use Rattle.bounded.proofs.SeenLaws.{seen-start}
 use Rattle.bounded.proofs.BoolLaws.{chain-on, chain-off, never}
 use Rattle.bounded.proofs.BelowLaws.{all-none, all-more, all-stopped, all-done}
 use Rattle.layout.specs.Inode.{addressOf}
-use Rattle.sound.specs.Inode.{inodeB}
 use Rattle.inodes.specs.Pass.{newBlocksB}
 use Rattle.inodes.proofs.InodeLaws.{seen-as, inodes-are}
 use Rattle.inodes.proofs.inodes_right.Statement.{statement}

@@ -4,13 +4,13 @@ use native.Mathlib.Omega.{arith}
 use lib.ListN.{length, length-set}
 use denote.Ref.{now}
 use borrow.Author.Needs.{needs}
-use Rattle.octets.specs.Octets.{copied}
+use Rattle.octets.specs.Octets.{pasted}
 use Rattle.octets.proofs.PartLaws.{copied-none, copied-more}
 use Rattle.octets.proofs.copy_range.Statement.{statement}
 use Rattle.octets.proofs.copy_range.Tie as tie
 
 abbrev Inv-loop : tie.InvT-loop
-Inv-loop d₀ o s p k j₀ d j = (j ≤ k) × (length d ≡ length d₀) × (d ≡ copied d₀ o s p j)
+Inv-loop d₀ o s p k j₀ d j = (j ≤ k) × (length d ≡ length d₀) × (d ≡ pasted d₀ o s p j)
 
 abbrev μ-loop : tie.MeasureT-loop
 μ-loop d₀ o s p k j₀ d j = k - j
@@ -43,7 +43,7 @@ same-length : tie.Need-same-length Inv-loop μ-loop
 same-length c = search needs
 
 returns : tie.Need-returns Inv-loop μ-loop
-returns c = let i = c .before .loop in let a = c .before .before .args in let e : i .j ≡ a .k = omega arith in i .inv .2 ∙ ap (copied (now (a .d)) (a .o) (now (a .s)) (a .p)) e
+returns c = let i = c .before .loop in let a = c .before .before .args in let e : i .j ≡ a .k = omega arith in i .inv .2 ∙ ap (pasted (now (a .d)) (a .o) (now (a .s)) (a .p)) e
 
 pub copy-range-spec : {M : Type 1} → statement M
 copy-range-spec =

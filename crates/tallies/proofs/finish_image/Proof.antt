@@ -2,11 +2,11 @@ use Prim.Native.Nat.{_+_}
 use lib.Dec.{eqb}
 use lib.ListN.{getD}
 use Rattle.bounded.proofs.CountLaws.{count-le}
-use Rattle.sound.specs.Sound.{freeB}
 use Rattle.tallies.proofs.NameLaws.{finish-read}
 use denote.Ref.{now}
 use native.Mathlib.Omega.{arith}
 use borrow.Author.Needs.{needs}
+use Rattle.layout.specs.Free.{inodeFree}
 use Rattle.tallies.proofs.finish_image.Statement.{statement}
 use Rattle.tallies.proofs.finish_image.Tie as tie
 
@@ -31,7 +31,7 @@ put-counts-requires c κs = search needs
 cast-put-free : tie.Need-cast-put-free
 cast-put-free c =
     let z = c .before .before .before .before .before .before .before .before .before .before .before .before .before .before .before in
-    omega (arith, z .pre .0 .few, c .before .before .before .before .before .before .before .before .free-inodes .ensures, count-le (freeB (now (z .args .m))) (z .args .n))
+    omega (arith, z .pre .0 .few, c .before .before .before .before .before .before .before .before .free-inodes .ensures, count-le (λ k. inodeFree (now (z .args .m)) (k + 1)) (z .args .n))
 
 cast-put-free-2 : tie.Need-cast-put-free-2
 cast-put-free-2 c =

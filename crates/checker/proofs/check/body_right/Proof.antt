@@ -1,25 +1,27 @@
 use mathlib.Core.Path.{_≡_, refl, sym, ap, _∙_}
-use mathlib.Core.Bool.{Bool, true, false, _||_}
+use mathlib.Core.Bool.{Bool, true, false, not, _||_}
 use mathlib.Core.List.{List}
 use Prim.Native.Nat.{ℕ}
 use native.Mathlib.Omega.{arith}
 use borrow.Author.Needs.{needs}
 use borrow.Author.Tests.{not-false}
 use denote.Ref.{now}
+use Rattle.sound.specs.Test.{bodyB}
+use Rattle.sound.specs.declared.Form.{Form}
+use Rattle.sound.specs.Sound.{blankOf}
 use Rattle.bounded.proofs.BoolLaws.{and-left, chain-stop, chain-on, chain-end, or-l}
 use Rattle.layout.specs.Block.{Sized}
-use Rattle.sound.specs.Sound.{bodyB}
 use Rattle.checker.proofs.CheckLaws.{inodesRight, bodyAs, afterHeader, afterInodes, afterEntries, afterLinks, afterParents, afterCounts, body-as, frame-sized, root-fits, dir-fits, parents-closed}
 use Rattle.checker.proofs.check.body_right.Statement.{statement}
 use Rattle.checker.proofs.check.body_right.Tie as tie
 
 -- ---- an answer that is what is left of the test is the test's
-abbrev Left : tie.Start → (Bool → List ℕ → ℕ → ℕ → Bool) → Type 0
+abbrev Left : tie.Start → (Form → List ℕ → ℕ → ℕ → Bool) → Type 0
 Left z rest =
-    (x : Bool) → x ≡ rest (z .args .blank) (now (z .args .s)) (z .args .n) (z .args .b) → x ≡ bodyB (z .args .blank) (now (z .args .s))
+    (x : Bool) → x ≡ rest (z .args .form) (now (z .args .s)) (z .args .n) (z .args .b) → x ≡ bodyB (z .args .form) (now (z .args .s))
 
 all : (z : tie.Start) → Left z bodyAs
-all z x q = q ∙ body-as (z .args .blank) (now (z .args .s)) (z .pre .1) (z .pre .2)
+all z x q = q ∙ body-as (z .args .form) (now (z .args .s)) (z .pre .1) (z .pre .2)
 
 past-header : (c : tie.Else1) → Left (c .before .before .before) afterHeader
 past-header c x q = all (c .before .before .before) x (chain-end _ _ _ (chain-on _ _ (c .before .header-right .ensures) (c .if1 .left)) q)
@@ -115,17 +117,23 @@ returns-6 : tie.Need-returns-6
 returns-6 c = past-parents (c .before .before .before) _ (chain-stop _ _ _ (c .before .counts-right .ensures) (c .if6 .taken))
 
 returns-7 : tie.Need-returns-7
-returns-7 c = past-counts (c .before) _ (sym (or-l _ _ (c .if7 .taken)))
+returns-7 c = past-counts (c .before .before) _ (sym (or-l _ _ (ap (λ (f : Form). not (blankOf f)) (c .enum-told .given .1))))
+
+enum-told : tie.Need-enum-told
+enum-told c = search needs
+
+enum-told-2 : tie.Need-enum-told-2
+enum-told-2 c = search needs
 
 slice-aggregate-blanks-right : tie.Need-slice-aggregate-blanks-right
 slice-aggregate-blanks-right c = search needs
 
 blanks-right-requires : tie.Need-blanks-right-requires
 blanks-right-requires c κs =
-    (sized (c .before .before .before .before .before .before .before .before .before .before .before .before .before .before .before .before .before .before .before .before .before), c .before .before .before .before .before .before .before .before .before .before .before .before .before .before .before .before .inodes-right .ensures .1 (not-false _ (c .before .before .before .before .before .before .before .before .before .before .before .before .before .before .if2 .left)))
+    (sized (c .before .before .before .before .before .before .before .before .before .before .before .before .before .before .before .before .before .before .before .before .before .before), c .before .before .before .before .before .before .before .before .before .before .before .before .before .before .before .before .before .inodes-right .ensures .1 (not-false _ (c .before .before .before .before .before .before .before .before .before .before .before .before .before .before .before .if2 .left)))
 
 returns-8 : tie.Need-returns-8
-returns-8 c = past-counts (c .before .before .before) _ (or-end _ _ _ (c .before .before .if7 .left) (c .blanks-right .ensures))
+returns-8 c = past-counts (c .before .before .before .before) _ (or-end _ _ _ (ap (λ (f : Form). not (blankOf f)) (c .before .before .enum-told2 .given .1)) (c .blanks-right .ensures))
 
 pub body-right-spec : {M : Type 1} → statement M
 body-right-spec =
@@ -147,7 +155,9 @@ body-right-spec =
     slice-aggregate-counts-right
     counts-right-requires
     returns-6
-    returns-7
+    enum-told
+    enum-told-2
     slice-aggregate-blanks-right
     blanks-right-requires
+    returns-7
     returns-8)

@@ -2,11 +2,11 @@ use Prim.Native.Nat.{ℕ, _*_}
 use mathlib.Core.Path.{ap, subst, _∙_}
 use denote.Ref.{now}
 use native.Mathlib.Omega.{arith}
-use Rattle.bounded.specs.Count.{count}
+use Rattle.bounded.specs.Count.{countTo}
 use Rattle.bounded.specs.Seen.{Seen}
 use Rattle.layout.specs.Sizes.{addressCount}
 use Rattle.layout.specs.Inode.{addressOf}
-use Rattle.sound.specs.Sound.{freeB}
+use Rattle.layout.specs.Free.{inodeFree}
 use Rattle.checker.proofs.CheckLaws.{counts-1, counts-2}
 use borrow.Author.Needs.{needs}
 use Rattle.checker.proofs.check.counts_right.Statement.{statement}
@@ -22,7 +22,7 @@ free-inodes-requires : tie.Need-free-inodes-requires
 free-inodes-requires c κs = search needs
 
 returns : tie.Need-returns
-returns c = let p = c .before .before .before .before .before .before .pre in counts-1 _ _ (c .before .before .before .read .ensures) _ (c .before .free-inodes .ensures ∙ ap (count (freeB (now (c .before .before .before .before .before .before .args .s)))) (p .1)) (c .if1 .taken)
+returns c = let p = c .before .before .before .before .before .before .pre in counts-1 _ _ (c .before .before .before .read .ensures) _ (c .before .free-inodes .ensures ∙ ap (countTo (inodeFree (now (c .before .before .before .before .before .before .args .s)))) (p .1)) (c .if1 .taken)
 
 cast-result : tie.Need-cast-result
 cast-result c = search needs
@@ -32,7 +32,7 @@ free-blocks-requires c κs = search needs
 
 returns-2 : tie.Need-returns-2
 returns-2 c = let p = c .before .before .before .before .before .before .before .before .pre in let a = c .before .before .before .before .before .before .before .before .args in let m = p .0 .most-blocks in
-    counts-2 _ _ (c .before .before .before .before .before .read .ensures) _ (c .before .before .before .free-inodes .ensures ∙ ap (count (freeB (now (a .s)))) (p .1)) (a .b) _ (now (a .map)) (c .before .before .if1 .left)
+    counts-2 _ _ (c .before .before .before .before .before .read .ensures) _ (c .before .before .before .free-inodes .ensures ∙ ap (countTo (inodeFree (now (a .s)))) (p .1)) (a .b) _ (now (a .map)) (c .before .before .if1 .left)
     (subst (λ (x : ℕ). Seen (addressOf (now (a .s)) x) 4097 (addressCount * x) (now (a .map))) (p .1) (p .3)) (p .2) (omega arith) (c .free-blocks .ensures)
 
 pub counts-right-spec : {M : Type 1} → statement M

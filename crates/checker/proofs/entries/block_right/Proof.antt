@@ -9,8 +9,8 @@ use Rattle.bounded.specs.Below.{allBelow}
 use Rattle.bounded.proofs.BoolLaws.{chain-on, chain-off, never}
 use Rattle.bounded.proofs.BelowLaws.{all-none, all-more, all-stopped, all-done}
 use Rattle.directory.proofs.SlotLaws.{few-blocks}
-use Rattle.sound.specs.Entry.{entryB}
 use Rattle.sound.specs.Place.{placeOf}
+use Rattle.sound.specs.Test.{entryB}
 use Rattle.checker.specs.Pass.{Passed}
 use Rattle.checker.proofs.EntryLaws.{slot-start, slot-inside, block-begin, block-more, block-done}
 use Rattle.checker.proofs.entries.block_right.Statement.{statement}

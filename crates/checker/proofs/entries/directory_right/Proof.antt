@@ -8,7 +8,7 @@ use borrow.Author.Needs.{needs}
 use Rattle.bounded.specs.Below.{allBelow}
 use Rattle.bounded.proofs.BelowLaws.{all-none}
 use Rattle.sound.specs.Place.{placeOf}
-use Rattle.sound.specs.Entry.{entryB}
+use Rattle.sound.specs.Test.{entryB}
 use Rattle.checker.specs.Pass.{Passed}
 use Rattle.checker.proofs.EntryLaws.{other-inode, dir-begin, dir-more, dir-next, dir-stop, dir-done}
 use Rattle.checker.proofs.entries.directory_right.Statement.{statement}

@@ -9,8 +9,8 @@ use Rattle.bounded.specs.Count.{Tallied}
 use Rattle.bounded.specs.Below.{allBelow}
 use Rattle.bounded.proofs.BelowLaws.{all-none}
 use Rattle.directory.specs.Slot.{mostSlots}
-use Rattle.sound.specs.Entry.{entryB}
 use Rattle.sound.specs.Place.{naming}
+use Rattle.sound.specs.Test.{entryB}
 use Rattle.checker.proofs.EntryLaws.{dirs-begin, dir-turn, dirs-more, dirs-stop, dirs-done}
 use Rattle.checker.proofs.entries.entries_right.Statement.{statement}
 use Rattle.checker.proofs.entries.entries_right.Tie as tie

@@ -2,15 +2,15 @@ use Prim.Native.Nat.{_≤_, _+_, _-_}
 use mathlib.Core.Path.{_≡_}
 use mathlib.Core.Bool.{true}
 use native.Mathlib.Omega.{arith}
-use Rattle.bounded.specs.Below.{allBelow}
+use Rattle.sound.specs.Test.{countedB}
+use Rattle.bounded.specs.Below.{allTo}
 use Rattle.bounded.proofs.BelowLaws.{all-none, all-more, all-stopped, all-done}
 use Rattle.bounded.proofs.BoolLaws.{chain-on, chain-off}
-use Rattle.sound.specs.Link.{countedB}
 use Rattle.checker.proofs.links.links_right.Statement.{statement}
 use Rattle.checker.proofs.links.links_right.Tie as tie
 
 abbrev Inv-loop : tie.InvT-loop
-Inv-loop s n counts k₀ k = (k ≤ n) × (allBelow (λ j. countedB s n (j + 1)) k ≡ true)
+Inv-loop s n counts k₀ k = (k ≤ n) × (allTo (countedB s n) k ≡ true)
 
 abbrev μ-loop : tie.MeasureT-loop
 μ-loop s n counts k₀ k = n - k

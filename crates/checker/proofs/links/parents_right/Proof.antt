@@ -2,17 +2,17 @@ use Prim.Native.Nat.{_≤_, _+_, _-_}
 use mathlib.Core.Path.{_≡_, sym}
 use mathlib.Core.Bool.{true}
 use native.Mathlib.Omega.{arith}
-use Rattle.bounded.specs.Below.{allBelow}
+use Rattle.sound.specs.Test.{leadB}
+use Rattle.bounded.specs.Below.{allTo}
 use Rattle.bounded.proofs.BelowLaws.{all-none, all-more, all-stopped, all-done}
 use Rattle.bounded.proofs.BoolLaws.{chain-on, chain-off}
-use Rattle.sound.specs.Link.{leadB}
 use Rattle.checker.specs.Pass.{Known}
 use Rattle.checker.proofs.LinkLaws.{known-start}
 use Rattle.checker.proofs.links.parents_right.Statement.{statement}
 use Rattle.checker.proofs.links.parents_right.Tie as tie
 
 abbrev Inv-loop : tie.InvT-loop
-Inv-loop s n known₀ k₀ known k = (k ≤ n) × (allBelow (λ j. leadB s n (j + 1)) k ≡ true) × Known s known
+Inv-loop s n known₀ k₀ known k = (k ≤ n) × (allTo (leadB s n) k ≡ true) × Known s known
 
 abbrev μ-loop : tie.MeasureT-loop
 μ-loop s n known₀ k₀ known k = n - k

@@ -1,4 +1,4 @@
-use Rattle.copystart.proofs.StartLaws.{allowed, begin-running, begin-done}
+use Rattle.copystart.proofs.StartLaws.{image-room, begin-running, begin-done}
 use borrow.Author.Needs.{needs}
 use Rattle.copystart.proofs.start.begin.Statement.{statement}
 use Rattle.copystart.proofs.start.begin.Tie as tie
@@ -19,7 +19,7 @@ start-image-requires : tie.Need-start-image-requires
 start-image-requires c κs = search needs
 
 start-desk-requires : tie.Need-start-desk-requires
-start-desk-requires c κs = let p = c .before .before .before .before .before .before .before .before .before .before .before .before .pre in let a = allowed _ _ _ (p .1) (c .before .before .before .before .before .image-blocks .ensures) in (p .2, a .few)
+start-desk-requires c κs = let p = c .before .before .before .before .before .before .before .before .before .before .before .before .pre in let a = image-room _ _ _ (p .1) (c .before .before .before .before .before .image-blocks .ensures) in (p .2, a .few)
 
 same-length-2 : tie.Need-same-length-2
 same-length-2 c = search needs

@@ -5,7 +5,7 @@ use native.Mathlib.Omega.{arith}
 use denote.Ref.{now}
 use Rattle.layout.specs.Sizes.{rootInode, notComplete}
 use Rattle.layout.specs.Header.{putHeader}
-use Rattle.copystart.proofs.StartLaws.{allowed, image-done}
+use Rattle.copystart.proofs.StartLaws.{image-room, image-done}
 use borrow.Author.Needs.{needs}
 use Rattle.copystart.proofs.start.start_image.Statement.{statement}
 use Rattle.copystart.proofs.start.start_image.Tie as tie
@@ -17,13 +17,13 @@ cast-t9 : tie.Need-cast-t9
 cast-t9 c = search needs
 
 cast-t10 : tie.Need-cast-t10
-cast-t10 c = let p = c .before .before .before .before .before .pre in let a = allowed _ _ _ (p .1) (p .2) in let l = a .few in omega arith
+cast-t10 c = let p = c .before .before .before .before .before .pre in let a = image-room _ _ _ (p .1) (p .2) in let l = a .few in omega arith
 
 cast-t11 : tie.Need-cast-t11
 cast-t11 c = search needs
 
 write-requires : tie.Need-write-requires
-write-requires c κs = let p = c .before .before .before .before .before .before .pre in let a = allowed _ _ _ (p .1) (p .2) in let l = a .long in omega arith
+write-requires c κs = let p = c .before .before .before .before .before .before .pre in let a = image-room _ _ _ (p .1) (p .2) in let l = a .long in omega arith
 
 same-length : tie.Need-same-length
 same-length c = search needs

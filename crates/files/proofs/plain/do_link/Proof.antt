@@ -6,7 +6,7 @@ use Rattle.names.proofs.NameLaws.{legal-bounds}
 use Rattle.answers.specs.declared.Answer.the-variants.{Done}
 use Rattle.entries.proofs.PlanFacts.{links}
 use Rattle.files.specs.Effect.{doLink}
-use Rattle.files.specs.Plain.{left, leaves}
+use Rattle.files.specs.Plain.{plainLeft, leaves}
 use borrow.Author.Needs.{needs}
 use Rattle.files.proofs.plain.do_link.Statement.{statement}
 use Rattle.files.proofs.plain.do_link.Tie as tie
@@ -32,7 +32,7 @@ same-length c = search needs
 returns : tie.Need-returns
 returns c =
     let a = c .before .before .before .before .before .before .before .before .before .before .before .args in
-    ap (λ (t : List ℕ). left (Done 0) t []) (c .before .before .link .ensures)
+    ap (λ (t : List ℕ). plainLeft (Done 0) t []) (c .before .before .link .ensures)
     ∙ ap (λ p. leaves (now (a .s)) [] (doLink (now (a .s)) (a .n) (a .d) (now (a .name)) (a .i) p)) (sym (c .before .before .before .before .before .room .given .1) ∙ c .before .before .before .before .before .before .before .link-plan .ensures)
 
 same-length-2 : tie.Need-same-length-2

@@ -5,7 +5,7 @@ use lib.ListN.{length}
 use Rattle.answers.specs.declared.Answer.the-variants.{Done}
 use Rattle.content.proofs.PlanFacts.{Reads, reads}
 use Rattle.files.specs.Effect.{doRead}
-use Rattle.files.specs.Plain.{left, leaves}
+use Rattle.files.specs.Plain.{plainLeft, leaves}
 use borrow.Author.Needs.{needs}
 use Rattle.files.proofs.plain.do_read.Statement.{statement}
 use Rattle.files.proofs.plain.do_read.Tie as tie
@@ -30,7 +30,7 @@ same-length : tie.Need-same-length
 same-length c = search needs
 
 returns : tie.Need-returns
-returns c = let a = c .before .before .before .before .before .before .before .before .before .before .args in ap (left (Done _) (now (a .s))) (c .before .before .read-file .ensures) ∙ ap (λ p. leaves (now (a .s)) (now (a .out)) (doRead (now (a .s)) (a .n) (a .i) (a .o) (now (a .out)) p)) (sym (c .before .before .before .before .before .count .given .1) ∙ c .before .before .before .before .before .before .before .read-plan .ensures)
+returns c = let a = c .before .before .before .before .before .before .before .before .before .before .args in ap (plainLeft (Done _) (now (a .s))) (c .before .before .read-file .ensures) ∙ ap (λ p. leaves (now (a .s)) (now (a .out)) (doRead (now (a .s)) (a .n) (a .i) (a .o) (now (a .out)) p)) (sym (c .before .before .before .before .before .count .given .1) ∙ c .before .before .before .before .before .before .before .read-plan .ensures)
 
 returns-2 : tie.Need-returns-2
 returns-2 c = let a = c .before .before .before .before .before .before .args in ap (λ p. leaves (now (a .s)) (now (a .out)) (doRead (now (a .s)) (a .n) (a .i) (a .o) (now (a .out)) p)) (sym (c .before .why .given .1) ∙ c .before .before .before .read-plan .ensures)

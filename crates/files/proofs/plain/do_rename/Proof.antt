@@ -9,7 +9,7 @@ use Rattle.answers.specs.declared.Answer.the-variants.{Done}
 use Rattle.changes.proofs.SlotPlaceLaws.{found-here}
 use Rattle.entries.proofs.PlanFacts.{renames, moves}
 use Rattle.files.specs.Effect.{doRename}
-use Rattle.files.specs.Plain.{left, leaves}
+use Rattle.files.specs.Plain.{plainLeft, leaves}
 use borrow.Author.Needs.{needs}
 use Rattle.files.proofs.plain.do_rename.Statement.{statement}
 use Rattle.files.proofs.plain.do_rename.Tie as tie
@@ -60,7 +60,7 @@ same-length-2 c = search needs
 returns-2 : tie.Need-returns-2
 returns-2 c =
     let a = c .before .before .before .before .before .before .before .before .before .before .before .before .args in
-    ap (λ (t : List ℕ). left (Done 0) t []) (c .before .before .rename .ensures)
+    ap (λ (t : List ℕ). plainLeft (Done 0) t []) (c .before .before .rename .ensures)
     ∙ ap (λ p. leaves (now (a .s)) [] (doRename (now (a .s)) (a .n) (a .d) (a .e) (now (a .other)) p)) (sym (c .before .before .before .before .before .t .given .1) ∙ c .before .before .before .before .before .before .before .rename-plan .ensures)
 
 same-length-3 : tie.Need-same-length-3
@@ -69,7 +69,7 @@ same-length-3 c = search needs
 returns-3 : tie.Need-returns-3
 returns-3 c =
     let a = c .before .before .before .before .before .before .before .before .before .before .before .before .args in
-    ap (λ (t : List ℕ). left (Done 0) t []) (c .before .before .move-entry .ensures)
+    ap (λ (t : List ℕ). plainLeft (Done 0) t []) (c .before .before .move-entry .ensures)
     ∙ ap (λ p. leaves (now (a .s)) [] (doRename (now (a .s)) (a .n) (a .d) (a .e) (now (a .other)) p)) (sym (c .before .before .before .before .before .t2 .given .1) ∙ c .before .before .before .before .before .before .before .rename-plan .ensures)
 
 same-length-4 : tie.Need-same-length-4

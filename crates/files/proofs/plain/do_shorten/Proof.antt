@@ -6,7 +6,7 @@ use denote.Ref.{now}
 use Rattle.answers.specs.declared.Answer.the-variants.{Done}
 use Rattle.content.proofs.PlanFacts.{shortens}
 use Rattle.files.specs.Effect.{doShorten}
-use Rattle.files.specs.Plain.{left, leaves}
+use Rattle.files.specs.Plain.{plainLeft, leaves}
 use borrow.Author.Needs.{needs}
 use Rattle.files.proofs.plain.do_shorten.Statement.{statement}
 use Rattle.files.proofs.plain.do_shorten.Tie as tie
@@ -35,7 +35,7 @@ same-length c = search needs
 returns : tie.Need-returns
 returns c =
     let a = c .before .before .before .before .before .before .before .before .before .before .args in
-    ap (λ (t : List ℕ). left (Done (c .before .before .before .before .before .y .given .0 .0)) t []) (c .before .before .shorten-file .ensures)
+    ap (λ (t : List ℕ). plainLeft (Done (c .before .before .before .before .before .y .given .0 .0)) t []) (c .before .before .shorten-file .ensures)
     ∙ ap (λ p. leaves (now (a .s)) [] (doShorten (now (a .s)) (a .n) (a .i) p)) (sym (c .before .before .before .before .before .y .given .1) ∙ c .before .before .before .before .before .before .before .shorten-plan .ensures)
 
 same-length-2 : tie.Need-same-length-2

@@ -8,7 +8,7 @@ use Rattle.answers.specs.declared.Answer.the-variants.{Done}
 use Rattle.changes.proofs.SlotPlaceLaws.{found-here}
 use Rattle.entries.proofs.PlanFacts.{unlinks}
 use Rattle.files.specs.Effect.{doUnlink}
-use Rattle.files.specs.Plain.{left, leaves}
+use Rattle.files.specs.Plain.{plainLeft, leaves}
 use borrow.Author.Needs.{needs}
 use Rattle.files.proofs.plain.do_unlink.Statement.{statement}
 use Rattle.files.proofs.plain.do_unlink.Tie as tie
@@ -37,7 +37,7 @@ same-length c = search needs
 returns : tie.Need-returns
 returns c =
     let a = c .before .before .before .before .before .before .before .before .before .before .before .args in
-    ap (λ (t : List ℕ). left (Done 0) t []) (c .before .before .unlink .ensures)
+    ap (λ (t : List ℕ). plainLeft (Done 0) t []) (c .before .before .unlink .ensures)
     ∙ ap (λ p. leaves (now (a .s)) [] (doUnlink (now (a .s)) (a .n) (a .d) p)) (sym (c .before .before .before .before .before .t .given .1) ∙ c .before .before .before .before .before .before .before .unlink-plan .ensures)
 
 same-length-2 : tie.Need-same-length-2

@@ -4,7 +4,7 @@ use mathlib.Core.Path.{sym, ap, _∙_}
 use denote.Ref.{now}
 use Rattle.answers.specs.declared.Answer.the-variants.{Done}
 use Rattle.files.specs.Effect.{doWrite}
-use Rattle.files.specs.Plain.{left, leaves}
+use Rattle.files.specs.Plain.{plainLeft, leaves}
 use borrow.Author.Needs.{needs}
 use Rattle.files.proofs.plain.do_write.Statement.{statement}
 use Rattle.files.proofs.plain.do_write.Tie as tie
@@ -27,7 +27,7 @@ same-length c = search needs
 returns : tie.Need-returns
 returns c =
     let a = c .before .before .before .before .before .before .before .before .before .before .before .args in
-    ap (λ (t : List ℕ). left (Done (c .before .before .before .before .before .z .given .0 .0)) t []) (c .before .before .write-file .ensures)
+    ap (λ (t : List ℕ). plainLeft (Done (c .before .before .before .before .before .z .given .0 .0)) t []) (c .before .before .write-file .ensures)
     ∙ ap (λ p. leaves (now (a .s)) [] (doWrite (now (a .s)) (a .n) (a .b) (a .i) (a .o) (now (a .xs)) p)) (sym (c .before .before .before .before .before .z .given .1) ∙ c .before .before .before .before .before .before .before .write-plan .ensures)
 
 same-length-2 : tie.Need-same-length-2

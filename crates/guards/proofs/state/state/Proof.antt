@@ -2,7 +2,7 @@ use mathlib.Core.Path.{sym, ap, _∙_}
 use native.Mathlib.Omega.{arith}
 use Rattle.checkpoint.specs.Shown.{toldStatus}
 use Rattle.guards.proofs.FitLaws.{framed}
-use Rattle.guards.proofs.GuardLaws.{passed, state-through, state-stopped}
+use Rattle.guards.proofs.GuardLaws.{passed, desk-passed, state-through, state-stopped}
 use borrow.Author.Needs.{needs}
 use Rattle.guards.proofs.state.state.Statement.{statement}
 use Rattle.guards.proofs.state.state.Tie as tie
@@ -14,7 +14,7 @@ enum-told : tie.Need-enum-told
 enum-told c = search needs
 
 read-requires : tie.Need-read-requires
-read-requires c κs = let p = passed _ _ _ _ _ (sym (c .before .before .three-guards .ensures) ∙ c .enum-told .given .1) in let f = framed _ (p .desk) in let l = f .long in omega arith
+read-requires c κs = let p = passed _ _ _ _ _ (sym (c .before .before .three-guards .ensures) ∙ c .enum-told .given .1) in let f = framed _ (desk-passed p) in let l = f .long in omega arith
 
 enum-known-why : tie.Need-enum-known-why
 enum-known-why c = search needs

@@ -1,5 +1,5 @@
 use Rattle.bounded.proofs.BoolLaws.{chain-on, chain-off}
-use Rattle.guards.proofs.GuardLaws.{three-unframed, three-no-desk}
+use Rattle.guards.proofs.GuardLaws.{three-unframed, three-no-desk, three-framed}
 use borrow.Author.Needs.{needs}
 use Rattle.guards.proofs.three.three_guards.Statement.{statement}
 use Rattle.guards.proofs.three.three_guards.Tie as tie
@@ -20,7 +20,7 @@ after-lengths-requires : tie.Need-after-lengths-requires
 after-lengths-requires c κs = (chain-on _ _ (c .before .before .before .framed .ensures) (c .before .before .if1 .left), chain-on _ _ (c .before .desk-framed .ensures) (c .if2 .left))
 
 returns-3 : tie.Need-returns-3
-returns-3 c = search needs
+returns-3 c = three-framed _ _ _ (chain-on _ _ (c .before .before .before .before .framed .ensures) (c .before .before .before .if1 .left)) (chain-on _ _ (c .before .before .desk-framed .ensures) (c .before .if2 .left)) _ (c .after-lengths .ensures)
 
 pub three-guards-spec : {M : Type 1} → statement M
 three-guards-spec =

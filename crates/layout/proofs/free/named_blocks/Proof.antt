@@ -3,7 +3,7 @@ use mathlib.Core.Path.{_≡_}
 use native.Mathlib.Omega.{arith}
 use Rattle.bounded.specs.Seen.{Seen}
 use Rattle.bounded.proofs.SeenLaws.{seen-start}
-use Rattle.layout.specs.Inode.{addressOf, place}
+use Rattle.layout.specs.Inode.{addressOf, addressIndex}
 use borrow.Author.Needs.{needs}
 use Rattle.layout.proofs.free.named_blocks.Statement.{statement}
 use Rattle.layout.proofs.free.named_blocks.Tie as tie
@@ -24,7 +24,7 @@ note-blocks-requires : tie.Need-note-blocks-requires Inv-loop μ-loop
 note-blocks-requires c κs =
     let p = c .before .before .before .before .pre in
     let l = c .before .before .loop in
-    let e : 12 * l .k ≡ place (l .k + 1) 0 = omega arith in
+    let e : 12 * l .k ≡ addressIndex (l .k + 1) 0 = omega arith in
     ((record { low = omega arith; high = omega arith; few = p .0 .0; area = p .0 .1 }, rw e at (l .inv .1)), p .1)
 
 add-k : tie.Need-add-k Inv-loop μ-loop

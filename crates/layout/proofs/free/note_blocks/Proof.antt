@@ -3,14 +3,14 @@ use mathlib.Core.Path.{_≡_, refl, sym, _∙_}
 use native.Mathlib.Omega.{arith}
 use Rattle.bounded.specs.Seen.{Seen}
 use Rattle.bounded.proofs.SeenLaws.{seen-more, seen-run}
-use Rattle.layout.specs.Inode.{addressOf, place}
+use Rattle.layout.specs.Inode.{addressOf, addressIndex}
 use Rattle.layout.proofs.InodeLaws.{addresses-none}
 use borrow.Author.Needs.{needs}
 use Rattle.layout.proofs.free.note_blocks.Statement.{statement}
 use Rattle.layout.proofs.free.note_blocks.Tie as tie
 
 abbrev Inv-loop : tie.InvT-loop
-Inv-loop s n i map₀ x k₀ map k = (k ≤ 12) × (x ≡ 12 * (i - 1)) × Seen (addressOf s n) 4097 (place i k) map
+Inv-loop s n i map₀ x k₀ map k = (k ≤ 12) × (x ≡ 12 * (i - 1)) × Seen (addressOf s n) 4097 (addressIndex i k) map
 
 abbrev μ-loop : tie.MeasureT-loop
 μ-loop s n i map₀ x k₀ map k = 12 - k
@@ -26,8 +26,8 @@ returns c =
     let b = c .before .before .before in
     let p = b .pre .0 in
     let i = b .args .i in
-    let e : place i 0 + 12 ≡ 12 * i = omega (arith, p .0 .low) in
-    rw e at (seen-run _ 4097 (place i 0) 12 0 _ (omega arith) (addresses-none _ _ i (sym (c .before .addresses-zero .ensures) ∙ c .if1 .taken)) (omega arith) (p .1))
+    let e : addressIndex i 0 + 12 ≡ 12 * i = omega (arith, p .0 .low) in
+    rw e at (seen-run _ 4097 (addressIndex i 0) 12 0 _ (omega arith) (addresses-none _ _ i (sym (c .before .addresses-zero .ensures) ∙ c .if1 .taken)) (omega arith) (p .1))
 
 sub-x : tie.Need-sub-x Inv-loop μ-loop
 sub-x c = search needs
@@ -51,7 +51,7 @@ element-write-map-2 : tie.Need-element-write-map-2 Inv-loop μ-loop
 element-write-map-2 c =
     let b = c .before .before .before .before .before .before in
     let k = c .before .before .loop .k in
-    omega (arith, c .address .ensures, b .pre .1 (place (b .args .i) k) (omega (arith, b .pre .0 .0 .low, b .pre .0 .0 .high)))
+    omega (arith, c .address .ensures, b .pre .1 (addressIndex (b .args .i) k) (omega (arith, b .pre .0 .0 .low, b .pre .0 .0 .high)))
 
 add-k : tie.Need-add-k Inv-loop μ-loop
 add-k c = search needs
@@ -64,15 +64,15 @@ loop-again c =
     let b = c .before .before .before .before .before .before in
     let l = c .before .before .loop in
     let i = b .args .i in
-    let y = b .pre .1 (place i (l .k)) (omega (arith, b .pre .0 .0 .low, b .pre .0 .0 .high)) in
-    let e : place i (l .k) + 1 ≡ place i (l .k + 1) = omega arith in
-    (omega arith, refl, rw e at (seen-more _ 4097 (place i (l .k)) _ _ (c .address .ensures) (omega (arith, c .address .ensures, y)) (l .inv .2)))
+    let y = b .pre .1 (addressIndex i (l .k)) (omega (arith, b .pre .0 .0 .low, b .pre .0 .0 .high)) in
+    let e : addressIndex i (l .k) + 1 ≡ addressIndex i (l .k + 1) = omega arith in
+    (omega arith, refl, rw e at (seen-more _ 4097 (addressIndex i (l .k)) _ _ (c .address .ensures) (omega (arith, c .address .ensures, y)) (l .inv .2)))
 
 returns-2 : tie.Need-returns-2 Inv-loop μ-loop
 returns-2 c =
     let b = c .before .before .before .before .before in
     let l = c .before .loop in
-    let e : place (b .args .i) (l .k) ≡ 12 * b .args .i = omega (arith, b .pre .0 .0 .low) in
+    let e : addressIndex (b .args .i) (l .k) ≡ 12 * b .args .i = omega (arith, b .pre .0 .0 .low) in
     rw e at (l .inv .2)
 
 pub note-blocks-spec : {M : Type 1} → statement M

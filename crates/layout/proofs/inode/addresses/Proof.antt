@@ -1,14 +1,14 @@
 use Prim.Native.Nat.{_≤_, _-_}
 use native.Mathlib.Omega.{arith}
-use Rattle.bounded.specs.Table.{Filled}
+use Rattle.bounded.specs.Table.{Tabulated}
 use Rattle.bounded.proofs.TableLaws.{filled-none, filled-more, filled-all}
-use Rattle.layout.specs.Inode.{addressOf, place, addressesOf}
+use Rattle.layout.specs.Inode.{addressOf, addressIndex, addressesOf}
 use borrow.Author.Needs.{needs}
 use Rattle.layout.proofs.inode.addresses.Statement.{statement}
 use Rattle.layout.proofs.inode.addresses.Tie as tie
 
 abbrev Inv-loop : tie.InvT-loop
-Inv-loop s n i x a₀ k₀ a k = (k ≤ 12) × Filled (λ j. addressOf s n (place i j)) 12 k a
+Inv-loop s n i x a₀ k₀ a k = (k ≤ 12) × Tabulated (λ j. addressOf s n (addressIndex i j)) 12 k a
 
 abbrev μ-loop : tie.MeasureT-loop
 μ-loop s n i x a₀ k₀ a k = 12 - k

@@ -3,7 +3,7 @@ use mathlib.Core.Path.{ap, _∙_}
 use native.Mathlib.Omega.{arith}
 use denote.Ref.{now}
 use Rattle.layout.specs.Block.{blockAt, kthBlock}
-use Rattle.layout.specs.Inode.{place}
+use Rattle.layout.specs.Inode.{addressIndex}
 use Rattle.directory.specs.Slot.{slotAt}
 use borrow.Author.Needs.{needs}
 use Rattle.live.proofs.notes.image_slot.Statement.{statement}
@@ -31,7 +31,7 @@ returns c =
     let p = c .before .before .before .pre in
     let k = c .before .kth-block .ensures in
     let e = c .block-at .ensures in
-    let i = p .0 .inside (place (a .e) (a .t / 4)) (omega arith) in
+    let i = p .0 .inside (addressIndex (a .e) (a .t / 4)) (omega arith) in
     (omega arith, omega arith)
 
 pub image-slot-spec : {M : Type 1} → statement M

@@ -1,10 +1,10 @@
 use mathlib.Core.Path.{sym, refl}
 use borrow.Author.Tests.{le-leb, lt-leb}
 use Rattle.bounded.proofs.BoolLaws.{and-false-l, chain-end}
-use Rattle.format.specs.Format.{deskAllowed}
 use borrow.Author.Needs.{needs}
-use Rattle.format.proofs.desk_allowed.Statement.{statement}
-use Rattle.format.proofs.desk_allowed.Tie as tie
+use Rattle.desk.specs.Sizes.{deskAllowed}
+use Rattle.desk.proofs.allowed.Statement.{statement}
+use Rattle.desk.proofs.allowed.Tie as tie
 
 returns : tie.Need-returns
 unfolding deskAllowed
@@ -24,5 +24,5 @@ returns-3 : tie.Need-returns-3
 unfolding deskAllowed
 returns-3 c = chain-end _ _ _ (le-leb _ _ (c .before .if1 .left)) (chain-end _ _ _ (le-leb _ _ (c .if2 .left)) refl)
 
-pub desk-allowed-spec : {M : Type 1} → statement M
-desk-allowed-spec = tie.close (tie.spec returns returns-2 mul-result add-result returns-3)
+pub allowed-spec : {M : Type 1} → statement M
+allowed-spec = tie.close (tie.spec returns returns-2 mul-result add-result returns-3)

@@ -2,34 +2,34 @@ use mathlib.Core.Path.{sym, ap}
 use lib.Dec.{eqb}
 use borrow.Author.Tests.{le-leb, lt-leb}
 use Rattle.bounded.proofs.BoolLaws.{and-false-l, chain-end}
-use Rattle.format.specs.Format.{storeAllowed}
+use Rattle.layout.specs.Block.{allowed}
 use borrow.Author.Needs.{needs}
-use Rattle.format.proofs.store_allowed.Statement.{statement}
-use Rattle.format.proofs.store_allowed.Tie as tie
+use Rattle.layout.proofs.block.allowed.Statement.{statement}
+use Rattle.layout.proofs.block.allowed.Tie as tie
 
 returns : tie.Need-returns
-unfolding storeAllowed
+unfolding allowed
 returns c = sym (and-false-l _ _ (lt-leb _ _ (c .if1 .taken)))
 
 returns-2 : tie.Need-returns-2
-unfolding storeAllowed
+unfolding allowed
 returns-2 c = chain-end _ _ _ (le-leb _ _ (c .before .if1 .left)) (sym (and-false-l _ _ (lt-leb _ _ (c .if2 .taken))))
 
 returns-3 : tie.Need-returns-3
-unfolding storeAllowed
+unfolding allowed
 returns-3 c = chain-end _ _ _ (le-leb _ _ (c .before .before .if1 .left)) (chain-end _ _ _ (le-leb _ _ (c .before .if2 .left)) (sym (and-false-l _ _ (lt-leb _ _ (c .if3 .taken)))))
 
 returns-4 : tie.Need-returns-4
-unfolding storeAllowed
+unfolding allowed
 returns-4 c = chain-end _ _ _ (le-leb _ _ (c .before .before .before .if1 .left)) (chain-end _ _ _ (le-leb _ _ (c .before .before .if2 .left)) (chain-end _ _ _ (le-leb _ _ (c .before .if3 .left)) (sym (and-false-l _ _ (lt-leb _ _ (c .if4 .taken))))))
 
 store-length-requires : tie.Need-store-length-requires
 store-length-requires c κs = search needs
 
 returns-5 : tie.Need-returns-5
-unfolding storeAllowed
-returns-5 c = chain-end _ _ _ (le-leb _ _ (c .before .before .before .before .if1 .left)) (chain-end _ _ _ (le-leb _ _ (c .before .before .before .if2 .left)) (chain-end _ _ _ (le-leb _ _ (c .before .before .if3 .left)) (chain-end _ _ _ (le-leb _ _ (c .before .if4 .left)) (ap (eqb (c .before .before .before .before .before .args .k)) (c .store-length .ensures)))))
+unfolding allowed
+returns-5 c = chain-end _ _ _ (le-leb _ _ (c .before .before .before .before .if1 .left)) (chain-end _ _ _ (le-leb _ _ (c .before .before .before .if2 .left)) (chain-end _ _ _ (le-leb _ _ (c .before .before .if3 .left)) (chain-end _ _ _ (le-leb _ _ (c .before .if4 .left)) (ap (eqb (c .before .before .before .before .before .args .length)) (c .store-length .ensures)))))
 
-pub store-allowed-spec : {M : Type 1} → statement M
-store-allowed-spec =
+pub allowed-spec : {M : Type 1} → statement M
+allowed-spec =
     tie.close (tie.spec returns returns-2 returns-3 returns-4 store-length-requires returns-5)
