@@ -12,7 +12,7 @@ use Rattle.bounded.specs.declared.Found.the-variants.{At, Absent}
 use Rattle.bounded.proofs.SearchLaws.{first-begin}
 use Rattle.octets.specs.Octets.{part}
 use Rattle.text.specs.Letters.{letters}
-use Rattle.text.specs.Number.{numberOf, onNumber}
+use Rattle.text.specs.Number.{numberOf}
 use Rattle.text.specs.Hex.{hexCount, takeHex}
 use Rattle.text.specs.Pieces.{placeFrom, piece, pieces, isWord}
 use Rattle.text.specs.declared.Number.{Number}

@@ -1,18 +1,20 @@
--- Laws of an answer's line: the text of each case.
+-- Laws of an answer's line.
 use Prim.Native.Nat.{ℕ}
-use mathlib.Core.Path.{_≡_, refl}
-use mathlib.Core.Bool.{true, false}
-use mathlib.Core.List.{List, _++_}
+use mathlib.Core.Path.{_≡_, refl, sym}
+use mathlib.Core.List.{List, _++_, append-nil}
+use borrow.Author.Tests.{eq-eqb, ne-eqb}
 use lib.ListN.{take}
+use Rattle.bounded.specs.declared.Found.{Found}
+use Rattle.bounded.specs.declared.Found.the-variants.{At, Absent}
+use Rattle.text.specs.Letters.{letters}
+use Rattle.text.specs.Put.{each}
 use Rattle.answers.specs.Refusal.{refusalNumber}
 use Rattle.answers.specs.declared.Refusal.{Refusal}
 use Rattle.answers.specs.declared.Answer.{Answer}
 use Rattle.answers.specs.declared.Answer.the-variants as answer
-use Rattle.text.specs.Letters.{letters}
-use Rattle.text.specs.Put.{decimalText}
-use Rattle.commands.specs.Line.{replyOf, laidText, shownText, askedText, replyText, sumsText, isError, ending}
+use Rattle.commands.specs.Line.{replyOf, numberText, sumsText, shownText, lineText, wordAt, saidText, Says}
 use Rattle.commands.specs.declared.Reply.{Reply}
-use Rattle.commands.specs.declared.Reply.the-variants.{Error, Plain, Yes, No, Done, Refused, Laid, Shown, Asked}
+use Rattle.commands.specs.declared.Reply.the-variants.{Done, Refused}
 use Rattle.commands.specs.declared.Sums.{Sums}
 
 -- ---- a call's answer
@@ -22,48 +24,23 @@ done-reply a n e = rw e refl
 pub refused-reply : (a : Answer) (e : Refusal) (n : ℕ) → a ≡ answer.Refused e → n ≡ refusalNumber e → Refused n ≡ replyOf a
 refused-reply a e n p q = rw (p, q) refl
 
--- ---- a reply
-pub error-text : (r : Reply) (page : List ℕ) → r ≡ Error → letters "err" ≡ replyText r page
-unfolding replyText
-error-text r page e = rw e refl
+-- ---- a reply in parts
+pub says : (r q : Reply) (w n : ℕ) (ns : List ℕ) (f : Found) → r ≡ q → Says q w n ns f → Says r w n ns f
+says r q w n ns f e h = rw e h
 
-pub plain-text : (r : Reply) (page : List ℕ) → r ≡ Plain → letters "ok" ≡ replyText r page
-unfolding replyText
-plain-text r page e = rw e refl
+module _ (w n k : ℕ) (ns : List ℕ) (f : Found) (page : List ℕ) (e : k ≡ n) where
+  pub said-none : f ≡ Absent → wordAt w ++ each numberText (take k ns) ≡ saidText w n ns f page
+  unfolding saidText
+  said-none h = rw (h, ← e) (sym (append-nil (wordAt w ++ each numberText (take k ns))))
 
-pub yes-text : (r : Reply) (page : List ℕ) → r ≡ Yes → letters "yes" ≡ replyText r page
-unfolding replyText
-yes-text r page e = rw e refl
+  pub said-shown : (m : ℕ) → f ≡ At m → (wordAt w ++ each numberText (take k ns)) ++ shownText (take m page) ≡ saidText w n ns f page
+  unfolding saidText
+  said-shown m h = rw (h, ← e) refl
 
-pub no-text : (r : Reply) (page : List ℕ) → r ≡ No → letters "no" ≡ replyText r page
-unfolding replyText
-no-text r page e = rw e refl
+-- the line of the parts, after `err` and after another word
+module _ (r : Reply) (w n : ℕ) (ns : List ℕ) (f : Found) (page : List ℕ) (s : Sums) (h : Says r w n ns f) where
+  pub error-line : w ≡ 0 → saidText w n ns f page ++ letters "\n" ≡ lineText r page s
+  error-line e = rw (eq-eqb w 0 e) at (h .line page s)
 
-pub done-text : (r : Reply) (page : List ℕ) (n : ℕ) → r ≡ Done n → letters "ok " ++ decimalText n ≡ replyText r page
-unfolding replyText
-done-text r page n e = rw e refl
-
-pub refused-text : (r : Reply) (page : List ℕ) (n : ℕ) → r ≡ Refused n → letters "no " ++ decimalText n ≡ replyText r page
-unfolding replyText
-refused-text r page n e = rw e refl
-
-pub laid-text : (r : Reply) (page : List ℕ) (a d : ℕ) → r ≡ Laid a d → laidText a d ≡ replyText r page
-unfolding replyText
-laid-text r page a d e = rw e refl
-
-pub shown-text : (r : Reply) (page : List ℕ) (n k : ℕ) → r ≡ Shown n k → shownText n (take k page) ≡ replyText r page
-unfolding replyText
-shown-text r page n k e = rw e refl
-
-pub asked-text : (r : Reply) (page : List ℕ) (a l k : ℕ) → r ≡ Asked a l k → askedText a l k ≡ replyText r page
-unfolding replyText
-asked-text r page a l k e = rw e refl
-
--- ---- the end of the line
-pub error-ending : (r : Reply) (w : Sums) → isError r ≡ true → letters "\n" ≡ ending r w
-unfolding ending
-error-ending r w e = rw e refl
-
-pub sums-ending : (r : Reply) (w : Sums) → isError r ≡ false → sumsText w ≡ ending r w
-unfolding ending
-sums-ending r w e = rw e refl
+  pub sums-line : (w ≡ 0 → ⊥) → saidText w n ns f page ++ sumsText s ≡ lineText r page s
+  sums-line e = rw (ne-eqb w 0 e) at (h .line page s)

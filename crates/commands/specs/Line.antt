@@ -1,15 +1,18 @@
 -- The line that answers a command: the answer, ` | ` and three checksums.
-use Prim.Native.Nat.{ℕ}
-use mathlib.Core.Bool.{Bool, true, false}
-use mathlib.Core.List.{List, _++_}
-use lib.ListN.{take}
+use Prim.Native.Nat.{ℕ, _+_, _*_, _≤_}
+use mathlib.Core.Path.{_≡_}
+use mathlib.Core.List.{List, [], _∷_, _++_}
+use lib.Dec.{eqb}
+use lib.ListN.{length, take}
 use Rattle.answers.specs.declared.Answer.{Answer}
 use Rattle.answers.specs.declared.Answer.the-variants as answer
 use Rattle.answers.specs.Refusal.{refusalNumber}
-use Rattle.bounded.specs.Search.{pick}
+use Rattle.bounded.specs.Search.{pick, onFound}
+use Rattle.bounded.specs.declared.Found.{Found}
 use Rattle.io.specs.Digits.{digits}
 use Rattle.text.specs.Letters.{letters}
-use Rattle.text.specs.Put.{decimalText, pairText, bytesText}
+use Rattle.text.specs.Pieces.{piece}
+use Rattle.text.specs.Put.{decimalText, each, bytesText}
 use Rattle.commands.specs.declared.Reply.{Reply}
 use Rattle.commands.specs.declared.Reply.the-variants.{Error, Plain, Yes, No, Done, Refused, Laid, Shown, Asked}
 use Rattle.commands.specs.declared.Sums.{Sums}
@@ -19,51 +22,49 @@ abbrev pub replyOf : Answer → Reply
 replyOf (answer.Done n) = Done n
 replyOf (answer.Refused e) = Refused (refusalNumber e)
 
--- "`ok A D`, A and D being 0 or the refusal"
-abbrev pub laidText : ℕ → ℕ → List ℕ
-laidText a d = pairText (letters "ok ") a d
-
--- "the count, then the whole out-buffer"
-abbrev pub shownText : ℕ → List ℕ → List ℕ
-shownText n xs = (letters "ok " ++ decimalText n) ++ (letters " " ++ bytesText xs)
-
--- "`ask`: state, locked inode, steps"
-abbrev pub askedText : ℕ → ℕ → ℕ → List ℕ
-askedText a l k = laidText a l ++ (letters " " ++ decimalText k)
-
--- the reply's text; the first k bytes of page are the out-buffer of a read
-unfoldable pub replyText : Reply → List ℕ → List ℕ
-replyText Error page = letters "err"
-replyText Plain page = letters "ok"
-replyText Yes page = letters "yes"
-replyText No page = letters "no"
-replyText (Done n) page = letters "ok " ++ decimalText n
-replyText (Refused n) page = letters "no " ++ decimalText n
-replyText (Laid a d) page = laidText a d
-replyText (Shown n k) page = shownText n (take k page)
-replyText (Asked a l k) page = askedText a l k
-
 -- a checksum in 16 hex digits
-abbrev pub sumText : ℕ → List ℕ
-sumText n = letters " " ++ digits 16 16 n
+abbrev sumText : ℕ → List ℕ
+sumText n = digits 16 16 n
 
 unfoldable pub sumsText : Sums → List ℕ
-sumsText w = letters " |" ++ ((sumText (w .store) ++ (sumText (w .image) ++ sumText (w .desk))) ++ letters "\n")
+sumsText w = letters " | " ++ (sumText (w .store) ++ (letters " " ++ (sumText (w .image) ++ (letters " " ++ (sumText (w .desk) ++ letters "\n")))))
 
-abbrev pub isError : Reply → Bool
-isError Error = true
-isError Plain = false
-isError Yes = false
-isError No = false
-isError (Done n) = false
-isError (Refused n) = false
-isError (Laid a d) = false
-isError (Shown n k) = false
-isError (Asked a l k) = false
+-- a number, and bytes in hex, after a space
+abbrev pub numberText : ℕ → List ℕ
+numberText n = letters " " ++ decimalText n
 
--- an unknown command's line ends without checksums
-unfoldable pub ending : Reply → Sums → List ℕ
-ending r w = pick (isError r) (letters "\n") (sumsText w)
+abbrev pub shownText : List ℕ → List ℕ
+shownText xs = letters " " ++ bytesText xs
 
+-- a word, and what comes after it
+abbrev pub said : List ℕ → List ℕ → List ℕ → List ℕ
+said word numbers shown = (word ++ each numberText numbers) ++ shown
+
+-- An unknown command's line has no checksums. `new`: "`ok A D`, A and D being 0 or the refusal"; `rd`: "the count, then the whole out-buffer", which is the
+-- first k bytes of page; "`ask`: state, locked inode, steps".
 unfoldable pub lineText : Reply → List ℕ → Sums → List ℕ
-lineText r page w = replyText r page ++ ending r w
+lineText Error page w = letters "err\n"
+lineText Plain page w = said (letters "ok") [] [] ++ sumsText w
+lineText Yes page w = said (letters "yes") [] [] ++ sumsText w
+lineText No page w = said (letters "no") [] [] ++ sumsText w
+lineText (Done n) page w = said (letters "ok") (n ∷ []) [] ++ sumsText w
+lineText (Refused n) page w = said (letters "no") (n ∷ []) [] ++ sumsText w
+lineText (Laid a d) page w = said (letters "ok") (a ∷ d ∷ []) [] ++ sumsText w
+lineText (Shown n k) page w = said (letters "ok") (n ∷ []) (shownText (take k page)) ++ sumsText w
+lineText (Asked a l k) page w = said (letters "ok") (a ∷ l ∷ k ∷ []) [] ++ sumsText w
+
+-- ---- A reply in parts: its word, by its place; the first n of some numbers; and, if it shows the page, how many bytes of it
+unfoldable pub wordAt : ℕ → List ℕ
+wordAt w = piece (letters "err ok yes no") 32 w
+
+unfoldable pub saidText : ℕ → ℕ → List ℕ → Found → List ℕ → List ℕ
+saidText w n ns f page = said (wordAt w) (take n ns) (onFound f (λ k. shownText (take k page)) [])
+
+-- the room that it takes at most, but for the page's bytes: a space and 20 digits for a number, a space and `-` for a page
+abbrev pub saidRoom : ℕ → ℕ → Found → ℕ
+saidRoom w n f = length (wordAt w) + 21 * n + onFound f (λ _. 2) 0
+
+-- the parts are those of r: with the checksums after them, or none after `err`, they are its line
+pub record Says (r : Reply) (w n : ℕ) (ns : List ℕ) (f : Found) : Type 0 where
+  pub small : saidRoom w n f ≤ 65
+  pub line : (page : List ℕ) (s : Sums) → saidText w n ns f page ++ pick (eqb w 0) (letters "\n") (sumsText s) ≡ lineText r page s

@@ -1,19 +1,34 @@
 // The line that answers a command.
 ghost use mathlib.Core.Path.{_≡_};
 ghost use Prim.Native.Nat.{_+_, _*_, _≤_};
-ghost use lib.ListN.{length, take};
+ghost use lib.ListN.{length};
 ghost use Rattle.text.specs.Put.{Put};
-ghost use Rattle.commands.specs.Line.{replyOf, laidText, shownText, askedText, replyText, sumText, sumsText, isError, ending, lineText};
+ghost use Rattle.commands.specs.Line.{replyOf, sumsText, lineText, saidText, saidRoom, Says};
 use crate::Reply;
 use crate::Sums;
 use answers::Answer;
 use answers::refusal_number;
+use bounded::Found;
 use text::pieces::front;
+use text::pieces::piece;
 use text::put::put;
 use text::put::put_bytes;
 use text::put::put_hex;
 use text::put::put_numbered;
-use text::put::put_pair;
+
+const SPACE: u8 = 32;
+
+// The places of the words.
+const ERR: usize = 0;
+
+const OK: usize = 1;
+
+const YES: usize = 2;
+
+const NO: usize = 3;
+
+// A reply in parts: its word, by its place, how many numbers it has, the numbers, and, if it shows the page, how many bytes of it.
+struct Said(usize, usize, [usize; 3], Found);
 
 // What a call answered.
 pub fn reply(a: Answer) -> Reply
@@ -25,99 +40,55 @@ pub fn reply(a: Answer) -> Reply
     }
 }
 
-fn put_laid(out: &mut [u8], o: usize, a: usize, d: usize) -> usize
-    requires { ⌜ o + 44 ≤ length (now out) ⌝ }
-    ensures { λ r. ⌜ Put (now (out .entry)) o (laidText a d) r (now (out .exit)) ⌝ }
-    ensures { λ r. ⌜ r ≤ o + 44 ⌝ }
-{
-    put_pair(out, o, b"ok ", a, d)
-}
-
-fn put_asked(out: &mut [u8], o: usize, state: usize, locked: usize, steps: usize) -> usize
-    requires { ⌜ o + 65 ≤ length (now out) ⌝ }
-    ensures { λ r. ⌜ Put (now (out .entry)) o (askedText state locked steps) r (now (out .exit)) ⌝ }
-    ensures { λ r. ⌜ r ≤ o + 65 ⌝ }
-{
-    let e = put_laid(&mut *out, o, state, locked);
-    put_numbered(out, e, b" ", steps)
-}
-
-fn put_shown(out: &mut [u8], o: usize, n: usize, k: usize, page: &[u8]) -> usize
-    requires { ⌜ o + 25 + 2 * length (now page) ≤ length (now out) ⌝ }
-    ensures { λ r. ⌜ Put (now (out .entry)) o (shownText n (take k (now (page .entry)))) r (now (out .exit)) ⌝ }
-    ensures { λ r. ⌜ r ≤ o + 25 + 2 * length (now (page .entry)) ⌝ }
-{
-    let shown = front(page, k);
-    let e = put_numbered(&mut *out, o, b"ok ", n);
-    let f = put(&mut *out, e, b" ");
-    put_bytes(out, f, shown)
-}
-
-fn put_reply(out: &mut [u8], o: usize, reply: Reply, page: &[u8]) -> usize
-    requires { ⌜ o + 65 + 2 * length (now page) ≤ length (now out) ⌝ }
-    ensures { λ r. ⌜ Put (now (out .entry)) o (replyText reply (now (page .entry))) r (now (out .exit)) ⌝ }
-    ensures { λ r. ⌜ r ≤ o + 65 + 2 * length (now (page .entry)) ⌝ }
+// The parts of a reply.
+fn told(reply: Reply) -> Said
+    ensures { λ r. ⌜ Says reply (r .0) (r .1) (r .2) (r .3) ⌝ }
 {
     match reply {
-        Reply::Error => put(out, o, b"err"),
-        Reply::Plain => put(out, o, b"ok"),
-        Reply::Yes => put(out, o, b"yes"),
-        Reply::No => put(out, o, b"no"),
-        Reply::Done(n) => put_numbered(out, o, b"ok ", n),
-        Reply::Refused(n) => put_numbered(out, o, b"no ", n),
-        Reply::Laid(a, d) => put_laid(out, o, a, d),
-        Reply::Shown(n, k) => put_shown(out, o, n, k, page),
-        Reply::Asked(a, l, k) => put_asked(out, o, a, l, k),
+        Reply::Error => Said(ERR, 0, [0, 0, 0], Found::Absent),
+        Reply::Plain => Said(OK, 0, [0, 0, 0], Found::Absent),
+        Reply::Yes => Said(YES, 0, [0, 0, 0], Found::Absent),
+        Reply::No => Said(NO, 0, [0, 0, 0], Found::Absent),
+        Reply::Done(n) => Said(OK, 1, [n, 0, 0], Found::Absent),
+        Reply::Refused(n) => Said(NO, 1, [n, 0, 0], Found::Absent),
+        Reply::Laid(a, d) => Said(OK, 2, [a, d, 0], Found::Absent),
+        Reply::Shown(n, k) => Said(OK, 1, [n, 0, 0], Found::At(k)),
+        Reply::Asked(a, l, k) => Said(OK, 3, [a, l, k], Found::Absent),
     }
 }
 
-// A space, and the 16 hex digits of a checksum.
-fn put_sum(out: &mut [u8], o: usize, n: u64) -> usize
-    requires { ⌜ o + 17 ≤ length (now out) ⌝ }
-    ensures { λ r. ⌜ Put (now (out .entry)) o (sumText n) r (now (out .exit)) ⌝ }
-    ensures { λ r. ⌜ r ≡ o + 17 ⌝ }
+// The parts at o; where they end.
+fn put_said(out: &mut [u8], o: usize, said: Said, page: &[u8]) -> usize
+    requires { ⌜ (o + 65 + 2 * length (now page) ≤ length (now out)) × (saidRoom (said .0) (said .1) (said .3) ≤ 65) ⌝ }
+    ensures { λ r. ⌜ Put (now (out .entry)) o (saidText (said .0) (said .1) (said .2) (said .3) (now (page .entry))) r (now (out .exit)) ⌝ }
+    ensures { λ r. ⌜ r ≤ o + 65 + 2 * length (now (page .entry)) ⌝ }
 {
-    let e = put(&mut *out, o, b" ");
-    put_hex(out, e, n, 16)
+    let numbers = said.2;
+    let mut e = put(&mut *out, o, piece(b"err ok yes no", SPACE, said.0));
+    for k in 0..said.1 {
+        e = put_numbered(&mut *out, e, b" ", numbers[k]);
+    }
+    let shown = said.3;
+    let Found::At(n) = shown else {
+        return e;
+    };
+    let f = put(&mut *out, e, b" ");
+    put_bytes(out, f, front(page, n))
 }
 
+// The checksums, in 16 hex digits each.
 fn put_sums(out: &mut [u8], o: usize, sums: Sums) -> usize
     requires { ⌜ o + 54 ≤ length (now out) ⌝ }
     ensures { λ r. ⌜ Put (now (out .entry)) o (sumsText sums) r (now (out .exit)) ⌝ }
     ensures { λ r. ⌜ r ≤ o + 54 ⌝ }
 {
-    let a = put(&mut *out, o, b" |");
-    let b = put_sum(&mut *out, a, sums.store);
-    let c = put_sum(&mut *out, b, sums.image);
-    let d = put_sum(&mut *out, c, sums.desk);
-    put(out, d, b"\n")
-}
-
-fn is_error(reply: Reply) -> bool
-    ensures { λ r. ⌜ r ≡ isError reply ⌝ }
-{
-    match reply {
-        Reply::Error => true,
-        Reply::Plain => false,
-        Reply::Yes => false,
-        Reply::No => false,
-        Reply::Done(_) => false,
-        Reply::Refused(_) => false,
-        Reply::Laid(_, _) => false,
-        Reply::Shown(_, _) => false,
-        Reply::Asked(_, _, _) => false,
-    }
-}
-
-fn put_ending(out: &mut [u8], o: usize, reply: Reply, sums: Sums) -> usize
-    requires { ⌜ o + 54 ≤ length (now out) ⌝ }
-    ensures { λ r. ⌜ Put (now (out .entry)) o (ending reply sums) r (now (out .exit)) ⌝ }
-    ensures { λ r. ⌜ r ≤ o + 54 ⌝ }
-{
-    if is_error(reply) {
-        return put(out, o, b"\n");
-    }
-    put_sums(out, o, sums)
+    let a = put(&mut *out, o, b" | ");
+    let b = put_hex(&mut *out, a, sums.store, 16);
+    let c = put(&mut *out, b, b" ");
+    let d = put_hex(&mut *out, c, sums.image, 16);
+    let e = put(&mut *out, d, b" ");
+    let f = put_hex(&mut *out, e, sums.desk, 16);
+    put(out, f, b"\n")
 }
 
 // The line at o of out; where it ends.
@@ -126,6 +97,11 @@ pub fn put_line(out: &mut [u8], o: usize, reply: Reply, page: &[u8], sums: Sums)
     ensures { λ r. ⌜ Put (now (out .entry)) o (lineText reply (now (page .entry)) sums) r (now (out .exit)) ⌝ }
     ensures { λ r. ⌜ r ≤ o + 119 + 2 * length (now (page .entry)) ⌝ }
 {
-    let e = put_reply(&mut *out, o, reply, page);
-    put_ending(out, e, reply, sums)
+    let said = told(reply);
+    let word = said.0;
+    let e = put_said(&mut *out, o, said, page);
+    if word == ERR {
+        return put(out, e, b"\n");
+    }
+    put_sums(out, e, sums)
 }

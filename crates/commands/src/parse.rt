@@ -1,9 +1,6 @@
 // What a command line asks for: the first of the forms that it fits, with what its fields are worth.
 ghost use mathlib.Core.Path.{_≡_};
-ghost use Prim.Native.Nat.{_≤_};
-ghost use lib.ListN.{length};
-ghost use Rattle.text.specs.Pieces.{piece};
-ghost use Rattle.commands.specs.Command.{isArrow, commandIn, fieldValue, valueAt, worth, fits, formOf, bytesAt, asked, askedBy, parsed, parsedBy, parseCommand};
+ghost use Rattle.commands.specs.Command.{commandIn, valueAt, worth, fits, formOf, bytesAt, asked, parsed, parseCommand};
 use crate::Call;
 use crate::Command;
 use bounded::Found;
@@ -20,30 +17,24 @@ const NEWLINE: u8 = 10;
 
 const SPACE: u8 = 32;
 
-// ` => ` stands at k.
-fn is_arrow(s: &[u8], k: usize) -> bool
-    requires { ⌜ k ≤ length (now s) ⌝ }
-    ensures { λ r. ⌜ r ≡ isArrow (now (s .entry)) k ⌝ }
-{
-    is_word(front(&s[k..], 4), b" => ")
-}
-
 // The part of a line before ` => `, or all of it.
 pub fn command(s: &[u8]) -> &[u8]
     ensures { λ r. ⌜ now r ≡ commandIn (now (s .entry)) ⌝ }
 {
     for k in 0..s.len() {
-        if is_arrow(s, k) {
+        if is_word(front(&s[k..], 4), b" => ") {
             return &s[0..k];
         }
     }
     s
 }
 
-// What the field s is worth if it is to be p; a and b are the rooms for bytes.
-fn field_value(p: &[u8], s: &[u8], a: usize, b: usize) -> Number
-    ensures { λ r. ⌜ r ≡ fieldValue (now (p .entry)) (now (s .entry)) a b ⌝ }
+// What field k of the command is worth if it is to be that of the form; a and b are the rooms for bytes.
+fn value_at(form: &[u8], cmd: &[u8], a: usize, b: usize, k: usize) -> Number
+    ensures { λ r. ⌜ r ≡ valueAt (now (form .entry)) (now (cmd .entry)) a b k ⌝ }
 {
+    let p = piece(form, SPACE, k);
+    let s = piece(cmd, SPACE, k);
     if is_word(p, b"#") {
         return number(s);
     }
@@ -57,12 +48,6 @@ fn field_value(p: &[u8], s: &[u8], a: usize, b: usize) -> Number
         return Number::Value(0);
     }
     Number::NoNumber
-}
-
-fn value_at(form: &[u8], cmd: &[u8], a: usize, b: usize, k: usize) -> Number
-    ensures { λ r. ⌜ r ≡ valueAt (now (form .entry)) (now (cmd .entry)) a b k ⌝ }
-{
-    field_value(piece(form, SPACE, k), piece(cmd, SPACE, k), a, b)
 }
 
 fn worth(form: &[u8], cmd: &[u8], a: usize, b: usize, k: usize) -> usize
@@ -142,18 +127,12 @@ fn asked(j: usize, a: usize, b: usize, c: usize, d: usize) -> Command
     }
 }
 
-fn asked_by(j: usize, form: &[u8], cmd: &[u8], a: usize, b: usize) -> Command
-    ensures { λ r. ⌜ r ≡ askedBy j (now (form .entry)) (now (cmd .entry)) a b ⌝ }
+// The command of a line, `Bad` if it is none. A name goes to the front of name, a rename's second one to the front of other.
+pub fn parse(cmd: &[u8], name: &mut [u8], other: &mut [u8]) -> Command
+    ensures { λ r. ⌜ parsed r (now (name .exit)) (now (other .exit)) ≡ parseCommand (now (cmd .entry)) (now (name .entry)) (now (other .entry)) ⌝ }
 {
-    let x = worth(form, cmd, a, b, 1);
-    let y = worth(form, cmd, a, b, 2);
-    let z = worth(form, cmd, a, b, 3);
-    asked(j, x, y, z, worth(form, cmd, a, b, 4))
-}
-
-fn parse_by(forms: &[u8], cmd: &[u8], name: &mut [u8], other: &mut [u8]) -> Command
-    ensures { λ r. ⌜ parsed r (now (name .exit)) (now (other .exit)) ≡ parsedBy (now (forms .entry)) (now (cmd .entry)) (now (name .entry)) (now (other .entry)) ⌝ }
-{
+    let forms: &[u8] =
+        b"new # # #\npoke store # #\npoke image # #\npoke desk # #\nlay store # #\nlay desk #\nchk store\nchk image\nlk # *\nmk # * f\nmk # * d\nrd # # #\nwr # # *\nsh # #\nln # * #\nrm # *\nmv # * # +\ngo\nst\nask";
     let a = name.len();
     let b = other.len();
     let Found::At(j) = form_of(forms, cmd, a, b) else {
@@ -162,17 +141,8 @@ fn parse_by(forms: &[u8], cmd: &[u8], name: &mut [u8], other: &mut [u8]) -> Comm
     let form = piece(forms, NEWLINE, j);
     take_hex(bytes_at(form, b"*", cmd), name);
     take_hex(bytes_at(form, b"+", cmd), other);
-    asked_by(j, form, cmd, a, b)
-}
-
-// The command of a line, `Bad` if it is none. A name goes to the front of name, a rename's second one to the front of other.
-pub fn parse(cmd: &[u8], name: &mut [u8], other: &mut [u8]) -> Command
-    ensures { λ r. ⌜ parsed r (now (name .exit)) (now (other .exit)) ≡ parseCommand (now (cmd .entry)) (now (name .entry)) (now (other .entry)) ⌝ }
-{
-    parse_by(
-        b"new # # #\npoke store # #\npoke image # #\npoke desk # #\nlay store # #\nlay desk #\nchk store\nchk image\nlk # *\nmk # * f\nmk # * d\nrd # # #\nwr # # *\nsh # #\nln # * #\nrm # *\nmv # * # +\ngo\nst\nask",
-        cmd,
-        name,
-        other,
-    )
+    let x = worth(form, cmd, a, b, 1);
+    let y = worth(form, cmd, a, b, 2);
+    let z = worth(form, cmd, a, b, 3);
+    asked(j, x, y, z, worth(form, cmd, a, b, 4))
 }

@@ -10,14 +10,14 @@ use lib.ListN.{length, getD, take, drop, drop-of-length-le}
 use lib.Seq.{drop-cons}
 use Rattle.bounded.specs.Search.{pick}
 use Rattle.octets.specs.Octets.{part}
-use Rattle.text.specs.Pieces.{placeOf}
+use Rattle.text.specs.Pieces.{findFrom}
 use Rattle.text.proofs.PieceLaws.{place-found, place-turn, place-end}
 use Rattle.lines.specs.Lines.{newline, begun, linesIn, lineAt}
 use Rattle.lines.specs.declared.Next.{Next}
 use Rattle.lines.specs.declared.Next.the-variants.{Line, End}
 
 module _ (s : List ℕ) (at : ℕ) where
-  pub line-there : (e : ℕ) → at < length s → e ≡ placeOf s 10 at → Line e ≡ lineAt s at
+  pub line-there : (e : ℕ) → at < length s → e ≡ findFrom s 10 at → Line e ≡ lineAt s at
   unfolding lineAt
   line-there e l p = rw (lt-ltb at (length s) l, p) refl
 
@@ -26,11 +26,11 @@ module _ (s : List ℕ) (at : ℕ) where
   line-end l = rw (le-ltb at (length s) l) refl
 
   -- what was found at a place
-  pub line-ends : (e : ℕ) → at < length s → Line e ≡ lineAt s at → e ≡ placeOf s 10 at
-  line-ends e l p = let q : Line e ≡ Line (placeOf s 10 at) = p ∙ sym (line-there (placeOf s 10 at) l refl) in cc
+  pub line-ends : (e : ℕ) → at < length s → Line e ≡ lineAt s at → e ≡ findFrom s 10 at
+  line-ends e l p = let q : Line e ≡ Line (findFrom s 10 at) = p ∙ sym (line-there (findFrom s 10 at) l refl) in cc
 
   pub line-not-end : at < length s → End ≡ lineAt s at → ⊥
-  line-not-end l p = let q : End ≡ Line (placeOf s 10 at) = p ∙ sym (line-there (placeOf s 10 at) l refl) in let z : _≡_ {A = ℕ} 0 1 = cc in omega arith
+  line-not-end l p = let q : End ≡ Line (findFrom s 10 at) = p ∙ sym (line-there (findFrom s 10 at) l refl) in let z : _≡_ {A = ℕ} 0 1 = cc in omega arith
 
 -- ---- the first line, and the lines after it
 -- e is where the line at `at` ends
@@ -57,41 +57,41 @@ module _ (s : List ℕ) where
   unfolding linesIn
   none-after e l = rw (drop-of-length-le s l) refl
 
-  here : (at : ℕ) → at < length s → eqb (getD s at 0) 10 ≡ true → Splits s at (placeOf s 10 at)
-  unfolding placeOf part
+  here : (at : ℕ) → at < length s → eqb (getD s at 0) 10 ≡ true → Splits s at (findFrom s 10 at)
+  unfolding findFrom part
   here at l h =
       let p = place-found (λ k. eqb (getD s k 0) 10) at (length s) l h in
       let z : at - at ≡ 0 = omega arith in
       let o : at + 1 ≡ suc at = omega arith in
       rw p (record { from = omega arith; to = omega arith; lines = head-is at l ∙ rw (h, z, o) refl })
 
-  last : (at : ℕ) → at < length s → eqb (getD s at 0) 10 ≡ false → suc at ≡ length s → Splits s at (placeOf s 10 at)
-  unfolding placeOf
+  last : (at : ℕ) → at < length s → eqb (getD s at 0) 10 ≡ false → suc at ≡ length s → Splits s at (findFrom s 10 at)
+  unfolding findFrom
   last at l h m =
       let o : at + 1 ≡ suc at = omega arith in
-      let p : placeOf s 10 at ≡ suc at = place-turn (λ k. eqb (getD s k 0) 10) at (length s) l h ∙ place-end (λ k. eqb (getD s k 0) 10) (at + 1) (length s) (omega arith) ∙ sym m in
+      let p : findFrom s 10 at ≡ suc at = place-turn (λ k. eqb (getD s k 0) 10) at (length s) l h ∙ place-end (λ k. eqb (getD s k 0) 10) (at + 1) (length s) (omega arith) ∙ sym m in
       rw p (record { from = omega arith; to = omega arith; lines = head-is at l ∙ rw (h, none-after (suc at) (omega arith)) (ap₂ (λ (a : List ℕ) (b : List (List ℕ)). a ∷ b) (one at l) (sym (none-after (suc at + 1) (omega arith)))) })
 
-  more : (at : ℕ) → at < length s → eqb (getD s at 0) 10 ≡ false → Splits s (suc at) (placeOf s 10 (suc at)) → Splits s at (placeOf s 10 at)
-  unfolding placeOf
+  more : (at : ℕ) → at < length s → eqb (getD s at 0) 10 ≡ false → Splits s (suc at) (findFrom s 10 (suc at)) → Splits s at (findFrom s 10 at)
+  unfolding findFrom
   more at l h i =
       let o : at + 1 ≡ suc at = omega arith in
-      let p : placeOf s 10 at ≡ placeOf s 10 (suc at) = place-turn (λ k. eqb (getD s k 0) 10) at (length s) l h ∙ ap (placeOf s 10) o in
-      rw p (record { from = omega (arith, i .from); to = i .to; lines = head-is at l ∙ rw (h, i .lines) (ap (λ (a : List ℕ). a ∷ linesIn (drop (placeOf s 10 (suc at) + 1) s)) (grown at (placeOf s 10 (suc at)) l (i .from))) })
+      let p : findFrom s 10 at ≡ findFrom s 10 (suc at) = place-turn (λ k. eqb (getD s k 0) 10) at (length s) l h ∙ ap (findFrom s 10) o in
+      rw p (record { from = omega (arith, i .from); to = i .to; lines = head-is at l ∙ rw (h, i .lines) (ap (λ (a : List ℕ). a ∷ linesIn (drop (findFrom s 10 (suc at) + 1) s)) (grown at (findFrom s 10 (suc at)) l (i .from))) })
 
-  splits : (k at : ℕ) → at + suc k ≡ length s → Splits s at (placeOf s 10 at)
+  splits : (k at : ℕ) → at + suc k ≡ length s → Splits s at (findFrom s 10 at)
   splits zero at e = go (eqb (getD s at 0) 10) refl
     where
-      go : (b : Bool) → eqb (getD s at 0) 10 ≡ b → Splits s at (placeOf s 10 at)
+      go : (b : Bool) → eqb (getD s at 0) 10 ≡ b → Splits s at (findFrom s 10 at)
       go true h = here at (omega arith) h
       go false h = last at (omega arith) h (omega arith)
   splits (suc k) at e = go (eqb (getD s at 0) 10) refl (splits k (suc at) (omega arith))
     where
-      go : (b : Bool) → eqb (getD s at 0) 10 ≡ b → Splits s (suc at) (placeOf s 10 (suc at)) → Splits s at (placeOf s 10 at)
+      go : (b : Bool) → eqb (getD s at 0) 10 ≡ b → Splits s (suc at) (findFrom s 10 (suc at)) → Splits s at (findFrom s 10 at)
       go true h i = here at (omega arith) h
       go false h i = more at (omega arith) h i
 
-  pub line-splits : (at : ℕ) → at < length s → Splits s at (placeOf s 10 at)
+  pub line-splits : (at : ℕ) → at < length s → Splits s at (findFrom s 10 at)
   line-splits at l = splits (length s - (at + 1)) at (omega arith)
 
   pub lines-end : (at : ℕ) → length s ≤ at → linesIn (drop at s) ≡ []

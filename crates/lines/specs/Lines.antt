@@ -4,7 +4,7 @@ use mathlib.Core.List.{List, [], _∷_}
 use lib.Dec.{eqb, ltb}
 use lib.ListN.{length, take}
 use Rattle.bounded.specs.Search.{pick}
-use Rattle.text.specs.Pieces.{placeOf}
+use Rattle.text.specs.Pieces.{findFrom}
 use Rattle.lines.specs.declared.Next.{Next}
 use Rattle.lines.specs.declared.Next.the-variants.{Line, End}
 
@@ -29,4 +29,4 @@ scriptLines s = linesIn (take mostBytes s)
 
 -- the line that starts at a place ends at its byte 10, or at the end; at the end there is none
 unfoldable pub lineAt : List ℕ → ℕ → Next
-lineAt s at = pick (ltb at (length s)) (Line (placeOf s newline at)) End
+lineAt s at = pick (ltb at (length s)) (Line (findFrom s newline at)) End

@@ -34,7 +34,7 @@ headText m d = (countsText m ++ (letters " " ++ decimalText (deskOf d .steps))) 
 
 -- "directory, slot, inode, kind, size, links, name"
 unfoldable pub placeText : ℕ → ℕ → ℕ → List ℕ
-placeText e t i = decimalText e ++ pairText (letters " ") t i
+placeText e t i = pairText [] e t ++ (letters " " ++ decimalText i)
 
 unfoldable pub kindText : ℕ → List ℕ
 kindText k = pick (eqb k directoryKind) (letters " d") (letters " f")

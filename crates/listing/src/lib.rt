@@ -23,7 +23,6 @@ use layout::sizes::DIRECTORY;
 use names::ENTRY_BYTES;
 use names::NAME_BYTES;
 use text::put::put;
-use text::put::put_decimal;
 use text::put::put_numbered;
 use text::put::put_pair;
 
@@ -90,8 +89,8 @@ fn put_place(out: &mut [u8], o: usize, e: usize, t: usize, i: usize) -> usize
     ensures { λ r. ⌜ Put (now (out .entry)) o (placeText e t i) r (now (out .exit)) ⌝ }
     ensures { λ r. ⌜ r ≤ o + 62 ⌝ }
 {
-    let a = put_decimal(&mut *out, o, e);
-    put_pair(out, a, b" ", t, i)
+    let a = put_pair(&mut *out, o, b"", e, t);
+    put_numbered(out, a, b" ", i)
 }
 
 fn put_kind(out: &mut [u8], o: usize, kind: u8) -> usize

@@ -11,7 +11,7 @@ use Rattle.sound.specs.Sound.{Sound}
 use Rattle.sound.specs.declared.Form.the-variants.{Image}
 use Rattle.answers.specs.declared.Answer.{Answer}
 use Rattle.format.specs.Format.{LaidOut, laidOut, layOutStore, layOutDesk}
-use Rattle.text.specs.Pieces.{placeOf}
+use Rattle.text.specs.Pieces.{findFrom}
 use Rattle.checkpoint.specs.Live.{World}
 use Rattle.checkpoint.specs.Shown.{world}
 use Rattle.lines.specs.Lines.{linesIn, mostBytes, scriptLines}
@@ -34,12 +34,12 @@ unfolding linesRun
 later-sound l w v e h = rw e (λ ls. h (l ∷ ls))
 
 -- the line that was found at a place
-pub cut-line : (s : List ℕ) (at e : ℕ) (w v : World) → e ≡ placeOf s 10 at → v ≡ worldAfter (take (e - at) (drop at s)) w → v ≡ worldAfter (part s at (placeOf s 10 at - at)) w
+pub cut-line : (s : List ℕ) (at e : ℕ) (w v : World) → e ≡ findFrom s 10 at → v ≡ worldAfter (take (e - at) (drop at s)) w → v ≡ worldAfter (part s at (findFrom s 10 at - at)) w
 unfolding part
 cut-line s at e w v q h = h ∙ rw q refl
 
 -- a line in its turn
-pub line-turn : (s : List ℕ) (at next : ℕ) (w v : World) → at < length s → next ≡ placeOf s 10 at + 1 → v ≡ worldAfter (part s at (placeOf s 10 at - at)) w
+pub line-turn : (s : List ℕ) (at next : ℕ) (w v : World) → at < length s → next ≡ findFrom s 10 at + 1 → v ≡ worldAfter (part s at (findFrom s 10 at - at)) w
     → linesRun (linesIn (drop at s)) w ≡ linesRun (linesIn (drop next s)) v
 unfolding linesRun
 line-turn s at next w v l e h = rw (line-splits s at l .lines, e, h) refl

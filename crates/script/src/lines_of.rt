@@ -5,7 +5,7 @@ ghost use lib.ListN.{length};
 ghost use Rattle.octets.specs.Octets.{part};
 ghost use Rattle.layout.specs.Sizes.{headerBytes};
 ghost use Rattle.desk.specs.Sizes.{deskHeaderBytes};
-ghost use Rattle.text.specs.Pieces.{placeOf};
+ghost use Rattle.text.specs.Pieces.{findFrom};
 ghost use Rattle.checkpoint.specs.Shown.{world};
 ghost use Rattle.lines.specs.Lines.{mostBytes, scriptLines};
 ghost use Rattle.session.specs.Reply.{worldAfter};
@@ -26,8 +26,8 @@ fn answer(line: &[u8], store: &mut [u8], image: &mut [u8], desk: &mut [u8])
 // The line that starts at a place; where the next one starts.
 fn one(script: &[u8], at: usize, store: &mut [u8], image: &mut [u8], desk: &mut [u8]) -> usize
     requires { ⌜ (at < length (now script)) × (headerBytes ≤ length (now image)) × (deskHeaderBytes ≤ length (now desk)) × FinishesSound (world (now store) (now image) (now desk)) ⌝ }
-    ensures { λ r. ⌜ r ≡ placeOf (now (script .entry)) 10 at + 1 ⌝ }
-    ensures { λ _. ⌜ world (now (store .exit)) (now (image .exit)) (now (desk .exit)) ≡ worldAfter (part (now (script .entry)) at (placeOf (now (script .entry)) 10 at - at)) (world (now (store .entry)) (now (image .entry)) (now (desk .entry))) ⌝ }
+    ensures { λ r. ⌜ r ≡ findFrom (now (script .entry)) 10 at + 1 ⌝ }
+    ensures { λ _. ⌜ world (now (store .exit)) (now (image .exit)) (now (desk .exit)) ≡ worldAfter (part (now (script .entry)) at (findFrom (now (script .entry)) 10 at - at)) (world (now (store .entry)) (now (image .entry)) (now (desk .entry))) ⌝ }
 {
     let Next::Line(end) = line_from(script, at) else {
         return script.len() + 1;

@@ -1,6 +1,6 @@
 -- Laws of decimal numbers.
 use Prim.Native.Nat.{ℕ, _+_, _-_, _*_, _≤_, _<_, min}
-use mathlib.Core.Path.{_≡_, refl, ap}
+use mathlib.Core.Path.{_≡_, refl, ap, _∙_}
 use mathlib.Core.Bool.{true, false}
 use mathlib.Core.List.{List}
 use native.Mathlib.Omega.{arith}
@@ -18,9 +18,9 @@ use Rattle.text.specs.declared.Number.the-variants.{Value, NoNumber}
 more : (a d : ℕ) → min (10 * min a largest + d) largest ≡ min (10 * a + d) largest
 more a d = omega arith
 
-pub decimal-more : (s : List ℕ) (k v : ℕ) → v ≡ min (decimal s k) largest → min (10 * v + (getD s k 0 - 48)) largest ≡ min (decimal s (k + 1)) largest
+pub decimal-more : (s : List ℕ) (k v w : ℕ) → v ≡ min (decimal s k) largest → w ≡ min (10 * v + (getD s k 0 - 48)) largest → w ≡ min (decimal s (k + 1)) largest
 unfolding decimal
-decimal-more s k v e = rw (e, add-one) (more (decimal s k) (getD s k 0 - 48))
+decimal-more s k v w e h = h ∙ rw (e, add-one) (more (decimal s k) (getD s k 0 - 48))
 
 pub is-digit : (s : List ℕ) (k : ℕ) → 48 ≤ getD s k 0 → getD s k 0 ≤ 57 → isDigit s k ≡ true
 unfolding isDigit

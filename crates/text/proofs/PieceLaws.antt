@@ -12,8 +12,7 @@ use lib.Seq.{take-all}
 use Rattle.bounded.specs.Count.{count}
 use Rattle.bounded.proofs.CountLaws.{count-hit, count-miss}
 use Rattle.bounded.proofs.SearchLaws.{first-turn, first-found, first-end}
-use Rattle.octets.specs.Octets.{part}
-use Rattle.text.specs.Pieces.{placeFrom, placeOf, pieceStart, piece, rest, pieces}
+use Rattle.text.specs.Pieces.{placeFrom, findFrom, pieceStart, piece, rest, pieces}
 
 -- ---- a loop's turns
 module _ (f : ℕ → Bool) (c n : ℕ) where
@@ -34,18 +33,9 @@ pub start-none : (s : List ℕ) (x : ℕ) → 0 ≡ pieceStart s x 0
 unfolding pieceStart
 start-none s x = refl
 
-pub start-more : (s : List ℕ) (x k o e : ℕ) → o ≡ pieceStart s x k → e ≡ placeOf s x o → e + 1 ≡ pieceStart s x (k + 1)
+pub start-more : (s : List ℕ) (x k o e : ℕ) → o ≡ pieceStart s x k → e ≡ findFrom s x o → e + 1 ≡ pieceStart s x (k + 1)
 unfolding pieceStart
 start-more s x k o e p q = rw (q, p, add-one k) refl
-
--- a piece from its start and end
-pub piece-is : (s : List ℕ) (x k a e : ℕ) → a ≡ pieceStart s x k → e ≡ placeOf s x a → take (e - a) (drop a s) ≡ piece s x k
-unfolding piece part
-piece-is s x k a e p q = rw (q, p) refl
-
--- one that ends where it starts, or before
-pub piece-empty : (s : List ℕ) (x k a e : ℕ) → a ≡ pieceStart s x k → e ≡ placeOf s x a → e ≤ a → [] ≡ piece s x k
-piece-empty s x k a e p q h = let z : e - a ≡ 0 = omega arith in sym (ap (λ (m : ℕ). take m (drop a s)) z) ∙ piece-is s x k a e p q
 
 -- all from a piece on, from its start
 pub rest-is : (s : List ℕ) (x k a n : ℕ) → a ≡ pieceStart s x k → n ≡ length s → take (n - a) (drop a s) ≡ rest s x k
@@ -56,6 +46,11 @@ rest-is s x k a n p q = take-all (n - a) (drop a s) (omega (arith, length-drop a
 pub rest-none : (s : List ℕ) (x k a : ℕ) → a ≡ pieceStart s x k → length s ≤ a → [] ≡ rest s x k
 unfolding rest
 rest-none s x k a p q = sym (drop-of-length-le s q) ∙ ap (λ (o : ℕ). drop o s) p
+
+-- a piece from the rest that it begins, and its end there
+pub piece-is : (s r t : List ℕ) (x k e : ℕ) → r ≡ rest s x k → e ≡ findFrom r x 0 → t ≡ take e r → t ≡ piece s x k
+unfolding piece
+piece-is s r t x k e p q h = h ∙ rw (q, p) refl
 
 -- the count of pieces, byte by byte
 unfoldable pub piecesTo : List ℕ → ℕ → ℕ → ℕ

@@ -1,5 +1,5 @@
 -- Laws of text put into a buffer, and of numbers as text.
-use Prim.Native.Nat.{ℕ, zero, suc, _+_, _-_, _*_, _/_, _%_, _^_, _≤_, _<_, min, max}
+use Prim.Native.Nat.{ℕ, zero, suc, _+_, _-_, _*_, _/_, _^_, _≤_, _<_, min, max}
 use mathlib.Core.Path.{_≡_, refl, sym, ap, ap₂, _∙_}
 use mathlib.Core.List.{List, [], _∷_, _++_, append-assoc, append-nil}
 use native.Mathlib.Nat.{pow-suc, pow-le-pow-right, one-le-pow}
@@ -10,12 +10,12 @@ use borrow.Author.Tests.{lt-ltb, le-ltb}
 use lib.Dec.{ltb, lit<}
 use lib.ListN.{length, getD, take, length-append}
 use lib.Seq.{take-suc, take-length}
-use Rattle.io.specs.Digits.{digits, glyph, Fewest}
+use Rattle.io.specs.Digits.{digits, Fewest}
 use Rattle.bounded.specs.Search.{pick}
 use Rattle.octets.specs.Octets.{splice, pasted}
 use Rattle.octets.proofs.PartLaws.{part-all, splice-append, length-splice}
 use Rattle.text.specs.Letters.{letters}
-use Rattle.text.specs.Put.{Put, places, decimalText, pairs, bytesText}
+use Rattle.text.specs.Put.{Put, places, decimalText, each, bytesText}
 
 -- ---- text
 pub put-copied : (s : List ℕ) (o : ℕ) (xs t : List ℕ) → t ≡ pasted s o xs 0 (length xs) → Put s o xs (o + length xs) t
@@ -37,13 +37,6 @@ pub put-same : (s t : List ℕ) (o e : ℕ) (xs ys : List ℕ) → xs ≡ ys →
 put-same s t o e xs ys h p = record { ends = p .ends ∙ ap (λ (l : List ℕ). o + length l) h; holds = p .holds ∙ ap (splice s o) h }
 
 -- ---- numbers
-pub length-digits : (b k n : ℕ) → length (digits b k n) ≡ k
-length-digits b zero n = refl
-length-digits b (suc k) n = length-append (digits b k (n / b)) (glyph (n % b) ∷ []) ∙ more (length (digits b k (n / b))) (length-digits b k (n / b))
-  where
-    more : (m : ℕ) → m ≡ k → m + 1 ≡ suc k
-    more m e = omega arith
-
 -- a number below b ^ m takes no more than m digits
 no-longer : (b l m n k : ℕ) → 0 < b → l ≤ m → n < b ^ m → Fewest b l n k → k ≤ m
 no-longer b l m n k p q r h = go (decLt m k)
@@ -98,34 +91,30 @@ pub decimal-digits : (n k : ℕ) → n < 2 ^ 64 → Fewest 10 1 n k → digits 1
 unfolding decimalText
 decimal-digits n k l h = ap (λ (m : ℕ). digits 10 m n) (fewest-places 19 n k h (omega arith))
 
+-- ---- each of some numbers
+each-append : (f : ℕ → List ℕ) (xs ys : List ℕ) → each f (xs ++ ys) ≡ each f xs ++ each f ys
+unfolding each
+each-append f [] ys = refl
+each-append f (x ∷ xs) ys = ap (_++_ (f x)) (each-append f xs ys) ∙ sym (append-assoc (f x) (each f xs) (each f ys))
+
+each-more : (f : ℕ → List ℕ) (s : List ℕ) (k : ℕ) → k < length s → each f (take k s) ++ f (getD s k 0) ≡ each f (take (k + 1) s)
+unfolding each
+each-more f s k l = sym (rw (add-one k, take-suc s k 0 l) (each-append f (take k s) (getD s k 0 ∷ []) ∙ rw append-nil refl))
+
+pub put-none : (f : ℕ → List ℕ) (s : List ℕ) (o : ℕ) (ns : List ℕ) → Put s o (each f (take 0 ns)) o s
+unfolding splice each
+put-none f s o ns = record { ends = omega arith; holds = refl }
+
+pub put-more : (f : ℕ → List ℕ) (s t u : List ℕ) (o e g k : ℕ) (ns : List ℕ) → k < length ns → Put s o (each f (take k ns)) e t → Put t e (f (getD ns k 0)) g u → Put s o (each f (take (k + 1) ns)) g u
+put-more f s t u o e g k ns l p q = put-same s u o g _ _ (each-more f ns k l) (put-on s t u o e g _ _ p q)
+
 -- ---- bytes
-pairs-append : (xs ys : List ℕ) → pairs (xs ++ ys) ≡ pairs xs ++ pairs ys
-unfolding pairs
-pairs-append [] ys = refl
-pairs-append (x ∷ xs) ys = ap (_++_ (digits 16 2 x)) (pairs-append xs ys) ∙ sym (append-assoc (digits 16 2 x) (pairs xs) (pairs ys))
-
-pub pairs-more : (s : List ℕ) (k x : ℕ) → k < length s → x ≡ getD s k 0 → pairs (take k s) ++ digits 16 2 x ≡ pairs (take (k + 1) s)
-unfolding pairs
-pairs-more s k x l e = rw (e) (sym (rw (add-one k, take-suc s k 0 l) (pairs-append (take k s) (getD s k 0 ∷ []) ∙ rw append-nil refl)))
-
-pub no-pairs : (s : List ℕ) (o : ℕ) (xs : List ℕ) → Put s o (pairs (take 0 xs)) o s
-unfolding splice pairs
-no-pairs s o xs = record { ends = omega arith; holds = refl }
-
-pub length-pairs : (xs : List ℕ) → length (pairs xs) ≡ 2 * length xs
-unfolding pairs
-length-pairs [] = refl
-length-pairs (x ∷ xs) = let e = length-pairs xs in omega (arith, length-append (digits 16 2 x) (pairs xs), length-digits 16 2 x)
-
-pub pairs-all : (s : List ℕ) (k : ℕ) → k ≡ length s → pairs (take k s) ≡ pairs s
-pairs-all s k e = ap pairs (ap (λ (m : ℕ). take m s) e ∙ take-length s)
-
 pub no-bytes : (s : List ℕ) → length s ≡ 0 → letters "-" ≡ bytesText s
 unfolding bytesText
 no-bytes [] e = refl
 no-bytes (x ∷ xs) e = absurd (omega arith)
 
-pub some-bytes : (s : List ℕ) → (length s ≡ 0 → ⊥) → pairs s ≡ bytesText s
-unfolding bytesText pairs
-some-bytes [] h = absurd (h refl)
-some-bytes (x ∷ xs) h = refl
+pub some-bytes : (s : List ℕ) (k : ℕ) → (length s ≡ 0 → ⊥) → k ≡ length s → each (digits 16 2) (take k s) ≡ bytesText s
+unfolding bytesText
+some-bytes [] k h e = absurd (h refl)
+some-bytes (x ∷ xs) k h e = ap (each (digits 16 2)) (ap (λ (m : ℕ). take m (x ∷ xs)) e ∙ take-length (x ∷ xs))

@@ -21,8 +21,12 @@ between a x b = leb a x && leb x b
 unfoldable pub hexValue : ℕ → ℕ
 hexValue x = pick (between 48 x 57) (x - 48) (pick (between 65 x 70) (x - 55) (pick (between 97 x 102) (x - 87) 16))
 
+-- byte k is a digit
+unfoldable pub hexDigit : List ℕ → ℕ → Bool
+hexDigit s k = not (eqb (hexValue (getD s k 0)) 16)
+
 unfoldable pub isHex : List ℕ → Bool
-isHex s = leb 1 (length s) && (eqb (length s % 2) 0 && allBelow (λ k. not (eqb (hexValue (getD s k 0)) 16)) (length s))
+isHex s = leb 1 (length s) && (eqb (length s % 2) 0 && allBelow (hexDigit s) (length s))
 
 -- how many bytes s is, if there is room for them
 unfoldable pub hexCount : List ℕ → ℕ → Number

@@ -27,12 +27,12 @@ decimalText n = digits 10 (places 19 n) n
 unfoldable pub pairText : List ℕ → ℕ → ℕ → List ℕ
 pairText w a b = (w ++ decimalText a) ++ (letters " " ++ decimalText b)
 
--- two hex digits a byte
-unfoldable pub pairs : List ℕ → List ℕ
-pairs [] = []
-pairs (x ∷ xs) = digits 16 2 x ++ pairs xs
+-- each of some numbers, as f has it
+unfoldable pub each : (ℕ → List ℕ) → List ℕ → List ℕ
+each f [] = []
+each f (x ∷ xs) = f x ++ each f xs
 
--- `-` for no bytes
+-- two hex digits a byte, `-` for no bytes
 unfoldable pub bytesText : List ℕ → List ℕ
 bytesText [] = letters "-"
-bytesText (x ∷ xs) = pairs (x ∷ xs)
+bytesText (x ∷ xs) = each (digits 16 2) (x ∷ xs)

@@ -1,10 +1,7 @@
 // Bytes in hex.
 ghost use mathlib.Core.Path.{_≡_};
-ghost use Prim.Native.Nat.{_+_, _*_, _≤_};
-ghost use lib.ListN.{length};
-ghost use Rattle.bounded.specs.Table.{table};
-ghost use Rattle.octets.specs.Octets.{splice};
-ghost use Rattle.text.specs.Hex.{hexValue, hexByte, isHex, hexCount, takeHex};
+ghost use Prim.Native.Nat.{_≤_};
+ghost use Rattle.text.specs.Hex.{hexValue, hexCount, takeHex};
 use crate::Number;
 use crate::pieces::is_word;
 
@@ -20,23 +17,6 @@ fn hex_value(x: u8) -> u16
     }
 }
 
-fn is_hex(s: &[u8]) -> bool
-    ensures { λ r. ⌜ r ≡ isHex (now (s .entry)) ⌝ }
-{
-    if s.len() < 1 {
-        return false;
-    }
-    if s.len() % 2 != 0 {
-        return false;
-    }
-    for k in 0..s.len() {
-        if hex_value(s[k]) == 16 {
-            return false;
-        }
-    }
-    true
-}
-
 // How many bytes s is in hex, if there is room for them.
 pub fn hex_count(s: &[u8], room: usize) -> Number
     ensures { λ r. ⌜ r ≡ hexCount (now (s .entry)) room ⌝ }
@@ -44,40 +24,33 @@ pub fn hex_count(s: &[u8], room: usize) -> Number
     if is_word(s, b"-") {
         return Number::Value(0);
     }
-    if !is_hex(s) {
+    if s.len() < 1 {
         return Number::NoNumber;
     }
-    let n = s.len() / 2;
-    if room < n {
+    if s.len() % 2 != 0 {
         return Number::NoNumber;
     }
-    Number::Value(n)
-}
-
-fn hex_byte(s: &[u8], k: usize) -> u8
-    requires { ⌜ 2 * k + 2 ≤ length (now s) ⌝ }
-    ensures { λ r. ⌜ r ≡ hexByte (now (s .entry)) k ⌝ }
-{
-    let high = hex_value(s[2 * k]);
-    let low = hex_value(s[2 * k + 1]);
-    ((16 * high + low) % 256) as u8
-}
-
-fn write_hex(s: &[u8], n: usize, out: &mut [u8])
-    requires { ⌜ (2 * n ≤ length (now s)) × (n ≤ length (now out)) ⌝ }
-    ensures { λ _. ⌜ now (out .exit) ≡ splice (now (out .entry)) 0 (table (hexByte (now (s .entry))) n) ⌝ }
-{
-    for k in 0..n {
-        out[k] = hex_byte(s, k);
+    if room < s.len() / 2 {
+        return Number::NoNumber;
     }
+    for k in 0..s.len() {
+        if hex_value(s[k]) == 16 {
+            return Number::NoNumber;
+        }
+    }
+    Number::Value(s.len() / 2)
 }
 
 // The bytes that s is in hex go to the front of out; none if there is no room for all.
 pub fn take_hex(s: &[u8], out: &mut [u8])
     ensures { λ _. ⌜ now (out .exit) ≡ takeHex (now (s .entry)) (now (out .entry)) ⌝ }
 {
-    match hex_count(s, out.len()) {
-        Number::Value(n) => write_hex(s, n, out),
-        Number::NoNumber => {}
+    let Number::Value(n) = hex_count(s, out.len()) else {
+        return;
+    };
+    for k in 0..n {
+        let high = hex_value(s[2 * k]);
+        let low = hex_value(s[2 * k + 1]);
+        out[k] = ((16 * high + low) % 256) as u8;
     }
 }

@@ -1,26 +1,13 @@
 // Decimal numbers.
 ghost use mathlib.Core.Path.{_≡_};
-ghost use Prim.Native.Nat.{_+_, _-_, _*_, _≤_, min};
-ghost use Rattle.text.specs.Number.{largest, numberOf};
+ghost use Rattle.text.specs.Number.{numberOf};
 use crate::Number;
 
 const ZERO: u8 = 48;
 
 const NINE: u8 = 57;
 
-// v with the digit x after it, or the largest number if that is less.
-fn with_digit(v: usize, x: u8) -> usize
-    requires { ⌜ (48 ≤ x) × (x ≤ 57) ⌝ }
-    ensures { λ r. ⌜ r ≡ min (10 * v + (x - 48)) largest ⌝ }
-{
-    let d = (x - ZERO) as usize;
-    if v <= (usize::MAX - d) / 10 {
-        10 * v + d
-    } else {
-        usize::MAX
-    }
-}
-
+// The number that s is; the largest usize if that is less.
 pub fn number(s: &[u8]) -> Number
     ensures { λ r. ⌜ r ≡ numberOf (now (s .entry)) ⌝ }
 {
@@ -36,7 +23,12 @@ pub fn number(s: &[u8]) -> Number
         if NINE < x {
             return Number::NoNumber;
         }
-        v = with_digit(v, x);
+        let d = (x - ZERO) as usize;
+        if v <= (usize::MAX - d) / 10 {
+            v = 10 * v + d;
+        } else {
+            v = usize::MAX;
+        }
     }
     Number::Value(v)
 }

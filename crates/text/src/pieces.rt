@@ -2,11 +2,11 @@
 ghost use mathlib.Core.Path.{_≡_};
 ghost use Prim.Native.Nat.{_≤_};
 ghost use lib.ListN.{length, take};
-ghost use Rattle.text.specs.Pieces.{placeOf, pieceStart, piece, rest, pieces, isWord};
+ghost use Rattle.text.specs.Pieces.{findFrom, rest, piece, pieces, isWord};
 
 // The place of the first x from o on, or the end.
 pub fn find(s: &[u8], x: u8, o: usize) -> usize
-    ensures { λ r. ⌜ (r ≡ placeOf (now (s .entry)) x o) × (r ≤ length (now (s .entry))) ⌝ }
+    ensures { λ r. ⌜ (r ≡ findFrom (now (s .entry)) x o) × (r ≤ length (now (s .entry))) ⌝ }
 {
     for k in o..s.len() {
         if s[k] == x {
@@ -16,37 +16,26 @@ pub fn find(s: &[u8], x: u8, o: usize) -> usize
     s.len()
 }
 
-fn piece_start(s: &[u8], x: u8, k: usize) -> usize
-    ensures { λ r. ⌜ r ≡ pieceStart (now (s .entry)) x k ⌝ }
+// All of s from piece k on, counted from 0; empty if there are fewer.
+pub fn rest(s: &[u8], x: u8, k: usize) -> &[u8]
+    ensures { λ r. ⌜ now r ≡ rest (now (s .entry)) x k ⌝ }
 {
     let mut o = 0;
     for j in 0..k {
         o = find(s, x, o) + 1;
     }
-    o
+    if o < s.len() {
+        return &s[o..];
+    }
+    &s[0..0]
 }
 
-// Piece k of s, counted from 0; empty if there are fewer.
+// Piece k of s; empty if there are fewer.
 pub fn piece(s: &[u8], x: u8, k: usize) -> &[u8]
     ensures { λ r. ⌜ now r ≡ piece (now (s .entry)) x k ⌝ }
 {
-    let start = piece_start(s, x, k);
-    let end = find(s, x, start);
-    if start < end {
-        return &s[start..end];
-    }
-    &s[0..0]
-}
-
-// All of s from piece k on; empty if there are fewer.
-pub fn rest(s: &[u8], x: u8, k: usize) -> &[u8]
-    ensures { λ r. ⌜ now r ≡ rest (now (s .entry)) x k ⌝ }
-{
-    let start = piece_start(s, x, k);
-    if start < s.len() {
-        return &s[start..];
-    }
-    &s[0..0]
+    let from = rest(s, x, k);
+    front(from, find(from, x, 0))
 }
 
 // How many pieces s has: one more than it has bytes that part them.

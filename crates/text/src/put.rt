@@ -4,7 +4,7 @@ ghost use mathlib.Core.List.{_++_};
 ghost use Prim.Native.Nat.{_+_, _*_, _^_, _<_, _≤_};
 ghost use lib.ListN.{length};
 ghost use Rattle.io.specs.Digits.{digits};
-ghost use Rattle.text.specs.Put.{Put, decimalText, pairText, pairs, bytesText};
+ghost use Rattle.text.specs.Put.{Put, decimalText, pairText, bytesText};
 
 // The text at o; where it ends.
 pub fn put(out: &mut [u8], o: usize, text: &[u8]) -> usize
@@ -15,24 +15,16 @@ pub fn put(out: &mut [u8], o: usize, text: &[u8]) -> usize
     o + text.len()
 }
 
-pub fn put_decimal(out: &mut [u8], o: usize, n: usize) -> usize
-    requires { ⌜ o + 20 ≤ length (now out) ⌝ }
-    ensures { λ r. ⌜ Put (now (out .entry)) o (decimalText n) r (now (out .exit)) ⌝ }
-    ensures { λ r. ⌜ r ≤ o + 20 ⌝ }
-{
-    let mut digits = [0u8; 20];
-    let k = io::decimal(n as u64, &mut digits);
-    put(out, o, &digits[..k])
-}
-
 // A word, and a number after it.
 pub fn put_numbered(out: &mut [u8], o: usize, word: &[u8], n: usize) -> usize
     requires { ⌜ o + length (now word) + 20 ≤ length (now out) ⌝ }
     ensures { λ r. ⌜ Put (now (out .entry)) o (now (word .entry) ++ decimalText n) r (now (out .exit)) ⌝ }
     ensures { λ r. ⌜ r ≤ o + length (now (word .entry)) + 20 ⌝ }
 {
+    let mut digits = [0u8; 20];
+    let k = io::decimal(n as u64, &mut digits);
     let e = put(&mut *out, o, word);
-    put_decimal(out, e, n)
+    put(out, e, &digits[..k])
 }
 
 // Two numbers, the first after a word.
@@ -56,17 +48,6 @@ pub fn put_hex(out: &mut [u8], o: usize, n: u64, k: usize) -> usize
     put(out, o, &digits[..m])
 }
 
-fn put_pairs(out: &mut [u8], o: usize, bytes: &[u8]) -> usize
-    requires { ⌜ o + 2 * length (now bytes) ≤ length (now out) ⌝ }
-    ensures { λ r. ⌜ Put (now (out .entry)) o (pairs (now (bytes .entry))) r (now (out .exit)) ⌝ }
-{
-    let mut e = o;
-    for k in 0..bytes.len() {
-        e = put_hex(&mut *out, e, bytes[k] as u64, 2);
-    }
-    e
-}
-
 // Bytes in hex, `-` for none.
 pub fn put_bytes(out: &mut [u8], o: usize, bytes: &[u8]) -> usize
     requires { ⌜ o + 1 + 2 * length (now bytes) ≤ length (now out) ⌝ }
@@ -76,5 +57,9 @@ pub fn put_bytes(out: &mut [u8], o: usize, bytes: &[u8]) -> usize
     if bytes.len() == 0 {
         return put(out, o, b"-");
     }
-    put_pairs(out, o, bytes)
+    let mut e = o;
+    for k in 0..bytes.len() {
+        e = put_hex(&mut *out, e, bytes[k] as u64, 2);
+    }
+    e
 }

@@ -1,4 +1,4 @@
-use Rattle.commands.proofs.CommandLaws.{command-part, command-all}
+use Rattle.commands.proofs.CommandLaws.{arrow-at, command-part, command-all}
 use Rattle.commands.specs.Command.{isArrow}
 use Rattle.text.specs.Pieces.{placeFrom}
 use Rattle.text.proofs.PieceLaws.{place-found, place-turn, place-end}
@@ -11,16 +11,31 @@ use Rattle.commands.proofs.parse.command.Statement.{statement}
 use Rattle.commands.proofs.parse.command.Tie as tie
 
 abbrev Inv-loop : tie.InvT-loop
-Inv-loop s k₀ k-end k = (k ≤ length s) × (placeFrom (isArrow s) 0 (length s) ≡ placeFrom (isArrow s) k (length s))
+Inv-loop s k₀ t3 k-end k = (k ≤ length s) × (placeFrom (isArrow s) 0 (length s) ≡ placeFrom (isArrow s) k (length s))
 
 abbrev μ-loop : tie.MeasureT-loop
-μ-loop s k₀ k-end k = k-end - k
+μ-loop s k₀ t3 k-end k = k-end - k
 
 loop-holds : tie.Need-loop-holds Inv-loop μ-loop
 loop-holds c = (omega arith, refl)
 
-is-arrow-requires : tie.Need-is-arrow-requires Inv-loop μ-loop
-is-arrow-requires c κs = omega arith
+sub-front : tie.Need-sub-front Inv-loop μ-loop
+sub-front c = omega arith
+
+part-front-start : tie.Need-part-front-start Inv-loop μ-loop
+part-front-start c = search needs
+
+part-front-end : tie.Need-part-front-end Inv-loop μ-loop
+part-front-end c = search needs
+
+front-requires : tie.Need-front-requires Inv-loop μ-loop
+front-requires c κs = tt
+
+slice-aggregate-is-word : tie.Need-slice-aggregate-is-word Inv-loop μ-loop
+slice-aggregate-is-word c = search needs
+
+is-word-requires : tie.Need-is-word-requires Inv-loop μ-loop
+is-word-requires c κs = tt
 
 sub-result : tie.Need-sub-result Inv-loop μ-loop
 sub-result c = omega arith
@@ -32,7 +47,7 @@ part-result-end : tie.Need-part-result-end Inv-loop μ-loop
 part-result-end c = search needs
 
 returns : tie.Need-returns Inv-loop μ-loop
-returns c = let i = c .before .before .before .before .loop in command-part _ (i .k) (i .inv .1 ∙ place-found _ (i .k) _ (omega arith) (sym (c .before .before .is-arrow .ensures) ∙ c .before .if1 .taken))
+returns c = let i = c .before .before .before .before .before .before .before .loop in command-part _ (i .k) (i .inv .1 ∙ place-found _ (i .k) _ (omega arith) (sym (arrow-at _ _ (i .k) _ _ refl (c .before .before .before .before .front .ensures) (c .before .before .is-word .ensures)) ∙ c .before .if1 .taken))
 
 add-k : tie.Need-add-k Inv-loop μ-loop
 add-k c = omega arith
@@ -41,7 +56,7 @@ loop-less : tie.Need-loop-less Inv-loop μ-loop
 loop-less c = omega arith
 
 loop-again : tie.Need-loop-again Inv-loop μ-loop
-loop-again c = let i = c .before .before .before .loop in (omega arith, i .inv .1 ∙ place-turn _ (i .k) _ (omega arith) (sym (c .before .is-arrow .ensures) ∙ c .if1 .left))
+loop-again c = let i = c .before .before .before .before .before .before .loop in (omega arith, i .inv .1 ∙ place-turn _ (i .k) _ (omega arith) (sym (arrow-at _ _ (i .k) _ _ refl (c .before .before .before .front .ensures) (c .before .is-word .ensures)) ∙ c .if1 .left))
 
 returns-2 : tie.Need-returns-2 Inv-loop μ-loop
 returns-2 c = let i = c .before .loop in command-all _ (i .inv .1 ∙ place-end _ (i .k) _ (omega arith))
@@ -53,7 +68,12 @@ command-spec =
     Inv-loop
     μ-loop
     loop-holds
-    is-arrow-requires
+    sub-front
+    part-front-start
+    part-front-end
+    front-requires
+    slice-aggregate-is-word
+    is-word-requires
     sub-result
     part-result-start
     part-result-end

@@ -1,7 +1,7 @@
 use native.Mathlib.Omega.{arith}
 use Rattle.script.proofs.ScriptLaws.{cut-line}
 use Rattle.lines.proofs.LineLaws.{Splits, line-ends, line-not-end, line-splits}
-use Rattle.text.specs.Pieces.{placeOf}
+use Rattle.text.specs.Pieces.{findFrom}
 use denote.Ref.{now}
 use mathlib.Core.Path.{_≡_, sym, ap, _∙_}
 use Prim.Native.Nat.{ℕ, _+_}
@@ -25,10 +25,10 @@ returns : tie.Need-returns
 returns c = absurd (line-not-end _ _ (c .before .before .before .before .before .before .before .pre .0) (sym (c .enum-told .given .1) ∙ c .before .before .line-from .ensures))
 
 -- the line's end, and where it lies
-ends : (c : tie.After-known-told) → c .before .end .given .0 .0 ≡ placeOf (now (c .before .before .before .before .before .before .before .before .args .script)) 10 (c .before .before .before .before .before .before .before .before .args .at)
+ends : (c : tie.After-known-told) → c .before .end .given .0 .0 ≡ findFrom (now (c .before .before .before .before .before .before .before .before .args .script)) 10 (c .before .before .before .before .before .before .before .before .args .at)
 ends c = line-ends _ _ _ (c .before .before .before .before .before .before .before .before .pre .0) (sym (c .before .end .given .1) ∙ c .before .before .before .line-from .ensures)
 
-lies : (c : tie.After-known-told) → Splits (now (c .before .before .before .before .before .before .before .before .args .script)) (c .before .before .before .before .before .before .before .before .args .at) (placeOf (now (c .before .before .before .before .before .before .before .before .args .script)) 10 (c .before .before .before .before .before .before .before .before .args .at))
+lies : (c : tie.After-known-told) → Splits (now (c .before .before .before .before .before .before .before .before .args .script)) (c .before .before .before .before .before .before .before .before .args .at) (findFrom (now (c .before .before .before .before .before .before .before .before .args .script)) 10 (c .before .before .before .before .before .before .before .before .args .at))
 lies c = line-splits _ _ (c .before .before .before .before .before .before .before .before .pre .0)
 
 sub-answer : tie.Need-sub-answer

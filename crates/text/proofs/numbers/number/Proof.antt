@@ -6,7 +6,8 @@ use lib.ListN.{length}
 use native.Mathlib.Omega.{arith}
 use Prim.Native.Nat.{_-_, _≤_, min}
 use mathlib.Core.Bool.{true}
-use mathlib.Core.Path.{_≡_, _∙_}
+use mathlib.Core.Logic.{⊎-elim}
+use mathlib.Core.Path.{_≡_}
 use Rattle.text.proofs.numbers.number.Statement.{statement}
 use Rattle.text.proofs.numbers.number.Tie as tie
 
@@ -32,8 +33,17 @@ returns-2 c = let i = c .before .before .before .loop in none-stopped _ (i .k) (
 returns-3 : tie.Need-returns-3 Inv-loop μ-loop
 returns-3 c = let i = c .before .before .before .before .loop in none-stopped _ (i .k) (omega arith) (high-no-digit _ _ (c .if3 .taken))
 
-with-digit-requires : tie.Need-with-digit-requires Inv-loop μ-loop
-with-digit-requires c κs = omega arith
+cast-d : tie.Need-cast-d Inv-loop μ-loop
+cast-d c = omega arith
+
+sub-if4 : tie.Need-sub-if4 Inv-loop μ-loop
+sub-if4 c = omega arith
+
+mul-v : tie.Need-mul-v Inv-loop μ-loop
+mul-v c = omega arith
+
+add-v : tie.Need-add-v Inv-loop μ-loop
+add-v c = omega arith
 
 add-k : tie.Need-add-k Inv-loop μ-loop
 add-k c = omega arith
@@ -42,7 +52,7 @@ loop-less : tie.Need-loop-less Inv-loop μ-loop
 loop-less c = omega arith
 
 loop-again : tie.Need-loop-again Inv-loop μ-loop
-loop-again c = let i = c .before .before .before .before .before .loop in (omega arith, omega arith, all-more _ (i .k) (i .inv .2) (is-digit _ (i .k) (omega arith) (omega arith)), c .with-digit .ensures ∙ decimal-more _ (i .k) (i .v) (i .inv .3))
+loop-again c = let i = c .before .before .before .before .before .loop in (omega arith, omega arith, all-more _ (i .k) (i .inv .2) (is-digit _ (i .k) (omega arith) (omega arith)), ⊎-elim (λ w. decimal-more _ (i .k) (i .v) _ (i .inv .3) (omega arith)) (λ w. decimal-more _ (i .k) (i .v) _ (i .inv .3) (omega arith)) (c .if4 .came))
 
 returns-4 : tie.Need-returns-4 Inv-loop μ-loop
 returns-4 c = let i = c .before .loop in value-done _ (i .k) (i .v) (i .inv .1) (omega arith) (i .inv .2) (i .inv .3)
@@ -58,7 +68,10 @@ number-spec =
     shared-slice-read-x
     returns-2
     returns-3
-    with-digit-requires
+    cast-d
+    sub-if4
+    mul-v
+    add-v
     add-k
     loop-less
     loop-again
