@@ -66,10 +66,10 @@ module _ (a : Answer) (z : ℤ) (f : z ≡ codeOf (told a)) where
   came : toZ w32 (ofZ w32 z) ≡ codeOf (told a)
   came = back f (code-fits a)
 
-  pub sent-laid : (b : List ℕ) (o : LaidOut) → laid.left a b ≡ o → sends (toZ w32 (ofZ w32 z)) (b ∷ []) ≡ sentLaid o
+  pub sent-laid : (b : List ℕ) (o : LaidOut) → laid.laidOut a b ≡ o → sends (toZ w32 (ofZ w32 z)) (b ∷ []) ≡ sentLaid o
   sent-laid b o e = ap (λ (c : ℤ). sends c (b ∷ [])) came ∙ ap sentLaid e
 
-  pub sent-alone : (s out : List ℕ) (o : alone.Shown) → alone.shown (alone.left a s out) ≡ o → sends (toZ w32 (ofZ w32 z)) (s ∷ out ∷ []) ≡ sentAlone o
+  pub sent-alone : (s out : List ℕ) (o : alone.PlainShown) → alone.plainShown (alone.plainLeft a s out) ≡ o → sends (toZ w32 (ofZ w32 z)) (s ∷ out ∷ []) ≡ sentAlone o
   sent-alone s out o e = ap (λ (c : ℤ). sends c (s ∷ out ∷ [])) came ∙ ap sentAlone e
 
   pub sent-three : (s m d : List ℕ) (o : Shown) → shown (left a s m d) ≡ o → sends (toZ w32 (ofZ w32 z)) (s ∷ m ∷ d ∷ []) ≡ sent o

@@ -62,8 +62,8 @@ module _ (v : World) (z : ℤ) (o : Outcome) (h : sends z (v .store ∷ v .image
   same-code : z ≡ codeOf (told (o .answer))
   same-code = ap (λ (x : Sent). x .code) h
 
-module _ (s out : List ℕ) (z : ℤ) (o : alone.Outcome) (h : sends z (s ∷ out ∷ []) ≡ sentAlone (alone.shown o)) where
-  alone-buffers : alone.shown (alone.left (o .answer) s out) ≡ alone.shown o
+module _ (s out : List ℕ) (z : ℤ) (o : alone.PlainOutcome) (h : sends z (s ∷ out ∷ []) ≡ sentAlone (alone.plainShown o)) where
+  alone-buffers : alone.plainShown (alone.plainLeft (o .answer) s out) ≡ alone.plainShown o
   alone-buffers =
       let a = ap (λ (x : Sent). first (x .buffers)) h in
       let b = ap (λ (x : Sent). first (after (x .buffers))) h in

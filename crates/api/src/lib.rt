@@ -55,14 +55,14 @@ fn number(b: bool) -> u8
 // ---- the calls on the store alone
 #[no_mangle]
 pub extern "C" fn honecerise_look_up(store: &[u8], directory: usize, name: &[u8]) -> i32
-    ensures { λ r. ⌜ sends r (now (store .entry) ∷ [] ∷ []) ≡ sentAlone (alone.shown (alone.plain (lookUp directory (now (name .entry))) (now (store .entry)))) ⌝ }
+    ensures { λ r. ⌜ sends r (now (store .entry) ∷ [] ∷ []) ≡ sentAlone (alone.plainShown (alone.plain (lookUp directory (now (name .entry))) (now (store .entry)))) ⌝ }
 {
     code(watch::look_up(store, directory, name))
 }
 
 #[no_mangle]
 pub extern "C" fn honecerise_read(store: &[u8], inode: usize, offset: usize, out: &mut [u8]) -> i32
-    ensures { λ r. ⌜ sends r (now (store .entry) ∷ now (out .exit) ∷ []) ≡ sentAlone (alone.shown (alone.plain (read inode offset (now (out .entry))) (now (store .entry)))) ⌝ }
+    ensures { λ r. ⌜ sends r (now (store .entry) ∷ now (out .exit) ∷ []) ≡ sentAlone (alone.plainShown (alone.plain (read inode offset (now (out .entry))) (now (store .entry)))) ⌝ }
 {
     code(watch::read(store, inode, offset, out))
 }

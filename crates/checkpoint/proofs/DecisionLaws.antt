@@ -57,11 +57,16 @@ pub start-is : (s m d : List ℕ) → start s m d ≡ chained (allFramed s m d) 
 unfolding start startGuards
 start-is s m d = guarded-is (allFramed s m d) s m d (started s m d)
 
--- ---- beside the plain decision p: q is the same, or the copy is in the way, or one of the refusals 1 to 3 comes
+-- ---- beside the plain decision p: q is the same, or the copy is in the way, or a refusal of the guards comes
+pub data OfGuards : Refusal → Type 0 where
+  lengths : OfGuards BadBuffer
+  soundness : OfGuards UnsoundStore
+  notes : OfGuards BadDesk
+
 pub data Beside (w : World) (p q : Planned) : Type 0 where
   same : q ≡ p → Beside w p q
   busy : isRunning (w .desk) ≡ true → q ≡ refused Busy → Beside w p q
-  unfit : (e : Refusal) → 1 ≤ refusalNumber e → refusalNumber e ≤ 3 → (Ready w → ⊥) → q ≡ refused e → Beside w p q
+  unfit : {e : Refusal} → OfGuards e → (Ready w → ⊥) → q ≡ refused e → Beside w p q
 
 -- a call is busy only while a copy runs
 locked-runs : (d is : List ℕ) → anyLocked d is ≡ true → isRunning d ≡ true
@@ -95,9 +100,9 @@ beside c w = go (storeAlone c) (framedB Store (w .store)) (deskFramed (w .desk))
     go true true d false n y t = same refl
     go true true d true n y t = last
     go false false d s n y t = same refl
-    go false true false s n y t = unfit BadBuffer (omega arith) (omega arith) (λ r. clash false (sym y ∙ r .desk) refl) refl
+    go false true false s n y t = unfit lengths (λ r. clash false (sym y ∙ r .desk) refl) refl
     go false true true false n y t = same refl
-    go false true true true false y t = unfit BadDesk (omega arith) (omega arith) (λ r. clash false (sym t ∙ r .notes) refl) refl
+    go false true true true false y t = unfit notes (λ r. clash false (sym t ∙ r .notes) refl) refl
     go false true true true true y t = last
 
 -- ---- what holds of a planned effect
@@ -185,7 +190,7 @@ taken-is w p (refused e) z b = refl
 taken-is w p (does x) z b = elim b [
   | same e ↦ ap (λ r. anyAt (onPlanned r (λ y. y .taken) (λ e. [])) z) (sym e)
   | busy r e ↦ no-both x Busy e
-  | unfit f l m n e ↦ no-both x f e
+  | unfit g n e ↦ no-both x _ e
 ]
 
 pub takes-is : (c : Call) (w : World) (z : ℕ) → takes (call c) w z ≡ onPlanned (decision c w) (λ x. anyAt (x .taken) z) (λ e. false)

@@ -1,4 +1,4 @@
--- What the plain store answers: 1 or 2, a plan's refusal (4 to 13), or that it is done; nothing of a desk or a copy.
+-- What the plain store answers: 1 or 2, a plan's refusal, or that it is done; nothing of a desk or a copy.
 use Prim.Native.Nat.{ℕ, _+_, _-_, _≤_, max}
 use mathlib.Core.Path.{_≡_, refl, sym, ap, _∙_}
 use mathlib.Core.Bool.{Bool, true, false, not, _&&_, _||_}
@@ -20,8 +20,9 @@ use Rattle.directory.specs.Slot.{findSlot, emptySlot, inodeAt}
 use Rattle.sound.specs.Sound.{inodesIn, blocksIn}
 use Rattle.sound.specs.declared.Form.the-variants.{Store}
 use Rattle.sound.specs.Test.{framedB, isSound}
-use Rattle.answers.specs.declared.Refusal.the-variants.{BadBuffer, UnsoundStore, NoBlocks, NoSlot}
+use Rattle.answers.specs.declared.Refusal.the-variants.{BadBuffer, UnsoundStore, BadDesk, NoBlocks, NoSlot, Busy}
 use Rattle.answers.specs.Refusal.{refusalNumber}
+use Rattle.answers.specs.Order.{order, rankIn, rank}
 use Rattle.answers.specs.declared.Answer.{Answer}
 use Rattle.content.specs.declared.NumberPlan.{NumberPlan}
 use Rattle.content.specs.Plan.{readPlan, writePlan, shortenPlan}
@@ -59,9 +60,9 @@ by-room P s n b d h p q =
     by-found P (emptySlot s n d) (λ t. h _)
     (by-pick P (ltb (blocksUsed (sizeOf s d)) addressCount) (by-found P (freeBlock s n b) (λ c. h _) p) q)
 
--- ---- the answers of plans: 0 for a plan that is done, or 4 to 13
+-- ---- the answers of plans: 0 for a plan that is done, or a refusal that is looked at after the guards' and before busy
 abbrev ordinary : ℕ → Bool
-ordinary k = eqb k 0 || (leb 4 k && leb k 13)
+ordinary k = eqb k 0 || (ltb (rank BadDesk) (rankIn order k) && ltb (rankIn order k) (rank Busy))
 
 -- one of those numbers is not j, which is none
 apart : (k j : ℕ) → ordinary k ≡ true → ordinary j ≡ false → k ≡ j → ⊥

@@ -8,6 +8,7 @@ use borrow.Author.Tests.{eqb-true, eq-eqb}
 use lib.ListN.{length}
 use Rattle.bounded.proofs.BoolLaws.{clash}
 use Rattle.sound.specs.Sound.{inodesIn}
+use Rattle.answers.specs.declared.Refusal.{Refusal}
 use Rattle.answers.specs.declared.Refusal.the-variants.{Busy}
 use Rattle.answers.specs.Refusal.{refusalNumber}
 use Rattle.answers.specs.declared.Answer.{Answer}
@@ -21,7 +22,7 @@ use Rattle.checkpoint.specs.Live.{World, Outcome, refuse, decision, leav
 use Rattle.checkpoint.specs.Shown.{numberOf}
 use Rattle.checkpoint.specs.List.{Event, Ready, call, advances, asks, starts, outcome, next, run, Moment, here, after, isBusy, replies, heard, plainRun, plainReplies}
 use Rattle.checkpoint.specs.Demand.{AsPlain}
-use Rattle.checkpoint.proofs.DecisionLaws.{same, busy, unfit, beside}
+use Rattle.checkpoint.proofs.DecisionLaws.{OfGuards, lengths, soundness, notes, same, busy, unfit, beside}
 use Rattle.checkpoint.proofs.PlainAnswers.{by-pick, StoreFits, plainly, plain-never}
 
 -- ---- one live call beside the plain one
@@ -34,7 +35,7 @@ record Alike (c : Call) (w : World) : Type 0 where
 data Between (c : Call) (w : World) : Type 0 where
   agree : Alike c w → Between c w
   locked : isRunning (w .desk) ≡ true → live c w ≡ refuse Busy (w .store) (w .image) (w .desk) → Between c w
-  stopped : 1 ≤ numberOf (live c w .answer) → numberOf (live c w .answer) ≤ 3 → (Ready w → ⊥) → Between c w
+  stopped : {f : Refusal} → OfGuards f → numberOf (live c w .answer) ≡ refusalNumber f → (Ready w → ⊥) → Between c w
 
 -- what is shown of one decision
 same-answer : (w : World) (out : List ℕ) (p : Planned) → leavesIn w p .answer ≡ leaves (w .store) out p .answer
@@ -58,7 +59,7 @@ between c w = elim (beside c w) [
     out = ap (λ p. onPlanned p (λ x. x .out) (λ e. given c)) e ∙ same-out (w .store) (given c) (plainDecision c (w .store));
   }
   | busy r e ↦ locked r (ap (leavesIn w) e)
-  | unfit f l m n e ↦ let k : numberOf (leavesIn w (decision c w) .answer) ≡ refusalNumber f = ap (λ p. numberOf (leavesIn w p .answer)) e in stopped (omega arith) (omega arith) n
+  | unfit g n e ↦ stopped g (ap (λ p. numberOf (leavesIn w p .answer)) e) n
 ]
 
 -- ---- the laws of one call
@@ -69,6 +70,16 @@ pub record Passed (a : Answer) : Type 0 where
   pub third : numberOf a ≡ 3 → ⊥
   pub fourteenth : numberOf a ≡ 14 → ⊥
 
+not-guards : (a : Answer) {f : Refusal} → Passed a → OfGuards f → numberOf a ≡ refusalNumber f → ⊥
+not-guards a h lengths e = h .first e
+not-guards a h soundness e = h .second e
+not-guards a h notes e = h .third e
+
+not-busy : {f : Refusal} → OfGuards f → refusalNumber f ≡ refusalNumber Busy → ⊥
+not-busy lengths e = omega arith
+not-busy soundness e = omega arith
+not-busy notes e = omega arith
+
 busy-number : (w : World) (o : Outcome) → o ≡ refuse Busy (w .store) (w .image) (w .desk) → numberOf (o .answer) ≡ 14
 busy-number w o e = ap (λ (x : Outcome). numberOf (x .answer)) e
 
@@ -78,7 +89,7 @@ pub as-plain : (c : Call) (w : World) → Passed (live c w .answer)
 as-plain c w h = elim (between c w) [
   | agree x ↦ (x .answer, (x .store, x .out))
   | locked r e ↦ absurd (h .fourteenth (busy-number w (live c w) e))
-  | stopped l m f ↦ absurd (omega arith)
+  | stopped g e n ↦ absurd (not-guards _ h g e)
 ]
 
 -- where the buffers fit, a live call that is not busy is the plain store's, and 1 to 3 do not come
@@ -104,7 +115,7 @@ guards-pass c w f h =
         third = λ e. q .never .third (ap numberOf (sym (x .answer)) ∙ e);
       }
       | locked r e ↦ absurd (h (busy-number w (live c w) e))
-      | stopped l m n ↦ absurd (n f)
+      | stopped g e n ↦ absurd (n f)
     ]
 
 -- a busy call changes no buffer
@@ -117,7 +128,7 @@ pub busy-keeps : (c : Call) (w : World) → numberOf (live c w .answer) ≡ 14 �
 busy-keeps c w h = elim (between c w) [
   | agree x ↦ absurd (plain-never c (w .store) .fourteenth (ap numberOf (sym (x .answer)) ∙ h))
   | locked r e ↦ record { store = ap (λ (o : Outcome). o .store) e; image = ap (λ (o : Outcome). o .image) e; desk = ap (λ (o : Outcome). o .desk) e }
-  | stopped l m n ↦ absurd (omega arith)
+  | stopped g e n ↦ absurd (not-busy g (sym e ∙ h))
 ]
 
 -- a call is busy only while a copy runs
@@ -125,7 +136,7 @@ pub busy-running : (c : Call) (w : World) → isRunning (w .desk) ≡ false → 
 busy-running c w r h = elim (between c w) [
   | agree x ↦ plain-never c (w .store) .fourteenth (ap numberOf (sym (x .answer)) ∙ h)
   | locked t e ↦ clash (isRunning (w .desk)) t r
-  | stopped l m n ↦ omega arith
+  | stopped g e n ↦ not-busy g (sym e ∙ h)
 ]
 
 -- ---- the other events leave the store

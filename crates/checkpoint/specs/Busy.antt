@@ -10,16 +10,16 @@ use Rattle.answers.specs.declared.Refusal.the-variants.{Busy}
 use Rattle.files.specs.Effect.{Planned, refused, does}
 use Rattle.checkpoint.specs.Fit.{isRunning}
 
--- inode i is locked by a running copy. d is the desk
+-- inode i is locked by a running copy.
 unfoldable pub isLocked : List ℕ → ℕ → Bool
-isLocked d i = isRunning d && eqb (deskOf d .locked) i
+isLocked desk i = isRunning desk && eqb (deskOf desk .locked) i
 
 -- one of the inodes is
 unfoldable pub anyLocked : List ℕ → List ℕ → Bool
-anyLocked d [] = false
-anyLocked d (i ∷ is) = isLocked d i || anyLocked d is
+anyLocked desk [] = false
+anyLocked desk (i ∷ is) = isLocked desk i || anyLocked desk is
 
 -- 14 comes after the plan's refusals
 abbrev pub unlessBusy : List ℕ → Planned → Planned
-unlessBusy d (does x) = pick (anyLocked d (x .touches)) (refused Busy) (does x)
-unlessBusy d (refused e) = refused e
+unlessBusy desk (does x) = pick (anyLocked desk (x .touches)) (refused Busy) (does x)
+unlessBusy desk (refused e) = refused e

@@ -1,4 +1,4 @@
--- "The copier": start, and the five things that a step does. s is the store, m the image, d the desk, n the inode count.
+-- "The copier": start, and the five things that a step does. s is the store, m the image, n the inode count.
 use Prim.Native.Nat.{ℕ, zero, suc, _+_, _*_}
 use mathlib.Core.Bool.{not, _&&_}
 use mathlib.Core.List.{List}
@@ -30,7 +30,7 @@ startImage n k = putHeader (replicate k 0) (record { inodes = n; blocks = imageB
 
 -- "zeroes marks, copied bytes and steps, and sets the desk's block count and running"
 unfoldable pub startDesk : List ℕ → ℕ → ℕ → List ℕ
-startDesk d n b = putDesk (clearNotes d n) (starting (deskOf d) b)
+startDesk desk n b = putDesk (clearNotes desk n) (starting (deskOf desk) b)
 
 -- ---- What a step does
 pub data Step : Type 0 where
@@ -42,7 +42,7 @@ pub data Step : Type 0 where
 
 -- 2: "some uncopied inode is named by an image directory of kind 2: lock the lowest such"
 unfoldable pub nextInode : List ℕ → List ℕ → ℕ → Found
-nextInode m d n = firstFrom (λ i. not (isCopied d n i) && inodeNamed m n i) 1 n
+nextInode m desk n = firstFrom (λ i. not (isCopied desk n i) && inodeNamed m n i) 1 n
 
 -- 3: "It goes to the image block of its own number if that exists and no image address names it, else to the lowest block unnamed"
 unfoldable pub targetBlock : List ℕ → ℕ → ℕ → ℕ → Found
@@ -57,28 +57,28 @@ lockedStep s m n b i k =
 
 -- 1, 2 and 5: nothing is locked
 unfoldable pub freeStep : List ℕ → List ℕ → ℕ → Step
-freeStep m d n = pick (isCopied d n rootInode) (onFound (nextInode m d n) lock finish) (lock rootInode)
+freeStep m desk n = pick (isCopied desk n rootInode) (onFound (nextInode m desk n) lock finish) (lock rootInode)
 
 unfoldable pub stepOf : List ℕ → List ℕ → List ℕ → ℕ → Step
-stepOf s m d n =
-    pick (eqb (deskOf d .locked) 0) (freeStep m d n) (lockedStep s m n (deskOf d .blocks) (deskOf d .locked) (deskOf d .progress))
+stepOf s m desk n =
+    pick (eqb (deskOf desk .locked) 0) (freeStep m desk n) (lockedStep s m n (deskOf desk .blocks) (deskOf desk .locked) (deskOf desk .progress))
 
 -- ---- The image and the desk after it
 -- "In a directory block, a marked entry that names a copied inode is zeroed": the bytes x of entry j of the k-th block of directory i
 unfoldable pub copiedEntry : List ℕ → ℕ → ℕ → ℕ → List ℕ → ℕ → List ℕ
-copiedEntry d n i k x j =
+copiedEntry desk n i k x j =
     let e = part x (entryBytes * j) entryBytes in
-    pick (markOf d n i (slotsInBlock * k + j) && isCopied d n (entryInode e)) (splice x (entryBytes * j) (replicate entryBytes 0)) x
+    pick (markOf desk n i (slotsInBlock * k + j) && isCopied desk n (entryInode e)) (splice x (entryBytes * j) (replicate entryBytes 0)) x
 
 unfoldable pub copiedEntries : List ℕ → ℕ → ℕ → ℕ → List ℕ → ℕ → List ℕ
-copiedEntries d n i k x zero = x
-copiedEntries d n i k x (suc j) = copiedEntry d n i k (copiedEntries d n i k x j) j
+copiedEntries desk n i k x zero = x
+copiedEntries desk n i k x (suc j) = copiedEntry desk n i k (copiedEntries desk n i k x j) j
 
 -- the block as it is copied
 unfoldable pub copiedBlock : List ℕ → List ℕ → ℕ → ℕ → ℕ → List ℕ
-copiedBlock s d n i k =
+copiedBlock s desk n i k =
     let x = blockOf s n (kthBlock s n i k) in
-    pick (eqb (kindOf s i) directoryKind) (copiedEntries d n i k x slotsInBlock) x
+    pick (eqb (kindOf s i) directoryKind) (copiedEntries desk n i k x slotsInBlock) x
 
 -- 4: "the image attributes, which are the store's with link count 0"
 abbrev pub unlinkedInode : Inode → Inode
@@ -93,15 +93,15 @@ unfoldable pub finishImage : List ℕ → ℕ → ℕ → List ℕ
 finishImage m n b = putComplete (putFree (putCounts m m n n) (countTo (inodeFree m) n) (countTo (blockFree m n) b)) isComplete
 
 abbrev pub stepImage : List ℕ → List ℕ → List ℕ → ℕ → Step → List ℕ
-stepImage s m d n (lock i) = m
-stepImage s m d n (copy i k c) = putAddress (putInBlock m n c 0 (copiedBlock s d n i k)) n (addressIndex i k) c
-stepImage s m d n (close i) = putAttributes m i (unlinkedInode (inodeOf s n i))
-stepImage s m d n finish = finishImage m n (deskOf d .blocks)
-stepImage s m d n full = m
+stepImage s m desk n (lock i) = m
+stepImage s m desk n (copy i k c) = putAddress (putInBlock m n c 0 (copiedBlock s desk n i k)) n (addressIndex i k) c
+stepImage s m desk n (close i) = putAttributes m i (unlinkedInode (inodeOf s n i))
+stepImage s m desk n finish = finishImage m n (deskOf desk .blocks)
+stepImage s m desk n full = m
 
 abbrev pub stepDesk : List ℕ → Step → List ℕ
-stepDesk d (lock i) = putDesk d (locking (deskOf d) i)
-stepDesk d (copy i k c) = putDesk d (copyingOne (deskOf d))
-stepDesk d (close i) = putDesk (putCopied d i 1) (unlocking (deskOf d))
-stepDesk d finish = putDesk d (finishing (deskOf d))
-stepDesk d full = putDesk d (stopping (deskOf d))
+stepDesk desk (lock i) = putDesk desk (locking (deskOf desk) i)
+stepDesk desk (copy i k c) = putDesk desk (copyingOne (deskOf desk))
+stepDesk desk (close i) = putDesk (putCopied desk i 1) (unlocking (deskOf desk))
+stepDesk desk finish = putDesk desk (finishing (deskOf desk))
+stepDesk desk full = putDesk desk (stopping (deskOf desk))

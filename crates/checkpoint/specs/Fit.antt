@@ -1,4 +1,4 @@
--- Refusals 1 and 3: whether the buffers fit. s is the store, m the image, d the desk.
+-- Refusals 1 and 3: whether the buffers fit. s is the store, m the image.
 use Prim.Native.Nat.{ℕ, _+_, _*_, _-_, _/_}
 use mathlib.Core.Bool.{Bool, not, _&&_, _||_}
 use mathlib.Core.List.{List}
@@ -18,7 +18,7 @@ use Rattle.sound.specs.declared.Form.the-variants.{Store}
 
 -- the opposite of refusal 1's "a desk (by its own N) .. has no length or count allowed above"
 unfoldable pub deskFramed : List ℕ → Bool
-deskFramed d = deskAllowed (deskOf d .inodes) (length d)
+deskFramed desk = deskAllowed (deskOf desk .inodes) (length desk)
 
 -- "block count from the image's length"
 unfoldable pub imageBlocks : ℕ → ℕ → ℕ
@@ -30,45 +30,45 @@ imageAllowed n k = allowed mostImageBlocks n (imageBlocks n k) k
 
 -- the opposite of refusal 1: of a call on all three buffers, which looks at store and desk, and of a start
 abbrev pub bothFramed : List ℕ → List ℕ → Bool
-bothFramed s d = framedB Store s && deskFramed d
+bothFramed s desk = framedB Store s && deskFramed desk
 
 abbrev pub allFramed : List ℕ → List ℕ → List ℕ → Bool
-allFramed s m d = framedB Store s && (deskFramed d && imageAllowed (inodesIn s) (length m))
+allFramed s m desk = framedB Store s && (deskFramed desk && imageAllowed (inodesIn s) (length m))
 
 -- the copy runs
 unfoldable pub isRunning : List ℕ → Bool
-isRunning d = eqb (deskOf d .state) running
+isRunning desk = eqb (deskOf desk .state) running
 
 -- the paper's bound on accepted steps: "steps above 14 × N + 1, or above 14 × N if running"
 abbrev pub mostSteps : List ℕ → ℕ
-mostSteps d = pick (isRunning d) (stepsAnInode * deskOf d .inodes) (stepsAnInode * deskOf d .inodes + 1)
+mostSteps desk = pick (isRunning desk) (stepsAnInode * deskOf desk .inodes) (stepsAnInode * deskOf desk .inodes + 1)
 
 -- "image block count (0 when idle, else 1 to 4,096)"
 unfoldable pub blocksFit : List ℕ → Bool
-blocksFit d = pick (eqb (deskOf d .state) idle) (eqb (deskOf d .blocks) 0) (leb 1 (deskOf d .blocks) && leb (deskOf d .blocks) mostImageBlocks)
+blocksFit desk = pick (eqb (deskOf desk .state) idle) (eqb (deskOf desk .blocks) 0) (leb 1 (deskOf desk .blocks) && leb (deskOf desk .blocks) mostImageBlocks)
 
 -- the opposite of refusal 3's "the desk otherwise breaks its layout"
 unfoldable pub deskFits : List ℕ → Bool
-deskFits d =
-    leb (deskOf d .state) stopped
-    && (blocksFit d
-    && (deskRestZero d
-    && (allTo (λ i. leb (copiedOf d i) 1) (deskOf d .inodes)
-    && (leb (deskOf d .locked) (deskOf d .inodes)
-    && (leb (deskOf d .progress) mostBlocks
-    && ((isRunning d || (eqb (deskOf d .locked) 0 && eqb (deskOf d .progress) 0))
-    && leb (deskOf d .steps) (mostSteps d)))))))
+deskFits desk =
+    leb (deskOf desk .state) stopped
+    && (blocksFit desk
+    && (deskRestZero desk
+    && (allTo (λ i. leb (copiedOf desk i) 1) (deskOf desk .inodes)
+    && (leb (deskOf desk .locked) (deskOf desk .inodes)
+    && (leb (deskOf desk .progress) mostBlocks
+    && ((isRunning desk || (eqb (deskOf desk .locked) 0 && eqb (deskOf desk .progress) 0))
+    && leb (deskOf desk .steps) (mostSteps desk)))))))
 
 -- the opposite of refusal 3's "while running, the image's length, N or block count differ from the desk's, its root is not 1, its byte 8 is not 0, or an address exceeds its block count"
 unfoldable pub imageFits : List ℕ → List ℕ → Bool
-imageFits m d =
-    eqb (length m) (storeLength (deskOf d .inodes) (deskOf d .blocks))
-    && (eqb (headerOf m .inodes) (deskOf d .inodes)
-    && (eqb (headerOf m .blocks) (deskOf d .blocks)
+imageFits m desk =
+    eqb (length m) (storeLength (deskOf desk .inodes) (deskOf desk .blocks))
+    && (eqb (headerOf m .inodes) (deskOf desk .inodes)
+    && (eqb (headerOf m .blocks) (deskOf desk .blocks)
     && (eqb (headerOf m .root) rootInode
     && (eqb (headerOf m .complete) notComplete
-    && allBelow (λ x. leb (addressOf m (deskOf d .inodes) x) (deskOf d .blocks)) (addressCount * deskOf d .inodes)))))
+    && allBelow (λ x. leb (addressOf m (deskOf desk .inodes) x) (deskOf desk .blocks)) (addressCount * deskOf desk .inodes)))))
 
 -- no refusal 3; "or is of another N"
 unfoldable pub notesFit : List ℕ → List ℕ → List ℕ → Bool
-notesFit s m d = deskFits d && (eqb (deskOf d .inodes) (inodesIn s) && (not (isRunning d) || imageFits m d))
+notesFit s m desk = deskFits desk && (eqb (deskOf desk .inodes) (inodesIn s) && (not (isRunning desk) || imageFits m desk))

@@ -1,4 +1,4 @@
--- The public calls over the three buffers: guards (1, 2, 3), the plain store's plan (4 to 13), busy (14), then the bytes. s is the store, m the image, d the desk.
+-- The public calls over the three buffers: guards (1, 2, 3), the plain store's plan with its refusals, busy (14), then the bytes. s is the store, m the image.
 use Prim.Native.Nat.{ℕ, _+_}
 use mathlib.Core.Bool.{Bool, true, false, not, _&&_}
 use mathlib.Core.List.{List, [], _∷_}
@@ -37,22 +37,22 @@ pub record Outcome : Type 0 where
   pub desk : List ℕ
 
 abbrev pub left : Answer → List ℕ → List ℕ → List ℕ → Outcome
-left a s m d = record { answer = a; store = s; image = m; desk = d }
+left a s m desk = record { answer = a; store = s; image = m; desk = desk }
 
 -- a refusal "changes no lent buffer"
 abbrev pub refuse : Refusal → List ℕ → List ℕ → List ℕ → Outcome
-refuse e s m d = left (Refused e) s m d
+refuse e s m desk = left (Refused e) s m desk
 
 -- "looked at lowest first": 1, 2 and 3 by the buffers, before all others. framed says whether lengths and counts are those allowed
 abbrev pub guardRows : Bool → List ℕ → List ℕ → List ℕ → List Row
-guardRows framed s m d = row (not framed) BadBuffer ∷ row (not (isSound Store s)) UnsoundStore ∷ row (not (notesFit s m d)) BadDesk ∷ []
+guardRows framed s m desk = row (not framed) BadBuffer ∷ row (not (isSound Store s)) UnsoundStore ∷ row (not (notesFit s m desk)) BadDesk ∷ []
 
 -- of a call on all three buffers, and of a start, which looks at the image's length too
 unfoldable pub threeGuards : List ℕ → List ℕ → List ℕ → Guard
-threeGuards s m d = guardBy s (guardRows (bothFramed s d) s m d)
+threeGuards s m desk = guardBy s (guardRows (bothFramed s desk) s m desk)
 
 unfoldable pub startGuards : List ℕ → List ℕ → List ℕ → Guard
-startGuards s m d = guardBy s (guardRows (allFramed s m d) s m d)
+startGuards s m desk = guardBy s (guardRows (allFramed s m desk) s m desk)
 
 -- ---- the file calls
 -- "Look up and read take the store alone"
@@ -69,7 +69,7 @@ storeAlone (rename d name e other) = false
 abbrev pub guardsOf : Call → World → Guard
 guardsOf c w = pick (storeAlone c) (guardOf (w .store)) (threeGuards (w .store) (w .image) (w .desk))
 
--- refusals 1 to 14 in order, or what is done
+-- refusals in order, or what is done
 unfoldable pub decision : Call → World → Planned
 decision c w = onGuard (guardsOf c w) (λ n b. unlessBusy (w .desk) (planned c (w .store) n b)) refused
 
@@ -89,28 +89,28 @@ outOf c w = onPlanned (decision c w) (λ x. x .out) (λ e. given c)
 
 -- ---- start and step: what follows where the guards let through
 abbrev pub guarded : Guard → List ℕ → List ℕ → List ℕ → Outcome → Outcome
-guarded g s m d o = onGuard g (λ n b. o) (λ e. refuse e s m d)
+guarded g s m desk o = onGuard g (λ n b. o) (λ e. refuse e s m desk)
 
 -- ---- start: 1 (the image too), 2, 3, 15
 unfoldable pub started : List ℕ → List ℕ → List ℕ → Outcome
-started s m d =
-    pick (isRunning d) (refuse WrongState s m d)
-    (left (Done 0) s (startImage (inodesIn s) (length m)) (startDesk d (inodesIn s) (imageBlocks (inodesIn s) (length m))))
+started s m desk =
+    pick (isRunning desk) (refuse WrongState s m desk)
+    (left (Done 0) s (startImage (inodesIn s) (length m)) (startDesk desk (inodesIn s) (imageBlocks (inodesIn s) (length m))))
 
 unfoldable pub start : List ℕ → List ℕ → List ℕ → Outcome
-start s m d = guarded (startGuards s m d) s m d (started s m d)
+start s m desk = guarded (startGuards s m desk) s m desk (started s m desk)
 
 -- ---- step: 1, 2, 3, 15, 16; "Each accepted step adds 1."
 abbrev pub doStep : List ℕ → List ℕ → List ℕ → ℕ → Step → Outcome
-doStep s m d n (lock i) = left (Done (deskOf d .steps + 1)) s (stepImage s m d n (lock i)) (stepDesk d (lock i))
-doStep s m d n (copy i k c) = left (Done (deskOf d .steps + 1)) s (stepImage s m d n (copy i k c)) (stepDesk d (copy i k c))
-doStep s m d n (close i) = left (Done (deskOf d .steps + 1)) s (stepImage s m d n (close i)) (stepDesk d (close i))
-doStep s m d n finish = left (Done (deskOf d .steps + 1)) s (stepImage s m d n finish) (stepDesk d finish)
-doStep s m d n full = left (Refused ImageFull) s (stepImage s m d n full) (stepDesk d full)
+doStep s m desk n (lock i) = left (Done (deskOf desk .steps + 1)) s (stepImage s m desk n (lock i)) (stepDesk desk (lock i))
+doStep s m desk n (copy i k c) = left (Done (deskOf desk .steps + 1)) s (stepImage s m desk n (copy i k c)) (stepDesk desk (copy i k c))
+doStep s m desk n (close i) = left (Done (deskOf desk .steps + 1)) s (stepImage s m desk n (close i)) (stepDesk desk (close i))
+doStep s m desk n finish = left (Done (deskOf desk .steps + 1)) s (stepImage s m desk n finish) (stepDesk desk finish)
+doStep s m desk n full = left (Refused ImageFull) s (stepImage s m desk n full) (stepDesk desk full)
 
 unfoldable pub step : List ℕ → List ℕ → List ℕ → Outcome
-step s m d = guarded (threeGuards s m d) s m d (pick (isRunning d) (doStep s m d (inodesIn s) (stepOf s m d (inodesIn s))) (refuse WrongState s m d))
+step s m desk = guarded (threeGuards s m desk) s m desk (pick (isRunning desk) (doStep s m desk (inodesIn s) (stepOf s m desk (inodesIn s))) (refuse WrongState s m desk))
 
 -- ---- state: 1, 2, 3; it changes nothing. "state takes all three buffers and gives state, locked inode and steps"
 unfoldable pub status : List ℕ → List ℕ → List ℕ → Status
-status s m d = onGuard (threeGuards s m d) (λ n b. Is (deskOf d .state) (deskOf d .locked) (deskOf d .steps)) NoStatus
+status s m desk = onGuard (threeGuards s m desk) (λ n b. Is (deskOf desk .state) (deskOf desk .locked) (deskOf desk .steps)) NoStatus

@@ -1,4 +1,4 @@
--- "Given by number, looked at lowest first, when and only when the condition holds for that call": the conditions of each call on a store in a table. s is the store, m the image, d the desk.
+-- "Given by number, looked at lowest first, when and only when the condition holds for that call": the conditions of each call on a store in a table. s is the store, m the image.
 use Prim.Native.Nat.{ℕ, _+_, _-_, max}
 use mathlib.Core.Bool.{Bool, true, false, not, _&&_, _||_}
 use mathlib.Core.List.{List, [], _∷_, _++_}
@@ -37,7 +37,7 @@ orZero Absent = 0
 
 -- 1, 2 and 3 of a call on all three buffers
 abbrev pub liveRows : List ℕ → List ℕ → List ℕ → List Row
-liveRows s m d = guardRows (bothFramed s d) s m d
+liveRows s m desk = guardRows (bothFramed s desk) s m desk
 
 -- 12: "too few free blocks" for an entry more in e; 13: "all 48 slots used"
 abbrev pub noBlock : List ℕ → ℕ → Bool
@@ -71,62 +71,62 @@ readTable s i o =
     ∷ [])
 
 unfoldable pub createTable : List ℕ → List ℕ → List ℕ → ℕ → List ℕ → List Row
-createTable s m d e name =
-    liveRows s m d
+createTable s m desk e name =
+    liveRows s m desk
     ++ (row (not (legalName name)) IllegalName
     ∷ row (not (isDirectory s (inodesIn s) e)) WrongInode
     ∷ row (found (findSlot s (inodesIn s) e name)) NameTaken
     ∷ row (not (found (freeInode s (inodesIn s)))) NoInode
     ∷ row (noBlock s e) NoBlocks
     ∷ row (noSlot s e) NoSlot
-    ∷ row (anyLocked d (e ∷ [])) Busy
+    ∷ row (anyLocked desk (e ∷ [])) Busy
     ∷ [])
 
 unfoldable pub writeTable : List ℕ → List ℕ → List ℕ → ℕ → ℕ → List ℕ → List Row
-writeTable s m d i o xs =
-    liveRows s m d
+writeTable s m desk i o xs =
+    liveRows s m desk
     ++ (row (not (isFile s (inodesIn s) i)) WrongInode
     ∷ row (ltb (sizeOf s i) o || ltb mostFileBytes (o + length xs)) PastEnd
     ∷ row (ltb (headerOf s .«free_blocks») (blocksUsed (max (sizeOf s i) (o + length xs)) - blocksUsed (sizeOf s i))) NoBlocks
-    ∷ row (anyLocked d (i ∷ [])) Busy
+    ∷ row (anyLocked desk (i ∷ [])) Busy
     ∷ [])
 
 unfoldable pub shortenTable : List ℕ → List ℕ → List ℕ → ℕ → ℕ → List Row
-shortenTable s m d i z =
-    liveRows s m d
+shortenTable s m desk i z =
+    liveRows s m desk
     ++ (row (not (isFile s (inodesIn s) i)) WrongInode
     ∷ row (ltb (sizeOf s i) z) PastEnd
-    ∷ row (anyLocked d (i ∷ [])) Busy
+    ∷ row (anyLocked desk (i ∷ [])) Busy
     ∷ [])
 
 unfoldable pub linkTable : List ℕ → List ℕ → List ℕ → ℕ → List ℕ → ℕ → List Row
-linkTable s m d e name i =
-    liveRows s m d
+linkTable s m desk e name i =
+    liveRows s m desk
     ++ (row (not (legalName name)) IllegalName
     ∷ row (not (isDirectory s (inodesIn s) e && isFile s (inodesIn s) i)) WrongInode
     ∷ row (found (findSlot s (inodesIn s) e name)) NameTaken
     ∷ row (noBlock s e) NoBlocks
     ∷ row (noSlot s e) NoSlot
-    ∷ row (anyLocked d (e ∷ i ∷ [])) Busy
+    ∷ row (anyLocked desk (e ∷ i ∷ [])) Busy
     ∷ [])
 
 unfoldable pub unlinkTable : List ℕ → List ℕ → List ℕ → ℕ → List ℕ → List Row
-unlinkTable s m d e name =
+unlinkTable s m desk e name =
     let i = inodeFor s e name in
-    liveRows s m d
+    liveRows s m desk
     ++ (row (not (legalName name)) IllegalName
     ∷ row (not (isDirectory s (inodesIn s) e)) WrongInode
     ∷ row (not (found (findSlot s (inodesIn s) e name))) NameAbsent
     ∷ row (eqb (kindOf s i) directoryKind && not (holdsNone s (inodesIn s) i)) NotEmpty
-    ∷ row (anyLocked d (e ∷ i ∷ [])) Busy
+    ∷ row (anyLocked desk (e ∷ i ∷ [])) Busy
     ∷ [])
 
 -- "7 new name taken by another entry": 10, 12 and 13 are for a move alone
 unfoldable pub renameTable : List ℕ → List ℕ → List ℕ → ℕ → List ℕ → ℕ → List ℕ → List Row
-renameTable s m d e name f other =
+renameTable s m desk e name f other =
     let i = inodeFor s e name in
     let moves = not (eqb e f) in
-    liveRows s m d
+    liveRows s m desk
     ++ (row (not (legalName name && legalName other)) IllegalName
     ∷ row (not (isDirectory s (inodesIn s) e && isDirectory s (inodesIn s) f)) WrongInode
     ∷ row (not (found (findSlot s (inodesIn s) e name))) NameAbsent
@@ -134,25 +134,25 @@ renameTable s m d e name f other =
     ∷ row (moves && isBelow s (inodesIn s) i f) IntoItself
     ∷ row (moves && noBlock s f) NoBlocks
     ∷ row (moves && noSlot s f) NoSlot
-    ∷ row (anyLocked d (pick moves (e ∷ f ∷ i ∷ []) (e ∷ []))) Busy
+    ∷ row (anyLocked desk (pick moves (e ∷ f ∷ i ∷ []) (e ∷ []))) Busy
     ∷ [])
 
 unfoldable pub startTable : List ℕ → List ℕ → List ℕ → List Row
-startTable s m d =
-    guardRows (allFramed s m d) s m d
-    ++ row (isRunning d) WrongState
+startTable s m desk =
+    guardRows (allFramed s m desk) s m desk
+    ++ row (isRunning desk) WrongState
     ∷ []
 
 -- the state question
 abbrev pub askTable : List ℕ → List ℕ → List ℕ → List Row
-askTable s m d = liveRows s m d
+askTable s m desk = liveRows s m desk
 
 -- 16: "a block step with every image block named"
 unfoldable pub stepTable : List ℕ → List ℕ → List ℕ → List Row
-stepTable s m d =
-    let i = deskOf d .locked in
-    let k = deskOf d .progress in
-    liveRows s m d
-    ++ (row (not (isRunning d)) WrongState
-    ∷ row (not (eqb i 0) && (ltb k (blocksUsed (sizeOf s i)) && allTo (blockNamed m (inodesIn s)) (deskOf d .blocks))) ImageFull
+stepTable s m desk =
+    let i = deskOf desk .locked in
+    let k = deskOf desk .progress in
+    liveRows s m desk
+    ++ (row (not (isRunning desk)) WrongState
+    ∷ row (not (eqb i 0) && (ltb k (blocksUsed (sizeOf s i)) && allTo (blockNamed m (inodesIn s)) (deskOf desk .blocks))) ImageFull
     ∷ [])

@@ -1,4 +1,4 @@
--- What read, write and shorten are to do on a sound store, or refusals 5, 9 and 12 in order: by the first condition that holds. n is the count of inodes.
+-- What read, write and shorten are to do on a sound store, or a refusal: that of the first condition that holds. n is the count of inodes.
 use Prim.Native.Nat.{ℕ, _+_, _-_, min, max}
 use mathlib.Core.Bool.{not, _||_}
 use mathlib.Core.List.{List}

@@ -10,48 +10,48 @@ use Rattle.desk.specs.declared.Desk.{Desk}
 
 -- "0-1 N; 2-3 image block count; 4 state; 6-7 locked inode; 8-9 blocks of it copied so far; 12-15 accepted steps of this copy"
 unfoldable pub deskOf : List ℕ → Desk
-deskOf d = record {
-  inodes = numAt 2 d 0;
-  blocks = numAt 2 d 2;
-  state = numAt 1 d 4;
-  locked = numAt 2 d 6;
-  progress = numAt 2 d 8;
-  steps = numAt 4 d 12;
+deskOf desk = record {
+  inodes = numAt 2 desk 0;
+  blocks = numAt 2 desk 2;
+  state = numAt 1 desk 4;
+  locked = numAt 2 desk 6;
+  progress = numAt 2 desk 8;
+  steps = numAt 4 desk 12;
 }
 
 -- bytes 5, 10 and 11 stay
 unfoldable pub putDesk : List ℕ → Desk → List ℕ
-putDesk d h =
-    putNum 4 (putNum 2 (putNum 2 (putNum 1 (putNum 2 (putNum 2 d 0 (h .inodes)) 2 (h .blocks)) 4 (h .state)) 6 (h .locked)) 8 (h .progress)) 12 (h .steps)
+putDesk desk h =
+    putNum 4 (putNum 2 (putNum 2 (putNum 1 (putNum 2 (putNum 2 desk 0 (h .inodes)) 2 (h .blocks)) 4 (h .state)) 6 (h .locked)) 8 (h .progress)) 12 (h .steps)
 
 -- "the rest 0": bytes 5, 10 and 11
 unfoldable pub deskRestZero : List ℕ → Bool
-deskRestZero d = eqb (numAt 1 d 5) 0 && eqb (numAt 2 d 10) 0
+deskRestZero desk = eqb (numAt 1 desk 5) 0 && eqb (numAt 2 desk 10) 0
 
 -- the copied byte of inode i
 unfoldable pub copiedOf : List ℕ → ℕ → ℕ
-copiedOf d i = numAt 1 d (copiedAt i)
+copiedOf desk i = numAt 1 desk (copiedAt i)
 
 unfoldable pub putCopied : List ℕ → ℕ → ℕ → List ℕ
-putCopied d i v = putNum 1 d (copiedAt i) v
+putCopied desk i v = putNum 1 desk (copiedAt i) v
 
 -- the mark word of directory i
 unfoldable pub marksOf : List ℕ → ℕ → ℕ → ℕ
-marksOf d n i = numAt 8 d (marksAt n i)
+marksOf desk n i = numAt 8 desk (marksAt n i)
 
 unfoldable pub putMarks : List ℕ → ℕ → ℕ → ℕ → List ℕ
-putMarks d n i w = putNum 8 d (marksAt n i) w
+putMarks desk n i w = putNum 8 desk (marksAt n i) w
 
 -- the mark of slot t of directory i: read, set and cleared
 unfoldable pub markOf : List ℕ → ℕ → ℕ → ℕ → Bool
-markOf d n i t = marked (marksOf d n i) t
+markOf desk n i t = marked (marksOf desk n i) t
 
 unfoldable pub setMark : List ℕ → ℕ → ℕ → ℕ → List ℕ
-setMark d n i t = putMarks d n i (withMark (marksOf d n i) t)
+setMark desk n i t = putMarks desk n i (withMark (marksOf desk n i) t)
 
 unfoldable pub clearMark : List ℕ → ℕ → ℕ → ℕ → List ℕ
-clearMark d n i t = putMarks d n i (withoutMark (marksOf d n i) t)
+clearMark desk n i t = putMarks desk n i (withoutMark (marksOf desk n i) t)
 
 -- no inode copied, no entry marked
 unfoldable pub clearNotes : List ℕ → ℕ → List ℕ
-clearNotes d n = zeroed d deskHeaderBytes (deskInodeBytes * n)
+clearNotes desk n = zeroed desk deskHeaderBytes (deskInodeBytes * n)

@@ -1,4 +1,4 @@
--- What look up, create, link, unlink and rename are to do on a sound store, or refusals 4 to 13 in order: by the first condition that holds. n and b are the counts of inodes and blocks.
+-- What look up, create, link, unlink and rename are to do on a sound store, or a refusal: that of the first condition that holds. n and b are the counts of inodes and blocks.
 use Prim.Native.Nat.{ℕ}
 use mathlib.Core.Bool.{Bool, not, _&&_}
 use mathlib.Core.List.{List}

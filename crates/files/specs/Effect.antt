@@ -113,7 +113,7 @@ doRename s n d e other (Rename t i) = does (changes 0 (renamed s n d other t i) 
 doRename s n d e other (Move t i r) = does (changes 0 (moved s n d e other t i r) (d ∷ e ∷ i ∷ []) (entry d t i ∷ []) (entry e (r .slot) i ∷ []))
 doRename s n d e other (NoRename f) = refused f
 
--- ---- a call on a sound store: refusals 4 to 13, or what is done
+-- ---- a call on a sound store: a refusal of its plan, or what is done
 abbrev pub planned : Call → List ℕ → ℕ → ℕ → Planned
 planned (lookUp d name) s n b = doLookUp s (lookUpPlan s n d name)
 planned (read i o out) s n b = doRead s n i o out (readPlan s n i o (length out))

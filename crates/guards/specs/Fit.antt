@@ -1,4 +1,4 @@
--- Parts of the paper's tests of desk and image, as the code goes through them: what is told by the desk's header alone, and what is a loop. n is the inode count, m the image, d the desk.
+-- Parts of the paper's tests of desk and image, as the code goes through them: what is told by the desk's header alone, and what is a loop. n is the inode count, m the image.
 use Prim.Native.Nat.{ℕ, _+_, _*_}
 use mathlib.Core.Bool.{Bool, not, _&&_, _||_}
 use mathlib.Core.List.{List}
@@ -18,7 +18,7 @@ blocksRight h = pick (eqb (h .state) idle) (eqb (h .blocks) 0) (leb 1 (h .blocks
 
 -- "copied bytes (0 or 1)"
 abbrev pub copiedRight : List ℕ → ℕ → Bool
-copiedRight d n = allTo (λ i. leb (copiedOf d i) 1) n
+copiedRight desk n = allTo (λ i. leb (copiedOf desk i) 1) n
 
 -- the opposite of "locked inode above N, more than 12 blocks copied, fields 6-9 not zero unless running, steps above 14 × N + 1, or above 14 × N if running"
 abbrev pub countsRight : Desk → Bool
@@ -34,4 +34,4 @@ addressesRight m n b = allBelow (λ x. leb (addressOf m n x) b) (addressCount * 
 
 -- no refusal 3, beside a store of n inodes
 abbrev pub notesRight : ℕ → List ℕ → List ℕ → Bool
-notesRight n m d = deskFits d && (eqb (deskOf d .inodes) n && (not (isRunning d) || imageFits m d))
+notesRight n m desk = deskFits desk && (eqb (deskOf desk .inodes) n && (not (isRunning desk) || imageFits m desk))

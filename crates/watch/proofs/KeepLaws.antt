@@ -2,7 +2,7 @@
 use Prim.Native.Nat.{ℕ, _≤_}
 use mathlib.Core.Path.{_≡_, refl, ap, _∙_}
 use mathlib.Core.Bool.{Bool, true, _&&_}
-use mathlib.Core.List.{List, [], _∷_}
+use mathlib.Core.List.{List, [], _∷_, _++_}
 use mathlib.Core.Logic.{_⊎_, inl, inr}
 use native.Mathlib.Omega.{arith}
 use borrow.Author.Tests.{eqb-true, ltb-true, not-false}
@@ -87,7 +87,7 @@ step-alone w advances = inl refl
 step-alone w asks = inr refl
 
 -- the guards let it through
-framed-if-full : (s m d : List ℕ) {vs : List ℕ} {rs : List Row} {t : Told} → ByTable vs (liveRows s m d rs) t → t .number ≡ refusalNumber ImageFull → deskFramed d ≡ true
+framed-if-full : (s m d : List ℕ) {vs : List ℕ} {rs : List Row} {t : Told} → ByTable vs (liveRows s m d ++ rs) t → t .number ≡ refusalNumber ImageFull → deskFramed d ≡ true
 framed-if-full s m d (holds h) k = absurd (omega arith)
 framed-if-full s m d (passes h b) k = and-right (framedB Store s) (deskFramed d) (not-false (framedB Store s && deskFramed d) h)
 

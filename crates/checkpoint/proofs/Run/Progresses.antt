@@ -47,7 +47,7 @@ module _ (n b : ℕ) (w : World) where
 
   taken-at : Result advances w → refusalOf advances w ≡ refusalNumber ImageFull → ImageTaken w
   taken-at (done h) e = absurd (omega arith)
-  taken-at (refuses lo hi v) e = absurd (omega arith)
+  taken-at (refuses l v) e = absurd (l .full e)
   taken-at (fills h s r) e = r
 
   -- the step that sets byte 8

@@ -7,9 +7,8 @@ use native.Mathlib.Omega.{arith}
 use native.Mathlib.Decide.{ℕ-discrete}
 use Rattle.desk.specs.Desk.{deskOf}
 use Rattle.answers.specs.declared.Refusal.{Refusal}
-use Rattle.answers.specs.declared.Refusal.the-variants.{WrongState, ImageFull}
+use Rattle.answers.specs.declared.Refusal.the-variants.{BadBuffer, UnsoundStore, BadDesk, Busy, WrongState, ImageFull}
 use Rattle.answers.specs.Refusal.{refusalNumber}
-use Rattle.answers.proofs.RefusalLaws.{number-range}
 use Rattle.answers.specs.declared.Answer.{Answer}
 use Rattle.answers.specs.declared.Answer.the-variants.{Done, Refused}
 use Rattle.answers.specs.Told.{Told, told}
@@ -34,14 +33,17 @@ use Rattle.checkpoint.proofs.Run.Ends.{finals, halted}
 use Rattle.checkpoint.proofs.Run.Stops.{stop-leaves}
 use Rattle.checkpoint.proofs.Run.Lists.{Going, runs, rests, fit, start-done}
 
+-- the number of a refusal that neither the guards give nor a full image
+pub record Later (k : ℕ) : Type 0 where
+  pub buffers : k ≢ refusalNumber BadBuffer
+  pub store : k ≢ refusalNumber UnsoundStore
+  pub desk : k ≢ refusalNumber BadDesk
+  pub full : k ≢ refusalNumber ImageFull
+
 pub data Result (e : Event) (w : World) : Type 0 where
   done : refusalOf e w ≡ 0 → Result e w
-  refuses : 4 ≤ refusalOf e w → refusalOf e w ≤ 15 → next e w ≡ w → Result e w
+  refuses : Later (refusalOf e w) → next e w ≡ w → Result e w
   fills : refusalOf e w ≡ refusalNumber ImageFull → Stopped w (next e w) → ImageTaken w → Result e w
-
--- a number from 1 to 16 that is not 1, 2, 3 or 16
-between : (x : ℕ) → 1 ≤ x → x ≤ 16 → x ≢ 1 → x ≢ 2 → x ≢ 3 → x ≢ 16 → (4 ≤ x) × (x ≤ 15)
-between x l m a b c d = (omega arith, omega arith)
 
 -- ---- a file call
 module _ (n b : ℕ) (w : World) (g : Going n b w) (c : Call) where
@@ -49,22 +51,18 @@ module _ (n b : ℕ) (w : World) (g : Going n b w) (c : Call) where
   unfolding outcome
   kept f h = next-is (call c) w _ (ap shown (live-refused c w f h))
 
-  not-first : (f : Refusal) → live c w .answer ≡ Refused f → (4 ≤ refusalNumber f) × (refusalNumber f ≤ 15)
-  not-first f h = elim (ℕ-discrete (refusalNumber f) 14) [
-    | yes e ↦ (omega arith, omega arith)
+  later : Later (numberOf (live c w .answer))
+  later = elim (ℕ-discrete (numberOf (live c w .answer)) (refusalNumber Busy)) [
+    | yes e ↦ record { buffers = λ z. omega arith; store = λ z. omega arith; desk = λ z. omega arith; full = λ z. omega arith }
     | no e ↦
-        let k : numberOf (live c w .answer) ≡ refusalNumber f = ap numberOf h in
-        let a = guards-pass c w (fit g) (λ z. e (sym k ∙ z)) in
-        let p = plain-never c (w .store) in
-        let q : numberOf (live c w .answer) ≢ 16 = λ z. p .sixteenth (ap numberOf (sym (a .answer)) ∙ z) in
-        let r = number-range f in
-        between (refusalNumber f) (r .0) (r .1) (λ z. a .first (k ∙ z)) (λ z. a .second (k ∙ z)) (λ z. a .third (k ∙ z)) (λ z. q (k ∙ z))
+        let a = guards-pass c w (fit g) e in
+        record { buffers = a .first; store = a .second; desk = a .third; full = λ z. plain-never c (w .store) .sixteenth (ap numberOf (sym (a .answer)) ∙ z) }
   ]
 
   answered : (a : Answer) → live c w .answer ≡ a → Result (call c) w
   unfolding outcome
   answered (Done x) h = done (ap numberOf h)
-  answered (Refused f) h = let k = not-first f h in let e = ap numberOf h in refuses (omega arith) (omega arith) (kept f h)
+  answered (Refused f) h = refuses later (kept f h)
 
   call-result : Result (call c) w
   call-result = answered (live c w .answer) refl
@@ -91,7 +89,7 @@ module _ (n b : ℕ) (w : World) where
   step-result r (halts f) = fills (number-is advances _ (halted n b w r f .answer)) (stop-is r f) (taken-is r f)
 
   wrong : (e : Event) → outcome e w ≡ shown (refuse WrongState (w .store) (w .image) (w .desk)) → Result e w
-  wrong e h = let k = number-is e (told (Refused WrongState)) (ap (λ (o : Shown). o .answer) h) in refuses (omega arith) (omega arith) (next-is e w _ h)
+  wrong e h = let k = number-is e (told (Refused WrongState)) (ap (λ (o : Shown). o .answer) h) in refuses (record { buffers = λ z. omega arith; store = λ z. omega arith; desk = λ z. omega arith; full = λ z. omega arith }) (next-is e w _ h)
 
   -- the state question tells what the desk says
   pub asked : Going n b w → outcome asks w .answer ≡ toldStatus (Is (deskOf (w .desk) .state) (deskOf (w .desk) .locked) (deskOf (w .desk) .steps))
@@ -109,7 +107,7 @@ module _ (n b : ℕ) (w : World) where
   -- ---- demand 1
   from-result : (e : Event) → Result e w → Refusals e w
   from-result e (done h) = record { buffers = λ z. omega arith; store = λ z. omega arith; desk = λ z. omega arith; keeps = λ z y. absurd (z h); stops = λ z. absurd (omega arith) }
-  from-result e (refuses lo hi v) = record { buffers = λ z. omega arith; store = λ z. omega arith; desk = λ z. omega arith; keeps = λ z y. v; stops = λ z. absurd (omega arith) }
+  from-result e (refuses l v) = record { buffers = l .buffers; store = l .store; desk = l .desk; keeps = λ z y. v; stops = λ z. absurd (l .full z) }
   from-result e (fills h s r) = record { buffers = λ z. omega arith; store = λ z. omega arith; desk = λ z. omega arith; keeps = λ z y. absurd (y h); stops = λ z. s }
 
   pub refusals : (e : Event) → Going n b w → Refusals e w
