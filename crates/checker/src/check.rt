@@ -41,7 +41,12 @@ pub fn framed(form: Form, s: &[u8]) -> bool
         return false;
     }
     let h = Header::read(s);
-    allowed(block_limit(form), h.inodes as usize, h.blocks as usize, s.len())
+    allowed(
+        block_limit(form),
+        h.inodes as usize,
+        h.blocks as usize,
+        s.len(),
+    )
 }
 
 // Byte 8, the root and the reserved bytes; the root is a directory that has no parent.
