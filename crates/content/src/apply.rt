@@ -27,7 +27,9 @@ use layout::free::named_blocks;
 use layout::header::Header;
 use layout::header::put_free;
 use layout::inode::Inode;
+use layout::sizes::ADDRESS_COUNT;
 use layout::sizes::BLOCK_BYTES;
+use layout::sizes::BLOCK_PLACES;
 
 // Where byte x of the inode stands.
 fn byte_at(s: &[u8], n: usize, i: usize, x: usize) -> usize
@@ -89,7 +91,7 @@ pub fn less_free(s: &mut [u8], inodes: u16, blocks: u16)
 }
 
 // The inode with another size and other addresses.
-fn with_blocks(v: Inode, z: usize, a: [u16; 12]) -> Inode
+fn with_blocks(v: Inode, z: usize, a: [u16; ADDRESS_COUNT]) -> Inode
     requires { ⌜ z ≤ mostFileBytes ⌝ }
     ensures { λ r. ⌜ r ≡ withBlocks v z a ⌝ }
 {
@@ -116,11 +118,11 @@ fn zero_rest(s: &mut [u8], n: usize, i: usize, z: usize)
 }
 
 // The first k addresses, 0 for the rest.
-fn keep_first(a: [u16; 12], k: usize) -> [u16; 12]
+fn keep_first(a: [u16; ADDRESS_COUNT], k: usize) -> [u16; ADDRESS_COUNT]
     requires { ⌜ k ≤ addressCount ⌝ }
     ensures { λ r. ⌜ r ≡ keepFirst a k ⌝ }
 {
-    let mut kept = [0u16; 12];
+    let mut kept = [0u16; ADDRESS_COUNT];
     for j in 0..k {
         kept[j] = a[j];
     }
@@ -156,7 +158,7 @@ pub fn add_block(s: &mut [u8], n: usize, b: usize, i: usize, c: usize)
 }
 
 // The lowest of the blocks from first to last that the map does not have.
-fn next_unnamed(map: &[u8; 4097], first: usize, last: usize) -> usize
+fn next_unnamed(map: &[u8; BLOCK_PLACES], first: usize, last: usize) -> usize
     requires { ⌜ (last ≤ mostImageBlocks) × (firstFrom (λ b. eqb (getD (now map) b 0) 0) first (last + 1 - first) ≡ Absent → ⊥) ⌝ }
     ensures { λ r. ⌜ firstFrom (λ b. eqb (getD (now (map .entry)) b 0) 0) first (last + 1 - first) ≡ At r ⌝ }
 {

@@ -5,7 +5,6 @@ ghost use lib.ListN.{length};
 ghost use Rattle.desk.specs.Sizes.{deskHeaderBytes, deskLength, deskAllowed};
 ghost use Rattle.desk.specs.Desk.{deskOf, putDesk, deskRestZero, copiedOf, putCopied, marksOf, putMarks, markOf, setMark, clearMark, clearNotes};
 ghost use Rattle.desk.specs.Next.{starting, locking, copyingOne, unlocking, finishing, stopping};
-
 use layout::sizes::MOST_BLOCKS;
 use layout::sizes::MOST_INODES;
 

@@ -24,6 +24,7 @@ use content::apply::more_free;
 use layout::block::blocks_used;
 use layout::inode;
 use layout::inode::Inode;
+use layout::sizes::ADDRESS_COUNT;
 use layout::sizes::DIRECTORY;
 use layout::sizes::FILE;
 use layout::sizes::FREE;
@@ -62,14 +63,14 @@ fn new_inode(kind: Kind, d: usize) -> Inode
             links: 1,
             size: 0,
             parent: 0,
-            addresses: [0u16; 12],
+            addresses: [0u16; ADDRESS_COUNT],
         },
         Kind::Directory => Inode {
             kind: DIRECTORY,
             links: 1,
             size: 0,
             parent: d as u16,
-            addresses: [0u16; 12],
+            addresses: [0u16; ADDRESS_COUNT],
         },
     }
 }
@@ -113,7 +114,7 @@ fn zero_inode() -> Inode
         links: 0,
         size: 0,
         parent: 0,
-        addresses: [0u16; 12],
+        addresses: [0u16; ADDRESS_COUNT],
     }
 }
 

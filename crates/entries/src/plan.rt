@@ -23,7 +23,6 @@ use content::NumberPlan;
 use content::plan::is_kind;
 use layout::free;
 use layout::inode;
-use layout::sizes::ADDRESS_COUNT;
 use layout::sizes::DIRECTORY;
 use layout::sizes::FILE;
 use layout::sizes::ROOT;
@@ -54,7 +53,7 @@ fn room_in(s: &[u8], n: usize, b: usize, d: usize) -> RoomPlan
         return RoomPlan::Has(Room { slot: t, block: 0 });
     }
     let slots = directory::slot_count(s, n, d);
-    if directory::SLOTS_IN_BLOCK * ADDRESS_COUNT <= slots {
+    if directory::MOST_SLOTS <= slots {
         return RoomPlan::NoRoom(Refusal::NoSlot);
     }
     let Found::At(c) = free::free_block(s, n, b) else {

@@ -11,6 +11,7 @@ use desk::IDLE;
 use layout::block::allowed;
 use layout::header::Header;
 use layout::inode::Inode;
+use layout::sizes::ADDRESS_COUNT;
 use layout::sizes::COMPLETE;
 use layout::sizes::DIRECTORY;
 use layout::sizes::MOST_STORE_BLOCKS;
@@ -38,7 +39,7 @@ fn empty_root() -> Inode
         links: 0,
         size: 0,
         parent: 0,
-        addresses: [0u16; 12],
+        addresses: [0u16; ADDRESS_COUNT],
     }
 }
 

@@ -21,8 +21,8 @@ use layout::sizes::ADDRESS_COUNT;
 use layout::sizes::BLOCK_BYTES;
 use layout::sizes::HEADER_BYTES;
 use layout::sizes::INODE_BYTES;
-use layout::sizes::MOST_IMAGE_BLOCKS;
 use layout::sizes::MOST_BLOCKS;
+use layout::sizes::MOST_IMAGE_BLOCKS;
 use layout::sizes::NOT_COMPLETE;
 use layout::sizes::ROOT;
 
