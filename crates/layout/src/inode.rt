@@ -3,8 +3,8 @@ ghost use mathlib.Core.Path.{_≡_};
 ghost use Prim.Native.Nat.{_+_, _*_, _<_, _≤_};
 ghost use lib.ListN.{length};
 ghost use Rattle.octets.specs.Octets.{splice, wordBytes};
-ghost use Rattle.layout.specs.Sizes.{headerBytes, inodeBytes, addressCount, addressBytes, mostInodes};
-ghost use Rattle.layout.specs.Inode.{InodeFits, attributesAt, addressAt, kindOf, spareOf, linksOf, sizeOf, parentOf, attributesZero, addressesZero, putLinks, putAttributes, addressOf, putAddress, addressesOf, inodeOf, putInode};
+ghost use Rattle.layout.specs.Sizes.{headerBytes, inodeBytes, addressCount, addressBytes, mostInodes, mostFileBytes};
+ghost use Rattle.layout.specs.Inode.{InodeFits, attributesAt, addressAt, kindOf, spareOf, linksOf, sizeOf, parentOf, attributesZero, addressesZero, putLinks, putAttributes, addressOf, putAddress, addressesOf, inodeOf, putInode, emptyInode, withLinks, withSize, withBlocks, withParent};
 use crate::sizes::ADDRESS_COUNT;
 use crate::sizes::ATTRIBUTE_BYTES;
 use crate::sizes::HEADER_BYTES;
@@ -129,6 +129,52 @@ fn put_words(s: &mut [u8], o: usize, a: [u16; ADDRESS_COUNT])
 }
 
 impl Inode {
+    // One of the kind with no links, no bytes, no parent and no blocks.
+    pub fn empty(kind: u8) -> Inode
+        ensures { λ r. ⌜ r ≡ emptyInode kind ⌝ }
+    {
+        Inode {
+            kind,
+            links: 0,
+            size: 0,
+            parent: 0,
+            addresses: [0u16; ADDRESS_COUNT],
+        }
+    }
+
+    pub fn with_links(mut self, links: u16) -> Inode
+        ensures { λ r. ⌜ r ≡ withLinks self links ⌝ }
+    {
+        self.links = links;
+        self
+    }
+
+    pub fn with_size(mut self, size: usize) -> Inode
+        requires { ⌜ size ≤ mostFileBytes ⌝ }
+        ensures { λ r. ⌜ r ≡ withSize self size ⌝ }
+    {
+        self.size = size as u16;
+        self
+    }
+
+    // Another size, and the blocks that it uses.
+    pub fn with_blocks(mut self, size: usize, addresses: [u16; ADDRESS_COUNT]) -> Inode
+        requires { ⌜ size ≤ mostFileBytes ⌝ }
+        ensures { λ r. ⌜ r ≡ withBlocks self size addresses ⌝ }
+    {
+        self.size = size as u16;
+        self.addresses = addresses;
+        self
+    }
+
+    pub fn with_parent(mut self, parent: usize) -> Inode
+        requires { ⌜ parent ≤ mostInodes ⌝ }
+        ensures { λ r. ⌜ r ≡ withParent self parent ⌝ }
+    {
+        self.parent = parent as u16;
+        self
+    }
+
     pub fn read(s: &[u8], n: usize, i: usize) -> Inode
         requires { ⌜ InodeFits (now s) n i ⌝ }
         ensures { λ r. ⌜ r ≡ inodeOf (now (s .entry)) n i ⌝ }
