@@ -15,9 +15,11 @@ use layout::block::allowed;
 use layout::header;
 use layout::header::Header;
 use layout::inode;
+use layout::sizes::BLOCK_PLACES;
 use layout::sizes::COMPLETE;
 use layout::sizes::DIRECTORY;
 use layout::sizes::HEADER_BYTES;
+use layout::sizes::INODE_PLACES;
 use layout::sizes::MOST_IMAGE_BLOCKS;
 use layout::sizes::MOST_STORE_BLOCKS;
 use layout::sizes::ROOT;
@@ -90,11 +92,11 @@ pub fn body_right(form: Form, s: &[u8], n: usize, b: usize) -> bool
     if !header_right(s, n) {
         return false;
     }
-    let mut map = [0u8; 4097];
+    let mut map = [0u8; BLOCK_PLACES];
     if !inodes::inodes_right(s, n, b, &mut map) {
         return false;
     }
-    let mut counts = [0u16; 257];
+    let mut counts = [0u16; INODE_PLACES];
     if !entries::entries_right(s, n, &mut counts) {
         return false;
     }

@@ -8,10 +8,12 @@ ghost use Rattle.bounded.specs.Below.{allBelow};
 ghost use Rattle.bounded.specs.Count.{Tallied};
 ghost use Rattle.layout.specs.Sizes.{mostInodes};
 ghost use Rattle.layout.specs.Inode.{kindOf, directoryKind};
-ghost use Rattle.directory.specs.Slot.{DirFits, mostSlots, slots, slotAt};
+ghost use Rattle.directory.specs.Slot.{DirFits, slotsInBlock, mostSlots, slots, slotAt};
 ghost use Rattle.sound.specs.Place.{naming, placeOf};
 ghost use Rattle.sound.specs.Test.{namingB, entryB};
 ghost use Rattle.checker.specs.Pass.{Passed};
+use directory::MOST_SLOTS;
+use directory::SLOTS_IN_BLOCK;
 use layout::inode;
 use layout::sizes::DIRECTORY;
 use layout::sizes::FREE;
@@ -104,17 +106,17 @@ fn block_right(
     high: &mut [u64],
     counts: &mut [u16],
 ) -> bool
-    requires { ⌜ DirFits (now s) n d × (4 * k < slots (now s) d) × (kindOf (now s) d ≡ directoryKind) ⌝ }
-    requires { ⌜ Passed (now s) n d (4 * k) (placeOf d (4 * k)) (now low) (now high) (now counts) ⌝ }
-    ensures { λ r. ⌜ (r ≡ allBelow (λ j. entryB (now (s .entry)) n (placeOf d (4 * k + j))) 4) × (r ≡ true → Passed (now (s .entry)) n d (4 * k + 4) (placeOf d (4 * k + 4)) (now (low .exit)) (now (high .exit)) (now (counts .exit))) ⌝ }
+    requires { ⌜ DirFits (now s) n d × (slotsInBlock * k < slots (now s) d) × (kindOf (now s) d ≡ directoryKind) ⌝ }
+    requires { ⌜ Passed (now s) n d (slotsInBlock * k) (placeOf d (slotsInBlock * k)) (now low) (now high) (now counts) ⌝ }
+    ensures { λ r. ⌜ (r ≡ allBelow (λ j. entryB (now (s .entry)) n (placeOf d (slotsInBlock * k + j))) slotsInBlock) × (r ≡ true → Passed (now (s .entry)) n d (slotsInBlock * k + slotsInBlock) (placeOf d (slotsInBlock * k + slotsInBlock)) (now (low .exit)) (now (high .exit)) (now (counts .exit))) ⌝ }
 {
     let o = directory::block_start(s, n, d, k);
-    for j in 0..4 {
+    for j in 0..SLOTS_IN_BLOCK {
         if !slot_right(
             s,
             n,
             d,
-            4 * k + j,
+            SLOTS_IN_BLOCK * k + j,
             o + ENTRY_BYTES * j,
             &mut *low,
             &mut *high,
@@ -141,7 +143,7 @@ fn directory_right(
     if inode::kind(s, n, d) != DIRECTORY {
         return true;
     }
-    let blocks = directory::slot_count(s, n, d) / 4;
+    let blocks = directory::slot_count(s, n, d) / SLOTS_IN_BLOCK;
     for k in 0..blocks {
         if !block_right(s, n, d, k, &mut *low, &mut *high, &mut *counts) {
             return false;
@@ -155,8 +157,8 @@ pub fn entries_right(s: &[u8], n: usize, counts: &mut [u16]) -> bool
     requires { ⌜ (n ≤ mostInodes) × ((d : ℕ) → 1 ≤ d → d ≤ n → DirFits (now s) n d) × (now counts ≡ replicate (mostInodes + 1) 0) ⌝ }
     ensures { λ r. ⌜ (r ≡ allBelow (entryB (now (s .entry)) n) (mostSlots * n)) × (r ≡ true → Tallied (naming (now (s .entry)) n) 1 (mostInodes + 1) (mostSlots * n) (now (counts .exit))) ⌝ }
 {
-    let mut low = [0u64; 48];
-    let mut high = [0u64; 48];
+    let mut low = [0u64; MOST_SLOTS];
+    let mut high = [0u64; MOST_SLOTS];
     for k in 0..n {
         if !directory_right(s, n, k + 1, &mut low, &mut high, &mut *counts) {
             return false;

@@ -15,6 +15,7 @@ ghost use Rattle.checker.specs.Pass.{Known};
 use layout::inode;
 use layout::sizes::DIRECTORY;
 use layout::sizes::FREE;
+use layout::sizes::INODE_PLACES;
 use layout::sizes::ROOT;
 
 // Inode i, which count entries name.
@@ -101,7 +102,7 @@ pub fn parents_right(s: &[u8], n: usize) -> bool
     requires { ⌜ (1 ≤ n) × (n ≤ mostInodes) × (headerBytes + inodeBytes * n ≤ length (now s)) × Closed (IsDir (now s) n) (parentOf (now s)) rootInode n ⌝ }
     ensures { λ r. ⌜ r ≡ allTo (leadB (now (s .entry)) n) n ⌝ }
 {
-    let mut known = [0u8; 257];
+    let mut known = [0u8; INODE_PLACES];
     known[ROOT] = 1;
     for k in 0..n {
         if !parent_right(s, n, k + 1, &mut known) {

@@ -11,7 +11,7 @@ use Rattle.bounded.specs.declared.Found.the-variants.{At}
 use Rattle.octets.specs.Octets.{part, splice}
 use Rattle.layout.specs.Sizes.{rootInode, isComplete, notComplete}
 use Rattle.layout.specs.Header.{putHeader, putFree, putComplete}
-use Rattle.layout.specs.Inode.{kindOf, sizeOf, inodeOf, putAttributes, putLinks, putAddress, addressIndex, directoryKind}
+use Rattle.layout.specs.Inode.{kindOf, sizeOf, inodeOf, putAttributes, putLinks, putAddress, addressIndex, directoryKind, withLinks}
 use Rattle.layout.specs.Block.{blockOf, putInBlock, blocksUsed, kthBlock}
 use Rattle.layout.specs.Free.{blockNamed, freeBlock, inodeFree, blockFree}
 use Rattle.layout.specs.declared.inode.Inode.{Inode}
@@ -82,7 +82,7 @@ copiedBlock s desk n i k =
 
 -- 4: "the image attributes, which are the store's with link count 0"
 abbrev pub unlinkedInode : Inode → Inode
-unlinkedInode v = record { kind = v .kind; links = 0; size = v .size; parent = v .parent; addresses = v .addresses }
+unlinkedInode v = withLinks v 0
 
 -- 5: "write link counts and free counts": those of the first k inodes
 unfoldable pub putCounts : List ℕ → List ℕ → ℕ → ℕ → List ℕ

@@ -9,7 +9,7 @@ ghost use Rattle.bounded.specs.declared.Found.the-variants.{At, Absent};
 ghost use Rattle.octets.specs.Octets.{splice};
 ghost use Rattle.layout.specs.Sizes.{headerBytes, addressCount, mostImageBlocks, blockBytes, mostFileBytes};
 ghost use Rattle.layout.specs.Header.{headerOf, lessFree, moreFree};
-ghost use Rattle.layout.specs.Inode.{InodeFits, sizeOf, inodeOf, isFile, withBlocks};
+ghost use Rattle.layout.specs.Inode.{InodeFits, sizeOf, inodeOf, isFile};
 ghost use Rattle.layout.specs.Block.{Sized, blocksUsed, kthBlock};
 ghost use Rattle.sound.specs.Sound.{Sound, inodesIn, blocksIn};
 ghost use Rattle.sound.specs.declared.Form.the-variants.{Store};
@@ -27,7 +27,9 @@ use layout::free::named_blocks;
 use layout::header::Header;
 use layout::header::put_free;
 use layout::inode::Inode;
+use layout::sizes::ADDRESS_COUNT;
 use layout::sizes::BLOCK_BYTES;
+use layout::sizes::BLOCK_PLACES;
 
 // Where byte x of the inode stands.
 fn byte_at(s: &[u8], n: usize, i: usize, x: usize) -> usize
@@ -88,20 +90,6 @@ pub fn less_free(s: &mut [u8], inodes: u16, blocks: u16)
     put_free(&mut *s, h.free_inodes - inodes, h.free_blocks - blocks);
 }
 
-// The inode with another size and other addresses.
-fn with_blocks(v: Inode, z: usize, a: [u16; 12]) -> Inode
-    requires { ⌜ z ≤ mostFileBytes ⌝ }
-    ensures { λ r. ⌜ r ≡ withBlocks v z a ⌝ }
-{
-    Inode {
-        kind: v.kind,
-        links: v.links,
-        size: z as u16,
-        parent: v.parent,
-        addresses: a,
-    }
-}
-
 // Zeroes the rest of the block that the size z ends in.
 fn zero_rest(s: &mut [u8], n: usize, i: usize, z: usize)
     requires { ⌜ FileFits (now s) n i z ⌝ }
@@ -116,11 +104,11 @@ fn zero_rest(s: &mut [u8], n: usize, i: usize, z: usize)
 }
 
 // The first k addresses, 0 for the rest.
-fn keep_first(a: [u16; 12], k: usize) -> [u16; 12]
+fn keep_first(a: [u16; ADDRESS_COUNT], k: usize) -> [u16; ADDRESS_COUNT]
     requires { ⌜ k ≤ addressCount ⌝ }
     ensures { λ r. ⌜ r ≡ keepFirst a k ⌝ }
 {
-    let mut kept = [0u16; 12];
+    let mut kept = [0u16; ADDRESS_COUNT];
     for j in 0..k {
         kept[j] = a[j];
     }
@@ -137,7 +125,7 @@ pub fn shorten_file(s: &mut [u8], n: usize, i: usize, z: usize)
     let freed = blocks_used(old.size as usize) - kept;
     let a = old.addresses;
     zero_rest(&mut *s, n, i, z);
-    with_blocks(old, z, keep_first(a, kept)).write(&mut *s, n, i);
+    old.with_blocks(z, keep_first(a, kept)).write(&mut *s, n, i);
     more_free(&mut *s, 0, freed as u16);
 }
 
@@ -151,12 +139,13 @@ pub fn add_block(s: &mut [u8], n: usize, b: usize, i: usize, c: usize)
     let mut a = old.addresses;
     a[k] = c as u16;
     zero_block(&mut *s, n, b, c);
-    with_blocks(old, BLOCK_BYTES * (k + 1), a).write(&mut *s, n, i);
+    old.with_blocks(BLOCK_BYTES * (k + 1), a)
+        .write(&mut *s, n, i);
     less_free(&mut *s, 0, 1);
 }
 
 // The lowest of the blocks from first to last that the map does not have.
-fn next_unnamed(map: &[u8; 4097], first: usize, last: usize) -> usize
+fn next_unnamed(map: &[u8; BLOCK_PLACES], first: usize, last: usize) -> usize
     requires { ⌜ (last ≤ mostImageBlocks) × (firstFrom (λ b. eqb (getD (now map) b 0) 0) first (last + 1 - first) ≡ Absent → ⊥) ⌝ }
     ensures { λ r. ⌜ firstFrom (λ b. eqb (getD (now (map .entry)) b 0) 0) first (last + 1 - first) ≡ At r ⌝ }
 {
@@ -182,7 +171,7 @@ fn grow(s: &mut [u8], n: usize, b: usize, i: usize, old: Inode, m: usize, z: usi
         zero_block(&mut *s, n, b, taken);
         a[used + j] = taken as u16;
     }
-    with_blocks(old, z, a).write(&mut *s, n, i);
+    old.with_blocks(z, a).write(&mut *s, n, i);
     less_free(&mut *s, 0, m as u16);
 }
 
@@ -191,8 +180,7 @@ fn put_size(s: &mut [u8], n: usize, i: usize, old: Inode, z: usize)
     requires { ⌜ InodeFits (now s) n i × (old ≡ inodeOf (now s) n i) × (z ≤ mostFileBytes) ⌝ }
     ensures { λ _. ⌜ now (s .exit) ≡ putSize (now (s .entry)) n i z ⌝ }
 {
-    let a = old.addresses;
-    with_blocks(old, z, a).write_attributes(&mut *s, n, i);
+    old.with_size(z).write_attributes(&mut *s, n, i);
 }
 
 // The size z with the blocks that it needs. The record is read here alone, changed by value and written once.

@@ -63,9 +63,9 @@ fn close(s: &[u8], m: &mut [u8], d: &mut [u8], h: Desk, n: usize) -> Answer
     ensures { λ r. ⌜ left r (now (s .entry)) (now (m .exit)) (now (d .exit)) ≡ doStep (now (s .entry)) (now (m .entry)) (now (d .entry)) n (close (h .locked)) ⌝ }
 {
     let i = h.locked as usize;
-    let mut v = Inode::read(s, n, i);
-    v.links = 0;
-    v.write_attributes(&mut *m, n, i);
+    Inode::read(s, n, i)
+        .with_links(0)
+        .write_attributes(&mut *m, n, i);
     desk::put_copied(&mut *d, i, 1);
     let freed = h.unlock();
     freed.write(&mut *d);

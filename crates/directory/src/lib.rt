@@ -4,15 +4,20 @@ ghost use Prim.Native.Nat.{_+_, _*_, _<_, _≤_};
 ghost use lib.ListN.{length};
 ghost use Rattle.octets.specs.Octets.{part};
 ghost use Rattle.bounded.specs.Search.{first};
+ghost use Rattle.layout.specs.Sizes.{blockBytes};
 ghost use Rattle.layout.specs.Block.{blockAt, kthBlock};
 ghost use Rattle.names.specs.Name.{nameBytes};
-ghost use Rattle.names.specs.Entry.{isEmpty, wordsAt, sameWords, entryInode};
-ghost use Rattle.directory.specs.Slot.{mostSlots, slots, slotAt, entryOf, findSlot, emptySlot, putEntry, clearEntry, DirFits};
+ghost use Rattle.names.specs.Entry.{entryBytes, nameAt, isEmpty, wordsAt, sameWords, entryInode};
+ghost use Rattle.directory.specs.Slot.{slotsInBlock, mostSlots, slots, slotAt, entryOf, findSlot, emptySlot, putEntry, clearEntry, DirFits};
 use bounded::Found;
+use layout::sizes::BLOCK_BYTES;
+use layout::sizes::MOST_DIRECTORY_BLOCKS;
 use names::ENTRY_BYTES;
 use names::Name;
 
 pub const SLOTS_IN_BLOCK: usize = 4;
+
+pub const MOST_SLOTS: usize = SLOTS_IN_BLOCK * MOST_DIRECTORY_BLOCKS;
 
 // How many slots the directory has.
 pub fn slot_count(s: &[u8], n: usize, d: usize) -> usize
@@ -24,8 +29,8 @@ pub fn slot_count(s: &[u8], n: usize, d: usize) -> usize
 
 // Where the k-th block of the directory starts.
 pub fn block_start(s: &[u8], n: usize, d: usize, k: usize) -> usize
-    requires { ⌜ DirFits (now s) n d × (4 * k < slots (now s) d) ⌝ }
-    ensures { λ r. ⌜ (r ≡ blockAt n (kthBlock (now (s .entry)) n d k)) × (r + 64 ≤ length (now (s .entry))) ⌝ }
+    requires { ⌜ DirFits (now s) n d × (slotsInBlock * k < slots (now s) d) ⌝ }
+    ensures { λ r. ⌜ (r ≡ blockAt n (kthBlock (now (s .entry)) n d k)) × (r + blockBytes ≤ length (now (s .entry))) ⌝ }
 {
     let b = layout::block::kth_block(s, n, d, k) as usize;
     layout::block::block_at(n, b)
@@ -34,15 +39,15 @@ pub fn block_start(s: &[u8], n: usize, d: usize, k: usize) -> usize
 // Where slot t of the directory starts.
 pub fn slot_at(s: &[u8], n: usize, d: usize, t: usize) -> usize
     requires { ⌜ DirFits (now s) n d × (t < slots (now s) d) ⌝ }
-    ensures { λ r. ⌜ (r ≡ slotAt (now (s .entry)) n d t) × (r + 16 ≤ length (now (s .entry))) ⌝ }
+    ensures { λ r. ⌜ (r ≡ slotAt (now (s .entry)) n d t) × (r + entryBytes ≤ length (now (s .entry))) ⌝ }
 {
     block_start(s, n, d, t / SLOTS_IN_BLOCK) + ENTRY_BYTES * (t % SLOTS_IN_BLOCK)
 }
 
 // The lowest slot of a block that has the name.
 fn named_in_block(block: &[u8], name: Name) -> Found
-    requires { ⌜ length (now block) ≡ 64 ⌝ }
-    ensures { λ r. ⌜ r ≡ first (λ j. sameWords (wordsAt (part (now (block .entry)) (16 * j) 16) 2) name) 4 ⌝ }
+    requires { ⌜ length (now block) ≡ blockBytes ⌝ }
+    ensures { λ r. ⌜ r ≡ first (λ j. sameWords (wordsAt (part (now (block .entry)) (entryBytes * j) entryBytes) nameAt) name) slotsInBlock ⌝ }
 {
     for j in 0..SLOTS_IN_BLOCK {
         let o = ENTRY_BYTES * j;
@@ -55,8 +60,8 @@ fn named_in_block(block: &[u8], name: Name) -> Found
 
 // The lowest empty slot of a block.
 fn empty_in_block(block: &[u8]) -> Found
-    requires { ⌜ length (now block) ≡ 64 ⌝ }
-    ensures { λ r. ⌜ r ≡ first (λ j. isEmpty (part (now (block .entry)) (16 * j) 16)) 4 ⌝ }
+    requires { ⌜ length (now block) ≡ blockBytes ⌝ }
+    ensures { λ r. ⌜ r ≡ first (λ j. isEmpty (part (now (block .entry)) (entryBytes * j) entryBytes)) slotsInBlock ⌝ }
 {
     for j in 0..SLOTS_IN_BLOCK {
         let o = ENTRY_BYTES * j;
@@ -76,7 +81,7 @@ pub fn find_slot(s: &[u8], n: usize, d: usize, name: &[u8]) -> Found
     let count = slot_count(s, n, d);
     for k in 0..count / SLOTS_IN_BLOCK {
         let o = block_start(s, n, d, k);
-        let found = named_in_block(&s[o..o + 64], words);
+        let found = named_in_block(&s[o..o + BLOCK_BYTES], words);
         if let Found::At(j) = found {
             return Found::At(SLOTS_IN_BLOCK * k + j);
         }
@@ -92,7 +97,7 @@ pub fn empty_slot(s: &[u8], n: usize, d: usize) -> Found
     let count = slot_count(s, n, d);
     for k in 0..count / SLOTS_IN_BLOCK {
         let o = block_start(s, n, d, k);
-        let found = empty_in_block(&s[o..o + 64]);
+        let found = empty_in_block(&s[o..o + BLOCK_BYTES]);
         if let Found::At(j) = found {
             return Found::At(SLOTS_IN_BLOCK * k + j);
         }

@@ -2,12 +2,10 @@
 use Prim.Native.Nat.{ℕ, _+_, _-_}
 use mathlib.Core.List.{List}
 use lib.Dec.{eqb, leb}
-use lib.ListN.{replicate}
 use Rattle.bounded.specs.Search.{pick}
-use Rattle.layout.specs.Sizes.{addressCount}
 use Rattle.layout.specs.Header.{lessFree, moreFree}
 use Rattle.layout.specs.declared.inode.Inode.{Inode}
-use Rattle.layout.specs.Inode.{kindOf, linksOf, sizeOf, inodeOf, putInode, putAttributes, putLinks, fileKind, directoryKind, zeroInode, withParent}
+use Rattle.layout.specs.Inode.{kindOf, linksOf, sizeOf, inodeOf, putInode, putAttributes, putLinks, fileKind, directoryKind, emptyInode, zeroInode, withLinks, withParent}
 use Rattle.layout.specs.Block.{blocksUsed}
 use Rattle.directory.specs.Slot.{putEntry, clearEntry}
 use Rattle.entries.specs.declared.Room.{Room}
@@ -21,8 +19,8 @@ enter s n d r i name = putEntry (makeRoom s n d r) n d (r .slot) i name
 
 -- a new inode that the directory d names: empty, with one link; "parent directory (2; 0 for files and root)"
 abbrev pub newInode : Kind → ℕ → Inode
-newInode File d = record { kind = fileKind; links = 1; size = 0; parent = 0; addresses = replicate addressCount 0 }
-newInode Directory d = record { kind = directoryKind; links = 1; size = 0; parent = d; addresses = replicate addressCount 0 }
+newInode File d = withLinks (emptyInode fileKind) 1
+newInode Directory d = withParent (withLinks (emptyInode directoryKind) 1) d
 
 unfoldable pub created : List ℕ → ℕ → ℕ → List ℕ → Kind → ℕ → Room → List ℕ
 created s n d name k i r = lessFree (putInode (enter s n d r i name) n i (newInode k d)) 1 0

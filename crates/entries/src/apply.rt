@@ -6,7 +6,7 @@ ghost use lib.ListN.{length};
 ghost use Rattle.bounded.specs.declared.Found.the-variants.{At};
 ghost use Rattle.layout.specs.Sizes.{mostInodes, mostStoreBlocks};
 ghost use Rattle.layout.specs.Header.{headerOf, moreFree};
-ghost use Rattle.layout.specs.Inode.{InodeFits, sizeOf, putInode, isFile, isDirectory, zeroInode, withParent};
+ghost use Rattle.layout.specs.Inode.{InodeFits, sizeOf, putInode, isFile, isDirectory, zeroInode};
 ghost use Rattle.layout.specs.Block.{blocksUsed};
 ghost use Rattle.layout.specs.Free.{freeInode};
 ghost use Rattle.names.specs.Name.{nameBytes};
@@ -57,20 +57,8 @@ fn new_inode(kind: Kind, d: usize) -> Inode
     ensures { λ r. ⌜ r ≡ newInode kind d ⌝ }
 {
     match kind {
-        Kind::File => Inode {
-            kind: FILE,
-            links: 1,
-            size: 0,
-            parent: 0,
-            addresses: [0u16; 12],
-        },
-        Kind::Directory => Inode {
-            kind: DIRECTORY,
-            links: 1,
-            size: 0,
-            parent: d as u16,
-            addresses: [0u16; 12],
-        },
+        Kind::File => Inode::empty(FILE).with_links(1),
+        Kind::Directory => Inode::empty(DIRECTORY).with_links(1).with_parent(d),
     }
 }
 
@@ -105,25 +93,13 @@ pub fn link(s: &mut [u8], n: usize, b: usize, d: usize, name: &[u8], i: usize, r
     inode::put_links(&mut *s, n, i, links + 1);
 }
 
-fn zero_inode() -> Inode
-    ensures { λ r. ⌜ r ≡ zeroInode ⌝ }
-{
-    Inode {
-        kind: FREE,
-        links: 0,
-        size: 0,
-        parent: 0,
-        addresses: [0u16; 12],
-    }
-}
-
 // Inode i and its blocks are free again; the blocks keep their bytes.
 fn free_inode(s: &mut [u8], n: usize, i: usize)
     requires { ⌜ InodeFits (now s) n i × (headerOf (now s) .«free_inodes» ≤ mostInodes) × (headerOf (now s) .«free_blocks» ≤ mostStoreBlocks) ⌝ }
     ensures { λ _. ⌜ now (s .exit) ≡ moreFree (putInode (now (s .entry)) n i zeroInode) 1 (blocksUsed (sizeOf (now (s .entry)) i)) ⌝ }
 {
     let used = blocks_used(inode::size(s, n, i) as usize);
-    zero_inode().write(&mut *s, n, i);
+    Inode::empty(FREE).write(&mut *s, n, i);
     more_free(&mut *s, 1, used as u16);
 }
 
@@ -157,20 +133,6 @@ pub fn rename(s: &mut [u8], n: usize, d: usize, other: &[u8], t: usize, i: usize
     directory::put_entry(&mut *s, n, d, t, i as u16, other);
 }
 
-fn with_parent(v: Inode, d: usize) -> Inode
-    requires { ⌜ d ≤ mostInodes ⌝ }
-    ensures { λ r. ⌜ r ≡ withParent v d ⌝ }
-{
-    let a = v.addresses;
-    Inode {
-        kind: v.kind,
-        links: v.links,
-        size: v.size,
-        parent: d as u16,
-        addresses: a,
-    }
-}
-
 // A directory's new parent is e.
 fn set_parent(s: &mut [u8], n: usize, i: usize, e: usize)
     requires { ⌜ InodeFits (now s) n i × (e ≤ mostInodes) ⌝ }
@@ -180,7 +142,7 @@ fn set_parent(s: &mut [u8], n: usize, i: usize, e: usize)
     if old.kind != DIRECTORY {
         return;
     }
-    with_parent(old, e).write_attributes(&mut *s, n, i);
+    old.with_parent(e).write_attributes(&mut *s, n, i);
 }
 
 // The entry in slot t of d, which names i, goes to the room in e under another name.

@@ -17,7 +17,7 @@ pub enum RoomPlan {
 
 // Create: the inode, and where its entry goes.
 pub enum CreatePlan {
-    Make(usize, Room),
+    Make { inode: usize, room: Room },
     NoCreate(Refusal),
 }
 
@@ -29,15 +29,22 @@ pub enum LinkPlan {
 
 // Unlink: the slot, and the inode that it names.
 pub enum UnlinkPlan {
-    Take(usize, usize),
+    Take { slot: usize, inode: usize },
     NoUnlink(Refusal),
 }
 
 // Rename: nothing; the slot and its inode under another name; or these and where the entry goes in another directory.
 pub enum RenamePlan {
     Same,
-    Rename(usize, usize),
-    Move(usize, usize, Room),
+    Rename {
+        slot: usize,
+        inode: usize,
+    },
+    Move {
+        slot: usize,
+        inode: usize,
+        room: Room,
+    },
     NoRename(Refusal),
 }
 

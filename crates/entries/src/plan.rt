@@ -23,7 +23,6 @@ use content::NumberPlan;
 use content::plan::is_kind;
 use layout::free;
 use layout::inode;
-use layout::sizes::ADDRESS_COUNT;
 use layout::sizes::DIRECTORY;
 use layout::sizes::FILE;
 use layout::sizes::ROOT;
@@ -54,7 +53,7 @@ fn room_in(s: &[u8], n: usize, b: usize, d: usize) -> RoomPlan
         return RoomPlan::Has(Room { slot: t, block: 0 });
     }
     let slots = directory::slot_count(s, n, d);
-    if directory::SLOTS_IN_BLOCK * ADDRESS_COUNT <= slots {
+    if directory::MOST_SLOTS <= slots {
         return RoomPlan::NoRoom(Refusal::NoSlot);
     }
     let Found::At(c) = free::free_block(s, n, b) else {
@@ -83,7 +82,7 @@ pub fn create_plan(s: &[u8], n: usize, b: usize, d: usize, name: &[u8]) -> Creat
         return CreatePlan::NoCreate(Refusal::NoInode);
     };
     match room_in(s, n, b, d) {
-        RoomPlan::Has(room) => CreatePlan::Make(i, room),
+        RoomPlan::Has(room) => CreatePlan::Make { inode: i, room },
         RoomPlan::NoRoom(why) => CreatePlan::NoCreate(why),
     }
 }
@@ -143,7 +142,7 @@ pub fn unlink_plan(s: &[u8], n: usize, d: usize, name: &[u8]) -> UnlinkPlan
             return UnlinkPlan::NoUnlink(Refusal::NotEmpty);
         }
     }
-    UnlinkPlan::Take(t, i)
+    UnlinkPlan::Take { slot: t, inode: i }
 }
 
 // Directory e is i or below it: up from e, no further than the root.
@@ -180,7 +179,7 @@ fn rename_within(s: &[u8], n: usize, t: usize, i: usize, e: usize, other: &[u8])
     ensures { λ r. ⌜ r ≡ renameWithin (now (s .entry)) n t i e (now (other .entry)) ⌝ }
 {
     let Found::At(u) = directory::find_slot(s, n, e, other) else {
-        return RenamePlan::Rename(t, i);
+        return RenamePlan::Rename { slot: t, inode: i };
     };
     if u == t {
         return RenamePlan::Same;
@@ -200,7 +199,11 @@ fn move_to(s: &[u8], n: usize, b: usize, t: usize, i: usize, e: usize, other: &[
         return RenamePlan::NoRename(Refusal::IntoItself);
     }
     match room_in(s, n, b, e) {
-        RoomPlan::Has(room) => RenamePlan::Move(t, i, room),
+        RoomPlan::Has(room) => RenamePlan::Move {
+            slot: t,
+            inode: i,
+            room,
+        },
         RoomPlan::NoRoom(why) => RenamePlan::NoRename(why),
     }
 }

@@ -88,7 +88,7 @@ fn do_create(s: &mut [u8], n: usize, b: usize, d: usize, name: &[u8], kind: Kind
     ensures { λ r. ⌜ plainLeft r (now (s .exit)) [] ≡ leaves (now (s .entry)) [] (doCreate (now (s .entry)) n d (now (name .entry)) kind (createPlan (now (s .entry)) n b d (now (name .entry)))) ⌝ }
 {
     match entries::plan::create_plan(s, n, b, d, name) {
-        CreatePlan::Make(i, room) => {
+        CreatePlan::Make { inode: i, room } => {
             entries::apply::create(&mut *s, n, b, d, name, kind, i, room);
             Answer::Done(i)
         }
@@ -180,7 +180,7 @@ fn do_unlink(s: &mut [u8], n: usize, d: usize, name: &[u8]) -> Answer
     ensures { λ r. ⌜ plainLeft r (now (s .exit)) [] ≡ leaves (now (s .entry)) [] (doUnlink (now (s .entry)) n d (unlinkPlan (now (s .entry)) n d (now (name .entry)))) ⌝ }
 {
     match entries::plan::unlink_plan(s, n, d, name) {
-        UnlinkPlan::Take(t, i) => {
+        UnlinkPlan::Take { slot: t, inode: i } => {
             entries::apply::unlink(&mut *s, n, d, t, i);
             Answer::Done(0)
         }
@@ -212,11 +212,15 @@ fn do_rename(
 {
     match entries::plan::rename_plan(s, n, b, d, name, e, other) {
         RenamePlan::Same => Answer::Done(0),
-        RenamePlan::Rename(t, i) => {
+        RenamePlan::Rename { slot: t, inode: i } => {
             entries::apply::rename(&mut *s, n, d, other, t, i);
             Answer::Done(0)
         }
-        RenamePlan::Move(t, i, room) => {
+        RenamePlan::Move {
+            slot: t,
+            inode: i,
+            room,
+        } => {
             entries::apply::move_entry(&mut *s, n, b, d, e, other, t, i, room);
             Answer::Done(0)
         }

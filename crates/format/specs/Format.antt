@@ -5,9 +5,9 @@ use mathlib.Core.List.{List}
 use lib.Dec.{eqb, leb}
 use lib.ListN.{length, replicate}
 use Rattle.bounded.specs.Search.{pick}
-use Rattle.layout.specs.Sizes.{mostStoreBlocks, addressCount, rootInode, isComplete}
+use Rattle.layout.specs.Sizes.{mostStoreBlocks, rootInode, isComplete}
 use Rattle.layout.specs.Header.{putHeader}
-use Rattle.layout.specs.Inode.{putInode, directoryKind}
+use Rattle.layout.specs.Inode.{putInode, directoryKind, emptyInode}
 use Rattle.layout.specs.Block.{storeLength, allowed}
 use Rattle.layout.specs.declared.header.Header.{Header}
 use Rattle.layout.specs.declared.inode.Inode.{Inode}
@@ -33,7 +33,7 @@ freshHeader n b = record { inodes = n; blocks = b; «free_inodes» = n - 1; «fr
 
 -- an empty directory that no entry names
 unfoldable pub emptyRoot : Inode
-emptyRoot = record { kind = directoryKind; links = 0; size = 0; parent = 0; addresses = replicate addressCount 0 }
+emptyRoot = emptyInode directoryKind
 
 unfoldable pub freshStore : ℕ → ℕ → List ℕ
 freshStore n b = putInode (putHeader (replicate (storeLength n b) 0) (freshHeader n b)) n rootInode emptyRoot

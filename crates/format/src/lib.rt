@@ -3,7 +3,7 @@ ghost use mathlib.Core.Path.{_≡_};
 ghost use Prim.Native.Nat.{_≤_};
 ghost use lib.ListN.{length};
 ghost use Rattle.layout.specs.Sizes.{mostInodes, mostStoreBlocks};
-ghost use Rattle.format.specs.Format.{laidOut, freshHeader, emptyRoot, layOutStore, layOutDesk};
+ghost use Rattle.format.specs.Format.{laidOut, freshHeader, layOutStore, layOutDesk};
 use answers::Answer;
 use answers::Refusal;
 use desk::Desk;
@@ -30,18 +30,6 @@ fn fresh_header(n: usize, b: usize) -> Header
     }
 }
 
-fn empty_root() -> Inode
-    ensures { λ r. ⌜ r ≡ emptyRoot ⌝ }
-{
-    Inode {
-        kind: DIRECTORY,
-        links: 0,
-        size: 0,
-        parent: 0,
-        addresses: [0u16; 12],
-    }
-}
-
 pub fn lay_out_store(buffer: &mut [u8], inodes: usize, blocks: usize) -> Answer
     ensures { λ r. ⌜ laidOut r (now (buffer .exit)) ≡ layOutStore (now (buffer .entry)) inodes blocks ⌝ }
 {
@@ -51,7 +39,7 @@ pub fn lay_out_store(buffer: &mut [u8], inodes: usize, blocks: usize) -> Answer
     }
     octets::zero_range(&mut *buffer, 0, length);
     fresh_header(inodes, blocks).write(&mut *buffer);
-    empty_root().write(&mut *buffer, inodes, ROOT);
+    Inode::empty(DIRECTORY).write(&mut *buffer, inodes, ROOT);
     Answer::Done(0)
 }
 

@@ -108,11 +108,18 @@ attributesZero s i = eqb (kindOf s i) 0 && (eqb (spareOf s i) 0 && (eqb (linksOf
 unfoldable pub addressesZero : List ℕ → ℕ → ℕ → Bool
 addressesZero s n i = allBelow (λ k. eqb (addressOf s n (addressIndex i k)) 0) addressCount
 
+-- an inode of kind k with no links, no bytes, no parent and no blocks
+abbrev pub emptyInode : ℕ → Inode
+emptyInode k = record { kind = k; links = 0; size = 0; parent = 0; addresses = replicate addressCount 0 }
+
 -- "attributes and addresses become zero"
 unfoldable pub zeroInode : Inode
-zeroInode = record { kind = 0; links = 0; size = 0; parent = 0; addresses = replicate addressCount 0 }
+zeroInode = emptyInode freeKind
 
--- v with another size, with other blocks too, and with another parent
+-- v with another link count, with another size, with other blocks too, and with another parent
+abbrev pub withLinks : Inode → ℕ → Inode
+withLinks v k = record { kind = v .kind; links = k; size = v .size; parent = v .parent; addresses = v .addresses }
+
 abbrev pub withSize : Inode → ℕ → Inode
 withSize v z = record { kind = v .kind; links = v .links; size = z; parent = v .parent; addresses = v .addresses }
 

@@ -13,6 +13,7 @@ use crate::inode::address;
 use crate::inode::addresses_zero;
 use crate::inode::kind;
 use crate::sizes::ADDRESS_COUNT;
+use crate::sizes::BLOCK_PLACES;
 use crate::sizes::FREE;
 use bounded::Found;
 
@@ -29,7 +30,7 @@ pub fn free_inode(s: &[u8], n: usize) -> Found
 }
 
 // The addresses of inode i are noted in the map. Most inodes have none.
-fn note_blocks(s: &[u8], n: usize, i: usize, map: &mut [u8; 4097])
+fn note_blocks(s: &[u8], n: usize, i: usize, map: &mut [u8; BLOCK_PLACES])
     requires { ⌜ InodeFits (now s) n i × Seen (addressOf (now s) n) (mostImageBlocks + 1) (addressIndex i 0) (now map) ⌝ }
     requires { ⌜ ((x : ℕ) → x < addressCount * n → addressOf (now s) n x ≤ mostImageBlocks) ⌝ }
     ensures { λ _. ⌜ Seen (addressOf (now (s .entry)) n) (mostImageBlocks + 1) (addressCount * i) (now (map .exit)) ⌝ }
@@ -46,12 +47,12 @@ fn note_blocks(s: &[u8], n: usize, i: usize, map: &mut [u8; 4097])
 }
 
 // A byte for each block, 1 where an address names the block: one pass over the addresses. Place 0 stands for no block.
-pub fn named_blocks(s: &[u8], n: usize) -> [u8; 4097]
+pub fn named_blocks(s: &[u8], n: usize) -> [u8; BLOCK_PLACES]
     requires { ⌜ (n ≤ mostInodes) × (headerBytes + inodeBytes * n ≤ length (now s)) ⌝ }
     requires { ⌜ ((x : ℕ) → x < addressCount * n → addressOf (now s) n x ≤ mostImageBlocks) ⌝ }
     ensures { λ r. ⌜ Seen (addressOf (now (s .entry)) n) (mostImageBlocks + 1) (addressCount * n) r ⌝ }
 {
-    let mut map = [0u8; 4097];
+    let mut map = [0u8; BLOCK_PLACES];
     for k in 0..n {
         note_blocks(s, n, k + 1, &mut map);
     }
@@ -59,7 +60,7 @@ pub fn named_blocks(s: &[u8], n: usize) -> [u8; 4097]
 }
 
 // The lowest of the count blocks from 1 on that the map does not have.
-pub fn lowest_unnamed(map: &[u8; 4097], count: usize) -> Found
+pub fn lowest_unnamed(map: &[u8; BLOCK_PLACES], count: usize) -> Found
     requires { ⌜ count ≤ mostImageBlocks ⌝ }
     ensures { λ r. ⌜ r ≡ firstFrom (λ b. eqb (getD (now (map .entry)) b 0) 0) 1 count ⌝ }
 {

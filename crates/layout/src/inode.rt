@@ -3,8 +3,8 @@ ghost use mathlib.Core.Path.{_≡_};
 ghost use Prim.Native.Nat.{_+_, _*_, _<_, _≤_};
 ghost use lib.ListN.{length};
 ghost use Rattle.octets.specs.Octets.{splice, wordBytes};
-ghost use Rattle.layout.specs.Sizes.{headerBytes, inodeBytes, addressCount, mostInodes};
-ghost use Rattle.layout.specs.Inode.{InodeFits, attributesAt, addressAt, kindOf, spareOf, linksOf, sizeOf, parentOf, attributesZero, addressesZero, putLinks, putAttributes, addressOf, putAddress, addressesOf, inodeOf, putInode};
+ghost use Rattle.layout.specs.Sizes.{headerBytes, inodeBytes, addressCount, addressBytes, mostInodes, mostFileBytes};
+ghost use Rattle.layout.specs.Inode.{InodeFits, attributesAt, addressAt, kindOf, spareOf, linksOf, sizeOf, parentOf, attributesZero, addressesZero, putLinks, putAttributes, addressOf, putAddress, addressesOf, inodeOf, putInode, emptyInode, withLinks, withSize, withBlocks, withParent};
 use crate::sizes::ADDRESS_COUNT;
 use crate::sizes::ATTRIBUTE_BYTES;
 use crate::sizes::HEADER_BYTES;
@@ -14,7 +14,7 @@ pub struct Inode {
     pub links: u16,
     pub size: u16,
     pub parent: u16,
-    pub addresses: [u16; 12],
+    pub addresses: [u16; ADDRESS_COUNT],
 }
 
 // Where the attributes of inode i start.
@@ -106,12 +106,12 @@ pub fn put_address(s: &mut [u8], n: usize, x: usize, b: u16)
     octets::put_16(&mut *s, address_at(n, x), b);
 }
 
-pub fn addresses(s: &[u8], n: usize, i: usize) -> [u16; 12]
+pub fn addresses(s: &[u8], n: usize, i: usize) -> [u16; ADDRESS_COUNT]
     requires { ⌜ InodeFits (now s) n i ⌝ }
     ensures { λ r. ⌜ r ≡ addressesOf (now (s .entry)) n i ⌝ }
 {
     let x = ADDRESS_COUNT * (i - 1);
-    let mut a = [0u16; 12];
+    let mut a = [0u16; ADDRESS_COUNT];
     for k in 0..ADDRESS_COUNT {
         a[k] = address(s, n, x + k);
     }
@@ -119,8 +119,8 @@ pub fn addresses(s: &[u8], n: usize, i: usize) -> [u16; 12]
 }
 
 // The twelve numbers from o on.
-fn put_words(s: &mut [u8], o: usize, a: [u16; 12])
-    requires { ⌜ o + 24 ≤ length (now s) ⌝ }
+fn put_words(s: &mut [u8], o: usize, a: [u16; ADDRESS_COUNT])
+    requires { ⌜ o + addressBytes ≤ length (now s) ⌝ }
     ensures { λ _. ⌜ now (s .exit) ≡ splice (now (s .entry)) o (wordBytes a) ⌝ }
 {
     for k in 0..ADDRESS_COUNT {
@@ -129,6 +129,52 @@ fn put_words(s: &mut [u8], o: usize, a: [u16; 12])
 }
 
 impl Inode {
+    // One of the kind with no links, no bytes, no parent and no blocks.
+    pub fn empty(kind: u8) -> Inode
+        ensures { λ r. ⌜ r ≡ emptyInode kind ⌝ }
+    {
+        Inode {
+            kind,
+            links: 0,
+            size: 0,
+            parent: 0,
+            addresses: [0u16; ADDRESS_COUNT],
+        }
+    }
+
+    pub fn with_links(mut self, links: u16) -> Inode
+        ensures { λ r. ⌜ r ≡ withLinks self links ⌝ }
+    {
+        self.links = links;
+        self
+    }
+
+    pub fn with_size(mut self, size: usize) -> Inode
+        requires { ⌜ size ≤ mostFileBytes ⌝ }
+        ensures { λ r. ⌜ r ≡ withSize self size ⌝ }
+    {
+        self.size = size as u16;
+        self
+    }
+
+    // Another size, and the blocks that it uses.
+    pub fn with_blocks(mut self, size: usize, addresses: [u16; ADDRESS_COUNT]) -> Inode
+        requires { ⌜ size ≤ mostFileBytes ⌝ }
+        ensures { λ r. ⌜ r ≡ withBlocks self size addresses ⌝ }
+    {
+        self.size = size as u16;
+        self.addresses = addresses;
+        self
+    }
+
+    pub fn with_parent(mut self, parent: usize) -> Inode
+        requires { ⌜ parent ≤ mostInodes ⌝ }
+        ensures { λ r. ⌜ r ≡ withParent self parent ⌝ }
+    {
+        self.parent = parent as u16;
+        self
+    }
+
     pub fn read(s: &[u8], n: usize, i: usize) -> Inode
         requires { ⌜ InodeFits (now s) n i ⌝ }
         ensures { λ r. ⌜ r ≡ inodeOf (now (s .entry)) n i ⌝ }

@@ -17,16 +17,16 @@ ghost use Rattle.text.specs.Put.{Put};
 ghost use Rattle.listing.specs.Listing.{wordText, replyText, countsText, headText, placeText, kindText, inodeText, nameText, entryText, entriesLeft, leftText, Printed};
 use bounded::Found;
 use desk::Desk;
+use directory::MOST_SLOTS;
 use layout::header::Header;
 use layout::inode;
 use layout::sizes::DIRECTORY;
 use names::ENTRY_BYTES;
+use names::NAME_AT;
 use names::NAME_BYTES;
 use text::put::put;
 use text::put::put_numbered;
 use text::put::put_pair;
-
-const MOST_SLOTS: usize = 48;
 
 // A part of what a line prints: where it ends in the buffer, where the printing goes on, and whether there was one.
 pub struct Part {
@@ -34,8 +34,6 @@ pub struct Part {
     pub next: usize,
     pub more: bool,
 }
-
-const NAME_AT: usize = 2;
 
 fn put_word(out: &mut [u8], o: usize, ok: bool, n: usize) -> usize
     requires { ⌜ o + 23 ≤ length (now out) ⌝ }

@@ -4,7 +4,8 @@ ghost use mathlib.Core.List.{[], _∷_};
 ghost use Prim.Native.Nat.{_+_, _/_, _<_, _≤_};
 ghost use lib.ListN.{length};
 ghost use Rattle.layout.specs.Block.{kthBlock};
-ghost use Rattle.directory.specs.Slot.{mostSlots, slotAt};
+ghost use Rattle.names.specs.Entry.{entryBytes};
+ghost use Rattle.directory.specs.Slot.{slotsInBlock, mostSlots, slotAt};
 ghost use Rattle.desk.specs.Sizes.{deskHeaderBytes, deskLength};
 ghost use Rattle.checkpoint.specs.Fit.{isRunning};
 ghost use Rattle.checkpoint.specs.Image.{slotNames};
@@ -84,8 +85,8 @@ pub fn note_taken(d: &mut [u8], n: usize, e: usize, t: usize)
 
 // Where slot t of an image directory starts, by the block that its address names, whatever its size.
 fn image_slot(m: &[u8], n: usize, e: usize, t: usize) -> usize
-    requires { ⌜ Addressed (now m) n × (1 ≤ e) × (e ≤ n) × (t < mostSlots) × (1 ≤ kthBlock (now m) n e (t / 4)) ⌝ }
-    ensures { λ r. ⌜ (r ≡ slotAt (now (m .entry)) n e t) × (r + 16 ≤ length (now (m .entry))) ⌝ }
+    requires { ⌜ Addressed (now m) n × (1 ≤ e) × (e ≤ n) × (t < mostSlots) × (1 ≤ kthBlock (now m) n e (t / slotsInBlock)) ⌝ }
+    ensures { λ r. ⌜ (r ≡ slotAt (now (m .entry)) n e t) × (r + entryBytes ≤ length (now (m .entry))) ⌝ }
 {
     let c = block::kth_block(m, n, e, t / SLOTS_IN_BLOCK) as usize;
     block::block_at(n, c) + ENTRY_BYTES * (t % SLOTS_IN_BLOCK)

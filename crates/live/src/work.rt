@@ -35,7 +35,7 @@ pub fn create(
     ensures { λ r. ⌜ ((m : List ℕ) → left r (now (s .exit)) m (now (d .exit)) ≡ leavesIn (world (now (s .entry)) m (now (d .entry))) (unlessBusy (now (d .entry)) (doCreate (now (s .entry)) n dir (now (name .entry)) kind (createPlan (now (s .entry)) n b dir (now (name .entry)))))) ⌝ }
 {
     match entries::plan::create_plan(s, n, b, dir, name) {
-        CreatePlan::Make(i, room) => {
+        CreatePlan::Make { inode: i, room } => {
             if notes::is_locked(d, dir) {
                 return Answer::Refused(Refusal::Busy);
             }
@@ -112,7 +112,7 @@ pub fn unlink(s: &mut [u8], m: &mut [u8], d: &mut [u8], n: usize, dir: usize, na
     ensures { λ r. ⌜ left r (now (s .exit)) (now (m .exit)) (now (d .exit)) ≡ leavesIn (world (now (s .entry)) (now (m .entry)) (now (d .entry))) (unlessBusy (now (d .entry)) (doUnlink (now (s .entry)) n dir (unlinkPlan (now (s .entry)) n dir (now (name .entry))))) ⌝ }
 {
     match entries::plan::unlink_plan(s, n, dir, name) {
-        UnlinkPlan::Take(t, i) => {
+        UnlinkPlan::Take { slot: t, inode: i } => {
             if notes::either_locked(d, dir, i) {
                 return Answer::Refused(Refusal::Busy);
             }
@@ -146,14 +146,18 @@ pub fn rename(
             }
             Answer::Done(0)
         }
-        RenamePlan::Rename(t, i) => {
+        RenamePlan::Rename { slot: t, inode: i } => {
             if notes::is_locked(d, from) {
                 return Answer::Refused(Refusal::Busy);
             }
             entries::apply::rename(&mut *s, n, from, other, t, i);
             Answer::Done(0)
         }
-        RenamePlan::Move(t, i, room) => {
+        RenamePlan::Move {
+            slot: t,
+            inode: i,
+            room,
+        } => {
             if notes::any_locked(d, from, to, i) {
                 return Answer::Refused(Refusal::Busy);
             }

@@ -4,13 +4,14 @@ ghost use Prim.Native.Nat.{_+_, _≤_};
 ghost use lib.ListN.{length};
 ghost use Rattle.names.specs.Name.{nameBytes, plainByte, isDots, legalName};
 ghost use Rattle.bounded.specs.Below.{allBelow};
-ghost use Rattle.names.specs.Entry.{entryBytes, entryInode, isEmpty, hasDots, legalEntry, entryFor, wordsAt, sameWords};
+ghost use Rattle.names.specs.Entry.{entryBytes, nameAt, entryInode, isEmpty, hasDots, legalEntry, entryFor, wordsAt, sameWords};
 
 pub const ENTRY_BYTES: usize = 16;
 
 pub const NAME_BYTES: usize = 14;
 
-const NAME_AT: usize = 2;
+// Where the name starts in an entry.
+pub const NAME_AT: usize = 2;
 
 // A name in 14 bytes, zero-filled, as two words: names are compared word by word.
 pub struct Name {
@@ -34,14 +35,14 @@ impl Name {
         requires { ⌜ length (now name) ≤ nameBytes ⌝ }
         ensures { λ r. ⌜ r ≡ wordsAt (now (name .entry)) 0 ⌝ }
     {
-        let mut filled = [0u8; 14];
+        let mut filled = [0u8; NAME_BYTES];
         octets::copy_range(&mut filled, 0, name, 0, name.len());
         Name::at(&filled, 0)
     }
 
     pub fn in_entry(entry: &[u8]) -> Name
         requires { ⌜ entryBytes ≤ length (now entry) ⌝ }
-        ensures { λ r. ⌜ r ≡ wordsAt (now (entry .entry)) 2 ⌝ }
+        ensures { λ r. ⌜ r ≡ wordsAt (now (entry .entry)) nameAt ⌝ }
     {
         Name::at(entry, NAME_AT)
     }
@@ -59,7 +60,7 @@ impl Name {
 // The entry's name is this one.
 pub fn same_name(entry: &[u8], name: Name) -> bool
     requires { ⌜ entryBytes ≤ length (now entry) ⌝ }
-    ensures { λ r. ⌜ r ≡ sameWords (wordsAt (now (entry .entry)) 2) name ⌝ }
+    ensures { λ r. ⌜ r ≡ sameWords (wordsAt (now (entry .entry)) nameAt) name ⌝ }
 {
     Name::in_entry(entry).same(name)
 }

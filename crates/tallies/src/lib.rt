@@ -26,6 +26,7 @@ use layout::inode;
 use layout::sizes::ADDRESS_COUNT;
 use layout::sizes::COMPLETE;
 use layout::sizes::DIRECTORY;
+use layout::sizes::INODE_PLACES;
 use layout::sizes::MOST_INODES;
 use names::ENTRY_BYTES;
 
@@ -73,11 +74,11 @@ fn count_directory(m: &[u8], n: usize, e: usize, counts: &mut [u16])
 }
 
 // How often each inode is named by the image's directories: one pass over their slots.
-fn count_names(m: &[u8], n: usize) -> [u16; 257]
+fn count_names(m: &[u8], n: usize) -> [u16; INODE_PLACES]
     requires { ⌜ Addressed (now m) n ⌝ }
     ensures { λ r. ⌜ Tallied (imageNaming (now (m .entry)) n) 1 (mostInodes + 1) (mostSlots * n) r ⌝ }
 {
-    let mut counts = [0u16; 257];
+    let mut counts = [0u16; INODE_PLACES];
     for k in 0..n {
         count_directory(m, n, k + 1, &mut counts);
     }
@@ -99,7 +100,7 @@ pub fn is_copied(d: &[u8], n: usize, i: usize) -> bool
 }
 
 // The lowest uncopied inode that the counts have.
-fn lowest_named(counts: &[u16; 257], d: &[u8], n: usize) -> Found
+fn lowest_named(counts: &[u16; INODE_PLACES], d: &[u8], n: usize) -> Found
     requires { ⌜ (n ≤ mostInodes) × (deskLength n ≤ length (now d)) ⌝ }
     ensures { λ r. ⌜ r ≡ firstFrom (λ i. not (isCopied (now (d .entry)) n i) && not (eqb (getD (now (counts .entry)) i 0) 0)) 1 n ⌝ }
 {
@@ -122,7 +123,7 @@ pub fn next_inode(m: &[u8], d: &[u8], n: usize) -> Found
 }
 
 // The link counts of all inodes.
-fn put_counts(m: &mut [u8], n: usize, counts: &[u16; 257])
+fn put_counts(m: &mut [u8], n: usize, counts: &[u16; INODE_PLACES])
     requires { ⌜ Addressed (now m) n × Tallied (imageNaming (now m) n) 1 (mostInodes + 1) (mostSlots * n) (now counts) ⌝ }
     ensures { λ _. ⌜ now (m .exit) ≡ putCounts (now (m .entry)) (now (m .entry)) n n ⌝ }
 {

@@ -1,4 +1,6 @@
+use mathlib.Core.Path.{ap, _∙_}
 use denote.Ref.{now}
+use Rattle.layout.specs.Inode.{putAttributes}
 use Rattle.copier.proofs.StepLaws.{close-done}
 use borrow.Author.Needs.{needs}
 use Rattle.copier.proofs.close.Statement.{statement}
@@ -10,6 +12,9 @@ cast-i c = search needs
 read-requires : tie.Need-read-requires
 read-requires c κs = search needs
 
+with-links-requires : tie.Need-with-links-requires
+with-links-requires c κs = search needs
+
 write-attributes-requires : tie.Need-write-attributes-requires
 write-attributes-requires c κs = search needs
 
@@ -20,10 +25,10 @@ unlock-requires : tie.Need-unlock-requires
 unlock-requires c κs = search needs
 
 write-requires : tie.Need-write-requires
-write-requires c κs = search needs
+write-requires c κs = let l = c .before .before .before .before .before .before .before .before .before .before .before .before .before .before .before .before .pre .0 .long in search needs
 
-cast-t16 : tie.Need-cast-t16
-cast-t16 c = search needs
+cast-t17 : tie.Need-cast-t17
+cast-t17 c = search needs
 
 same-length : tie.Need-same-length
 same-length c = search needs
@@ -33,9 +38,9 @@ same-length-2 c = search needs
 
 returns : tie.Need-returns
 returns c =
-    let z = c .before .before .before .before .before .before .before .before .before .before .before .before .before .before .before .before .before .before .before in
+    let z = c .before .before .before .before .before .before .before .before .before .before .before .before .before .before .before .before .before .before .before .before in
     let a = z .args in
-    close-done (now (a .d)) (a .h) _ (z .pre .0 .read) (now (a .m)) (a .n) _ (now (a .s)) _ _ _ (c .before .before .before .before .before .before .before .before .before .before .before .before .before .before .read .ensures) (c .before .before .before .before .before .before .before .before .before .before .before .before .write-attributes .ensures) (c .before .before .before .before .before .before .before .before .put-copied .ensures) (c .before .before .before .before .before .unlock .ensures) (c .before .before .before .write .ensures)
+    close-done (now (a .d)) (a .h) _ (z .pre .0 .read) (now (a .m)) (a .n) _ (now (a .s)) _ _ _ (c .before .before .before .before .before .before .before .before .before .before .before .before .before .before .before .read .ensures) (c .before .before .before .before .before .before .before .before .before .before .before .before .write-attributes .ensures ∙ ap (putAttributes _ _) (c .before .before .before .before .before .before .before .before .before .before .before .before .before .before .with-links .ensures)) (c .before .before .before .before .before .before .before .before .put-copied .ensures) (c .before .before .before .before .before .unlock .ensures) (c .before .before .before .write .ensures)
 
 pub close-spec : {M : Type 1} → statement M
 close-spec =
@@ -43,11 +48,12 @@ close-spec =
     (tie.spec
     cast-i
     read-requires
+    with-links-requires
     write-attributes-requires
     put-copied-requires
     unlock-requires
     write-requires
-    cast-t16
+    cast-t17
     same-length
     same-length-2
     returns)

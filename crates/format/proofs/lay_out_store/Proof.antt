@@ -8,7 +8,7 @@ use Rattle.layout.specs.Sizes.{mostStoreBlocks}
 use Rattle.layout.specs.Inode.{putInode}
 use Rattle.layout.specs.Block.{allowed}
 use Rattle.layout.proofs.AllowedLaws.{allowed-is}
-use Rattle.format.specs.Format.{laidOut}
+use Rattle.format.specs.Format.{laidOut, emptyRoot}
 use Rattle.answers.specs.declared.Answer.the-variants.{Done}
 use Prim.Native.Nat.{ℕ}
 use mathlib.Core.Path.{sym, _∙_}
@@ -39,8 +39,8 @@ fresh-header-requires c κs = let r = allowed-is _ _ _ _ .to (passed (c .before 
 write-requires : tie.Need-write-requires
 write-requires c κs = let r = allowed-is _ _ _ _ .to (passed (c .before .before .before .before .before .before)) in let l = r .long in omega arith
 
-empty-root-requires : tie.Need-empty-root-requires
-empty-root-requires c κs = search needs
+empty-requires : tie.Need-empty-requires
+empty-requires c κs = search needs
 
 write-requires-2 : tie.Need-write-requires-2
 write-requires-2 c κs = let r = allowed-is _ _ _ _ .to (passed (c .before .before .before .before .before .before .before .before .before .before .before)) in let l = r .long in record { low = omega arith; high = r .some-inodes; few = r .most-inodes; area = omega arith }
@@ -49,10 +49,11 @@ same-length : tie.Need-same-length
 same-length c = search needs
 
 returns-2 : tie.Need-returns-2
+unfolding emptyRoot
 returns-2 c = let a = c .before .before .before .before .before .before .before .before .before .before .before .before .before .before .before .before .before .args in
     ap (laidOut (Done 0))
     (c .before .before .write2 .ensures
-    ∙ ap₂ (λ (t : List ℕ) (v : Inode). putInode t (a .inodes) 1 v) (c .before .before .before .before .before .before .before .write .ensures ∙ ap₂ putHeader (c .before .before .before .before .before .before .before .before .before .before .before .before .zero-range .ensures) (c .before .before .before .before .before .before .before .before .before .fresh-header .ensures)) (c .before .before .before .before .empty-root .ensures))
+    ∙ ap₂ (λ (t : List ℕ) (v : Inode). putInode t (a .inodes) 1 v) (c .before .before .before .before .before .before .before .write .ensures ∙ ap₂ putHeader (c .before .before .before .before .before .before .before .before .before .before .before .before .zero-range .ensures) (c .before .before .before .before .before .before .before .before .before .fresh-header .ensures)) (c .before .before .before .before .empty .ensures))
     ∙ store-done (now (a .buffer)) (a .inodes) (a .blocks) (passed (c .before .before .before .before .before .before .before .before .before .before .before .before .before .before))
 
 pub lay-out-store-spec : {M : Type 1} → statement M
@@ -64,7 +65,7 @@ lay-out-store-spec =
     zero-range-requires
     fresh-header-requires
     write-requires
-    empty-root-requires
+    empty-requires
     write-requires-2
     same-length
     returns-2)

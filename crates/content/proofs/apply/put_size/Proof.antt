@@ -4,8 +4,8 @@ use borrow.Author.Needs.{needs}
 use Rattle.content.proofs.apply.put_size.Statement.{statement}
 use Rattle.content.proofs.apply.put_size.Tie as tie
 
-with-blocks-requires : tie.Need-with-blocks-requires
-with-blocks-requires c κs = search needs
+with-size-requires : tie.Need-with-size-requires
+with-size-requires c κs = search needs
 
 write-attributes-requires : tie.Need-write-attributes-requires
 write-attributes-requires c κs = search needs
@@ -15,9 +15,9 @@ same-length c = search needs
 
 returns : tie.Need-returns
 unfolding putSize
-returns c = c .before .before .write-attributes .ensures ∙ rw (c .before .before .before .before .with-blocks .ensures, c .before .before .before .before .before .before .before .pre .1)
+returns c = c .before .before .write-attributes .ensures ∙ rw (c .before .before .before .before .with-size .ensures, c .before .before .before .before .before .before .pre .1)
 
 pub put-size-spec : {M : Type 1} → statement M
 put-size-spec =
     tie.close
-    (tie.spec with-blocks-requires write-attributes-requires same-length returns)
+    (tie.spec with-size-requires write-attributes-requires same-length returns)

@@ -4,7 +4,7 @@ use mathlib.Core.Path.{ap, ap₂, _∙_}
 use native.Mathlib.Omega.{arith}
 use denote.Ref.{now}
 use Rattle.layout.specs.Block.{blocksUsed}
-use Rattle.layout.specs.Inode.{putInode}
+use Rattle.layout.specs.Inode.{putInode, zeroInode}
 use Rattle.layout.specs.Header.{moreFree}
 use Rattle.entries.proofs.EnterLaws.{freed-counts, used-bound}
 use borrow.Author.Needs.{needs}
@@ -20,8 +20,8 @@ cast-blocks-used c = search needs
 blocks-used-requires : tie.Need-blocks-used-requires
 blocks-used-requires c κs = search needs
 
-zero-inode-requires : tie.Need-zero-inode-requires
-zero-inode-requires c κs = search needs
+empty-requires : tie.Need-empty-requires
+empty-requires c κs = search needs
 
 write-requires : tie.Need-write-requires
 write-requires c κs = search needs
@@ -36,11 +36,12 @@ same-length : tie.Need-same-length
 same-length c = search needs
 
 returns : tie.Need-returns
+unfolding zeroInode
 returns c =
     let a = c .before .before .before .before .before .before .before .before .before .before .before .before .before .args in
     c .before .before .more-free .ensures
     ∙ ap₂ (λ (t : List ℕ) (m : ℕ). moreFree t 1 m)
-    (c .before .before .before .before .before .before .write .ensures ∙ ap (putInode (now (a .s)) (a .n) (a .i)) (c .before .before .before .before .before .before .before .before .zero-inode .ensures))
+    (c .before .before .before .before .before .before .write .ensures ∙ ap (putInode (now (a .s)) (a .n) (a .i)) (c .before .before .before .before .before .before .before .before .empty .ensures))
     (c .before .before .before .before .before .before .before .before .before .blocks-used .ensures ∙ ap blocksUsed (c .before .before .before .before .before .before .before .before .before .before .size .ensures))
 
 pub free-inode-spec : {M : Type 1} → statement M
@@ -50,7 +51,7 @@ free-inode-spec =
     size-requires
     cast-blocks-used
     blocks-used-requires
-    zero-inode-requires
+    empty-requires
     write-requires
     cast-more-free
     more-free-requires

@@ -33,9 +33,6 @@ enum-told c = search needs
 slot-count-requires : tie.Need-slot-count-requires
 slot-count-requires c κs = fits (c .before .before .before .before)
 
-mul-if1 : tie.Need-mul-if1
-mul-if1 c = search needs
-
 returns-2 : tie.Need-returns-2
 returns-2 c = room-none _ _ _ _ _ (full (c .before .before)) (c .before .slot-count .ensures .0) (c .if1 .taken)
 
@@ -71,7 +68,6 @@ room-in-spec =
     returns
     enum-told
     slot-count-requires
-    mul-if1
     returns-2
     free-block-requires
     enum-known-c
