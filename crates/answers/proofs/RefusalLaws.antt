@@ -1,5 +1,5 @@
 -- The numbers of the refusals go from 1 to 16, and are looked at in that order.
-use Prim.Native.Nat.{ℕ, _≤_}
+use Prim.Native.Nat.{_≤_}
 use mathlib.Core.Path.{_≡_, refl}
 use mathlib.Core.Bool.{false}
 use native.Mathlib.Omega.{arith}

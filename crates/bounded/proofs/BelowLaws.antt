@@ -8,7 +8,7 @@ use native.Mathlib.Numerals.{add-one}
 use native.Mathlib.Omega.{arith}
 use borrow.Author.Tests.{not-true, not-false}
 use Rattle.bounded.specs.Below.{allBelow, someBelow, allTo}
-use Rattle.bounded.proofs.BoolLaws.{and-true, and-left, and-right, and-false-l, and-false-r, and-cases}
+use Rattle.bounded.proofs.BoolLaws.{same-test, and-true, and-left, and-right, and-false-l, and-false-r, and-cases}
 
 module _ (p : ℕ → Bool) where
   -- a loop over the numbers below n: before it, a turn that goes on, a turn that stops
@@ -111,6 +111,24 @@ unfolding allBelow
 all-chunk p w zero = ap (allBelow p) (mul-zero w)
 all-chunk p w (suc m) =
     ap (allBelow p) (mul-suc w m) ∙ all-split p (w * m) w ∙ ap (λ (b : Bool). b && allBelow (λ k. p (w * m + k)) w) (all-chunk p w m)
+
+-- two tests at once
+pub all-and : (p q : ℕ → Bool) (n : ℕ) → allBelow (λ k. p k && q k) n ≡ allBelow p n && allBelow q n
+all-and p q n =
+    same-test (allBelow (λ k. p k && q k) n) (allBelow p n && allBelow q n)
+    (λ t.
+    and-true (allBelow p n) (allBelow q n) (all-of p n (λ k l. and-left (p k) (q k) (all-at (λ j. p j && q j) n t k l)))
+    (all-of q n (λ k l. and-right (p k) (q k) (all-at (λ j. p j && q j) n t k l))))
+    (λ t.
+    all-of (λ k. p k && q k) n (λ k l.
+    and-true (p k) (q k) (all-at p n (and-left (allBelow p n) (allBelow q n) t) k l) (all-at q n (and-right (allBelow p n) (allBelow q n) t) k l)))
+
+-- the test from t on, where it holds below t
+pub all-from : (p q : ℕ → Bool) (t n : ℕ) → t ≤ n → ((o : ℕ) → o < t → p o ≡ true) → ((j : ℕ) → j < n - t → p (t + j) ≡ q j) → allBelow p n ≡ allBelow q (n - t)
+all-from p q t n l h g =
+    let e : n ≡ t + (n - t) = omega arith in
+    ap (allBelow p) e ∙ all-split p t (n - t) ∙ ap (λ (x : Bool). x && allBelow (λ k. p (t + k)) (n - t)) (all-of p t h)
+    ∙ all-ext (λ k. p (t + k)) q (n - t) g
 
 -- some number below n passes
 module _ (p : ℕ → Bool) where

@@ -90,3 +90,12 @@ or-false-l false b e = refl
 pub or-false-r : (a b : Bool) → a || b ≡ false → b ≡ false
 or-false-r true b e = absurd (clash true refl e)
 or-false-r false b e = e
+
+-- the end of a test whose first part fails
+pub or-end : (x a b : Bool) → a ≡ false → x ≡ b → x ≡ a || b
+or-end x a b h e = e ∙ sym (ap (λ (y : Bool). y || b) h)
+
+-- where x fails whenever a does, its failure is all that `a implies not x` says
+pub or-weaker : (a x : Bool) → (a ≡ false → x ≡ false) → not x ≡ not a || not x
+or-weaker true x h = refl
+or-weaker false x h = ap not (h refl)

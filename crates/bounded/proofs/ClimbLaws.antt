@@ -1,9 +1,10 @@
 -- Laws of the climb from parent to parent: among n numbers n steps are enough, and what a change of one parent keeps.
 use mathlib.Core.Path.{_≡_, refl, sym, ap, _∙_, subst}
 use mathlib.Core.Bool.{Bool, true, _||_}
-use mathlib.Core.Logic.{_⊎_, inl, inr}
+use mathlib.Core.Logic.{_≢_, _⊎_, inl, inr}
 use Prim.Native.Nat.{ℕ, zero, suc, _+_, _-_, _≤_}
 use native.Mathlib.Nat.{not-suc-le-zero, zero-add, suc-add}
+use native.Mathlib.Decide.{ℕ-discrete}
 use native.Mathlib.Numerals.{add-one}
 use native.Mathlib.Omega.{arith}
 use borrow.Author.Tests.{eq-eqb, ne-eqb, eqb-true, eqb-false}
@@ -24,6 +25,12 @@ climb-add up (suc i) k d = ap (λ (m : ℕ). climb up m d) (suc-add i k) ∙ cli
 pub climb-last : (up : ℕ → ℕ) (k d : ℕ) → climb up (k + 1) d ≡ up (climb up k d)
 unfolding climb
 climb-last up k d = climb-add up k 1 d
+
+-- above 0, which is its own parent, there is nothing
+pub climb-zero : (up : ℕ → ℕ) → up 0 ≡ 0 → (k : ℕ) → climb up k 0 ≡ 0
+unfolding climb
+climb-zero up e zero = refl
+climb-zero up e (suc k) = ap (climb up k) e ∙ climb-zero up e k
 
 module _ (up : ℕ → ℕ) (a : ℕ) where
   -- a loop's turns, with k steps left
@@ -48,6 +55,23 @@ module _ (up : ℕ → ℕ) (a : ℕ) where
   pub leads-up : (d : ℕ) → Leads up a (up d) → Leads up a d
   unfolding climb
   leads-up d r = (suc (r .0), r .1)
+
+  -- a number other than a that leads to a does so through its parent
+  pub leads-on : (d : ℕ) → (d ≡ a → ⊥) → Leads up a d → Leads up a (up d)
+  unfolding climb
+  leads-on d h r = go (r .0) (r .1)
+    where
+      go : (k : ℕ) → climb up k d ≡ a → Leads up a (up d)
+      go zero e = absurd (h e)
+      go (suc k) e = (k, e)
+
+  -- a number whose parent is 0 leads to no other
+  pub leads-top : up 0 ≡ 0 → (d : ℕ) → up d ≡ 0 → 1 ≤ a → d ≢ a → Leads up a d → ⊥
+  leads-top none d top low other r =
+      let l = leads-on d other r in
+      let z : climb up (l .0) 0 ≡ a = ap (climb up (l .0)) (sym top) ∙ l .1 in
+      let o = climb-zero up none (l .0) in
+      omega arith
 
   -- a climb that came to e, which is known to lead to a
   pub leads-known : (k d e : ℕ) → climb up k d ≡ e → Leads up a e → Leads up a d
@@ -126,3 +150,13 @@ module _ (par par′ : ℕ → ℕ) (i e : ℕ) (h : (x : ℕ) → Changed par i
 
   pub leads-moved : (a : ℕ) → (Leads par i e → ⊥) → Leads par a e → (x : ℕ) → Leads par a x → Leads par′ a x
   leads-moved a n r x l = moved-steps a (leads-avoid a e n r) (l .0) x (l .1)
+
+-- a climb among numbers whose parents stay
+pub leads-kept : (D : ℕ → Type 0) (up up′ : ℕ → ℕ) (a n : ℕ) → Closed D up a n → ((x : ℕ) → D x → up′ x ≡ up x) → (k d : ℕ) → D d → climb up k d ≡ a → Leads up′ a d
+unfolding climb
+leads-kept D up up′ a n c h zero d q e = (0, e)
+leads-kept D up up′ a n c h (suc k) d q e = go (ℕ-discrete d a) (λ r. leads-kept D up up′ a n c h k (up d) (c .parent d q r) e)
+  where
+    go : Dec (d ≡ a) → ((d ≡ a → ⊥) → Leads up′ a (up d)) → Leads up′ a d
+    go (yes r) f = (0, r)
+    go (no r) f = leads-up up′ a d (subst (Leads up′ a) (sym (h d q)) (f r))

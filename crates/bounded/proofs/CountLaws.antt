@@ -3,7 +3,7 @@ use mathlib.Core.Path.{_≡_, refl, sym, ap, ap₂, _∙_, subst}
 use mathlib.Core.Bool.{Bool, true, false, not, _||_}
 use mathlib.Core.Logic.{_⊎_, inl, inr}
 use mathlib.Core.List.{List}
-use Prim.Native.Nat.{ℕ, zero, suc, _+_, _≤_, _<_, zero-le}
+use Prim.Native.Nat.{ℕ, zero, suc, _+_, _-_, _≤_, _<_, zero-le}
 use native.Mathlib.Nat.{add-zero, add-suc, add-assoc}
 use native.Mathlib.Decide.{ℕ-discrete, decLt}
 use native.Mathlib.Numerals.{add-one}
@@ -15,15 +15,20 @@ use lib.Seq.{getD-set-same, getD-set-other}
 use Rattle.bounded.specs.Below.{someBelow}
 use Rattle.bounded.specs.Update.{Changed, here, there, upd}
 use Rattle.bounded.specs.Count.{one, count, tally, Tallied, newAt, differB, Differ}
-use Rattle.bounded.proofs.BoolLaws.{holds, holds-or-fails, or-l, or-r, or-right}
+use Rattle.bounded.proofs.BoolLaws.{holds, fails, holds-or-fails, same-test, or-l, or-r, or-right}
 use Rattle.bounded.proofs.BelowLaws.{all-at, all-of, some-at, some-of, some-none, none-some}
-use Rattle.bounded.proofs.UpdateLaws.{changed, changed-map}
+use Rattle.bounded.proofs.UpdateLaws.{changed}
 
 pub one-le : (b : Bool) → one b ≤ 1
 one-le true = omega arith
 one-le false = omega arith
 
 module _ (p : ℕ → Bool) where
+  -- before the first
+  pub count-zero : 0 ≡ count p 0
+  unfolding count
+  count-zero = refl
+
   -- one number more
   pub count-step : (n : ℕ) → count p (n + 1) ≡ count p n + one (p n)
   unfolding count
@@ -102,6 +107,29 @@ count-split p m (suc n) =
     ap (count p) (add-suc m n) ∙ ap (λ (c : ℕ). c + one (p (m + n))) (count-split p m n)
     ∙ add-assoc (count p m) (count (λ k. p (m + k)) n) (one (p (m + n)))
 
+-- the first k pass, and none after them
+pub count-first : (p : ℕ → Bool) (n k : ℕ) → k ≤ n → ((j : ℕ) → j < k → p j ≡ true) → ((j : ℕ) → k ≤ j → j < n → p j ≡ false) → count p n ≡ k
+count-first p n k l g h =
+    let e : k + (n - k) ≡ n = omega arith in
+    let a = count-split p k (n - k) in
+    let c = count-all p k g in
+    let d = count-none (λ j. p (k + j)) (n - k) (λ j m. h (k + j) (omega arith) (omega arith)) in
+    ap (count p) (sym e) ∙ a ∙ omega arith
+
+-- none is counted just where none passes
+pub count-none-is : (p : ℕ → Bool) (n : ℕ) → eqb (count p n) 0 ≡ not (someBelow p n)
+count-none-is p n =
+    same-test (eqb (count p n) 0) (not (someBelow p n))
+    (λ t. ap not (none-some p n (λ k l. fails (p k) (λ h. omega (arith, count-pos p n k l h, eqb-true (count p n) 0 t)))))
+    (λ t. eq-eqb (count p n) 0 (count-none p n (some-none p n (not-true (someBelow p n) t))))
+
+pub count-some-is : (p : ℕ → Bool) (n : ℕ) → not (eqb (count p n) 0) ≡ someBelow p n
+count-some-is p n = ap not (count-none-is p n) ∙ not-not (someBelow p n)
+  where
+    not-not : (b : Bool) → not (not b) ≡ b
+    not-not true = refl
+    not-not false = refl
+
 -- tests that are equal below n
 pub count-ext : (p q : ℕ → Bool) (n : ℕ) → ((k : ℕ) → k < n → p k ≡ q k) → count p n ≡ count q n
 unfolding count
@@ -158,9 +186,10 @@ pigeons n k f b d = omega (arith, many k b d, count-le (seen k) n)
         (some-of (λ i. eqb (f i) (f k)) (suc k) k (omega arith) (eq-eqb (f k) (f k) refl)) in
         omega arith
 
--- one change of a function, and the tally of each value
-pub tally-at : (f g : ℕ → ℕ) (i j : ℕ) → ((q : ℕ) → Changed f i j q (g q)) → (n : ℕ) → i < n → (v : ℕ) → tally g n v + one (eqb (f i) v) ≡ tally f n v + one (eqb j v)
-tally-at f g i j h n l v = count-at (λ k. eqb (f k) v) (λ k. eqb (g k) v) i (eqb j v) (λ q. changed-map (λ (x : ℕ). eqb x v) (h q)) n l
+-- ---- tallies
+-- the same turns, in other words
+pub tallied-as : (f : ℕ → ℕ) (lo n : ℕ) (l : List ℕ) {m k : ℕ} → m ≡ k → Tallied f lo n m l → Tallied f lo n k l
+tallied-as f lo n l e t = subst (λ (x : ℕ). Tallied f lo n x l) e t
 
 module _ (f : ℕ → ℕ) where
   pub tally-here : (m v : ℕ) → f m ≡ v → tally f (m + 1) v ≡ tally f m v + 1
@@ -202,6 +231,17 @@ module _ (f : ℕ → ℕ) where
   -- a turn that passes a value below lo over
   pub tally-skip : (lo n m : ℕ) (l : List ℕ) → f m < lo → Tallied f lo n m l → Tallied f lo n (m + 1) l
   tally-skip lo n m l e t = record { long = t .long; each = λ v p q. t .each v p q ∙ sym (tally-else m v (omega arith)) }
+
+  -- k such turns
+  pub tally-skips : (lo n m k : ℕ) (l : List ℕ) → ((j : ℕ) → j < k → f (m + j) < lo) → Tallied f lo n m l → Tallied f lo n (m + k) l
+  tally-skips lo n m zero l h t = tallied-as f lo n l (sym (add-zero m)) t
+  tally-skips lo n m (suc k) l h t =
+      let e : m + k + 1 ≡ m + suc k = omega arith in
+      tallied-as f lo n l e (tally-skip lo n (m + k) l (h k (omega arith)) (tally-skips lo n m k l (λ j p. h j (omega arith)) t))
+
+  -- a turn that passes a value of n or more over
+  pub tally-past : (lo n m : ℕ) (l : List ℕ) → n ≤ f m → Tallied f lo n m l → Tallied f lo n (m + 1) l
+  tally-past lo n m l h t = record { long = t .long; each = λ v a b. t .each v a b ∙ sym (tally-else m v (λ q. omega arith)) }
 
   -- a turn that counts
   pub tally-count : (lo n m b : ℕ) (l : List ℕ) → f m ≡ b → lo ≤ b → b < n → Tallied f lo n m l → Tallied f lo n (m + 1) (set l b (getD l b 0 + 1))

@@ -1,11 +1,16 @@
+pub mod CaseLaws
 pub mod BoolLaws
 pub mod BelowLaws
 pub mod SearchLaws
 pub mod UpdateLaws
+pub mod RangeLaws
 pub mod CountLaws
+pub mod TallyLaws
 pub mod ClimbLaws
 pub mod ReflectLaws
 pub mod TableLaws
 pub mod SeenLaws
+pub mod DifferLaws
 pub mod SumLaws
 pub mod MostLaws
+pub mod EachLaws

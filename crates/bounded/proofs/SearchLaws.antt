@@ -1,5 +1,5 @@
 -- Laws of a search for the lowest number that passes a test.
-use mathlib.Core.Path.{_≡_, refl, ap, _∙_}
+use mathlib.Core.Path.{_≡_, refl, sym, ap, _∙_}
 use mathlib.Core.Bool.{Bool, true, false, not}
 use Prim.Native.Nat.{ℕ, zero, suc, _+_, _-_, _≤_, _<_}
 use native.Mathlib.Nat.{zero-add, add-zero, add-suc, suc-add}
@@ -14,6 +14,9 @@ use Rattle.bounded.proofs.BoolLaws.{clash}
 pub first-begin : (f : ℕ → Bool) (k : ℕ) → first f k ≡ firstFrom f 0 (k - 0)
 unfolding first
 first-begin f k = let q : k - 0 ≡ k = omega arith in rw q
+
+pub search-begin : (f : ℕ → Bool) (n m : ℕ) → m ≡ n → first f n ≡ firstFrom f 0 (m - 0)
+search-begin f n m e = first-begin f n ∙ ap (λ (i : ℕ). firstFrom f 0 (i - 0)) (sym e)
 
 pub first-of-begin : (f : ℕ → Bool) (i k e : ℕ) → e ≡ i + k → firstFrom f i k ≡ firstFrom f i (e - i)
 first-of-begin f i k e h = let q : k ≡ e - i = omega arith in ap (firstFrom f i) q
@@ -32,6 +35,14 @@ first-found f c e h t = let q : e - c ≡ suc (e - (c + 1)) = omega arith in rw 
 pub first-end : (f : ℕ → Bool) (c e : ℕ) → e ≤ c → firstFrom f c (e - c) ≡ Absent
 unfolding firstFrom
 first-end f c e h = let q : e - c ≡ 0 = omega arith in rw q
+
+-- a search that finds something ends at its last number at most
+pub search-left : (f : ℕ → Bool) (c last : ℕ) → (firstFrom f c (last + 1 - c) ≡ Absent → ⊥) → c ≤ last
+search-left f c last h = go (decLt last c)
+  where
+    go : Dec (last < c) → c ≤ last
+    go (yes l) = absurd (h (first-end f c (last + 1) (omega arith)))
+    go (no l) = omega arith
 
 -- what a search that found t says
 pub record Lowest (f : ℕ → Bool) (i k t : ℕ) : Type 0 where
@@ -60,6 +71,10 @@ found-lowest f i (suc k) t e = go (f i) refl e (found-lowest f (suc i) k t)
             | no nlt ↦ let p : i ≡ j = omega arith in rw (← p) q
           ];
         }
+
+pub found-below : (f : ℕ → Bool) (n : ℕ) {r : Found} {j : ℕ} → r ≡ first f n → r ≡ At j → j < n
+unfolding first
+found-below f n {r} {j} g e = let b = found-lowest f 0 n j (sym g ∙ e) in omega arith
 
 -- tests that are equal where the search looks
 pub first-ext : (f g : ℕ → Bool) (i k : ℕ) → ((j : ℕ) → i ≤ j → j < i + k → f j ≡ g j) → firstFrom f i k ≡ firstFrom g i k
@@ -122,6 +137,14 @@ lowest-found f i k t h =
     let q : k - (t - i) ≡ i + k - t = omega arith in
     first-skip f i (t - i) k (omega arith) (absent-of f i (t - i) (λ j c d. h .before j c (omega arith))) ∙ rw (p, q) (first-found f t (i + k) b (h .holds))
 
+-- n is the lowest number that passes, or all below m fail and it is m
+pub first-of : (f : ℕ → Bool) (m n : ℕ) → n ≤ m → ((k : ℕ) → k < n → f k ≡ false) → (n < m → f n ≡ true) → onFound (first f m) (λ k. k) m ≡ n
+unfolding first
+first-of f m n l b h = elim (decLt n m) as (λ _. onFound (firstFrom f 0 m) (λ k. k) m ≡ n) [
+  | yes lt ↦ rw (lowest-found f 0 m n (record { from = omega arith; below = omega arith; holds = h lt; before = λ j a c. b j c }))
+  | no nlt ↦ rw (absent-of f 0 m (λ j a c. b j (omega arith))) (omega arith)
+]
+
 -- the search of a test that is moved by a
 pub first-shift : (f : ℕ → Bool) (a i k : ℕ) → onFound (firstFrom (λ j. f (a + j)) i k) (λ t. At (a + t)) Absent ≡ firstFrom f (a + i) k
 unfolding firstFrom
@@ -132,6 +155,19 @@ first-shift f a i (suc k) = go (f (a + i)) (first-shift f a (suc i) k)
         → onFound (pick b (At i) (firstFrom (λ j. f (a + j)) (suc i) k)) (λ t. At (a + t)) Absent ≡ pick b (At (a + i)) (firstFrom f (suc (a + i)) k)
     go true h = refl
     go false h = h ∙ ap (λ (m : ℕ). firstFrom f m k) (add-suc a i)
+
+-- ---- what holds of each outcome of a choice holds of the choice
+pub by-pick : {A : Type 0} (P : A → Type 0) (b : Bool) {x y : A} → P x → P y → P (pick b x y)
+by-pick P true p q = p
+by-pick P false p q = q
+
+pub by-found : {A : Type 0} (P : A → Type 0) (r : Found) {g : ℕ → A} {y : A} → ((t : ℕ) → P (g t)) → P y → P (onFound r g y)
+by-found P (At t) p q = p t
+by-found P Absent p q = q
+
+pub found-else : (x : Found) → onFound x At Absent ≡ x
+found-else (At t) = refl
+found-else Absent = refl
 
 -- ---- a choice whose outcome is known, and cannot have come from one of its branches
 module _ {A : Type 0} where

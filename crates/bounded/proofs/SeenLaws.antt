@@ -1,6 +1,6 @@
 -- A loop that notes in a list each value it meets.
-use mathlib.Core.Path.{_≡_, refl, sym, ap, _∙_}
-use mathlib.Core.Bool.{Bool, true, false, not}
+use mathlib.Core.Path.{_≡_, refl, sym, ap, ap₂, _∙_, subst}
+use mathlib.Core.Bool.{Bool, true, false, not, _||_}
 use mathlib.Core.List.{List}
 use Prim.Native.Nat.{ℕ, zero, suc, _+_, _<_}
 use native.Mathlib.Decide.{ℕ-discrete}
@@ -10,10 +10,11 @@ use lib.Dec.{eqb}
 use lib.ListN.{getD, set, replicate, getD-replicate, length-replicate, length-set}
 use lib.Seq.{getD-set-same, getD-set-other}
 use Rattle.bounded.specs.Below.{someBelow}
-use Rattle.bounded.specs.Count.{one}
+use Rattle.bounded.specs.Count.{one, tally, newAt}
 use Rattle.bounded.specs.Seen.{Seen}
-use Rattle.bounded.proofs.BoolLaws.{same-test}
-use Rattle.bounded.proofs.BelowLaws.{some-of, some-at, none-some}
+use Rattle.bounded.proofs.BoolLaws.{same-test, or-r}
+use Rattle.bounded.proofs.BelowLaws.{some-of, some-at, some-none, none-some}
+use Rattle.bounded.proofs.CountLaws.{count-none, count-pos}
 
 -- a test that fails at m adds nothing there
 pub some-skip : (p : ℕ → Bool) (m : ℕ) → p m ≡ false → someBelow p (m + 1) ≡ someBelow p m
@@ -53,6 +54,10 @@ module _ (f : ℕ → ℕ) (n : ℕ) where
       at v b (no q) =
           getD-set-other l a v 1 0 q ∙ s .each v b ∙ sym (ap one (some-skip (λ k. eqb (f k) v) m (ne-eqb (f m) v (λ z. q (sym z ∙ sym e)))))
 
+  -- the same turns, in other words
+  pub seen-as : (l : List ℕ) {m k : ℕ} → m ≡ k → Seen f n m l → Seen f n k l
+  seen-as l e h = subst (λ (x : ℕ). Seen f n x l) e h
+
   -- one value at the w numbers from m on
   pub seen-run : (m w a : ℕ) (l : List ℕ) → 0 < w → ((k : ℕ) → k < w → f (m + k) ≡ a) → a < n → Seen f n m l → Seen f n (m + w) (set l a 1)
   seen-run m w a l z e h s = record { long = length-set l a 1 ∙ s .long; each = λ v b. at v b (ℕ-discrete v a) }
@@ -88,3 +93,17 @@ module _ (f : ℕ → ℕ) (n m v : ℕ) (l : List ℕ) (s : Seen f n m l) (h : 
       go : (b : Bool) → eqb (one b) 0 ≡ not b
       go true = refl
       go false = refl
+
+-- is the value a of f at m new
+module _ (f : ℕ → ℕ) (n m a : ℕ) (l : List ℕ) (e : a ≡ f m) (h : a < n) (s : Seen f n m l) where
+  pub new-noted : getD l a 0 ≡ 0 → newAt f m ≡ true
+  new-noted z =
+      or-r (eqb (f m) 0) (eqb (tally f m (f m)) 0)
+      (eq-eqb (tally f m (f m)) 0 (ap (tally f m) (sym e) ∙ count-none (λ k. eqb (f k) a) m (some-none (λ k. eqb (f k) a) m (seen-not f n m a l s h z))))
+
+  pub again-noted : (getD l a 0 ≡ 0 → ⊥) → (a ≡ 0 → ⊥) → newAt f m ≡ false
+  again-noted z g =
+      let r = some-at (λ k. eqb (f k) a) m (seen-some f n m a l s h z) in
+      let u : 0 < tally f m a = count-pos (λ k. eqb (f k) a) m (r .0) (r .1) (r .2) in
+      let v : 0 < tally f m (f m) = subst (λ (x : ℕ). 0 < tally f m x) e u in
+      ap₂ _||_ (ne-eqb (f m) 0 (λ q. g (e ∙ q))) (ne-eqb (tally f m (f m)) 0 (omega arith))

@@ -1,8 +1,8 @@
 -- Laws of the list of a function's values, and of a loop that fills it.
 use mathlib.Core.Path.{_≡_, refl, sym, ap, ap₂, _∙_}
-use mathlib.Core.List.{List, _∷_}
+use mathlib.Core.List.{List, [], _∷_, _++_}
 use Prim.Native.Nat.{ℕ, zero, suc, _+_, _≤_, _<_}
-use native.Mathlib.Nat.{not-suc-le-zero, le-of-suc-le-suc}
+use native.Mathlib.Nat.{not-suc-le-zero, le-of-suc-le-suc, zero-add, add-zero, suc-add}
 use native.Mathlib.Decide.{ℕ-discrete}
 use native.Mathlib.Omega.{arith}
 use lib.ListN.{length, getD, set, length-set}
@@ -26,6 +26,20 @@ unfolding table
 table-ext f g zero h = refl
 table-ext f g (suc n) h = ap₂ (λ (x : ℕ) (l : List ℕ). x ∷ l) (h 0 (omega arith)) (table-ext (λ k. f (suc k)) (λ k. g (suc k)) n (λ k l. h (suc k) (omega arith)))
 
+-- the first j values, and then m more
+pub table-append : (f : ℕ → ℕ) (j m : ℕ) → table f (j + m) ≡ table f j ++ table (λ k. f (j + k)) m
+unfolding table
+table-append f zero m = rw zero-add (table-ext f (λ k. f (0 + k)) m (λ k l. rw zero-add))
+table-append f (suc j) m =
+    rw suc-add
+    (ap (λ (l : List ℕ). f 0 ∷ l) (table-append (λ k. f (suc k)) j m ∙ ap (λ (l : List ℕ). table (λ k. f (suc k)) j ++ l) (table-ext (λ k. f (suc (j + k))) (λ k. f (suc j + k)) m (λ k l. rw suc-add))))
+
+pub table-more : (f : ℕ → ℕ) (k : ℕ) → table f (k + 1) ≡ table f k ++ (f k ∷ [])
+table-more f k = table-append f k 1 ∙ ap (λ (l : List ℕ). table f k ++ l) (last f k)
+  where
+    last : (f : ℕ → ℕ) (k : ℕ) → table (λ j. f (k + j)) 1 ≡ f k ∷ []
+    last f k = unfold table in ap (λ (j : ℕ). f j ∷ []) (add-zero k)
+
 -- a loop that fills a list: before it, a turn, after it
 module _ (f : ℕ → ℕ) (n : ℕ) where
   pub filled-none : (l : List ℕ) → length l ≡ n → Tabulated f n 0 l
@@ -42,3 +56,7 @@ module _ (f : ℕ → ℕ) (n : ℕ) where
   filled-all k l h t =
       ext-getD 0 l (table f n) (t .long ∙ sym (length-table f n))
       (λ i p. t .each i (omega (arith, t .long)) ∙ sym (getD-table f n i (omega (arith, t .long))))
+
+-- the table of a list's own elements
+pub table-list : (l : List ℕ) (k : ℕ) → length l ≡ k → table (λ j. getD l j 0) k ≡ l
+table-list l k e = sym (filled-all (λ j. getD l j 0) k k l (omega arith) (record { long = e; each = λ j h. refl }))

@@ -1,9 +1,19 @@
 -- Laws of a function with another value at one number.
-use mathlib.Core.Path.{_≡_, refl, sym, ap, _∙_, fun-ext}
+use mathlib.Core.Path.{_≡_, refl, sym, _∙_, fun-ext}
 use mathlib.Core.Logic.{_≢_}
-use Prim.Native.Nat.{ℕ}
+use Prim.Native.Nat.{ℕ, _≤_, _<_}
 use native.Mathlib.Decide.{ℕ-discrete}
 use Rattle.bounded.specs.Update.{choose, upd, Changed, here, there}
+
+-- functions that agree: from 1 to n, there but at i, and below m but at p
+abbrev pub SameTo : ℕ → (ℕ → ℕ) → (ℕ → ℕ) → Type 0
+SameTo n f g = (j : ℕ) → 1 ≤ j → j ≤ n → g j ≡ f j
+
+abbrev pub ElseTo : ℕ → ℕ → (ℕ → ℕ) → (ℕ → ℕ) → Type 0
+ElseTo n i f g = (j : ℕ) → 1 ≤ j → j ≤ n → j ≢ i → g j ≡ f j
+
+abbrev pub ElseBelow : ℕ → ℕ → (ℕ → ℕ) → (ℕ → ℕ) → Type 0
+ElseBelow m p f g = (q : ℕ) → q < m → q ≢ p → g q ≡ f q
 
 pub changed : {A : Type 0} (f : ℕ → A) (p : ℕ) (v : A) (q : ℕ) → Changed f p v q (upd f p v q)
 unfolding upd
@@ -27,11 +37,6 @@ upd-same f p v = changed-here refl (changed f p v p)
 
 pub upd-other : {A : Type 0} (f : ℕ → A) (p : ℕ) (v : A) (q : ℕ) → q ≢ p → upd f p v q ≡ f q
 upd-other f p v q h = changed-there h (changed f p v q)
-
--- the values under another function
-pub changed-map : {A B : Type 0} (k : A → B) {f : ℕ → A} {p : ℕ} {v : A} {q : ℕ} {r : A} → Changed f p v q r → Changed (λ x. k (f x)) p (k v) q (k r)
-changed-map k (here e r) = here e (ap k r)
-changed-map k (there n r) = there n (ap k r)
 
 -- one change has one outcome
 pub changed-same : {A : Type 0} {f : ℕ → A} {p : ℕ} {v : A} {q : ℕ} {r s : A} → Changed f p v q r → Changed f p v q s → r ≡ s

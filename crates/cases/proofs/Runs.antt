@@ -33,7 +33,7 @@ use Rattle.checkpoint.specs.List.{outcome, next, run}
 use Rattle.checkpoint.specs.Live.{World, threeGuards, decision, live, started, start, step, startGuards}
 use Rattle.checkpoint.specs.Notes.{isCopied, noteMade, noteTaken, cutsImage, cutImage, cutEntries, clearMarks, setMarks}
 use Rattle.desk.specs.Desk as desk
-use Prim.Native.Nat.{ℕ, _+_, _*_}
+use Prim.Native.Nat.{ℕ, _*_}
 use mathlib.Core.Path.{_≡_, refl, ap}
 use mathlib.Core.List.{List, [], _∷_, _++_}
 use lib.ListN.{replicate}

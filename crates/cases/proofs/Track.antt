@@ -1,10 +1,10 @@
 -- The track cases of any store, by the tables of refusals; and the whole table.
-use Prim.Native.Nat.{ℕ, _+_, _*_, _-_, _≤_, _<_, _/_, max}
+use Prim.Native.Nat.{ℕ, _+_, _-_, _≤_, _<_, max}
 use mathlib.Core.Path.{_≡_, ap, _∙_}
 use mathlib.Core.Bool.{true, false, not, _&&_, _||_}
 use mathlib.Core.List.{List}
 use native.Mathlib.Omega.{arith}
-use borrow.Author.Tests.{lt-ltb, le-ltb, le-leb, leb-true, eqb-true, eq-eqb, ne-eqb}
+use borrow.Author.Tests.{lt-ltb, le-ltb, leb-true, eqb-true, ne-eqb}
 use lib.Dec.{eqb, leb, ltb}
 use lib.ListN.{length, getD}
 use Rattle.bounded.specs.Search.{first}
@@ -26,11 +26,11 @@ use Rattle.sound.specs.declared.Form.the-variants.{Store}
 use Rattle.sound.proofs.SoundLaws.{framed, is-sound}
 use Rattle.entries.specs.declared.Kind.{Kind}
 use Rattle.files.specs.Effect.{create, write}
-use Rattle.checkpoint.specs.Fit.{isRunning, imageAllowed, imageBlocks, blocksFit, deskFits, imageFits, notesFit}
+use Rattle.checkpoint.specs.Fit.{isRunning, imageAllowed, blocksFit, deskFits, imageFits, notesFit}
 use Rattle.checkpoint.specs.Table.{createTable, writeTable, startTable}
 use Rattle.checkpoint.specs.Busy.{anyLocked}
 use Rattle.checkpoint.specs.Live.{World, live, start}
-use Rattle.checkpoint.specs.List.{Ready, call, starts, outcome}
+use Rattle.checkpoint.specs.List.{Ready, outcome}
 use Rattle.checkpoint.proofs.TableLaws.{create-table, write-table}
 use Rattle.checkpoint.proofs.CopierTables.{start-table}
 use Rattle.cases.specs.Cases.{TrackCases, Writes, Creates, inodes}

@@ -1,67 +1,28 @@
 -- How many blocks no address names: it changes by the blocks that an inode takes or gives back. n and b are the counts of inodes and blocks.
-use Prim.Native.Nat.{ℕ, zero, suc, _+_, _-_, _*_, _/_, _%_, _≤_, _<_}
-use mathlib.Core.Path.{_≡_, sym, ap, _∙_, subst}
+use Prim.Native.Nat.{ℕ, _+_, _-_, _*_, _/_, _%_, _≤_, _<_}
+use mathlib.Core.Path.{_≡_, sym, ap, _∙_}
 use mathlib.Core.Logic.{_≢_}
-use mathlib.Core.Bool.{Bool, true, not}
+use mathlib.Core.Bool.{not}
 use mathlib.Core.List.{List}
-use native.Mathlib.Decide.{ℕ-discrete, decLt}
-use native.Mathlib.Numerals.{add-one}
+use native.Mathlib.Decide.{decLt}
 use native.Mathlib.Omega.{arith}
-use borrow.Author.Tests.{eq-eqb, ne-eqb, lt-ltb, le-ltb}
+use borrow.Author.Tests.{lt-ltb, le-ltb}
 use lib.Dec.{eqb, ltb}
 use Rattle.bounded.specs.Below.{someBelow}
-use Rattle.bounded.specs.Count.{one, count, Differ, countTo}
-use Rattle.bounded.specs.Update.{Changed, here, there}
-use Rattle.bounded.proofs.BelowLaws.{none-some, all-ext}
-use Rattle.bounded.proofs.SeenLaws.{some-skip, some-here}
-use Rattle.bounded.proofs.CountLaws.{count-hit, count-miss, count-none, count-all, count-not, count-ext, count-at, count-split}
+use Rattle.bounded.specs.Count.{count, Differ, countTo}
+use Rattle.bounded.proofs.BelowLaws.{all-ext}
+use Rattle.bounded.proofs.CountLaws.{count-not, count-ext, count-split, count-first}
+use Rattle.bounded.proofs.DifferLaws.{nonzero, met-count, differ-less}
 use Rattle.layout.specs.Sizes.{addressCount}
 use Rattle.layout.specs.Inode.{sizeOf, addressOf, addressIndex}
 use Rattle.layout.specs.Block.{blocksUsed, kthBlock}
 use Rattle.layout.specs.Free.{blockNamed, blockFree}
 use Rattle.sound.specs.Inode.{InodeSound}
 
--- ---- numbers that differ: each value is met once, so as many values are met as numbers are not 0
--- v is among the first m values
-abbrev met : (ℕ → ℕ) → ℕ → ℕ → Bool
-met f m v = someBelow (λ x. eqb (f x) v) m
-
-abbrev nonzero : (ℕ → ℕ) → ℕ → Bool
-nonzero f x = ltb 0 (f x)
-
-met-count : (f : ℕ → ℕ) (b m : ℕ) → Differ f m → ((x : ℕ) → x < m → f x ≤ b) → count (λ k. met f m (k + 1)) b ≡ count (nonzero f) m
-met-count f b zero d h = count-none (λ k. met f 0 (k + 1)) b (λ k l. none-some (λ x. eqb (f x) (k + 1)) 0 (λ x m. absurd (omega arith))) ∙ sym (count-none (nonzero f) 0 (λ k l. absurd (omega arith)))
-met-count f b (suc m) d h =
-    subst (λ (y : ℕ). count (λ k. met f y (k + 1)) b ≡ count (nonzero f) y) (add-one m)
-    (go (ℕ-discrete (f m) 0) (met-count f b m (λ i j l k. d i j l (omega arith)) (λ x l. h x (omega arith))))
-  where
-    step : (v : ℕ) → f m ≢ v → met f (m + 1) v ≡ met f m v
-    step v q = some-skip (λ x. eqb (f x) v) m (ne-eqb (f m) v q)
-
-    at : f m ≢ 0 → (q : ℕ) → Dec (q ≡ f m - 1) → Changed (λ k. met f m (k + 1)) (f m - 1) true q (met f (m + 1) (q + 1))
-    at z q (yes e) = here e (some-here (λ x. eqb (f x) (q + 1)) m (eq-eqb (f m) (q + 1) (omega arith)))
-    at z q (no e) = there e (step (q + 1) (λ g. e (omega arith)))
-
-    go : Dec (f m ≡ 0) → count (λ k. met f m (k + 1)) b ≡ count (nonzero f) m → count (λ k. met f (m + 1) (k + 1)) b ≡ count (nonzero f) (m + 1)
-    go (yes z) r =
-        count-ext (λ k. met f (m + 1) (k + 1)) (λ k. met f m (k + 1)) b (λ k l. step (k + 1) (λ g. omega arith))
-        ∙ r ∙ sym (count-miss (nonzero f) m (le-ltb 0 (f m) (omega arith)))
-    go (no z) r =
-        let l = h m (omega arith) in
-        let c = count-at (λ k. met f m (k + 1)) (λ k. met f (m + 1) (k + 1)) (f m - 1) true (λ q. at z q (ℕ-discrete q (f m - 1))) b (omega arith) in
-        let w : f m - 1 + 1 ≡ f m = omega arith in
-        let o : one (met f m (f m - 1 + 1)) ≡ 0 = ap one (none-some (λ x. eqb (f x) (f m - 1 + 1)) m (λ x k. ne-eqb (f x) (f m - 1 + 1) (λ g. d x m k (omega arith) (omega arith) (g ∙ w)))) in
-        let y = count-hit (nonzero f) m (lt-ltb 0 (f m) (omega arith)) in
-        omega arith
-
 -- ---- a row of twelve: the first k are not 0
 row-count : (f : ℕ → ℕ) (k : ℕ) → k ≤ addressCount → ((j : ℕ) → j < addressCount → j < k → 1 ≤ f j) → ((j : ℕ) → j < addressCount → k ≤ j → f j ≡ 0) → count (nonzero f) addressCount ≡ k
 row-count f k l g h =
-    let e : k + (12 - k) ≡ 12 = omega arith in
-    let a = count-split (nonzero f) k (12 - k) in
-    let c = count-all (nonzero f) k (λ j m. lt-ltb 0 (f j) (g j (omega arith) m)) in
-    let d = count-none (λ j. nonzero f (k + j)) (12 - k) (λ j m. le-ltb 0 (f (k + j)) (let z = h (k + j) (omega arith) (omega arith) in omega arith)) in
-    ap (count (nonzero f)) (sym e) ∙ a ∙ omega arith
+    count-first (nonzero f) addressCount k l (λ j m. lt-ltb 0 (f j) (g j (omega arith) m)) (λ j m o. le-ltb 0 (f j) (let z = h j o m in omega arith))
 
 -- the rows of f and g are the same but for that of inode i
 module _ (f g : ℕ → ℕ) (n i : ℕ) (l : 1 ≤ i) (m : i ≤ n) (same : (x : ℕ) → x < addressCount * n → x / addressCount + 1 ≢ i → g x ≡ f x) where
@@ -81,24 +42,6 @@ module _ (f g : ℕ → ℕ) (n i : ℕ) (l : 1 ≤ i) (m : i ≤ n) (same : (x 
       let v = count-ext (nonzero g) (nonzero f) (12 * (i - 1)) (λ k r. ap (ltb 0) (same k (omega arith) (omega arith))) in
       let w = count-ext (λ k. nonzero g (12 * i + k)) (λ k. nonzero f (12 * i + k)) (12 * (n - i)) (λ k r. ap (ltb 0) (same (12 * i + k) (omega arith) (omega arith))) in
       omega arith
-
--- ---- values that still differ
--- some of them become 0
-pub differ-less : (f g : ℕ → ℕ) (m : ℕ) → Differ f m → ((x : ℕ) → x < m → 0 < g x → g x ≡ f x) → Differ g m
-differ-less f g m d h i j l k p e =
-    let a = h j k p in
-    let b = h i (omega arith) (omega arith) in
-    d i j l k (omega arith) (omega arith)
-
--- one becomes c, which was none of them
-pub differ-new : (f g : ℕ → ℕ) (m y c : ℕ) → Differ f m → ((x : ℕ) → x < m → f x ≢ c) → g y ≡ c → ((x : ℕ) → x < m → x ≢ y → g x ≡ f x) → Differ g m
-differ-new f g m y c d u e h i j l k p q = go (ℕ-discrete i y) (ℕ-discrete j y)
-  where
-    go : Dec (i ≡ y) → Dec (j ≡ y) → ⊥
-    go (yes a) (yes b) = omega arith
-    go (yes a) (no b) = u j k (sym (h j k b) ∙ sym q ∙ ap g a ∙ e)
-    go (no a) (yes b) = u i (omega arith) (sym (h i (omega arith) a) ∙ q ∙ ap g b ∙ e)
-    go (no a) (no b) = let v = h i (omega arith) a in let w = h j k b in d i j l k (omega arith) (omega arith)
 
 -- ---- the addresses of all inodes
 -- the row of address x, and its place there
@@ -131,7 +74,7 @@ module _ (s : List ℕ) (n : ℕ) where
   unfolding blockNamed
   named-count b h d =
       let a = met-count (addressOf s n) b (12 * n) d (addresses-bound b h) in
-      let c = count-not (λ k. met (addressOf s n) (12 * n) (k + 1)) b in
+      let c = count-not (λ k. someBelow (λ x. eqb (addressOf s n x) (k + 1)) (12 * n)) b in
       omega arith
 
 -- ---- the addresses of inode i change: the unnamed blocks are fewer by those that it takes, more by those that it gives back

@@ -10,6 +10,9 @@ use lib.ListN.{length, getD, replicate, getD-replicate, length-replicate}
 use Rattle.bounded.specs.Count.{one, Differ, countTo}
 use Rattle.bounded.proofs.BoolLaws.{clash, fails}
 use Rattle.bounded.proofs.ReflectLaws.{r-fails}
+use Rattle.bounded.proofs.CaseLaws.{each-else}
+use Rattle.bounded.proofs.DifferLaws.{differ-less}
+use Rattle.bounded.proofs.TallyLaws.{count-but}
 use Rattle.layout.specs.Sizes.{addressCount, blockBytes}
 use Rattle.layout.specs.Header.{headerOf}
 use Rattle.layout.specs.declared.inode.Inode.{Inode}
@@ -20,10 +23,9 @@ use Rattle.directory.specs.Slot.{mostSlots, slots}
 use Rattle.sound.specs.Place.{dirOf, isSlot, filled, naming}
 use Rattle.sound.specs.Inode.{InodeSound}
 use Rattle.sound.proofs.PlaceLaws.{slot-is, filled-is, naming-filled}
-use Rattle.changes.proofs.SameLaws.{OtherInodes, SameFrame, SameBlock, same-body, each-inode, NewInode, InCounts, frame-then, inode-then, put-inode, inode-new, inode-blocks}
+use Rattle.changes.proofs.SameLaws.{OtherInodes, SameFrame, SameBlock, same-body, NewInode, InCounts, frame-then, inode-then, put-inode, inode-new, inode-blocks}
 use Rattle.changes.proofs.KeepLaws.{SamePlace, place-kept, inode-kept}
-use Rattle.changes.proofs.AddressLaws.{differ-less, address-kth, unnamed-change}
-use Rattle.changes.proofs.TreeLaws.{count-but}
+use Rattle.changes.proofs.AddressLaws.{address-kth, unnamed-change}
 use Rattle.changes.proofs.StockLaws.{Stock}
 
 -- inode i is v, which has no blocks; the other inodes and the bytes of blocks stay
@@ -102,7 +104,7 @@ module _ (s t : List ℕ) (n i : ℕ) (v : Inode) (a : Bared s t n i v) (empty :
         }
 
     inodes : (j : ℕ) → 1 ≤ j → j ≤ n → InodeSound t n b j
-    inodes j l m = each-inode (InodeSound t n b) i j new-inode
+    inodes j l m = each-else (InodeSound t n b) i j new-inode
         (λ z. inode-kept s t n b j (a .others j l m z) (λ _ _. a .bytes (kthBlock s n j (sizeOf s j / blockBytes))) (h .inodes j l m))
 
     once : Differ (addressOf t n) (addressCount * n)

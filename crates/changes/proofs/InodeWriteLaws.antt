@@ -3,11 +3,12 @@ use Prim.Native.Nat.{ℕ, _*_, _≤_, _<_}
 use mathlib.Core.Path.{_≡_, sym, _∙_}
 use mathlib.Core.List.{List}
 use native.Mathlib.Omega.{arith}
+use Rattle.bounded.proofs.CaseLaws.{each-else}
 use Rattle.layout.specs.Inode.{InodeFits, spareOf, linksOf, parentOf, inodeOf, putAttributes, putLinks, withParent}
 use Rattle.layout.specs.Block.{kthBlock}
 use Rattle.directory.specs.Slot.{mostSlots}
 use Rattle.sound.specs.Place.{dirOf}
-use Rattle.changes.proofs.SameLaws.{SameBody, InInode, same-body, each-inode, put-links, links-body, put-attributes, attributes-blocks, attributes-new}
+use Rattle.changes.proofs.SameLaws.{SameBody, InInode, same-body, put-links, links-body, put-attributes, attributes-blocks, attributes-new}
 use Rattle.changes.proofs.KeepLaws.{SamePlace, place-kept}
 
 -- inode i alone changes, in its links or its parent
@@ -16,7 +17,7 @@ pub record Relinked (s t : List ℕ) (n i : ℕ) : Type 0 where
   pub body : SameBody s t n i
 
 pub body-all : {s t : List ℕ} {n i : ℕ} → Relinked s t n i → (j : ℕ) → 1 ≤ j → j ≤ n → SameBody s t n j
-body-all {s} {t} {n} {i} a j l m = each-inode (SameBody s t n) i j (a .body) (λ z. same-body (a .inode .others j l m z))
+body-all {s} {t} {n} {i} a j l m = each-else (SameBody s t n) i j (a .body) (λ z. same-body (a .inode .others j l m z))
 
 pub relinked-places : {s t : List ℕ} {n i : ℕ} → Relinked s t n i → (q : ℕ) → q < mostSlots * n → SamePlace s t n q
 relinked-places {s} {t} {n} a q l = place-kept s t n q (body-all a (dirOf q) (omega arith) (omega arith)) (λ k _ _. a .inode .bytes (kthBlock s n (dirOf q) k))

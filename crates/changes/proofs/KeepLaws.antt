@@ -1,5 +1,5 @@
 -- What of a sound store stays where inodes and blocks stay: each inode by itself, and the tree of entries and links. n and b are the counts of inodes and blocks.
-use Prim.Native.Nat.{ℕ, zero, suc, _*_, _/_, _%_, _≤_, _<_}
+use Prim.Native.Nat.{ℕ, _*_, _/_, _%_, _≤_, _<_}
 use mathlib.Core.Path.{_≡_, refl, sym, ap, _∙_, subst}
 use mathlib.Core.Logic.{_≢_}
 use mathlib.Core.Bool.{Bool, true, false, _&&_, true≢false}
@@ -10,10 +10,10 @@ use borrow.Author.Tests.{ne-eqb}
 use lib.Dec.{eqb, ltb}
 use lib.ListN.{getD}
 use Rattle.bounded.specs.Count.{tally, Differ, countTo}
-use Rattle.bounded.specs.Climb.{climb, Leads, Closed}
+use Rattle.bounded.specs.Climb.{Closed}
 use Rattle.bounded.proofs.BoolLaws.{clash, and-false-l}
 use Rattle.bounded.proofs.CountLaws.{count-ext}
-use Rattle.bounded.proofs.ClimbLaws.{leads-up}
+use Rattle.bounded.proofs.ClimbLaws.{leads-kept}
 use Rattle.octets.specs.Octets.{part}
 use Rattle.octets.proofs.PartLaws.{part-part}
 use Rattle.layout.specs.Sizes.{addressCount, blockBytes, rootInode}
@@ -195,16 +195,6 @@ module _ (s t : List ℕ) (n p : ℕ) where
         not-root = λ z. h .not-root (sym (x .names) ∙ z);
         parent = λ z. u ∙ h .parent (sym k ∙ z);
       }
-
--- a climb among numbers whose parents stay
-pub leads-kept : (D : ℕ → Type 0) (up up′ : ℕ → ℕ) (a n : ℕ) → Closed D up a n → ((x : ℕ) → D x → up′ x ≡ up x) → (k d : ℕ) → D d → climb up k d ≡ a → Leads up′ a d
-unfolding climb
-leads-kept D up up′ a n c h zero d q e = (0, e)
-leads-kept D up up′ a n c h (suc k) d q e = go (ℕ-discrete d a) (λ r. leads-kept D up up′ a n c h k (up d) (c .parent d q r) e)
-  where
-    go : Dec (d ≡ a) → ((d ≡ a → ⊥) → Leads up′ a (up d)) → Leads up′ a d
-    go (yes r) f = (0, r)
-    go (no r) f = leads-up up′ a d (subst (Leads up′ a) (sym (h d q)) (f r))
 
 module _ (s t : List ℕ) (n : ℕ) (e : SameTree s t n) where
   naming-kept : (v : ℕ) → tally (naming t n) (mostSlots * n) v ≡ tally (naming s n) (mostSlots * n) v

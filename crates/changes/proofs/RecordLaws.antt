@@ -1,11 +1,10 @@
 -- An inode's record and the free counts: what a write of them keeps, and writes in another order. n is the inode count.
 use Prim.Native.Nat.{ℕ, _+_, _*_, _-_, _≤_}
-use mathlib.Core.Path.{_≡_, refl, sym, ap, ap₂, _∙_}
+use mathlib.Core.Path.{_≡_, sym, ap, ap₂, _∙_}
 use mathlib.Core.List.{List}
 use native.Mathlib.Omega.{arith}
 use lib.ListN.{length, getD}
-use Rattle.bounded.specs.Table.{table}
-use Rattle.bounded.proofs.TableLaws.{length-table, table-ext, filled-all}
+use Rattle.bounded.proofs.TableLaws.{length-table, table-ext, table-list}
 use Rattle.octets.specs.Octets.{splice, toBytes, putNum, wordBytes}
 use Rattle.octets.proofs.PartLaws.{splice-comm, splice-twice}
 use Rattle.octets.proofs.NumLaws.{length-toBytes, num-comm, num-twice}
@@ -114,9 +113,6 @@ inode-twice s n i l m v w e g =
     ∙ splice-twice (splice s o (attributeEntry w)) p vs ws (b ∙ sym d)
 
 -- ---- what is read after a record and the free counts were put
-table-list : (l : List ℕ) (k : ℕ) → length l ≡ k → table (λ j. getD l j 0) k ≡ l
-table-list l k e = sym (filled-all (λ j. getD l j 0) k k l (omega arith) (record { long = e; each = λ j h. refl }))
-
 module _ (s : List ℕ) (n i : ℕ) (f : InodeFits s n i) (v : Inode) (e : length (v .addresses) ≡ 12) (x y : ℕ) where
   pub inode-read : inodeOf (lessFree (putInode s n i v) x y) n i ≡ v
   unfolding inodeOf addressesOf kthBlock

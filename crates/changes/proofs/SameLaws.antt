@@ -4,23 +4,24 @@ use mathlib.Core.Path.{_≡_, refl, sym, ap, ap₂, _∙_, subst}
 use mathlib.Core.Logic.{_≢_}
 use mathlib.Core.Bool.{_&&_}
 use mathlib.Core.List.{List}
-use native.Mathlib.Decide.{ℕ-discrete}
 use native.Mathlib.Omega.{arith}
 use lib.Dec.{eqb}
 use lib.ListN.{length, getD, replicate, length-replicate}
+use Rattle.bounded.proofs.RangeLaws.{below, below-in}
 use Rattle.octets.specs.Octets.{splice, Apart, putNum, toBytes, wordBytes, zeroed}
 use Rattle.octets.proofs.PartLaws.{length-splice, getD-part, splice-in, splice-out, part-apart, part-same}
 use Rattle.octets.proofs.NumLaws.{num-apart, num-other, num-same, length-toBytes}
 use Rattle.octets.proofs.WordLaws.{length-words}
+use Rattle.octets.proofs.OverlayLaws.{overlay-in}
 use Rattle.layout.specs.Sizes.{headerBytes, addressCount, blockBytes}
 use Rattle.layout.specs.declared.header.Header.{Header}
 use Rattle.layout.specs.declared.inode.Inode.{Inode}
 use Rattle.layout.specs.Header.{headerOf, putFree, headerRestZero, lessFree, moreFree}
 use Rattle.layout.specs.Inode.{InodeFits, attributesAt, addressAt, addressIndex, kindOf, spareOf, linksOf, sizeOf, parentOf, addressOf, attributeEntry, putAttributes, putAddresses, putInode, putLinks}
 use Rattle.layout.specs.Block.{blockAt, blockOf, putInBlock, zeroBlock, kthBlock}
-use Rattle.layout.proofs.View.{View, viewOf, below, freeCounts}
+use Rattle.layout.proofs.View.{View, viewOf, freeCounts}
 use Rattle.layout.proofs.FrameLaws.{length-free, length-entry, header-past, kind-apart, spare-apart, links-apart, size-apart, parent-apart, address-apart, kind-put, spare-put, links-put, size-put, parent-put}
-use Rattle.layout.proofs.ViewLaws.{header-free, view-inode, overlay-in, below-in}
+use Rattle.layout.proofs.ViewLaws.{header-free, view-inode}
 use Rattle.names.specs.Entry.{entryFor}
 use Rattle.names.proofs.EntryLaws.{length-entry as length-named}
 use Rattle.directory.specs.Slot.{slotAt, putEntry, clearEntry}
@@ -58,10 +59,6 @@ pub record SameBody (s t : List ℕ) (n i : ℕ) : Type 0 where
 
 pub same-body : {s t : List ℕ} {n i : ℕ} → SameInode s t n i → SameBody s t n i
 same-body e = record { kind = e .kind; spare = e .spare; size = e .size; blocks = e .blocks }
-
--- what holds of inode i and of all others holds of all
-pub each-inode : (P : ℕ → Type 0) (i j : ℕ) → P i → (j ≢ i → P j) → P j
-each-inode P i j p f = elim (ℕ-discrete j i) as (λ _. P j) [ yes e ↦ subst P (sym e) p | no e ↦ f e ]
 
 -- the bytes of block c
 abbrev pub SameBlock : List ℕ → List ℕ → ℕ → ℕ → Type 0

@@ -1,7 +1,7 @@
 -- A sound store as a tree with sound names, and back. n and b are the counts of inodes and blocks.
 use Prim.Native.Nat.{ℕ, _*_, _≤_, _<_}
 use mathlib.Core.Path.{_≡_, refl}
-use mathlib.Core.Bool.{true, false}
+use mathlib.Core.Bool.{true}
 use mathlib.Core.List.{List}
 use native.Mathlib.Omega.{arith}
 use Rattle.layout.specs.Inode.{kindOf, linksOf, parentOf}

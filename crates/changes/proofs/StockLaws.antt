@@ -1,10 +1,10 @@
 -- The inodes, blocks and free counts of a store, and what the changes of entries and of one inode keep of them. n and b are the counts of inodes and blocks.
 use Prim.Native.Nat.{ℕ, _*_, _/_, _%_, _≤_, _<_}
 use mathlib.Core.Path.{_≡_, refl, sym, ap, _∙_}
-use mathlib.Core.Bool.{false}
 use mathlib.Core.List.{List}
 use native.Mathlib.Omega.{arith}
 use Rattle.bounded.specs.Count.{Differ, countTo}
+use Rattle.bounded.proofs.CaseLaws.{each-else}
 use Rattle.layout.specs.Sizes.{addressCount, blockBytes}
 use Rattle.layout.specs.Header.{headerOf}
 use Rattle.layout.specs.declared.header.Header.{Header}
@@ -14,7 +14,7 @@ use Rattle.layout.specs.Free.{inodeFree, blockFree}
 use Rattle.sound.specs.Inode.{InodeSound}
 use Rattle.sound.specs.Sound.{Sound, inodesIn, blocksIn}
 use Rattle.sound.specs.declared.Form.the-variants.{Store}
-use Rattle.changes.proofs.SameLaws.{SameFrame, SameBody, SameBlock, each-inode}
+use Rattle.changes.proofs.SameLaws.{SameFrame, SameBody, SameBlock}
 use Rattle.changes.proofs.KeepLaws.{Body, sound-of, inode-like, tail-kept, inode-kept}
 use Rattle.changes.proofs.AddressLaws.{same-differ, same-unnamed}
 use Rattle.changes.proofs.FreeLaws.{same-free}
@@ -73,7 +73,7 @@ module _ (s t : List ℕ) (n b i : ℕ) (a : Relinked s t n i)
       let o = a .inode in
       let e = body-all a in
       record {
-        inodes = λ j l m. each-inode (InodeSound t n b) i j (inode-relinked s t n b i (a .body) (o .bytes) used file (h .inodes i low high))
+        inodes = λ j l m. each-else (InodeSound t n b) i j (inode-relinked s t n b i (a .body) (o .bytes) used file (h .inodes i low high))
             (λ z. inode-kept s t n b j (o .others j l m z) (λ _ _. o .bytes (kthBlock s n j (sizeOf s j / blockBytes))) (h .inodes j l m));
         once = same-differ s t n (λ j l m. e j l m .blocks) (h .once);
         free-inodes = ap (λ (v : Header). v .«free_inodes») (o .header) ∙ h .free-inodes ∙ sym (same-free s t n (λ j l m. e j l m .kind));

@@ -1,24 +1,21 @@
 -- The tree of inodes over plain functions, and what each change of an entry keeps of it. n is the inode count.
 use Prim.Native.Nat.{ℕ, _+_, _*_, _-_, _≤_, _<_}
-use mathlib.Core.Path.{_≡_, refl, sym, ap, _∙_, subst}
+use mathlib.Core.Path.{_≡_, sym, ap, _∙_, subst}
 use mathlib.Core.Logic.{_≢_}
-use mathlib.Core.Bool.{Bool}
 use native.Mathlib.Decide.{ℕ-discrete}
 use native.Mathlib.Omega.{arith}
-use borrow.Author.Tests.{eq-eqb, ne-eqb}
-use lib.Dec.{eqb}
-use Rattle.bounded.specs.Count.{one, count, tally}
+use Rattle.bounded.specs.Count.{one, tally}
 use Rattle.bounded.specs.Climb.{Leads}
 use Rattle.bounded.specs.Update.{upd}
-use Rattle.bounded.proofs.CountLaws.{count-ext, count-at, met, met-at, met-once}
-use Rattle.bounded.proofs.ClimbLaws.{leads-up, leads-moved}
-use Rattle.bounded.proofs.UpdateLaws.{changed, upd-same, upd-other}
+use Rattle.bounded.proofs.CountLaws.{met, met-at, met-once}
+use Rattle.bounded.proofs.ClimbLaws.{leads-up, leads-moved, leads-kept}
+use Rattle.bounded.proofs.UpdateLaws.{changed, upd-same, upd-other, SameTo, ElseTo, ElseBelow}
+use Rattle.bounded.proofs.TallyLaws.{tally-more, tally-filled, tally-rest, tally-same}
+use Rattle.bounded.proofs.CaseLaws.{each-else}
 use Rattle.layout.specs.Sizes.{rootInode}
 use Rattle.layout.specs.Inode.{freeKind, fileKind, directoryKind}
 use Rattle.directory.specs.Slot.{mostSlots}
 use Rattle.sound.specs.Place.{dirOf}
-use Rattle.changes.proofs.KeepLaws.{leads-kept}
-use Rattle.changes.proofs.SameLaws.{each-inode}
 
 -- what the tree is made of: of each inode its kind, links and parent, and of each place the inode that it names, 0 where there is none
 pub record Nodes : Type 0 where
@@ -57,61 +54,11 @@ pub record Dir (n : ℕ) (v : Nodes) (i : ℕ) : Type 0 where
 abbrev pub Above : ℕ → Nodes → Type 0
 Above n v = (p : ℕ) → p < mostSlots * n → 1 ≤ v .naming p → v .kind (dirOf p) ≡ directoryKind
 
--- ---- functions that agree: from 1 to n, there but at i, and below m but at p
-abbrev pub SameTo : ℕ → (ℕ → ℕ) → (ℕ → ℕ) → Type 0
-SameTo n f g = (j : ℕ) → 1 ≤ j → j ≤ n → g j ≡ f j
-
-abbrev pub ElseTo : ℕ → ℕ → (ℕ → ℕ) → (ℕ → ℕ) → Type 0
-ElseTo n i f g = (j : ℕ) → 1 ≤ j → j ≤ n → j ≢ i → g j ≡ f j
-
-abbrev pub ElseBelow : ℕ → ℕ → (ℕ → ℕ) → (ℕ → ℕ) → Type 0
-ElseBelow m p f g = (q : ℕ) → q < m → q ≢ p → g q ≡ f q
-
 -- every inode but i stays
 pub record ElseNodes (n i : ℕ) (v w : Nodes) : Type 0 where
   pub kinds : ElseTo n i (v .kind) (w .kind)
   pub links : ElseTo n i (v .links) (w .links)
   pub parents : ElseTo n i (v .parent) (w .parent)
-
--- ---- tallies
-pub one-same : (a b : ℕ) → a ≡ b → one (eqb a b) ≡ 1
-one-same a b e = ap one (eq-eqb a b e)
-
-pub one-other : (a b : ℕ) → a ≢ b → one (eqb a b) ≡ 0
-one-other a b h = ap one (ne-eqb a b h)
-
--- one number counts otherwise
-pub count-but : (f g : ℕ → Bool) (m p : ℕ) → p < m → ((q : ℕ) → q < m → q ≢ p → g q ≡ f q) → count g m + one (f p) ≡ count f m + one (g p)
-count-but f g m p l h =
-    let u = upd f p (g p) in
-    let e : count g m ≡ count u m = count-ext g u m (λ k b. at k b (ℕ-discrete k p)) in
-    let a = count-at f u p (g p) (changed f p (g p)) m l in
-    omega arith
-  where
-    at : (k : ℕ) → k < m → Dec (k ≡ p) → g k ≡ upd f p (g p) k
-    at k b (yes e) = ap g e ∙ sym (upd-same f p (g p)) ∙ ap (upd f p (g p)) (sym e)
-    at k b (no e) = h k b e ∙ sym (upd-other f p (g p) k e)
-
--- one value is another: what is met once more, and once less
-pub tally-but : (f g : ℕ → ℕ) (m p : ℕ) → p < m → ElseBelow m p f g → (v : ℕ) → tally g m v + one (eqb (f p) v) ≡ tally f m v + one (eqb (g p) v)
-tally-but f g m p l h v = count-but (λ k. eqb (f k) v) (λ k. eqb (g k) v) m p l (λ q b z. ap (λ (x : ℕ). eqb x v) (h q b z))
-
--- a place that named nothing names i
-pub tally-filled : (f g : ℕ → ℕ) (m p i : ℕ) → p < m → ElseBelow m p f g → f p ≡ 0 → g p ≡ i → (v : ℕ) → 1 ≤ v → tally g m v ≡ tally f m v + one (eqb i v)
-tally-filled f g m p i l h e r v y =
-    let b = tally-but f g m p l h v in
-    let d : one (eqb (f p) v) ≡ 0 = one-other (f p) v (λ z. omega arith) in
-    let c : one (eqb (g p) v) ≡ one (eqb i v) = ap (λ (x : ℕ). one (eqb x v)) r in
-    omega arith
-
-pub tally-more : (f g : ℕ → ℕ) (m p i : ℕ) → p < m → ElseBelow m p f g → f p ≡ 0 → g p ≡ i → 1 ≤ i → tally g m i ≡ tally f m i + 1
-tally-more f g m p i l h e r y = let b = tally-filled f g m p i l h e r i y in let d = one-same i i refl in omega arith
-
-pub tally-else : (f g : ℕ → ℕ) (m p i : ℕ) → p < m → ElseBelow m p f g → f p ≡ 0 → g p ≡ i → (v : ℕ) → 1 ≤ v → v ≢ i → tally g m v ≡ tally f m v
-tally-else f g m p i l h e r v y q = let b = tally-filled f g m p i l h e r v y in let d = one-other i v (λ x. q (sym x)) in omega arith
-
-pub tally-same : (f g : ℕ → ℕ) (m : ℕ) → ((q : ℕ) → q < m → g q ≡ f q) → (v : ℕ) → tally g m v ≡ tally f m v
-tally-same f g m h v = count-ext (λ k. eqb (g k) v) (λ k. eqb (f k) v) m (λ k b. ap (λ (x : ℕ). eqb x v) (h k b))
 
 -- ---- what a tree gives
 module _ (n : ℕ) (v : Nodes) (t : Tree n v) where
@@ -196,7 +143,7 @@ module _ (n i : ℕ) (v w : Nodes) (t : Tree n v) (a : Above n v) (low : 1 ≤ i
         root = same .kinds rootInode (omega arith) (omega arith) z ∙ t .root;
         root-parent = same .parents rootInode (omega arith) (omega arith) z ∙ t .root-parent;
         names = names;
-        linked = λ j l m. each-inode (Linked n w) i j here (λ q. linked-same j l m (same .kinds j l m q) (same .links j l m q) (met j l q) (leads j l m q));
+        linked = λ j l m. each-else (Linked n w) i j here (λ q. linked-same j l m (same .kinds j l m q) (same .links j l m q) (met j l q) (leads j l m q));
       }
 
   -- ---- i keeps its kind and its parent
@@ -228,7 +175,7 @@ module _ (n i : ℕ) (v w : Nodes) (t : Tree n v) (a : Above n v) (low : 1 ≤ i
     pub tree-link : (p : ℕ) → p < mostSlots * n → v .naming p ≡ 0 → w .naming p ≡ i → ElseBelow (mostSlots * n) p (v .naming) (w .naming)
         → v .kind i ≡ fileKind → w .links i ≡ v .links i + 1 → Tree n w
     tree-link p l e f h file c =
-        tree-else not-root (λ q m o. at q m o (ℕ-discrete q p)) (tally-else (v .naming) (w .naming) (mostSlots * n) p i l h e f) (λ j y z q. leads-all j y z)
+        tree-else not-root (λ q m o. at q m o (ℕ-discrete q p)) (tally-rest (v .naming) (w .naming) (mostSlots * n) p i l h e f) (λ j y z q. leads-all j y z)
         (let r = t .linked i low high in
         record {
           counted = let b = tally-more (v .naming) (w .naming) (mostSlots * n) p i l h e f low in let g = r .counted in omega arith;
@@ -276,14 +223,14 @@ module _ (n i : ℕ) (v w : Nodes) (t : Tree n v) (a : Above n v) (low : 1 ≤ i
         at q m o (no z) = names-same q m o (h q m z)
 
         others : (j : ℕ) → 1 ≤ j → j ≢ i → tally (w .naming) (mostSlots * n) j ≡ tally (v .naming) (mostSlots * n) j
-        others j y q = sym (tally-else (w .naming) (v .naming) (mostSlots * n) p i l (λ q m z. sym (h q m z)) f e j y q)
+        others j y q = sym (tally-rest (w .naming) (v .naming) (mostSlots * n) p i l (λ q m z. sym (h q m z)) f e j y q)
 
   -- "create": an empty place of directory d names i, which was free, and now is a file or a directory with one link
   pub tree-create : (p d : ℕ) → p < mostSlots * n → dirOf p ≡ d → v .naming p ≡ 0 → w .naming p ≡ i → ElseBelow (mostSlots * n) p (v .naming) (w .naming)
       → v .kind d ≡ directoryKind → v .kind i ≡ freeKind → v .links i ≡ 0
       → (w .kind i ≡ freeKind → ⊥) → (w .kind i ≡ directoryKind → w .parent i ≡ d) → w .links i ≡ 1 → Tree n w
   tree-create p d l home e f h dir free none used up c =
-      tree-else not-root (λ q m o. at q m o (ℕ-discrete q p)) (tally-else (v .naming) (w .naming) (mostSlots * n) p i l h e f) (λ j y z q b. leads-old j (record { low = y; high = z; kind = b }))
+      tree-else not-root (λ q m o. at q m o (ℕ-discrete q p)) (tally-rest (v .naming) (w .naming) (mostSlots * n) p i l h e f) (λ j y z q b. leads-old j (record { low = y; high = z; kind = b }))
       (let r = t .linked i low high in
       record {
         counted = let b = tally-more (v .naming) (w .naming) (mostSlots * n) p i l h e f low in let o = r .counted in omega arith;
@@ -320,7 +267,7 @@ module _ (n i : ℕ) (v w : Nodes) (t : Tree n v) (a : Above n v) (low : 1 ≤ i
       not-root z = t .names p l (omega arith) .not-root (e ∙ z)
 
       others : (j : ℕ) → 1 ≤ j → j ≢ i → tally (w .naming) (mostSlots * n) j ≡ tally (v .naming) (mostSlots * n) j
-      others j y q = sym (tally-else (w .naming) (v .naming) (mostSlots * n) p i l (λ q m z. sym (h q m z)) f e j y q)
+      others j y q = sym (tally-rest (w .naming) (v .naming) (mostSlots * n) p i l (λ q m z. sym (h q m z)) f e j y q)
 
       nowhere : tally (w .naming) (mostSlots * n) i ≡ 0
       nowhere = let b = tally-more (w .naming) (v .naming) (mostSlots * n) p i l (λ q m z. sym (h q m z)) f e low in let o = t .linked i low high .counted in omega arith

@@ -1,11 +1,11 @@
 -- Each way that the check's own functions return.
 use Prim.Native.Nat.{ℕ, _+_, _*_, _≤_, _<_}
-use mathlib.Core.Path.{_≡_, refl, sym, ap, ap₂, _∙_}
+use mathlib.Core.Path.{_≡_, sym, ap, ap₂, _∙_}
 use mathlib.Core.Bool.{Bool, true, false, not, _&&_, _||_, and-assoc}
 use mathlib.Core.List.{List}
 use native.Mathlib.Omega.{arith}
-use borrow.Author.Tests.{le-leb, lt-leb, eq-eqb, ne-eqb}
-use lib.Dec.{eqb, leb}
+use borrow.Author.Tests.{eq-eqb, ne-eqb}
+use lib.Dec.{eqb}
 use lib.ListN.{length, getD}
 use Rattle.bounded.specs.Below.{allBelow, allTo}
 use Rattle.bounded.specs.Count.{differB, countTo}
@@ -72,10 +72,10 @@ module _ (s : List ℕ) (h : Header) (e : h ≡ headerOf s) where
         header-5 p q g = on-2 _ _ (chain-end _ _ _ q₃ (chain-end _ _ _ (eq-eqb (kindOf s rootInode) directoryKind (sym f ∙ q)) (ap (λ (x : ℕ). eqb x 0) g)))
 
 -- ---- the free counts
-map-count : (s : List ℕ) (n b : ℕ) (l : List ℕ) → Seen (addressOf s n) 4097 (addressCount * n) l → b ≤ 4096
+pub map-count : (s : List ℕ) (n b w : ℕ) (l : List ℕ) → Seen (addressOf s n) w (addressCount * n) l → b < w
     → countTo (λ c. eqb (getD l c 0) 0) b ≡ countTo (blockFree s n) b
 unfolding blockNamed
-map-count s n b l h m = count-ext _ _ b (λ k j. seen-test (addressOf s n) 4097 (addressCount * n) (k + 1) l h (omega arith))
+map-count s n b w l h m = count-ext _ _ b (λ k j. seen-test (addressOf s n) w (addressCount * n) (k + 1) l h (omega arith))
 
 module _ (s : List ℕ) (h : Header) (e : h ≡ headerOf s) (x : ℕ) (f : x ≡ countTo (inodeFree s) (inodesIn s)) where
   pub counts-1 : (h .«free_inodes» ≡ x → ⊥) → false ≡ freeCountsB s
@@ -87,7 +87,7 @@ module _ (s : List ℕ) (h : Header) (e : h ≡ headerOf s) (x : ℕ) (f : x ≡
   unfolding freeCountsB
   counts-2 b y l q m g i z =
       chain-end _ _ _ (eq-eqb (headerOf s .«free_inodes») (countTo (inodeFree s) (inodesIn s)) (sym (ap (λ (w : Header). w .«free_inodes») e) ∙ q ∙ f))
-      (ap₂ eqb (ap (λ (w : Header). w .«free_blocks») e) (z ∙ map-count s (inodesIn s) b l m i ∙ ap (countTo (blockFree s (inodesIn s))) g))
+      (ap₂ eqb (ap (λ (w : Header). w .«free_blocks») e) (z ∙ map-count s (inodesIn s) b 4097 l m (omega arith) ∙ ap (countTo (blockFree s (inodesIn s))) g))
 
 -- ---- the body: n and b are the counts that the code has read
 abbrev pub inodesRight : List ℕ → ℕ → ℕ → Bool

@@ -1,5 +1,5 @@
 -- Laws of the pass over the entries: slot t of directory d and its place, what each return of the code says, and the counts. n is the inode count.
-use Prim.Native.Nat.{ℕ, zero, suc, _+_, _*_, _-_, _/_, _%_, _≤_, _<_}
+use Prim.Native.Nat.{ℕ, _+_, _*_, _-_, _/_, _%_, _≤_, _<_}
 use mathlib.Core.Path.{_≡_, refl, sym, ap, ap₂, _∙_, subst}
 use mathlib.Core.Bool.{Bool, true, false, not, _&&_, _||_}
 use mathlib.Core.List.{List}
@@ -14,13 +14,13 @@ use Rattle.bounded.specs.Count.{Tallied}
 use Rattle.bounded.specs.Search.{pick}
 use Rattle.bounded.specs.Reflect.{Reflects}
 use Rattle.bounded.specs.Table.{Tabulated}
-use Rattle.bounded.proofs.BoolLaws.{clash, never, holds, same-test, and-true, and-left, and-false-l, and-false-r, or-l}
+use Rattle.bounded.proofs.BoolLaws.{clash, never, holds, same-test, and-true, and-left, and-false-l, and-false-r, or-l, or-weaker}
 use Rattle.bounded.proofs.BelowLaws.{all-none, all-at, all-of, all-fail, all-stop, all-ext, all-split}
-use Rattle.bounded.proofs.CountLaws.{tally-start, tally-skip, tally-one}
+use Rattle.bounded.proofs.CountLaws.{tally-start, tally-skip, tally-one, tally-skips}
 use Rattle.bounded.proofs.TableLaws.{filled-none, filled-more}
 use Rattle.bounded.proofs.ReflectLaws.{r-eq, r-le, r-true, r-and, r-not, r-imp, r-same, r-says, r-fails, reflects-ext}
 use Rattle.octets.specs.Octets.{Octets, part}
-use Rattle.octets.proofs.PartLaws.{cut, getD-part}
+use Rattle.octets.proofs.PartLaws.{cut, getD-part, octets-part}
 use Rattle.layout.specs.Sizes.{rootInode, mostInodes}
 use Rattle.layout.specs.Inode.{kindOf, parentOf, freeKind, directoryKind}
 use Rattle.layout.specs.Block.{blockAt, kthBlock}
@@ -28,7 +28,7 @@ use Rattle.names.specs.Name.{nameBytes}
 use Rattle.names.specs.declared.Name.{Name}
 use Rattle.names.specs.Entry.{entryInode, isEmpty, nameAt, sameName, entryName, legalEntry, wordsAt, sameWords}
 use Rattle.names.proofs.NameLaws.{legal-bounds, legal-nonzero}
-use Rattle.names.proofs.EntryLaws.{named, same-words-two, octets-part, empty-all, empty-inode, entry-legal}
+use Rattle.names.proofs.EntryLaws.{named, same-words-two, empty-all, empty-inode, entry-legal}
 use Rattle.directory.specs.Slot.{mostSlots, slots, slotAt, entryOf, DirFits}
 use Rattle.directory.proofs.SlotLaws.{few-slots, slot-fits}
 use Rattle.sound.specs.Entry.{sameNames}
@@ -189,10 +189,6 @@ octets-entry : (s : List ℕ) (n d t : ℕ) → Octets s → Octets (entryOf s n
 unfolding entryOf
 octets-entry s n d t h = octets-part s (slotAt s n d t) 16 h
 
-weaker : (f x : Bool) → (f ≡ false → x ≡ false) → not x ≡ not f || not x
-weaker true x h = refl
-weaker false x h = ap not (h refl)
-
 -- the words of the names up to slot t are read, and slot t has a legal name
 module _ (s : List ℕ) (n d t : ℕ) (h : Octets s) (f : DirFits s n d) (k : kindOf s d ≡ directoryKind) (l : t < slots s d)
     (low high : List ℕ) (lo : Tabulated (lowOf s n d) mostSlots (t + 1) low) (hi : Tabulated (highOf s n d) mostSlots (t + 1) high)
@@ -227,7 +223,7 @@ module _ (s : List ℕ) (n d t : ℕ) (h : Octets s) (f : DirFits s n d) (k : ki
       let a : d - 1 ≡ p / mostSlots = omega (arith, reach, f .inode .low) in
       let b : t ≡ slotOf p = omega (arith, reach, f .inode .low) in
       all-ext (apartB low high t) (λ u. not (filled s n (placeOf d u)) || not (sameNames s n (placeOf d u) p)) t
-      (λ u m. ap not (words-at u (omega arith)) ∙ weaker (filled s n (placeOf d u)) (sameNames s n (placeOf d u) p) (empty-other u m))
+      (λ u m. ap not (words-at u (omega arith)) ∙ or-weaker (filled s n (placeOf d u)) (sameNames s n (placeOf d u) p) (empty-other u m))
       ∙ ap₂ (λ (q j : ℕ). allBelow (λ u. not (filled s n (mostSlots * q + u)) || not (sameNames s n (mostSlots * q + u) p)) j) a b
 
 -- ---- slot_right
@@ -336,13 +332,6 @@ module _ (s : List ℕ) (n d k : ℕ) where
       passed-at (4 * k + j) (4 * k + 4) (placeOf d (4 * k + j)) e (ap (placeOf d) e)
 
 -- ---- directory_right
--- k turns that pass a value below lo over
-pub tally-skips : (f : ℕ → ℕ) (lo n m k : ℕ) (l : List ℕ) → ((j : ℕ) → j < k → f (m + j) < lo) → Tallied f lo n m l → Tallied f lo n (m + k) l
-tally-skips f lo n m zero l h t = subst (λ (q : ℕ). Tallied f lo n q l) (sym (add-zero m)) t
-tally-skips f lo n m (suc k) l h t =
-    let e : m + k + 1 ≡ m + suc k = omega arith in
-    subst (λ (q : ℕ). Tallied f lo n q l) e (tally-skip f lo n (m + k) l (h k (omega arith)) (tally-skips f lo n m k l (λ j p. h j (omega arith)) t))
-
 module _ (s : List ℕ) (n d : ℕ) (f : DirFits s n d) where
   abbrev pub rightAt : ℕ → Bool
   rightAt t = entryB s n (placeOf d t)

@@ -1,9 +1,9 @@
 -- Laws of the check of link counts, and of the climb from parent to parent with a list of those that are known to lead to the root.
-use mathlib.Core.Path.{_≡_, refl, sym, ap, _∙_, subst}
+use mathlib.Core.Path.{_≡_, sym, ap, _∙_, subst}
 use mathlib.Core.Bool.{Bool, true, false, not, _||_}
 use mathlib.Core.Logic.{_⊎_, inl, inr}
 use mathlib.Core.List.{List}
-use Prim.Native.Nat.{ℕ, zero, suc, _+_, _*_, _-_, _≤_, _<_}
+use Prim.Native.Nat.{ℕ, _+_, _*_, _-_, _≤_, _<_}
 use native.Mathlib.Decide.{ℕ-discrete}
 use native.Mathlib.Nat.{sub-zero}
 use native.Mathlib.Omega.{arith}
@@ -12,10 +12,11 @@ use lib.Dec.{eqb, leb}
 use lib.ListN.{length, getD, set, replicate, length-set, length-replicate}
 use lib.Seq.{getD-set-same, getD-set-other}
 use Rattle.bounded.specs.Count.{tally, count}
-use Rattle.bounded.specs.Climb.{climb, Leads, leadsB, Closed}
+use Rattle.bounded.specs.Climb.{Leads, leadsB, Closed}
 use Rattle.bounded.proofs.BoolLaws.{holds-or-fails}
-use Rattle.bounded.proofs.ClimbLaws.{leads-self, leads-up, leads-turn, leads-end, leads-bool}
+use Rattle.bounded.proofs.ClimbLaws.{leads-self, leads-up, leads-turn, leads-end, leads-bool, leads-on}
 use Rattle.bounded.proofs.ReflectLaws.{r-eq, r-le, r-says, r-fails, reflects-ext}
+use Rattle.octets.proofs.ZeroLaws.{byte-zeros}
 use Rattle.layout.specs.Sizes.{rootInode}
 use Rattle.layout.specs.Inode.{InodeFits, kindOf, linksOf, parentOf, freeKind, directoryKind}
 use Rattle.directory.specs.Slot.{mostSlots}
@@ -52,15 +53,6 @@ module _ (s : List ℕ) (n i count l : ℕ) (t : count ≡ tally (naming s n) (m
       (λ o. record { counted = sym e ∙ q ∙ t; named = λ u x. omega arith; one = λ u x. absurd (f (m ∙ u)) })
       (counted-is s n i))
 
--- ---- a number other than a that leads to a does so through its parent
-pub leads-on : (up : ℕ → ℕ) (a d : ℕ) → (d ≡ a → ⊥) → Leads up a d → Leads up a (up d)
-unfolding climb
-leads-on up a d h r = go (r .0) (r .1)
-  where
-    go : (k : ℕ) → climb up k d ≡ a → Leads up a (up d)
-    go zero e = absurd (h e)
-    go (suc k) e = (k, e)
-
 -- ---- the list of those that are known
 module _ (s : List ℕ) where
   -- what is not known is not the root
@@ -95,14 +87,9 @@ module _ (s : List ℕ) where
   abbrev blank : ℕ → List ℕ
   blank n = replicate n 0
 
-  zeros : (n x : ℕ) → getD (blank n) x 0 ≡ 0
-  zeros zero x = refl
-  zeros (suc n) zero = refl
-  zeros (suc n) (suc x) = zeros n x
-
   start-at : (y : ℕ) → Dec (y ≡ rootInode) → (getD (set (blank 257) rootInode 1) y 0 ≡ 0 → ⊥) → Leads (parentOf s) rootInode y
   start-at y (yes e) f = subst (Leads (parentOf s) rootInode) (sym e) (leads-self (parentOf s) rootInode)
-  start-at y (no e) f = absurd (f (getD-set-other (blank 257) rootInode y 1 0 e ∙ zeros 257 y))
+  start-at y (no e) f = absurd (f (getD-set-other (blank 257) rootInode y 1 0 e ∙ byte-zeros 257 y))
 
   pub known-start : Known s (set (replicate 257 0) rootInode 1)
   known-start =

@@ -6,7 +6,6 @@ use Prim.Native.Nat.{ℕ, _+_, _≤_}
 use native.Mathlib.Omega.{arith}
 use borrow.Author.Tests.{leb-true, not-true, not-false}
 use lib.Dec.{eqb, leb, ltb}
-use lib.ListN.{length}
 use Rattle.bounded.specs.Search.{pick, firstFrom, onFound}
 use Rattle.bounded.proofs.BoolLaws.{and-left, and-right, fails, same-test, clash}
 use Rattle.bounded.proofs.BelowLaws.{to-at, to-of}
@@ -20,7 +19,7 @@ use Rattle.layout.specs.Block.{blocksUsed, kthBlock}
 use Rattle.layout.specs.Free.{blockNamed, freeBlock}
 use Rattle.desk.specs.Desk.{deskOf}
 use Rattle.sound.specs.Sound.{inodesIn}
-use Rattle.answers.specs.declared.Refusal.the-variants.{BadBuffer, WrongState, ImageFull}
+use Rattle.answers.specs.declared.Refusal.the-variants.{WrongState, ImageFull}
 use Rattle.answers.specs.declared.Answer.{Answer}
 use Rattle.answers.specs.declared.Answer.the-variants.{Done}
 use Rattle.answers.specs.Order.{row, firstOf}

@@ -1,19 +1,17 @@
 -- What a live file call is decided to do, for all calls at once: as the plain one, or the copy is in the way, or a guard refuses; and what holds of each planned effect holds of it.
 use Prim.Native.Nat.{ℕ, _≤_}
-use mathlib.Core.Path.{_≡_, refl, sym, ap, _∙_, subst}
-use mathlib.Core.Logic.{_≢_, ⊎-elim}
+use mathlib.Core.Path.{_≡_, refl, sym, _∙_}
+use mathlib.Core.Logic.{⊎-elim}
 use mathlib.Core.Bool.{Bool, true, false, not, _&&_, _||_}
 use mathlib.Core.List.{List, [], _∷_}
 use native.Mathlib.Omega.{arith}
 use borrow.Author.Tests.{eq-eqb}
 use lib.Dec.{eqb}
 use Rattle.bounded.specs.Search.{pick}
-use Rattle.bounded.proofs.BoolLaws.{clash, and-left, or-l, or-cases}
-use Rattle.layout.specs.Inode.{kindOf, freeKind}
+use Rattle.bounded.proofs.BoolLaws.{clash, and-left, or-l, or-cases, or-false-r}
 use Rattle.desk.specs.Desk.{deskOf}
 use Rattle.sound.specs.Sound.{inodesIn, blocksIn}
 use Rattle.sound.specs.declared.Form.the-variants.{Store}
-use Rattle.sound.proofs.SoundLaws.{is-sound}
 use Rattle.sound.specs.Test.{framedB, isSound}
 use Rattle.answers.specs.declared.Answer.{Answer}
 use Rattle.answers.specs.declared.Answer.the-variants.{Done, Refused}
@@ -25,15 +23,14 @@ use Rattle.files.specs.declared.Guard.{Guard}
 use Rattle.files.specs.declared.Guard.the-variants.{Pass, Stop}
 use Rattle.files.specs.Guard.{guardOf, onGuard, guardBy}
 use Rattle.files.specs.Effect.{Call, Effect, Planned, refused, does, onPlanned, planned, plainDecision}
-use Rattle.files.proofs.Lawful.{Apart, Stays, Lawful, Each}
-use Rattle.files.proofs.LawfulCalls.{lawful}
+use Rattle.files.proofs.Lawful.{Apart, Each}
 use Rattle.checkpoint.specs.declared.Status.{Status}
 use Rattle.checkpoint.specs.declared.Status.the-variants.{Is, NoStatus}
 use Rattle.checkpoint.specs.Fit.{deskFramed, isRunning, notesFit, bothFramed, allFramed}
 use Rattle.checkpoint.specs.Busy.{isLocked, anyLocked, unlessBusy}
 use Rattle.checkpoint.specs.Live.{World, Outcome, left, refuse, threeGuards, storeAlone, decision, leavesIn, live, guarded, status, guardRows, startGuards, started, start}
 use Rattle.checkpoint.specs.Shown.{numberOf}
-use Rattle.checkpoint.specs.List.{Ready, call, outcome, accepted, takenFrom, anyAt, takes}
+use Rattle.checkpoint.specs.List.{Ready, call, outcome, accepted}
 
 -- ---- the guards as a chain of tests; a says whether lengths and counts are those allowed
 abbrev pub chained : Bool → List ℕ → List ℕ → List ℕ → Outcome → Outcome
@@ -146,34 +143,10 @@ unfolding anyLocked isLocked
 apart-locked d [] r e = tt
 apart-locked d (i ∷ is) r e = (
   λ z. clash (isLocked d i || anyLocked d is) (or-l (isLocked d i) (anyLocked d is) (rw (r, eq-eqb (deskOf d .locked) i z) refl)) e,
-  apart-locked d is r (or-no (isLocked d i) (anyLocked d is) e),
+  apart-locked d is r (or-false-r (isLocked d i) (anyLocked d is) e),
 )
-  where
-    or-no : (a b : Bool) → (a || b) ≡ false → b ≡ false
-    or-no true b e = absurd (clash true refl e)
-    or-no false b e = e
-
--- the laws, and the locked inode is none of those that are touched
-pub record Lives (w : World) (x : Effect) : Type 0 where
-  pub laws : Lawful (w .store) (inodesIn (w .store)) x
-  pub locked : isRunning (w .desk) ≡ true → Apart (deskOf (w .desk) .locked) (x .touches)
-
-pub lives : (c : Call) (w : World) (x : Effect) → Ready w → decision c w ≡ does x → Lives w x
-lives c w x r e =
-    let h = each-decided (Lawful (w .store) (inodesIn (w .store))) c w (lawful c (w .store) (inodesIn (w .store)) (blocksIn (w .store)) (is-sound Store (w .store) .to (r .sound)) refl refl) in
-    let k = subst (Each (Unhindered (Lawful (w .store) (inodesIn (w .store))) w)) e h in
-    record { laws = k .0; locked = λ g. apart-locked (w .desk) (x .touches) g (k .1) }
-
--- the locked inode stays, with its bytes
-pub locked-stays : (c : Call) (w : World) (x : Effect) → Ready w → isRunning (w .desk) ≡ true → decision c w ≡ does x
-    → 1 ≤ deskOf (w .desk) .locked → deskOf (w .desk) .locked ≤ inodesIn (w .store) → kindOf (w .store) (deskOf (w .desk) .locked) ≢ freeKind
-    → Stays (w .store) (x .store) (inodesIn (w .store)) (deskOf (w .desk) .locked)
-locked-stays c w x r g e l m u = let k = lives c w x r e in k .laws .untouched (deskOf (w .desk) .locked) l m u (k .locked g)
 
 -- ---- accepted
-no-both : {A : Type 0} (x : Effect) (e : Refusal) → does x ≡ refused e → A
-no-both x e h = let z : _≡_ {A = ℕ} 0 1 = cc in absurd (omega arith)
-
 -- it is accepted, when and only when it is decided to do something
 done-is : (w : World) (q : Planned) → eqb (numberOf (leavesIn w q .answer)) 0 ≡ onPlanned q (λ x. true) (λ e. false)
 done-is w (does x) = refl
@@ -182,19 +155,6 @@ done-is w (refused e) = not-none e
 pub accepted-is : (c : Call) (w : World) → accepted (call c) w ≡ onPlanned (decision c w) (λ x. true) (λ e. false)
 unfolding outcome live
 accepted-is c w = done-is w (decision c w)
-
--- what an accepted call takes out is what its effect takes out
-taken-is : (w : World) (p q : Planned) (z : ℕ) → Beside w p q
-    → (onPlanned q (λ x. true) (λ e. false) && anyAt (onPlanned p (λ x. x .taken) (λ e. [])) z) ≡ onPlanned q (λ x. anyAt (x .taken) z) (λ e. false)
-taken-is w p (refused e) z b = refl
-taken-is w p (does x) z b = elim b [
-  | same e ↦ ap (λ r. anyAt (onPlanned r (λ y. y .taken) (λ e. [])) z) (sym e)
-  | busy r e ↦ no-both x Busy e
-  | unfit g n e ↦ no-both x _ e
-]
-
-pub takes-is : (c : Call) (w : World) (z : ℕ) → takes (call c) w z ≡ onPlanned (decision c w) (λ x. anyAt (x .taken) z) (λ e. false)
-takes-is c w z = ap (λ (b : Bool). b && anyAt (takenFrom c (w .store)) z) (accepted-is c w) ∙ taken-is w (plainDecision c (w .store)) (decision c w) z (beside c w)
 
 -- ---- the state question is answered as a call that does nothing would be
 abbrev pub asStatus : Answer → List ℕ → Status

@@ -6,10 +6,9 @@ use mathlib.Core.List.{List}
 use native.Mathlib.Omega.{arith}
 use lib.Dec.{eqb, leb, ltb}
 use lib.ListN.{length}
-use Rattle.bounded.specs.Search.{pick, onFound}
-use Rattle.bounded.specs.declared.Found.{Found}
-use Rattle.bounded.specs.declared.Found.the-variants.{At, Absent}
+use Rattle.bounded.specs.Search.{pick}
 use Rattle.bounded.proofs.BoolLaws.{clash}
+use Rattle.bounded.proofs.SearchLaws.{by-pick, by-found}
 use Rattle.layout.specs.Sizes.{mostFileBytes, addressCount}
 use Rattle.layout.specs.Header.{headerOf}
 use Rattle.layout.specs.Inode.{kindOf, sizeOf, directoryKind, isFile, isDirectory}
@@ -42,18 +41,9 @@ use Rattle.entries.specs.Plan.{holdsNone, isBelow, lookUpPlan, createPlan, link
 use Rattle.files.specs.Effect.{Call, lookUp, read, create, write, shorten, link, unlink, rename, Planned, refused, does, onPlanned, doLookUp, doRead, doCreate, doWrite, doShorten, doLink, doUnlink, doRename, planned, plainDecision, given}
 use Rattle.files.specs.Plain.{leaves, plain, PlainOutcome}
 use Rattle.files.proofs.PlainLaws.{on-guard}
-use Rattle.checkpoint.specs.Live.{Outcome}
 use Rattle.checkpoint.specs.Shown.{numberOf}
 
 -- ---- by cases
-pub by-pick : {A : Type 0} (P : A → Type 0) (b : Bool) {x y : A} → P x → P y → P (pick b x y)
-by-pick P true p q = p
-by-pick P false p q = q
-
-by-found : {A : Type 0} (P : A → Type 0) (r : Found) {g : ℕ → A} {y : A} → ((t : ℕ) → P (g t)) → P y → P (onFound r g y)
-by-found P (At t) p q = p t
-by-found P Absent p q = q
-
 by-room : (P : RoomPlan → Type 0) (s : List ℕ) (n b d : ℕ) → ((r : Room) → P (Has r)) → P (NoRoom NoBlocks) → P (NoRoom NoSlot) → P (roomIn s n b d)
 unfolding roomIn
 by-room P s n b d h p q =

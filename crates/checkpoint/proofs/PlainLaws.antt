@@ -1,12 +1,12 @@
 -- A live file call is the plain store's call between its guards, and so a list's file calls are the plain store's.
-use Prim.Native.Nat.{ℕ, _-_, _≤_}
+use Prim.Native.Nat.{ℕ, _≤_}
 use mathlib.Core.Path.{_≡_, refl, sym, ap, _∙_}
-use mathlib.Core.Bool.{Bool, true, false, not, _&&_}
+use mathlib.Core.Bool.{Bool, true, false}
 use mathlib.Core.List.{List, [], _∷_}
 use native.Mathlib.Omega.{arith}
 use borrow.Author.Tests.{eqb-true, eq-eqb}
-use lib.ListN.{length}
 use Rattle.bounded.proofs.BoolLaws.{clash}
+use Rattle.bounded.proofs.SearchLaws.{by-pick}
 use Rattle.sound.specs.Sound.{inodesIn}
 use Rattle.answers.specs.declared.Refusal.{Refusal}
 use Rattle.answers.specs.declared.Refusal.the-variants.{Busy}
@@ -23,7 +23,7 @@ use Rattle.checkpoint.specs.Shown.{numberOf}
 use Rattle.checkpoint.specs.List.{Event, Ready, call, advances, asks, starts, outcome, next, run, Moment, here, after, isBusy, replies, heard, plainRun, plainReplies}
 use Rattle.checkpoint.specs.Demand.{AsPlain}
 use Rattle.checkpoint.proofs.DecisionLaws.{OfGuards, lengths, soundness, notes, same, busy, unfit, beside}
-use Rattle.checkpoint.proofs.PlainAnswers.{by-pick, StoreFits, plainly, plain-never}
+use Rattle.checkpoint.proofs.PlainAnswers.{StoreFits, plainly, plain-never}
 
 -- ---- one live call beside the plain one
 -- they agree, or the live one is busy, or a guard refused
@@ -129,14 +129,6 @@ busy-keeps c w h = elim (between c w) [
   | agree x ↦ absurd (plain-never c (w .store) .fourteenth (ap numberOf (sym (x .answer)) ∙ h))
   | locked r e ↦ record { store = ap (λ (o : Outcome). o .store) e; image = ap (λ (o : Outcome). o .image) e; desk = ap (λ (o : Outcome). o .desk) e }
   | stopped g e n ↦ absurd (not-busy g (sym e ∙ h))
-]
-
--- a call is busy only while a copy runs
-pub busy-running : (c : Call) (w : World) → isRunning (w .desk) ≡ false → numberOf (live c w .answer) ≡ 14 → ⊥
-busy-running c w r h = elim (between c w) [
-  | agree x ↦ plain-never c (w .store) .fourteenth (ap numberOf (sym (x .answer)) ∙ h)
-  | locked t e ↦ clash (isRunning (w .desk)) t r
-  | stopped g e n ↦ not-busy g (sym e ∙ h)
 ]
 
 -- ---- the other events leave the store

@@ -1,12 +1,11 @@
 -- A refusal "changes no lent buffer, save that 16 marks the copy stopped and unlocks what was being copied". s is the store, m the image, d the desk.
 use mathlib.Core.Path.{_≡_, refl, sym, ap, _∙_, subst}
-use mathlib.Core.Bool.{Bool, true, false, not, _&&_, true≢false}
+use mathlib.Core.Bool.{Bool, false, not, true≢false}
 use mathlib.Core.List.{List}
 use mathlib.Core.Logic.{_⊎_, inl, inr, ⊎-elim}
-use Prim.Native.Nat.{ℕ, _-_}
+use Prim.Native.Nat.{ℕ}
 use lib.Dec.{eqb}
-use lib.ListN.{length}
-use Rattle.bounded.specs.Search.{pick}
+use Rattle.bounded.proofs.SearchLaws.{by-pick}
 use Rattle.desk.specs.Desk.{deskOf, putDesk}
 use Rattle.desk.specs.Next.{stopping}
 use Rattle.sound.specs.Sound.{inodesIn}
@@ -27,10 +26,6 @@ use Rattle.checkpoint.proofs.DecisionLaws.{chained, three-is, start-is}
 abbrev pub Keeps : List ℕ → List ℕ → List ℕ → Outcome → Type 0
 Keeps s m d o = (e : Refusal) → o .answer ≡ Refused e → o ≡ refuse e s m d
 
-pick-has : (P : Outcome → Type 0) (b : Bool) (o p : Outcome) → P o → P p → P (pick b o p)
-pick-has P true o p f g = f
-pick-has P false o p f g = g
-
 module _ (s m d : List ℕ) where
   chained-has : (P : Outcome → Type 0) (a : Bool) (o : Outcome)
       → P (refuse BadBuffer s m d)
@@ -39,9 +34,9 @@ module _ (s m d : List ℕ) where
       → P o
       → P (chained a s m d o)
   chained-has P a o f g h k =
-      pick-has P (not a) _ _ f
-      (pick-has P (not (isSound Store s)) _ _ g
-      (pick-has P (not (notesFit s m d)) _ _ h k))
+      by-pick P (not a) f
+      (by-pick P (not (isSound Store s)) g
+      (by-pick P (not (notesFit s m d)) h k))
 
   keeps-refused : (f : Refusal) → Keeps s m d (refuse f s m d)
   keeps-refused f e h = ap (λ (a : Answer). left a s m d) h
@@ -54,7 +49,7 @@ module _ (s m d : List ℕ) where
   start-refused =
       subst (Keeps s m d) (sym (start-is s m d))
       (chained-has (Keeps s m d) (allFramed s m d) _ (keeps-refused BadBuffer) (keeps-refused UnsoundStore) (keeps-refused BadDesk)
-      (pick-has (Keeps s m d) (isRunning d) _ _ (keeps-refused WrongState) (keeps-done 0 _ _ _)))
+      (by-pick (Keeps s m d) (isRunning d) (keeps-refused WrongState) (keeps-done 0 _ _ _)))
 
   -- 16 "sets state 3 and fields 6-9 to zero and changes nothing more"
   abbrev KeepsBut16 : Outcome → Type 0
@@ -80,7 +75,7 @@ module _ (s m d : List ℕ) where
   step-keeps =
       subst KeepsBut16 (sym (three-is s m d _))
       (chained-has KeepsBut16 (bothFramed s d) _ (not-16 BadBuffer refl) (not-16 UnsoundStore refl) (not-16 BadDesk refl)
-      (pick-has KeepsBut16 (isRunning d) _ _ (keeps-step (stepOf s m d (inodesIn s))) (not-16 WrongState refl)))
+      (by-pick KeepsBut16 (isRunning d) (keeps-step (stepOf s m d (inodesIn s))) (not-16 WrongState refl)))
 
   pub step-refused : (e : Refusal) → (e ≡ ImageFull → ⊥) → step s m d .answer ≡ Refused e → step s m d ≡ refuse e s m d
   step-refused e n h = ⊎-elim (λ w. w .1) (λ w. absurd (n (w .0))) (step-keeps e h)

@@ -10,7 +10,7 @@ use Rattle.layout.specs.Sizes.{mostImageBlocks, addressCount, headerBytes, inod
 use Rattle.layout.specs.Header.{headerOf}
 use Rattle.layout.specs.Inode.{addressOf}
 use Rattle.layout.specs.Block.{storeLength, allowed}
-use Rattle.desk.specs.Sizes.{deskLength, idle, running, stopped, deskAllowed, stepsAnInode}
+use Rattle.desk.specs.Sizes.{idle, running, stopped, deskAllowed, stepsAnInode}
 use Rattle.desk.specs.Desk.{deskOf, copiedOf, deskRestZero}
 use Rattle.sound.specs.Sound.{inodesIn}
 use Rattle.sound.specs.Test.{framedB}

@@ -1,6 +1,6 @@
 -- The public calls over the three buffers: guards (1, 2, 3), the plain store's plan with its refusals, busy (14), then the bytes. s is the store, m the image.
 use Prim.Native.Nat.{ℕ, _+_}
-use mathlib.Core.Bool.{Bool, true, false, not, _&&_}
+use mathlib.Core.Bool.{Bool, true, false, not}
 use mathlib.Core.List.{List, [], _∷_}
 use lib.ListN.{length}
 use Rattle.bounded.specs.Search.{pick}

@@ -18,8 +18,7 @@ use Rattle.names.specs.Name.{legalName}
 use Rattle.directory.specs.Slot.{findSlot, emptySlot, inodeAt}
 use Rattle.desk.specs.Desk.{deskOf}
 use Rattle.sound.specs.Sound.{inodesIn, blocksIn}
-use Rattle.answers.specs.declared.Refusal.{Refusal}
-use Rattle.answers.specs.declared.Refusal.the-variants.{BadBuffer, UnsoundStore, BadDesk, IllegalName, WrongInode, NameAbsent, NameTaken, NotEmpty, PastEnd, IntoItself, NoInode, NoBlocks, NoSlot, Busy, WrongState, ImageFull}
+use Rattle.answers.specs.declared.Refusal.the-variants.{IllegalName, WrongInode, NameAbsent, NameTaken, NotEmpty, PastEnd, IntoItself, NoInode, NoBlocks, NoSlot, Busy, WrongState, ImageFull}
 use Rattle.answers.specs.Order.{Row, row}
 use Rattle.entries.specs.Plan.{holdsNone, isBelow}
 use Rattle.checkpoint.specs.Fit.{isRunning, bothFramed, allFramed}

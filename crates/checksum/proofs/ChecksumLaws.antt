@@ -1,11 +1,11 @@
 -- Laws of the checksum.
-use Prim.Native.Nat.{ℕ, _+_, _-_, _*_, _/_, _%_, _^_}
+use Prim.Native.Nat.{ℕ, _+_, _*_, _/_, _%_, _^_}
 use mathlib.Core.Path.{_≡_, refl}
 use mathlib.Core.List.{List}
 use native.Mathlib.Omega.{arith}
 use native.Mathlib.Numerals.{add-one}
 use lib.ListN.{getD}
-use Rattle.checksum.specs.Checksum.{basis, prime, mixed, sumTo, checksum}
+use Rattle.checksum.specs.Checksum.{basis, prime, mixed, sumTo}
 
 pub sum-none : (s : List ℕ) → basis ≡ sumTo s 0
 unfolding sumTo

@@ -6,10 +6,9 @@ use mathlib.Core.List.{List, [], _∷_}
 use native.Mathlib.Omega.{arith}
 use lib.ListN.{length, take, drop, length-drop}
 use lib.Seq.{take-all}
-use Rattle.bounded.specs.Search.{first, firstFrom}
+use Rattle.bounded.specs.Search.{first}
 use Rattle.bounded.specs.declared.Found.{Found}
 use Rattle.bounded.specs.declared.Found.the-variants.{At, Absent}
-use Rattle.bounded.proofs.SearchLaws.{first-begin}
 use Rattle.octets.specs.Octets.{part}
 use Rattle.text.specs.Letters.{letters}
 use Rattle.text.specs.Number.{numberOf}
@@ -80,9 +79,6 @@ module _ (form cmd : List ℕ) (a b k : ℕ) (r : Number) (e : r ≡ valueAt for
   has-none h = rw (← e, h) refl
 
 -- ---- the form that a command fits, and the field that is to be p
-pub search-begin : (f : ℕ → Bool) (n m : ℕ) → m ≡ n → first f n ≡ firstFrom f 0 (m - 0)
-search-begin f n m e = first-begin f n ∙ ap (λ (i : ℕ). firstFrom f 0 (i - 0)) (sym e)
-
 pub fits-line : (lines cmd l : List ℕ) (a b j : ℕ) (r v : Bool) → l ≡ piece lines 10 j → r ≡ fits l cmd a b → r ≡ v → fits (piece lines 10 j) cmd a b ≡ v
 fits-line lines cmd l a b j r v e h t = rw (← e) (sym h ∙ t)
 

@@ -2,12 +2,13 @@
 use Prim.Native.Nat.{ℕ, _+_, _-_, _*_, _/_, _%_, _≤_, _<_}
 use mathlib.Core.Path.{_≡_, sym, ap, ap₂, _∙_, subst}
 use mathlib.Core.Logic.{_≢_}
-use mathlib.Core.Bool.{false}
 use mathlib.Core.List.{List}
 use native.Mathlib.Decide.{ℕ-discrete, decLt}
 use native.Mathlib.Omega.{arith}
 use lib.ListN.{getD}
 use Rattle.bounded.specs.Count.{Differ}
+use Rattle.bounded.proofs.CaseLaws.{each-else}
+use Rattle.bounded.proofs.DifferLaws.{differ-less}
 use Rattle.layout.specs.Sizes.{addressCount, blockBytes}
 use Rattle.layout.specs.declared.header.Header.{Header}
 use Rattle.layout.specs.Header.{headerOf}
@@ -17,9 +18,9 @@ use Rattle.sound.specs.Inode.{InodeSound}
 use Rattle.sound.specs.Sound.{Sound, inodesIn, blocksIn}
 use Rattle.sound.specs.declared.Form.the-variants.{Store}
 use Rattle.changes.proofs.StoreLaws.{one-at, dir-of}
-use Rattle.changes.proofs.SameLaws.{OtherInodes, same-body, each-inode, SameFrame, SameBlock, InBlock}
+use Rattle.changes.proofs.SameLaws.{OtherInodes, same-body, SameFrame, SameBlock, InBlock}
 use Rattle.changes.proofs.KeepLaws.{ZeroTail, Body, body-of, inode-like, inode-kept, file-tree, sound-kept}
-use Rattle.changes.proofs.AddressLaws.{differ-less, address-kth, same-differ, same-unnamed, unnamed-change}
+use Rattle.changes.proofs.AddressLaws.{address-kth, same-differ, same-unnamed, unnamed-change}
 use Rattle.content.specs.Content.{fileByte}
 
 -- ---- a sound store with a file i of o bytes or more
@@ -80,7 +81,7 @@ module _ (s t : List ℕ) (n b i k : ℕ) (h : Sound Store s) (x : n ≡ inodesI
       (file-tree s t n i (λ j p q _. g .inodes j p q) (o .kind) (o .links) (o .parent) (λ z. omega arith)
       (λ d a p q z f. other-block d a p q f (λ a′ _. let c : directoryKind ≡ fileKind = sym z ∙ ap (kindOf s) a′ ∙ v in omega arith)))
       (λ j p q.
-      each-inode (InodeSound t n b) i j
+      each-else (InodeSound t n b) i j
       (inode-like s t n b i (same-body o) (λ _. (o .links, o .parent)) (λ _. o .parent) (past-tail t n i (subst (ZeroPast t n i) (sym (o .size)) w)) (r .inodes i l m))
       (λ z. inode-kept s t n b j (g .inodes j p q) (λ _ f. other-block j (sizeOf s j / blockBytes) p q (unfold blocksUsed in omega arith) (λ a _. z a)) (r .inodes j p q)))
       (same-differ s t n e (r .once)) (ap (λ (z : Header). z .«free_inodes») (g .header)) (ap (λ (z : Header). z .«free_blocks») (g .header) ∙ r .free-blocks ∙ sym (same-unnamed s t n e b))
@@ -143,7 +144,7 @@ module _ (s t : List ℕ) (n b i z : ℕ) (h : Sound Store s) (x : n ≡ inodesI
       }
 
   resized-inodes : (j : ℕ) → 1 ≤ j → j ≤ n → InodeSound t n b j
-  resized-inodes j p q = each-inode (InodeSound t n b) i j resized-inode (λ e. inode-kept s t n b j (g .others j p q e) (λ _ _. g .bytes _) (body .inodes j p q))
+  resized-inodes j p q = each-else (InodeSound t n b) i j resized-inode (λ e. inode-kept s t n b j (g .others j p q e) (λ _ _. g .bytes _) (body .inodes j p q))
 
   resized-differ : Differ (addressOf t n) (addressCount * n)
   resized-differ =

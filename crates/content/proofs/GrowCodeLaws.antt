@@ -1,7 +1,7 @@
 -- Blocks more for a file, each the lowest that is free. n and b are the counts of inodes and blocks, i is the file.
 use Prim.Native.Nat.{ℕ, suc, _+_, _*_, _-_, _≤_, _<_}
 use mathlib.Core.Path.{_≡_, refl, sym, ap, _∙_, subst}
-use mathlib.Core.Bool.{Bool, true, not}
+use mathlib.Core.Bool.{true, not}
 use mathlib.Core.Logic.{_≢_}
 use mathlib.Core.List.{List}
 use native.Mathlib.Decide.{decLt, ℕ-discrete}
@@ -14,7 +14,7 @@ use Rattle.bounded.specs.Seen.{Seen}
 use Rattle.bounded.specs.declared.Found.{Found}
 use Rattle.bounded.specs.declared.Found.the-variants.{At, Absent}
 use Rattle.bounded.proofs.BoolLaws.{clash}
-use Rattle.bounded.proofs.SearchLaws.{Lowest, found-lowest, absent-of, first-end, first-ext, first-skip}
+use Rattle.bounded.proofs.SearchLaws.{Lowest, found-lowest, absent-of, first-ext, first-skip}
 use Rattle.bounded.proofs.SeenLaws.{seen-test}
 use Rattle.octets.specs.Octets.{zeroed}
 use Rattle.octets.proofs.PartLaws.{length-zeroed}
@@ -31,14 +31,6 @@ use Rattle.changes.proofs.RecordLaws.{less-past, less-less, header-inode, inode
 use Rattle.content.specs.Content.{addBlock, addBlocks, putSize}
 use Rattle.content.proofs.GrowLaws.{Grown, grown-used, named-new, named-old}
 use Rattle.content.proofs.WriteLaws.{Spare, room-left, some-left, spare-grown, spare-next}
-
--- ---- a search that finds something ends at its last number at most
-pub search-left : (f : ℕ → Bool) (c last : ℕ) → (firstFrom f c (last + 1 - c) ≡ Absent → ⊥) → c ≤ last
-search-left f c last h = go (decLt last c)
-  where
-    go : Dec (last < c) → c ≤ last
-    go (yes l) = absurd (h (first-end f c (last + 1) (omega arith)))
-    go (no l) = omega arith
 
 -- ---- lengths
 pub length-zero-block : (s : List ℕ) (n c : ℕ) → length (zeroBlock s n c) ≡ length s

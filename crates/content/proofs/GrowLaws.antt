@@ -12,6 +12,8 @@ use Rattle.bounded.specs.Count.{Differ}
 use Rattle.bounded.proofs.TableLaws.{length-table, getD-table}
 use Rattle.bounded.proofs.ReflectLaws.{r-fails}
 use Rattle.bounded.proofs.BoolLaws.{same-test}
+use Rattle.bounded.proofs.CaseLaws.{each-else}
+use Rattle.bounded.proofs.DifferLaws.{differ-new}
 use Rattle.octets.proofs.PartLaws.{getD-part}
 use Rattle.layout.specs.Sizes.{addressCount, blockBytes}
 use Rattle.layout.specs.declared.header.Header.{Header}
@@ -31,9 +33,9 @@ use Rattle.sound.proofs.FactLaws.{unnamed, named-is}
 use Rattle.sound.proofs.PlaceLaws.{slot-is}
 use Rattle.sound.specs.declared.Form.the-variants.{Store}
 use Rattle.changes.proofs.StoreLaws.{fits}
-use Rattle.changes.proofs.SameLaws.{same-body, OtherInodes, each-inode, SameFrame, SameBlock, frame-then, inode-then, zero-block, zero-block-is, put-inode, inode-new, inode-blocks, less-free}
+use Rattle.changes.proofs.SameLaws.{same-body, OtherInodes, SameFrame, SameBlock, frame-then, inode-then, zero-block, zero-block-is, put-inode, inode-new, inode-blocks, less-free}
 use Rattle.changes.proofs.KeepLaws.{SamePlace, SameTree, Body, body-of, inode-kept, entry-in, entry-kept, place-slot, place-new, place-kept, slot-kept, changed, sound-kept}
-use Rattle.changes.proofs.AddressLaws.{differ-new, address-kth, unnamed-change}
+use Rattle.changes.proofs.AddressLaws.{address-kth, unnamed-change}
 use Rattle.changes.proofs.FreeLaws.{FreeBlock}
 use Rattle.content.specs.Content.{addBlock}
 
@@ -273,7 +275,7 @@ module _ (s t : List ℕ) (n b i c : ℕ) (h : Sound Store s) (x : n ≡ inodesI
 
   grown-inodes : (j : ℕ) → 1 ≤ j → j ≤ n → InodeSound t n b j
   grown-inodes j a d =
-      each-inode (InodeSound t n b) i j grown-inode
+      each-else (InodeSound t n b) i j grown-inode
       (λ e. inode-kept s t n b j (g .others j a d e) (λ k q. grown-bytes j (sizeOf s j / blockBytes) a d (unfold blocksUsed in omega arith)) (body .inodes j a d))
 
   grown-differ : Differ (addressOf t n) (addressCount * n)

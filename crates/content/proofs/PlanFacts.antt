@@ -1,7 +1,7 @@
 -- What a plan that is no refusal says of the store: the conditions that it has passed. n is the count of inodes.
 use Prim.Native.Nat.{ℕ, _+_, _-_, _≤_, max, min}
 use mathlib.Core.Path.{_≡_, sym, subst}
-use mathlib.Core.Bool.{true, false, not, _||_}
+use mathlib.Core.Bool.{true, _||_}
 use mathlib.Core.List.{List}
 use native.Mathlib.Omega.{arith}
 use borrow.Author.Tests.{ltb-false}

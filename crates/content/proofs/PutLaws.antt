@@ -5,9 +5,8 @@ use mathlib.Core.List.{List, [], _∷_, _++_}
 use native.Mathlib.Nat.{add-zero}
 use native.Mathlib.Omega.{arith}
 use lib.ListN.{length}
-use lib.Seq.{take-add}
 use Rattle.octets.specs.Octets.{part, splice, pasted}
-use Rattle.octets.proofs.PartLaws.{length-splice, length-inside, part-all}
+use Rattle.octets.proofs.PartLaws.{length-splice, length-inside, part-all, part-join}
 use Rattle.layout.specs.Block.{putInBlock, kthBlock}
 use Rattle.layout.proofs.ViewLaws.{inode-fits}
 use Rattle.directory.proofs.SlotLaws.{block-past}
@@ -30,11 +29,6 @@ file-fits-past s n p xs i z h f =
 pub fits-copied : (s : List ℕ) (n i z x : ℕ) (xs : List ℕ) (j m : ℕ) → FileFits s n i z → FileFits (pasted s (byteAt s n i x) xs j m) n i z
 unfolding pasted byteAt
 fits-copied s n i z x xs j m f = file-fits-past s n (byteAt s n i x) (part xs j m) i z (omega arith) f
-
--- the first j, and then m more
-part-join : (xs : List ℕ) (j m : ℕ) → part xs 0 (j + m) ≡ part xs 0 j ++ part xs j m
-unfolding part
-part-join xs j m = take-add j m xs
 
 module _ (n i : ℕ) where
   -- ---- xs, and then ys

@@ -1,14 +1,14 @@
 -- Files that fit, and their bytes read block by block. n is the inode count, i the file.
-use Prim.Native.Nat.{ℕ, zero, suc, _+_, _-_, _/_, _%_, _≤_, _<_}
+use Prim.Native.Nat.{ℕ, _+_, _-_, _/_, _%_, _≤_, _<_}
 use mathlib.Core.Path.{_≡_, refl, sym, ap, _∙_}
-use mathlib.Core.Bool.{true, false}
-use mathlib.Core.List.{List, _∷_, _++_}
-use native.Mathlib.Nat.{zero-add, suc-add}
+use mathlib.Core.Bool.{true}
+use mathlib.Core.List.{List, _++_}
+use native.Mathlib.Nat.{zero-add}
 use native.Mathlib.Omega.{arith}
 use lib.ListN.{length, getD}
 use lib.Seq.{ext-getD}
 use Rattle.bounded.specs.Table.{table}
-use Rattle.bounded.proofs.TableLaws.{length-table, getD-table, table-ext}
+use Rattle.bounded.proofs.TableLaws.{length-table, getD-table, table-ext, table-append}
 use Rattle.octets.specs.Octets.{part, splice, pasted}
 use Rattle.octets.proofs.PartLaws.{length-inside, getD-part, splice-append}
 use Rattle.layout.specs.Inode.{sizeOf, fileKind, isKind}
@@ -52,13 +52,6 @@ module _ (s : List ℕ) (n i z : ℕ) (f : FileFits s n i z) where
     edge-inside = let b = f .blocks (z / 64) (omega arith) in omega arith
 
 -- ---- bytes of a file
-table-append : (f : ℕ → ℕ) (j m : ℕ) → table f (j + m) ≡ table f j ++ table (λ k. f (j + k)) m
-unfolding table
-table-append f zero m = rw zero-add (table-ext f (λ k. f (0 + k)) m (λ k l. rw zero-add))
-table-append f (suc j) m =
-    rw suc-add
-    (ap (λ (l : List ℕ). f 0 ∷ l) (table-append (λ k. f (suc k)) j m ∙ ap (λ (l : List ℕ). table (λ k. f (suc k)) j ++ l) (table-ext (λ k. f (suc (j + k))) (λ k. f (suc j + k)) m (λ k l. rw suc-add))))
-
 module _ (s : List ℕ) (n i : ℕ) where
   pub length-file : (o k : ℕ) → length (fileBytes s n i o k) ≡ k
   unfolding fileBytes

@@ -2,7 +2,7 @@
 use Prim.Native.Nat.{ℕ, _+_, _-_, _*_, _/_, _%_, _≤_, _<_}
 use mathlib.Core.Path.{_≡_, refl, sym, ap, ap₂, _∙_, subst}
 use mathlib.Core.Logic.{_≢_}
-use mathlib.Core.Bool.{Bool, false}
+use mathlib.Core.Bool.{Bool}
 use mathlib.Core.List.{List}
 use native.Mathlib.Decide.{ℕ-discrete}
 use native.Mathlib.Omega.{arith}
@@ -158,9 +158,6 @@ module _ (s : List ℕ) (n i k : ℕ) where
   keep-past j l m = kept j l ∙ ap (λ (b : Bool). pick b (kthBlock s n i j) 0) (le-ltb j k m)
 
 module _ (s : List ℕ) (n b i z : ℕ) (h : Holds s n b i z) where
-  trim : Trimmed s (zeroRest s n i z) n i z
-  trim = zero-rest s n b i z h
-
   abbrev trimmed : List ℕ
   trimmed = zeroRest s n i z
 
@@ -176,7 +173,7 @@ module _ (s : List ℕ) (n b i z : ℕ) (h : Holds s n b i z) where
   pub cut-to : Resized trimmed (cutTo s n i z) n i z
   unfolding cutTo inodeOf
   cut-to =
-      let a = trim in
+      let a = zero-rest s n b i z h in
       let f = inode-fits s trimmed n i (a .frame .long) (fits s n (h .sound) (h .inodes) i (h .low) (h .high)) in
       let e = length-keep (addressesOf s n i) (blocksUsed z) in
       let g = put-inode trimmed n i f new e in
@@ -203,7 +200,7 @@ module _ (s : List ℕ) (n b i z : ℕ) (h : Holds s n b i z) where
 
   pub cut-sound : Sound Store (cutTo s n i z)
   cut-sound =
-      let a = trim in
+      let a = zero-rest s n b i z h in
       let o = a .inodes i (h .low) (h .high) in
       resized-sound trimmed (cutTo s n i z) n b i z (a .sound) (h .inodes ∙ sym (a .frame .inodes)) (h .blocks ∙ sym (a .frame .blocks)) (h .low) (h .high) (o .kind ∙ h .kind)
       cut-to (subst (λ (x : ℕ). blocksUsed z ≤ blocksUsed x) (sym (o .size)) (used-down s n b i z h)) (a .past)

@@ -1,7 +1,7 @@
 -- Each way that a start returns. s is the store, m the image, d the desk.
 use Prim.Native.Nat.{ℕ, _≤_}
 use mathlib.Core.Path.{_≡_, refl, sym, ap, _∙_}
-use mathlib.Core.Bool.{true, false}
+use mathlib.Core.Bool.{true}
 use mathlib.Core.List.{List}
 use native.Mathlib.Omega.{arith}
 use Rattle.bounded.proofs.BoolLaws.{and-left, and-right}
@@ -18,7 +18,7 @@ use Rattle.sound.specs.Sound.{inodesIn}
 use Rattle.sound.specs.Test.{framedB}
 use Rattle.sound.specs.declared.Form.the-variants.{Store}
 use Rattle.answers.specs.declared.Refusal.{Refusal}
-use Rattle.answers.specs.declared.Refusal.the-variants.{BadBuffer, WrongState}
+use Rattle.answers.specs.declared.Refusal.the-variants.{WrongState}
 use Rattle.answers.specs.declared.Answer.the-variants.{Done}
 use Rattle.files.specs.declared.Guard.{Guard}
 use Rattle.files.specs.declared.Guard.the-variants.{Pass, Stop}

@@ -1,6 +1,6 @@
 -- What each reader of the desk gives after each writer, and writers that follow each other. No later proof looks at an offset.
 use Prim.Native.Nat.{ℕ, _+_, _*_, _-_, _≤_, _<_}
-use mathlib.Core.Path.{_≡_, refl, sym, ap, _∙_}
+use mathlib.Core.Path.{_≡_, refl, ap, _∙_}
 use mathlib.Core.Bool.{true, false}
 use mathlib.Core.List.{List}
 use mathlib.Core.Logic.{_≢_}
@@ -9,8 +9,8 @@ use lib.ListN.{length, replicate, getD-replicate, length-replicate}
 use Rattle.bounded.specs.Reflect.{Reflects}
 use Rattle.bounded.proofs.ReflectLaws.{r-and, r-le, r-eq}
 use Rattle.octets.specs.Octets.{splice, Apart, numAt, toBytes, putNum, zeroed}
-use Rattle.octets.proofs.PartLaws.{length-zeroed}
-use Rattle.octets.proofs.NumLaws.{num-apart, num-in, zero-num, length-num, num-same, num-other, num-twice, num-comm}
+use Rattle.octets.proofs.PartLaws.{length-zeroed, apart-within}
+use Rattle.octets.proofs.NumLaws.{num-apart, num-in, zero-num, length-num, num-same, num-other, num-twice, num-comm, num-swap, num-off, num-stands}
 use Rattle.marks.specs.Mark.{marked, withMark, withoutMark}
 use Rattle.marks.proofs.MarkLaws.{with-same, with-other, without-same, without-other, mark-none}
 use Rattle.layout.specs.Sizes.{mostInodes}
@@ -48,40 +48,29 @@ pub length-clearNotes : (d : List ℕ) (n : ℕ) → length (clearNotes d n) ≡
 unfolding clearNotes
 length-clearNotes d n = length-zeroed d deskHeaderBytes (deskInodeBytes * n)
 
--- ---- two writes in either order, and a read apart from a write, at given places
-swap : (k m o p : ℕ) → Apart o k p m → (s : List ℕ) (v w : ℕ) → putNum m (putNum k s o v) p w ≡ putNum k (putNum m s p w) o v
-swap k m o p h s v w = num-comm k m s o p v w h
-
-off : (k m o p : ℕ) → Apart o k p m → (s : List ℕ) (v : ℕ) → numAt k (putNum m s p v) o ≡ numAt k s o
-off k m o p h s v = num-other k m s o p v h
-
--- a range apart from one is apart from what lies in it
-within : (o k p m q l : ℕ) → Apart o k p m → p ≤ q → q + l ≤ p + m → Apart o k q l
-within o k p m q l h a b = omega arith
-
 -- ---- one field written over a header
 module _ (d : List ℕ) (h : Desk) (v : ℕ) where
   over-inodes : putNum 2 (putDesk d h) 0 v ≡ putDesk d (record { inodes = v; blocks = h .blocks; state = h .state; locked = h .locked; progress = h .progress; steps = h .steps })
   unfolding putDesk
   over-inodes =
-      rw (swap 4 2 12 0 (omega arith), swap 2 2 8 0 (omega arith), swap 2 2 6 0 (omega arith), swap 1 2 4 0 (omega arith), swap 2 2 2 0 (omega arith), num-twice)
+      rw (num-swap 4 2 12 0 (omega arith), num-swap 2 2 8 0 (omega arith), num-swap 2 2 6 0 (omega arith), num-swap 1 2 4 0 (omega arith), num-swap 2 2 2 0 (omega arith), num-twice)
 
   over-blocks : putNum 2 (putDesk d h) 2 v ≡ putDesk d (record { inodes = h .inodes; blocks = v; state = h .state; locked = h .locked; progress = h .progress; steps = h .steps })
   unfolding putDesk
   over-blocks =
-      rw (swap 4 2 12 2 (omega arith), swap 2 2 8 2 (omega arith), swap 2 2 6 2 (omega arith), swap 1 2 4 2 (omega arith), num-twice)
+      rw (num-swap 4 2 12 2 (omega arith), num-swap 2 2 8 2 (omega arith), num-swap 2 2 6 2 (omega arith), num-swap 1 2 4 2 (omega arith), num-twice)
 
   over-state : putNum 1 (putDesk d h) 4 v ≡ putDesk d (record { inodes = h .inodes; blocks = h .blocks; state = v; locked = h .locked; progress = h .progress; steps = h .steps })
   unfolding putDesk
-  over-state = rw (swap 4 1 12 4 (omega arith), swap 2 1 8 4 (omega arith), swap 2 1 6 4 (omega arith), num-twice)
+  over-state = rw (num-swap 4 1 12 4 (omega arith), num-swap 2 1 8 4 (omega arith), num-swap 2 1 6 4 (omega arith), num-twice)
 
   over-locked : putNum 2 (putDesk d h) 6 v ≡ putDesk d (record { inodes = h .inodes; blocks = h .blocks; state = h .state; locked = v; progress = h .progress; steps = h .steps })
   unfolding putDesk
-  over-locked = rw (swap 4 2 12 6 (omega arith), swap 2 2 8 6 (omega arith), num-twice)
+  over-locked = rw (num-swap 4 2 12 6 (omega arith), num-swap 2 2 8 6 (omega arith), num-twice)
 
   over-progress : putNum 2 (putDesk d h) 8 v ≡ putDesk d (record { inodes = h .inodes; blocks = h .blocks; state = h .state; locked = h .locked; progress = v; steps = h .steps })
   unfolding putDesk
-  over-progress = rw (swap 4 2 12 8 (omega arith), num-twice)
+  over-progress = rw (num-swap 4 2 12 8 (omega arith), num-twice)
 
   over-steps : putNum 4 (putDesk d h) 12 v ≡ putDesk d (record { inodes = h .inodes; blocks = h .blocks; state = h .state; locked = h .locked; progress = h .progress; steps = v })
   unfolding putDesk
@@ -96,20 +85,17 @@ putDesk-twice d h k =
     rw (fields (putDesk d h) k, over-inodes, over-blocks, over-state, over-locked, over-progress, over-steps)
 
 -- ---- a header is read back
-desk-field : (k : ℕ) (s : List ℕ) (o v : ℕ) → 0 < k → o + k ≤ length s → putNum k s o v ≡ s → numAt k s o ≡ v
-desk-field k s o v h f e = ap (λ (t : List ℕ). numAt k t o) (sym e) ∙ num-same k s o v h f
-
 pub desk-putDesk : (d : List ℕ) (h : Desk) → deskHeaderBytes ≤ length d → deskOf (putDesk d h) ≡ h
 unfolding deskOf
 desk-putDesk d h f =
     let n = length-putDesk d h in
     λ i. record {
-      inodes = desk-field 2 (putDesk d h) 0 (h .inodes) (omega arith) (omega arith) (over-inodes d h (h .inodes)) i;
-      blocks = desk-field 2 (putDesk d h) 2 (h .blocks) (omega arith) (omega arith) (over-blocks d h (h .blocks)) i;
-      state = desk-field 1 (putDesk d h) 4 (h .state) (omega arith) (omega arith) (over-state d h (h .state)) i;
-      locked = desk-field 2 (putDesk d h) 6 (h .locked) (omega arith) (omega arith) (over-locked d h (h .locked)) i;
-      progress = desk-field 2 (putDesk d h) 8 (h .progress) (omega arith) (omega arith) (over-progress d h (h .progress)) i;
-      steps = desk-field 4 (putDesk d h) 12 (h .steps) (omega arith) (omega arith) (over-steps d h (h .steps)) i;
+      inodes = num-stands 2 (putDesk d h) 0 (h .inodes) (omega arith) (omega arith) (over-inodes d h (h .inodes)) i;
+      blocks = num-stands 2 (putDesk d h) 2 (h .blocks) (omega arith) (omega arith) (over-blocks d h (h .blocks)) i;
+      state = num-stands 1 (putDesk d h) 4 (h .state) (omega arith) (omega arith) (over-state d h (h .state)) i;
+      locked = num-stands 2 (putDesk d h) 6 (h .locked) (omega arith) (omega arith) (over-locked d h (h .locked)) i;
+      progress = num-stands 2 (putDesk d h) 8 (h .progress) (omega arith) (omega arith) (over-progress d h (h .progress)) i;
+      steps = num-stands 4 (putDesk d h) 12 (h .steps) (omega arith) (omega arith) (over-steps d h (h .steps)) i;
     }
 
 -- ---- beside the header's fields, a header changes nothing
@@ -117,12 +103,12 @@ beside : (d : List ℕ) (h : Desk) (k o : ℕ) → Apart o k 0 5 → Apart o k 6
 unfolding putDesk
 beside d h k o a b c =
     rw (
-      off k 4 o 12 c,
-      off k 2 o 8 (within o k 6 4 8 2 b (omega arith) (omega arith)),
-      off k 2 o 6 (within o k 6 4 6 2 b (omega arith) (omega arith)),
-      off k 1 o 4 (within o k 0 5 4 1 a (omega arith) (omega arith)),
-      off k 2 o 2 (within o k 0 5 2 2 a (omega arith) (omega arith)),
-      off k 2 o 0 (within o k 0 5 0 2 a (omega arith) (omega arith)),
+      num-off k 4 o 12 c,
+      num-off k 2 o 8 (apart-within o k 6 4 8 2 b (omega arith) (omega arith)),
+      num-off k 2 o 6 (apart-within o k 6 4 6 2 b (omega arith) (omega arith)),
+      num-off k 1 o 4 (apart-within o k 0 5 4 1 a (omega arith) (omega arith)),
+      num-off k 2 o 2 (apart-within o k 0 5 2 2 a (omega arith) (omega arith)),
+      num-off k 2 o 0 (apart-within o k 0 5 0 2 a (omega arith) (omega arith)),
     )
 
 pub reserved-putDesk : (d : List ℕ) (h : Desk) → deskRestZero (putDesk d h) ≡ deskRestZero d
@@ -163,7 +149,7 @@ module _ (d : List ℕ) (p : ℕ) (xs : List ℕ) (past : deskHeaderBytes ≤ p)
 past-putDesk : (d : List ℕ) (h : Desk) (k p v : ℕ) → deskHeaderBytes ≤ p → putNum k (putDesk d h) p v ≡ putDesk (putNum k d p v) h
 unfolding putDesk
 past-putDesk d h k p v past =
-    rw (swap 4 k 12 p (omega arith), swap 2 k 8 p (omega arith), swap 2 k 6 p (omega arith), swap 1 k 4 p (omega arith), swap 2 k 2 p (omega arith), swap 2 k 0 p (omega arith))
+    rw (num-swap 4 k 12 p (omega arith), num-swap 2 k 8 p (omega arith), num-swap 2 k 6 p (omega arith), num-swap 1 k 4 p (omega arith), num-swap 2 k 2 p (omega arith), num-swap 2 k 0 p (omega arith))
 
 pub desk-putCopied : (d : List ℕ) (i v : ℕ) → deskOf (putCopied d i v) ≡ deskOf d
 unfolding putCopied putNum

@@ -11,15 +11,16 @@ use Rattle.bounded.specs.declared.Found.{Found}
 use Rattle.bounded.specs.declared.Found.the-variants.{At, Absent}
 use Rattle.bounded.proofs.SearchLaws.{Lowest, found-lowest, none-below, first-begin, first-end, first-ext, first-skip, first-hit, first-shift}
 use Rattle.octets.specs.Octets.{Octets, part, splice, Apart}
-use Rattle.octets.proofs.PartLaws.{length-splice, cut, part-part, part-apart, part-same}
+use Rattle.octets.proofs.PartLaws.{length-splice, cut, part-part, part-apart, part-same, octets-part}
+use Rattle.octets.proofs.OverlayLaws.{overlay}
 use Rattle.layout.specs.Inode.{sizeOf, addressIndex}
 use Rattle.layout.specs.Block.{blockAt, blocksUsed, kthBlock, putInBlock}
-use Rattle.layout.proofs.View.{viewOf, overlay, withContent}
+use Rattle.layout.proofs.View.{viewOf, withContent}
 use Rattle.layout.proofs.FrameLaws.{size-apart, address-apart}
 use Rattle.layout.proofs.ViewLaws.{inode-fits, view-in-block}
 use Rattle.names.specs.declared.Name.{Name}
 use Rattle.names.specs.Entry.{isEmpty, sameName, entryFor, wordsAt, sameWords}
-use Rattle.names.proofs.EntryLaws.{same-words, octets-part, length-entry}
+use Rattle.names.proofs.EntryLaws.{same-words, length-entry}
 use Rattle.directory.specs.Slot.{mostSlots, slots, slotAt, entryOf, slotHasName, findSlot, slotEmpty, emptySlot, putEntry, clearEntry, BlockFits, DirFits}
 
 -- ---- where slots lie
@@ -94,15 +95,6 @@ module _ (s : List ℕ) (n d : ℕ) where
 -- what is left to search from block k on
 unfoldable pub fromBlock : (List ℕ → Bool) → List ℕ → ℕ → ℕ → ℕ → Found
 fromBlock p s n d k = firstFrom (λ t. p (entryOf s n d t)) (4 * k) (slots s d - 4 * k)
-
--- r is what the test says of entry j of a block, as the code cuts it out
-pub cut-test : (p : List ℕ → Bool) (block : List ℕ) (j : ℕ) {r b : Bool} → r ≡ p (take (16 * j + 16 - 16 * j) (drop (16 * j) block)) → r ≡ b → p (part block (16 * j) 16) ≡ b
-cut-test p block j e h = ap p (sym (cut block (16 * j) 16)) ∙ sym e ∙ h
-
--- a slot found in a block is one of its four
-pub found-below : (f : ℕ → Bool) {r : Found} {j : ℕ} → r ≡ first f 4 → r ≡ At j → j < 4
-unfolding first
-found-below f {r} {j} g e = let b = found-lowest f 0 4 j (sym g ∙ e) in omega arith
 
 module _ (p : List ℕ → Bool) (s : List ℕ) (n d : ℕ) where
   pub blocks-begin : first (λ t. p (entryOf s n d t)) (slots s d) ≡ fromBlock p s n d 0

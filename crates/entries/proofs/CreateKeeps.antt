@@ -7,6 +7,7 @@ use native.Mathlib.Omega.{arith}
 use lib.ListN.{replicate}
 use Rattle.bounded.specs.declared.Found.the-variants.{At, Absent}
 use Rattle.bounded.proofs.BoolLaws.{fails}
+use Rattle.bounded.proofs.TallyLaws.{one-same, one-other}
 use Rattle.layout.specs.Sizes.{addressCount}
 use Rattle.layout.specs.Header.{headerOf, lessFree}
 use Rattle.layout.specs.declared.header.Header.{Header}
@@ -26,7 +27,7 @@ use Rattle.changes.proofs.StoreLaws.{fits}
 use Rattle.changes.proofs.FreeLaws.{free-inode}
 use Rattle.changes.proofs.RecordLaws.{header-inode}
 use Rattle.changes.proofs.ChangeLaws.{Filled, filled-then, names-filled}
-use Rattle.changes.proofs.TreeLaws.{Tree, tree-create, one-same, one-other}
+use Rattle.changes.proofs.TreeLaws.{Tree, tree-create}
 use Rattle.changes.proofs.SoundTreeLaws.{nodesOf, nodes-else, body-at, names-at, above-at, tree-at}
 use Rattle.changes.proofs.EntryWriteLaws.{EntriesAlone, entries-stay, SlotIn, slot-in, place-below, put-alone, put-filled}
 use Rattle.changes.proofs.SlotPlaceLaws.{absent-new, place-bare}

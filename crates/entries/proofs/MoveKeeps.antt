@@ -11,7 +11,7 @@ use Rattle.bounded.specs.Climb.{Leads, leadsB, Closed}
 use Rattle.bounded.specs.Search.{pick}
 use Rattle.bounded.specs.declared.Found.the-variants.{Absent}
 use Rattle.bounded.proofs.BoolLaws.{clash, fails, and-left, and-right}
-use Rattle.bounded.proofs.ClimbLaws.{leads-bool, leads-prop}
+use Rattle.bounded.proofs.ClimbLaws.{leads-bool, leads-prop, leads-kept, leads-on, leads-top}
 use Rattle.layout.specs.Sizes.{rootInode}
 use Rattle.layout.specs.Inode.{kindOf, linksOf, parentOf, inodeOf, putAttributes, directoryKind, isDirectory, withParent}
 use Rattle.layout.proofs.ViewLaws.{inode-fits}
@@ -22,7 +22,7 @@ use Rattle.sound.specs.Sound.{Sound, inodesIn, blocksIn}
 use Rattle.sound.proofs.PlaceLaws.{place-dir}
 use Rattle.sound.specs.declared.Form.the-variants.{Store}
 use Rattle.changes.proofs.SameLaws.{OtherInodes, SameBody, same-body, body-then, SameFrame, frame-stays, frame-then, inode-stays, inode-then}
-use Rattle.changes.proofs.KeepLaws.{SamePlace, SameTree, tree-stays, leads-kept}
+use Rattle.changes.proofs.KeepLaws.{SamePlace, SameTree, tree-stays}
 use Rattle.changes.proofs.StoreLaws.{fits, kind-some, kind-most, kind-is}
 use Rattle.changes.proofs.ChangeLaws.{Emptied, Filled, filled-then, names-emptied, names-filled, new-emptied}
 use Rattle.changes.proofs.TreeLaws.{Nodes, Tree, Dir, Above, parent-dir, tree-move}
@@ -33,7 +33,7 @@ use Rattle.changes.proofs.SlotPlaceLaws.{EntryHere, entry-here, absent-new, pla
 use Rattle.changes.proofs.StockLaws.{Stock, entries-stock, relinked-stock, stock-sound}
 use Rattle.entries.specs.Plan.{isBelow}
 use Rattle.entries.specs.Apply.{setParent}
-use Rattle.entries.proofs.ParentLaws.{climb-step, past-root, zero-parent}
+use Rattle.entries.proofs.ParentLaws.{zero-parent}
 
 -- ---- a climb to i: the test with n steps tells all
 module _ (n : ℕ) (v : Nodes) (t : Tree n v) (a : Above n v) (none : v .parent 0 ≡ 0) (i e : ℕ) (low : 1 ≤ i) (not-root : i ≢ rootInode) where
@@ -45,8 +45,8 @@ module _ (n : ℕ) (v : Nodes) (t : Tree n v) (a : Above n v) (none : v .parent 
   under = record {
     within = λ x d. (d .0 .low, d .0 .high);
     parent = λ x d h. (
-      parent-dir n v t a x (d .0) (λ z. past-root (v .parent) none (t .root-parent) i low not-root (subst (Leads (v .parent) i) z (d .1))),
-      climb-step (v .parent) i (d .1 .0) x (d .1 .1) h,
+      parent-dir n v t a x (d .0) (λ z. leads-top (v .parent) i none rootInode (t .root-parent) low (λ y. not-root (sym y)) (subst (Leads (v .parent) i) z (d .1))),
+      leads-on (v .parent) i x h (d .1),
     );
   }
 

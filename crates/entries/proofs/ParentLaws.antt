@@ -1,14 +1,13 @@
 -- Up from a directory to the root, above which there is nothing: whether a directory of a sound store is another or below it. n is the inode count.
-use Prim.Native.Nat.{ℕ, zero, suc, _+_, _-_, _≤_, _<_}
-use mathlib.Core.Path.{_≡_, refl, sym, ap, _∙_, subst}
-use mathlib.Core.Logic.{_≢_}
+use Prim.Native.Nat.{ℕ, _+_, _-_, _≤_, _<_}
+use mathlib.Core.Path.{_≡_, sym, ap, _∙_, subst}
 use mathlib.Core.Bool.{true, false}
 use mathlib.Core.List.{List}
 use native.Mathlib.Omega.{arith}
 use lib.Dec.{eqb}
-use Rattle.bounded.specs.Climb.{climb, Leads, leadsB}
+use Rattle.bounded.specs.Climb.{leadsB}
 use Rattle.bounded.proofs.BoolLaws.{fails}
-use Rattle.bounded.proofs.ClimbLaws.{leads-prop, leads-here, leads-turn, leads-end}
+use Rattle.bounded.proofs.ClimbLaws.{leads-prop, leads-here, leads-turn, leads-end, leads-top}
 use Rattle.layout.specs.Sizes.{rootInode}
 use Rattle.layout.specs.Inode.{parentOf, directoryKind, isDirectory}
 use Rattle.sound.specs.Sound.{Sound, inodesIn}
@@ -22,24 +21,6 @@ use Rattle.changes.proofs.StoreLaws.{kind-some, kind-most, kind-is}
 pub zero-parent : (s : List ℕ) → parentOf s rootInode ≡ 0 → parentOf s 0 ≡ 0
 unfolding parentOf
 zero-parent s r = r
-
-climb-zero : (up : ℕ → ℕ) → up 0 ≡ 0 → (k : ℕ) → climb up k 0 ≡ 0
-unfolding climb
-climb-zero up e zero = refl
-climb-zero up e (suc k) = ap (climb up k) e ∙ climb-zero up e k
-
--- one step of a climb to i
-pub climb-step : (up : ℕ → ℕ) (i k x : ℕ) → climb up k x ≡ i → (x ≡ i → ⊥) → Leads up i (up x)
-unfolding climb
-climb-step up i zero x c h = absurd (h c)
-climb-step up i (suc k) x c h = (k, c)
-
-pub past-root : (up : ℕ → ℕ) → up 0 ≡ 0 → up rootInode ≡ 0 → (i : ℕ) → 1 ≤ i → i ≢ rootInode → Leads up i rootInode → ⊥
-past-root up none root i low other r =
-    let l = climb-step up i (r .0) rootInode (r .1) (λ z. other (sym z)) in
-    let z : climb up (l .0) 0 ≡ i = ap (climb up (l .0)) (sym root) ∙ l .1 in
-    let o = climb-zero up none (l .0) in
-    omega arith
 
 -- ---- the climb from e, k steps up at the directory x
 pub record Climbing (s : List ℕ) (n i e k x : ℕ) : Type 0 where
@@ -63,7 +44,7 @@ module _ (s : List ℕ) (n i e : ℕ) (h : Sound Store s) (q : n ≡ inodesIn s)
 
     pub climbing-root : 1 ≤ i → (x ≡ i → ⊥) → x ≡ rootInode → false ≡ leadsB (parentOf s) i n e
     climbing-root l f r =
-        sym (c .left ∙ ap (leadsB (parentOf s) i (n - k)) r ∙ fails (leadsB (parentOf s) i (n - k) rootInode) (λ z. past-root (parentOf s) (zero-parent s (h .root-parent)) (h .root-parent) i l (λ y. f (r ∙ sym y)) (leads-prop (parentOf s) i (n - k) rootInode z)))
+        sym (c .left ∙ ap (leadsB (parentOf s) i (n - k)) r ∙ fails (leadsB (parentOf s) i (n - k) rootInode) (λ z. leads-top (parentOf s) i (zero-parent s (h .root-parent)) rootInode (h .root-parent) l (λ y. f (r ∙ y)) (leads-prop (parentOf s) i (n - k) rootInode z)))
 
     pub climbing-turn : k < n → (x ≡ i → ⊥) → (x ≡ rootInode → ⊥) → (y : ℕ) → y ≡ parentOf s x → Climbing s n i e (k + 1) y
     climbing-turn l f r y p =

@@ -1,7 +1,7 @@
 -- The calls on entries keep a store sound: the room that a plan makes, and then the change. n and b are the counts of inodes and blocks.
 use Prim.Native.Nat.{ℕ, _<_}
 use mathlib.Core.Path.{_≡_, sym, ap, _∙_, subst}
-use mathlib.Core.Bool.{true, false}
+use mathlib.Core.Bool.{true}
 use mathlib.Core.List.{List}
 use Rattle.bounded.specs.declared.Found.the-variants.{Absent}
 use Rattle.layout.specs.Inode.{fileKind, directoryKind, isKind, isDirectory}

@@ -11,7 +11,7 @@ use lib.Dec.{eqb, ltb}
 use Rattle.bounded.specs.Search.{pick, first, firstFrom, onFound}
 use Rattle.bounded.specs.declared.Found.{Found}
 use Rattle.bounded.specs.declared.Found.the-variants.{At, Absent}
-use Rattle.bounded.proofs.SearchLaws.{first-ext, first-split, absent-of}
+use Rattle.bounded.proofs.SearchLaws.{first-ext, first-split, absent-of, found-else}
 use Rattle.layout.specs.Sizes.{mostDirectoryBlocks}
 use Rattle.layout.specs.Header.{headerOf}
 use Rattle.layout.specs.Inode.{kindOf, sizeOf, freeKind, directoryKind, isKind, isDirectory}
@@ -137,10 +137,6 @@ same-kind s t n k j e = go (decLt j 1) (decLt n j)
 pub same-free-inode : (s t : List ℕ) (n : ℕ) → ((i : ℕ) → 1 ≤ i → i ≤ n → kindOf t i ≡ kindOf s i) → freeInode t n ≡ freeInode s n
 unfolding freeInode
 same-free-inode s t n e = first-ext (inodeFree t) (inodeFree s) 1 n (λ j l m. ap (λ (x : ℕ). eqb x freeKind) (e j l (omega arith)))
-
-found-else : (x : Found) → onFound x At Absent ≡ x
-found-else (At t) = refl
-found-else Absent = refl
 
 -- a search for a name finds what it found
 module _ (s t : List ℕ) (n d u : ℕ) (r : Roomed s t n d u) (name : List ℕ) (g : legalName name ≡ true) where

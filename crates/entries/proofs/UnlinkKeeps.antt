@@ -10,6 +10,7 @@ use lib.Dec.{leb}
 use Rattle.bounded.specs.Search.{pick}
 use Rattle.bounded.proofs.BoolLaws.{clash, fails}
 use Rattle.bounded.proofs.BelowLaws.{all-at}
+use Rattle.bounded.proofs.TallyLaws.{one-other}
 use Rattle.layout.specs.Header.{headerOf, moreFree}
 use Rattle.layout.specs.declared.header.Header.{Header}
 use Rattle.layout.specs.Inode.{InodeFits, kindOf, linksOf, sizeOf, parentOf, putInode, putLinks, freeKind, directoryKind, isDirectory, zeroInode}
@@ -26,7 +27,7 @@ use Rattle.changes.proofs.SameLaws.{OtherInodes, SameBody, same-body, body-then
 use Rattle.changes.proofs.StoreLaws.{fits}
 use Rattle.changes.proofs.RecordLaws.{header-inode}
 use Rattle.changes.proofs.ChangeLaws.{Emptied, emptied-then, names-emptied}
-use Rattle.changes.proofs.TreeLaws.{Tree, tree-less, tree-last, counted-some, one-other}
+use Rattle.changes.proofs.TreeLaws.{Tree, tree-less, tree-last, counted-some}
 use Rattle.changes.proofs.SoundTreeLaws.{nodesOf, nodes-else, body-at, names-at, above-at, tree-at}
 use Rattle.changes.proofs.EntryWriteLaws.{EntriesAlone, entries-stay, place-below, clear-alone, clear-emptied}
 use Rattle.changes.proofs.InodeWriteLaws.{Relinked, relinked-places, links-relinked}

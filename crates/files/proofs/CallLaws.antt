@@ -34,7 +34,7 @@ module _ (s : List ℕ) where
     guard-sound n b g p q = rw (f, g, p, q)
 
 -- ---- what they let through
-no-pass : (w : Refusal) (n b : ℕ) → Stop w ≡ Pass n b → ⊥
+pub no-pass : (w : Refusal) (n b : ℕ) → Stop w ≡ Pass n b → ⊥
 no-pass w n b h = let z : _≡_ {A = ℕ} 0 1 = cc in absurd (omega arith)
 
 pub record Passed (s : List ℕ) (n b : ℕ) : Type 0 where

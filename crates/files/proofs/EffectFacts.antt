@@ -8,6 +8,7 @@ use native.Mathlib.Decide.{ℕ-discrete}
 use native.Mathlib.Omega.{arith}
 use Rattle.bounded.proofs.BoolLaws.{clash}
 use Rattle.bounded.proofs.CountLaws.{met-at, met-once}
+use Rattle.bounded.proofs.EachLaws.{All, Some, all-map, all-both, some-map, some-none}
 use Rattle.layout.specs.Sizes.{rootInode}
 use Rattle.layout.specs.Inode.{kindOf, freeKind, fileKind, directoryKind}
 use Rattle.directory.specs.Slot.{mostSlots}
@@ -19,24 +20,7 @@ use Rattle.changes.proofs.SameLaws.{same-body}
 use Rattle.changes.proofs.KeepLaws.{SamePlace, place-kept, Body}
 use Rattle.changes.proofs.SoundTreeLaws.{body-at}
 use Rattle.files.specs.Effect.{Entry, placeIn, Effect}
-use Rattle.files.proofs.Lawful.{All, Some, Apart, Away, Stands, Lawful}
-
--- ---- lists
-pub all-map : {A : Type 0} (P Q : A → Type 0) (xs : List A) → ((x : A) → P x → Q x) → All P xs → All Q xs
-all-map P Q [] f a = tt
-all-map P Q (x ∷ xs) f a = (f x (a .0), all-map P Q xs f (a .1))
-
-pub all-both : {A : Type 0} (P Q : A → Type 0) (xs : List A) → All P xs → All Q xs → All (λ x. P x × Q x) xs
-all-both P Q [] a b = tt
-all-both P Q (x ∷ xs) a b = ((a .0, b .0), all-both P Q xs (a .1) (b .1))
-
-pub some-map : {A : Type 0} (P Q : A → Type 0) (xs : List A) → ((x : A) → P x → Q x) → Some P xs → Some Q xs
-some-map P Q (x ∷ xs) f (inl p) = inl (f x p)
-some-map P Q (x ∷ xs) f (inr p) = inr (some-map P Q xs f p)
-
-pub some-none : {A : Type 0} (P : A → Type 0) (xs : List A) → ((x : A) → P x → ⊥) → Some P xs → ⊥
-some-none P (x ∷ xs) f (inl p) = f x p
-some-none P (x ∷ xs) f (inr p) = some-none P xs f p
+use Rattle.files.proofs.Lawful.{Apart, Away, Stands, Lawful}
 
 -- place q is that of none of the entries, or of one, of which P holds
 pub away-or : (P : Entry → Type 0) (q : ℕ) (ys : List Entry) → All P ys → Away q ys ⊎ Some (λ y. P y × (q ≡ placeIn y)) ys

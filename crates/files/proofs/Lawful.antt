@@ -3,8 +3,9 @@ use Prim.Native.Nat.{ℕ, _*_, _≤_, _<_}
 use mathlib.Core.Path.{_≡_}
 use mathlib.Core.Logic.{_≢_, _⊎_}
 use mathlib.Core.Bool.{true, false}
-use mathlib.Core.List.{List, [], _∷_}
+use mathlib.Core.List.{List}
 use lib.ListN.{length}
+use Rattle.bounded.proofs.EachLaws.{All}
 use Rattle.layout.specs.Inode.{kindOf, sizeOf, freeKind, fileKind}
 use Rattle.layout.specs.Block.{blocksUsed, kthBlock}
 use Rattle.directory.specs.Slot.{mostSlots}
@@ -13,16 +14,6 @@ use Rattle.sound.specs.Sound.{Sound}
 use Rattle.sound.specs.declared.Form.the-variants.{Store}
 use Rattle.changes.proofs.SameLaws.{SameFrame, SameInode, SameBody, same-body, SameBlock}
 use Rattle.files.specs.Effect.{Entry, placeIn, Effect, Planned, refused, does}
-
--- P holds of every one of the list
-abbrev pub All : {A : Type 0} → (A → Type 0) → List A → Type 0
-All P [] = Unit {0}
-All P (x ∷ xs) = P x × All P xs
-
--- P holds of one of the list
-abbrev pub Some : {A : Type 0} → (A → Type 0) → List A → Type 0
-Some P [] = ⊥
-Some P (x ∷ xs) = P x ⊎ Some P xs
 
 -- j is none of them; place q is the place of none
 abbrev pub Apart : ℕ → List ℕ → Type 0

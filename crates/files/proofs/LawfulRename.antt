@@ -1,5 +1,5 @@
 -- The laws of rename's effects: within a directory, and a move. n and b are the counts of inodes and blocks.
-use Prim.Native.Nat.{ℕ, _-_, _<_}
+use Prim.Native.Nat.{ℕ, _<_}
 use mathlib.Core.Path.{_≡_, refl, sym, ap, _∙_, subst}
 use mathlib.Core.Logic.{inl}
 use mathlib.Core.Bool.{Bool, true, false}
@@ -14,12 +14,13 @@ use Rattle.directory.specs.Slot.{slots, slotEmpty, findSlot, putEntry, clearEnt
 use Rattle.directory.proofs.SlotLaws.{find-below}
 use Rattle.bounded.specs.declared.Found.the-variants.{Absent}
 use Rattle.bounded.specs.Count.{count}
+use Rattle.bounded.proofs.CaseLaws.{each-else}
 use Rattle.names.specs.Name.{legalName}
 use Rattle.names.specs.Entry.{isEmpty, entryInode}
 use Rattle.sound.specs.Place.{placeOf}
 use Rattle.sound.specs.Sound.{Sound, inodesIn, blocksIn}
 use Rattle.sound.specs.declared.Form.the-variants.{Store}
-use Rattle.changes.proofs.SameLaws.{SameInode, frame-stays, inode-stays, same-body, each-inode, put-entry, clear-entry}
+use Rattle.changes.proofs.SameLaws.{SameInode, frame-stays, inode-stays, same-body, put-entry, clear-entry}
 use Rattle.changes.proofs.StoreLaws.{fits}
 use Rattle.changes.proofs.EntryWriteLaws.{SlotIn, slot-in, place-below}
 use Rattle.changes.proofs.InodeWriteLaws.{parent-relinked, body-all}
@@ -64,7 +65,7 @@ module _ (s : List ℕ) (n d t i : ℕ) (other : List ℕ) (h : Sound Store s) (
         one-made = omega arith;
         moves = tt;
         others = λ q l _ _.
-            each-inode (SameNaming s (putEntry s n d t i other) n) (placeOf d t) q (record { stands = o .stands ∙ sym f; names = o .names ∙ sym (y .names) })
+            each-else (SameNaming s (putEntry s n d t i other) n) (placeOf d t) q (record { stands = o .stands ∙ sym f; names = o .names ∙ sym (y .names) })
             (λ z. let p = o .others q l z in record { stands = p .stands; names = p .names });
         kinds = λ j l m z. inl (a .kinds j l m z);
         untouched = a .stays;
@@ -82,7 +83,7 @@ parent-steady s n i e f z = go (eqb (kindOf s i) directoryKind)
         let r = parent-relinked s n i f e z in
         record {
           frame = r .inode .frame;
-          kinds = λ j l m _. each-inode (λ a. kindOf (putAttributes s i (withParent (inodeOf s n i) e)) a ≡ kindOf s a) i j (r .body .kind) (λ y. r .inode .others j l m y .kind);
+          kinds = λ j l m _. each-else (λ a. kindOf (putAttributes s i (withParent (inodeOf s n i) e)) a ≡ kindOf s a) i j (r .body .kind) (λ y. r .inode .others j l m y .kind);
           stays = λ j l m _ y. record { inode = r .inode .others j l m (y .0); bytes = λ k _. r .inode .bytes (kthBlock s n j k) };
           files = λ j l m _. record { body = body-all r j l m; bytes = λ k _. r .inode .bytes (kthBlock s n j k) };
         }

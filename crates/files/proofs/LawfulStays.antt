@@ -1,8 +1,7 @@
 -- The laws of an effect that leaves the store as it was: look up, read, and a rename to the same name. n and b are the counts of inodes and blocks.
-use Prim.Native.Nat.{ℕ, _-_}
+use Prim.Native.Nat.{ℕ}
 use mathlib.Core.Path.{refl}
 use mathlib.Core.Logic.{inl}
-use mathlib.Core.Bool.{false}
 use mathlib.Core.List.{List, []}
 use native.Mathlib.Omega.{arith}
 use lib.ListN.{length}

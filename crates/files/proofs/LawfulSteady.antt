@@ -1,5 +1,5 @@
 -- Changes that keep all kinds, all of every inode in use but some, and the bytes of every file. n and b are the counts of inodes and blocks.
-use Prim.Native.Nat.{ℕ, _-_, _/_, _≤_, _<_}
+use Prim.Native.Nat.{ℕ, _/_, _≤_, _<_}
 use mathlib.Core.Path.{_≡_, refl, sym, ap, _∙_, subst}
 use mathlib.Core.Logic.{_≢_}
 use mathlib.Core.Bool.{true, false}
@@ -8,6 +8,7 @@ use native.Mathlib.Omega.{arith}
 use borrow.Author.Tests.{ne-eqb}
 use lib.Dec.{eqb}
 use lib.ListN.{replicate}
+use Rattle.bounded.proofs.CaseLaws.{each-else}
 use Rattle.layout.specs.Sizes.{addressCount}
 use Rattle.layout.specs.declared.inode.Inode.{Inode}
 use Rattle.layout.specs.Inode.{InodeFits, kindOf, sizeOf, putInode, putLinks, freeKind, fileKind, directoryKind, isDirectory}
@@ -17,7 +18,7 @@ use Rattle.layout.proofs.FrameLaws.{length-inode}
 use Rattle.directory.specs.Slot.{putEntry, clearEntry}
 use Rattle.sound.specs.Sound.{Sound, inodesIn, blocksIn}
 use Rattle.sound.specs.declared.Form.the-variants.{Store}
-use Rattle.changes.proofs.SameLaws.{SameFrame, SameInode, SameBlock, InBlock, same-body, body-then, frame-then, inode-then, each-inode, put-entry, clear-entry, less-free}
+use Rattle.changes.proofs.SameLaws.{SameFrame, SameInode, SameBlock, InBlock, same-body, body-then, frame-then, inode-then, put-entry, clear-entry, less-free}
 use Rattle.changes.proofs.StoreLaws.{dir-of, one-at, kind-some, kind-most, kind-is}
 use Rattle.changes.proofs.FreeLaws.{free-block}
 use Rattle.changes.proofs.EntryWriteLaws.{SlotIn, slot-in, slot-block}
@@ -123,7 +124,7 @@ links-steady s n i v f =
     let r = links-relinked s n i f v in
     record {
       frame = r .inode .frame;
-      kinds = λ j l m _. each-inode (λ a. kindOf (putLinks s i v) a ≡ kindOf s a) i j (r .body .kind) (λ z. r .inode .others j l m z .kind);
+      kinds = λ j l m _. each-else (λ a. kindOf (putLinks s i v) a ≡ kindOf s a) i j (r .body .kind) (λ z. r .inode .others j l m z .kind);
       stays = λ j l m _ z. record { inode = r .inode .others j l m (z .0); bytes = λ k _. r .inode .bytes (kthBlock s n j k) };
       files = λ j l m _. record { body = body-all r j l m; bytes = λ k _. r .inode .bytes (kthBlock s n j k) };
     }

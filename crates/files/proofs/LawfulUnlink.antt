@@ -9,6 +9,7 @@ use native.Mathlib.Omega.{arith}
 use borrow.Author.Tests.{leb-true, leb-false}
 use lib.Dec.{leb}
 use Rattle.bounded.specs.Search.{pick}
+use Rattle.bounded.proofs.CaseLaws.{each-else}
 use Rattle.layout.specs.Inode.{InodeFits, kindOf, linksOf, sizeOf, putInode, putLinks, freeKind, directoryKind, isDirectory, zeroInode}
 use Rattle.layout.specs.Block.{blocksUsed, kthBlock}
 use Rattle.layout.specs.Header.{moreFree}
@@ -18,7 +19,7 @@ use Rattle.directory.specs.Slot.{slots, slotEmpty, clearEntry, inodeAt}
 use Rattle.directory.proofs.SlotLaws.{find-below}
 use Rattle.sound.specs.Sound.{Sound, inodesIn}
 use Rattle.sound.specs.declared.Form.the-variants.{Store}
-use Rattle.changes.proofs.SameLaws.{SameFrame, SameBody, SameBlock, same-body, each-inode, frame-then, more-free}
+use Rattle.changes.proofs.SameLaws.{SameFrame, SameBody, SameBlock, same-body, frame-then, more-free}
 use Rattle.changes.proofs.StoreLaws.{fits}
 use Rattle.changes.proofs.EntryWriteLaws.{EntriesAlone, entries-stay, clear-alone}
 use Rattle.changes.proofs.InodeWriteLaws.{links-relinked}
@@ -109,7 +110,7 @@ module _ (s : List ℕ) (n d t i : ℕ) (h : Sound Store s) (x : n ≡ inodesIn 
           bytes = λ a v. drop .1 (kthBlock s n j a) ∙ clear-steady s n d t (blocks-of s n h x) y .stays j l k u (z .0, tt) .bytes a v;
         };
         contents = λ j l k f u _. record {
-          body = each-inode (λ a. kindOf (unlinked s n d t i) a ≢ freeKind → SameBody s (unlinked s n d t i) n a) i j body-after (λ z _. same-body (r j l k z)) u;
+          body = each-else (λ a. kindOf (unlinked s n d t i) a ≢ freeKind → SameBody s (unlinked s n d t i) n a) i j body-after (λ z _. same-body (r j l k z)) u;
           bytes = λ a v. drop .1 (kthBlock s n j a) ∙ clear-steady s n d t (blocks-of s n h x) y .files j l k f .bytes a v;
         };
         apart = λ j z. (((z .0, z .1 .0), tt), tt);

@@ -1,12 +1,11 @@
 -- A sound store stays sound under every file call, refused or not; and what holds of each planned effect holds of the plain call's.
 use Prim.Native.Nat.{ℕ}
-use mathlib.Core.Path.{_≡_, refl}
+use mathlib.Core.Path.{refl}
 use mathlib.Core.Bool.{Bool, true, false, not}
 use mathlib.Core.List.{List}
 use Rattle.bounded.specs.Search.{pick}
 use Rattle.sound.specs.Sound.{Sound, inodesIn, blocksIn}
 use Rattle.sound.specs.declared.Form.the-variants.{Store}
-use Rattle.sound.proofs.SoundLaws.{is-sound}
 use Rattle.sound.specs.Test.{framedB, isSound}
 use Rattle.answers.specs.declared.Refusal.the-variants.{BadBuffer, UnsoundStore}
 use Rattle.files.specs.Effect.{Call, Effect, Planned, refused, does, planned, plainDecision, given}
@@ -37,7 +36,3 @@ module _ (s : List ℕ) (h : Sound Store s) where
   pub plain-sound : (c : Call) → Sound Store (plain c s .store)
   unfolding plain
   plain-sound c = leaves-sound (given c) (plainDecision c s) (plain-lawful c)
-
--- the same of the test that the guards make
-pub plain-keeps : (c : Call) (s : List ℕ) → isSound Store s ≡ true → isSound Store (plain c s .store) ≡ true
-plain-keeps c s e = is-sound Store (plain c s .store) .from (plain-sound s (is-sound Store s .to e) c)

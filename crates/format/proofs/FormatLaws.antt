@@ -1,11 +1,9 @@
 -- What the layout calls' test says, and each way that a call returns.
-use Prim.Native.Nat.{ℕ, _-_, _≤_}
+use Prim.Native.Nat.{ℕ}
 use mathlib.Core.Path.{_≡_, refl}
 use mathlib.Core.Bool.{true, false}
 use mathlib.Core.List.{List}
 use lib.ListN.{length}
-use Rattle.bounded.specs.Reflect.{Reflects}
-use Rattle.bounded.proofs.ReflectLaws.{r-and, r-le, r-eq}
 use Rattle.octets.specs.Octets.{zeroed}
 use Rattle.octets.proofs.PartLaws.{zeroed-all}
 use Rattle.layout.specs.Sizes.{mostStoreBlocks, rootInode}

@@ -15,9 +15,10 @@ use Rattle.bounded.specs.Climb.{climb, Leads}
 use Rattle.bounded.proofs.BoolLaws.{and-true, and-false-r}
 use Rattle.bounded.proofs.BelowLaws.{none-some}
 use Rattle.bounded.proofs.CountLaws.{count-none, count-all, count-split, unmet}
-use Rattle.octets.specs.Octets.{splice, Apart, numAt, toBytes, putNum, wordBytes}
-use Rattle.octets.proofs.PartLaws.{length-splice, splice-in, splice-out}
-use Rattle.octets.proofs.NumLaws.{num-apart, num-in, num-other, zero-num}
+use Rattle.octets.specs.Octets.{splice, Apart, numAt, toBytes, wordBytes}
+use Rattle.octets.proofs.PartLaws.{length-splice}
+use Rattle.octets.proofs.NumLaws.{num-apart, num-in, zero-num, num-off}
+use Rattle.octets.proofs.ZeroLaws.{byte-zeros, num-zeros, zero-over}
 use Rattle.layout.specs.Sizes.{mostInodes, mostStoreBlocks, rootInode}
 use Rattle.layout.specs.declared.header.Header.{Header}
 use Rattle.layout.specs.Header.{headerOf, putHeader, putFree, putComplete, headerRestZero}
@@ -25,7 +26,7 @@ use Rattle.layout.specs.Inode.{attributesAt, addressAt, addressIndex, kindOf, s
 use Rattle.layout.specs.Block.{storeLength, blocksUsed, allowed}
 use Rattle.layout.specs.Free.{blockNamed, inodeFree, blockFree}
 use Rattle.layout.proofs.FrameLaws.{length-header, length-inode, header-past}
-use Rattle.layout.proofs.ViewLaws.{is-inside, header-put}
+use Rattle.layout.proofs.ViewLaws.{header-put}
 use Rattle.directory.specs.Slot.{mostSlots, slots}
 use Rattle.sound.specs.Place.{dirOf, slotOf, isSlot, filled, naming}
 use Rattle.sound.specs.Inode.{InodeSound}
@@ -42,37 +43,17 @@ use Rattle.answers.specs.declared.Answer.the-variants.{Done, Refused}
 use Rattle.format.specs.Format.{laidOut, freshHeader, emptyRoot, freshStore, freshDesk, layOutStore}
 use Rattle.layout.proofs.AllowedLaws.{allowed-is}
 
--- ---- zero bytes
-byte-zeros : (m i : ℕ) → getD {A = ℕ} (replicate m 0) i 0 ≡ 0
-byte-zeros zero i = refl
-byte-zeros (suc m) zero = refl
-byte-zeros (suc m) (suc i) = byte-zeros m i
-
-num-zeros : (k m o : ℕ) → numAt k (replicate m 0) o ≡ 0
-num-zeros k m o = zero-num k (replicate m 0) o (λ j l. byte-zeros m (o + j))
-
--- a zero byte stays zero where the bytes laid over it are zero
-zero-over : (s : List ℕ) (o : ℕ) (xs : List ℕ) (x : ℕ) → o + length xs ≤ length s → getD s x 0 ≡ 0 → ((j : ℕ) → o + j ≡ x → getD xs j 0 ≡ 0) → getD (splice s o xs) x 0 ≡ 0
-zero-over s o xs x f z h =
-    is-inside o (length xs) x
-    (λ l m. let e : x ≡ o + (x - o) = omega arith in
-    ap (λ (y : ℕ). getD (splice s o xs) y 0) e ∙ splice-in s o xs (x - o) f (omega arith) ∙ h (x - o) (sym e))
-    (λ a. splice-out s o xs x a ∙ z)
-
 -- beside the header's fields, a header changes nothing
-off : (k m o p : ℕ) → Apart o k p m → (s : List ℕ) (v : ℕ) → numAt k (putNum m s p v) o ≡ numAt k s o
-off k m o p h s v = num-other k m s o p v h
-
 beside : (s : List ℕ) (h : Header) (k o : ℕ) → Apart o k 0 9 → Apart o k 10 2 → numAt k (putHeader s h) o ≡ numAt k s o
 unfolding putHeader putFree putComplete
 beside s h k o a b =
     rw (
-      off k 2 o 10 b,
-      off k 1 o 8 (omega arith),
-      off k 2 o 6 (omega arith),
-      off k 2 o 4 (omega arith),
-      off k 2 o 2 (omega arith),
-      off k 2 o 0 (omega arith),
+      num-off k 2 o 10 b,
+      num-off k 1 o 8 (omega arith),
+      num-off k 2 o 6 (omega arith),
+      num-off k 2 o 4 (omega arith),
+      num-off k 2 o 2 (omega arith),
+      num-off k 2 o 0 (omega arith),
     )
 
 -- ---- a fresh store

@@ -1,8 +1,6 @@
 -- "Laying out, which is not itself a file call, zeroes the buffer, then writes a true header and an empty root, or a desk's N."
 use Prim.Native.Nat.{ℕ, _-_}
-use mathlib.Core.Bool.{Bool, _&&_}
 use mathlib.Core.List.{List}
-use lib.Dec.{eqb, leb}
 use lib.ListN.{length, replicate}
 use Rattle.bounded.specs.Search.{pick}
 use Rattle.layout.specs.Sizes.{mostStoreBlocks, rootInode, isComplete}

@@ -9,8 +9,7 @@ use lib.Dec.{eqb, leb}
 use lib.ListN.{length}
 use Rattle.bounded.specs.Search.{pick}
 use Rattle.bounded.proofs.BoolLaws.{clash, and-false-l, chain-end}
-use Rattle.bounded.proofs.ReflectLaws.{r-eq, r-le, r-and, r-says, r-fails, reflects-ext}
-use Rattle.octets.specs.Octets.{numAt}
+use Rattle.bounded.proofs.ReflectLaws.{r-eq, r-le, r-and, r-fails}
 use Rattle.layout.specs.Sizes.{mostInodes, mostImageBlocks, rootInode, notComplete, mostBlocks}
 use Rattle.layout.specs.declared.header.Header.{Header}
 use Rattle.layout.specs.Header.{headerOf}
@@ -20,7 +19,6 @@ use Rattle.desk.specs.declared.Desk.{Desk}
 use Rattle.desk.specs.Desk.{deskOf, deskRestZero}
 use Rattle.checkpoint.specs.Fit.{deskFramed, imageBlocks, imageAllowed, isRunning, blocksFit, deskFits, imageFits}
 use Rattle.checkpoint.proofs.Copy.FitLaws.{desk-framed-is, desk-fits-is, image-fits-is}
-use Rattle.checkpoint.proofs.Step.StartLaws.{image-allowed-is}
 use Rattle.guards.specs.Fit.{blocksRight, copiedRight, countsRight, addressesRight, notesRight}
 
 -- ---- the desk's frame

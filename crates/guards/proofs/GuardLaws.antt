@@ -3,7 +3,6 @@ use Prim.Native.Nat.{ℕ}
 use mathlib.Core.Path.{_≡_, sym, ap, _∙_}
 use mathlib.Core.Bool.{Bool, true, false}
 use mathlib.Core.List.{List}
-use native.Mathlib.Omega.{arith}
 use lib.ListN.{length}
 use Rattle.layout.specs.Block.{allowed}
 use Rattle.bounded.proofs.BoolLaws.{and-right}
@@ -19,6 +18,7 @@ use Rattle.answers.specs.declared.Refusal.the-variants.{BadBuffer, UnsoundStore
 use Rattle.files.specs.declared.Guard.{Guard}
 use Rattle.files.specs.declared.Guard.the-variants.{Pass, Stop}
 use Rattle.files.specs.Guard.{guardBy}
+use Rattle.files.proofs.CallLaws.{no-pass}
 use Rattle.checkpoint.specs.declared.Status.the-variants.{Is, NoStatus}
 use Rattle.checkpoint.specs.Fit.{deskFramed, notesFit, bothFramed, allFramed, imageAllowed}
 use Rattle.checkpoint.specs.Live.{threeGuards, status, guardRows, startGuards}
@@ -73,9 +73,6 @@ module _ (s m d : List ℕ) where
         start-framed h x q = let k : imageAllowed (inodesIn s) (length m) ≡ true = rw (← p) h in rw (f, g, k) q
 
 -- ---- what they let through
-no-pass : (w : Refusal) (n b : ℕ) → Stop w ≡ Pass n b → ⊥
-no-pass w n b h = let z : _≡_ {A = ℕ} 0 1 = cc in absurd (omega arith)
-
 pub record Passed (framed : Bool) (s m d : List ℕ) (n b : ℕ) : Type 0 where
   pub allowed : framed ≡ true
   pub sound : Sound Store s

@@ -1,6 +1,6 @@
 -- What the check of the inodes finds at each step, said of the definitions. n and b are the counts of inodes and blocks.
 use Prim.Native.Nat.{ℕ, _+_, _*_, _-_, _/_, _%_, _≤_, _<_}
-use mathlib.Core.Path.{_≡_, refl, sym, ap, ap₂, _∙_, subst}
+use mathlib.Core.Path.{_≡_, refl, sym, ap, ap₂, _∙_}
 use mathlib.Core.Bool.{Bool, true, false, not, _&&_, _||_, and-true as and-unit}
 use mathlib.Core.List.{List}
 use native.Mathlib.Omega.{arith}
@@ -8,13 +8,13 @@ use borrow.Author.Tests.{eq-eqb, ne-eqb, eqb-true, le-leb, lt-leb}
 use lib.Dec.{eqb, leb}
 use lib.ListN.{getD, set}
 use Rattle.bounded.specs.Below.{allBelow, allTo}
-use Rattle.bounded.specs.Count.{count, newAt, tally, differB}
+use Rattle.bounded.specs.Count.{newAt, differB}
 use Rattle.bounded.specs.Seen.{Seen}
 use Rattle.bounded.specs.Reflect.{Reflects}
 use Rattle.bounded.proofs.BoolLaws.{clash, fails, same-test, chain-stop, chain-on, chain-off, and-true, and-left, and-right, and-false-l, and-false-r, or-l, or-r}
-use Rattle.bounded.proofs.BelowLaws.{all-at, all-of, all-ext, all-split, all-chunk, some-at, some-none}
-use Rattle.bounded.proofs.CountLaws.{count-none, count-pos, new-zero}
-use Rattle.bounded.proofs.SeenLaws.{seen-more, seen-run, seen-not, seen-some}
+use Rattle.bounded.proofs.BelowLaws.{all-at, all-of, all-ext, all-chunk, all-and, all-from}
+use Rattle.bounded.proofs.CountLaws.{new-zero}
+use Rattle.bounded.proofs.SeenLaws.{seen-more, seen-run, seen-not, seen-some, seen-as, new-noted, again-noted}
 use Rattle.bounded.proofs.ReflectLaws.{r-eq, r-le, r-lt, r-and, r-imp, r-fails, r-says, reflects-ext}
 use Rattle.octets.proofs.PartLaws.{getD-part}
 use Rattle.layout.specs.Sizes.{addressCount, blockBytes, mostFileBytes, mostImageBlocks}
@@ -26,11 +26,6 @@ use Rattle.sound.specs.Inode.{tailByte}
 use Rattle.sound.proofs.SoundLaws.{attributes}
 use Rattle.sound.specs.Test.{usedB, restB, tailB, attributesB, addressesB, zeroTailB, inodeB, blankBlockB}
 use Rattle.inodes.specs.Pass.{newBlockB, newBlocksB, addressB}
-
--- a count that begins
-pub count-zero : (p : ℕ → Bool) → 0 ≡ count p 0
-unfolding count
-count-zero p = refl
 
 -- ---- the attributes of inode i
 module _ (s : List ℕ) (i : ℕ) where
@@ -74,20 +69,6 @@ module _ (s : List ℕ) (i : ℕ) where
 
   attr-small : attributesB s i ≡ true → sizeOf s i ≤ mostFileBytes
   attr-small h = (attributes s i) .to h .1 .1 .1 .0
-
--- ---- values noted in a list: is the value a of f at m new
-module _ (f : ℕ → ℕ) (n m a : ℕ) (l : List ℕ) (e : a ≡ f m) (h : a < n) (s : Seen f n m l) where
-  new-noted : getD l a 0 ≡ 0 → newAt f m ≡ true
-  new-noted z =
-      or-r (eqb (f m) 0) (eqb (tally f m (f m)) 0)
-      (eq-eqb (tally f m (f m)) 0 (ap (tally f m) (sym e) ∙ count-none (λ k. eqb (f k) a) m (some-none (λ k. eqb (f k) a) m (seen-not f n m a l s h z))))
-
-  again-noted : (getD l a 0 ≡ 0 → ⊥) → (a ≡ 0 → ⊥) → newAt f m ≡ false
-  again-noted z g =
-      let r = some-at (λ k. eqb (f k) a) m (seen-some f n m a l s h z) in
-      let u : 0 < tally f m a = count-pos (λ k. eqb (f k) a) m (r .0) (r .1) (r .2) in
-      let v : 0 < tally f m (f m) = subst (λ (x : ℕ). 0 < tally f m x) e u in
-      ap₂ _||_ (ne-eqb (f m) 0 (λ q. g (e ∙ q))) (ne-eqb (tally f m (f m)) 0 (omega arith))
 
 -- ---- address k of inode i, of which the size uses u
 module _ (s : List ℕ) (n b i k u a : ℕ) (eu : u ≡ blocksUsed (sizeOf s i)) (ea : a ≡ kthBlock s n i k) where
@@ -140,22 +121,9 @@ unfolding kthBlock
 address-noted s n i k a m e l h = seen-more (addressOf s n) 4097 (addressIndex i k) a m e l h
 
 -- ---- all addresses of inode i
-pub seen-as : (f : ℕ → ℕ) (l : List ℕ) {m k : ℕ} → m ≡ k → Seen f 4097 m l → Seen f 4097 k l
-seen-as f l e h = subst (λ (x : ℕ). Seen f 4097 x l) e h
-
-all-both : (p q : ℕ → Bool) (n : ℕ) → allBelow (λ k. p k && q k) n ≡ allBelow p n && allBelow q n
-all-both p q n =
-    same-test (allBelow (λ k. p k && q k) n) (allBelow p n && allBelow q n)
-    (λ t.
-    and-true (allBelow p n) (allBelow q n) (all-of p n (λ k l. and-left (p k) (q k) (all-at (λ j. p j && q j) n t k l)))
-    (all-of q n (λ k l. and-right (p k) (q k) (all-at (λ j. p j && q j) n t k l))))
-    (λ t.
-    all-of (λ k. p k && q k) n (λ k l.
-    and-true (p k) (q k) (all-at p n (and-left (allBelow p n) (allBelow q n) t) k l) (all-at q n (and-right (allBelow p n) (allBelow q n) t) k l)))
-
 pub addresses-are : (s : List ℕ) (n b i : ℕ) → allBelow (addressB s n b i) addressCount ≡ addressesB s n b i && newBlocksB s n i
 unfolding addressB addressesB newBlocksB
-addresses-are s n b i = all-both (λ k. usedB s n b i k && restB s n i k) (newBlockB s n i) addressCount
+addresses-are s n b i = all-and (λ k. usedB s n b i k && restB s n i k) (newBlockB s n i) addressCount
 
 -- ---- inode i
 module _ (s : List ℕ) (n b i : ℕ) where
@@ -192,7 +160,7 @@ pub inodes-are : (s : List ℕ) (n b : ℕ) →
     allBelow (λ k. inodeB s n b (k + 1) && newBlocksB s n (k + 1)) n ≡ allTo (inodeB s n b) n && differB (addressOf s n) (addressCount * n)
 unfolding newBlocksB
 inodes-are s n b =
-    all-both (λ k. inodeB s n b (k + 1)) (λ k. newBlocksB s n (k + 1)) n
+    all-and (λ k. inodeB s n b (k + 1)) (λ k. newBlocksB s n (k + 1)) n
     ∙ ap (λ (x : Bool). allTo (inodeB s n b) n && x)
     (all-ext (λ k. newBlocksB s n (k + 1)) (λ k. allBelow (λ j. newAt (addressOf s n) (addressCount * k + j)) addressCount) n
     (λ k l. let e : k + 1 - 1 ≡ k = omega arith in ap (λ (x : ℕ). allBelow (λ j. newAt (addressOf s n) (addressCount * x + j)) addressCount) e)
@@ -210,19 +178,12 @@ zero-block-is s n k a e =
     rw e (all-ext (λ j. eqb (getD s (blockAt n (k + 1) + j) 0) 0) (λ o. eqb (getD (blockOf s n (k + 1)) o 0) 0) 64
     (λ o l. ap (λ (x : ℕ). eqb x 0) (sym (block-byte s n (k + 1) o l))))
 
--- the test from t on, where it holds below t
-from-on : (p q : ℕ → Bool) (t n : ℕ) → t ≤ n → ((o : ℕ) → o < t → p o ≡ true) → ((j : ℕ) → j < n - t → p (t + j) ≡ q j) → allBelow p n ≡ allBelow q (n - t)
-from-on p q t n l h g =
-    let e : n ≡ t + (n - t) = omega arith in
-    ap (allBelow p) e ∙ all-split p t (n - t) ∙ ap (λ (x : Bool). x && allBelow (λ k. p (t + k)) (n - t)) (all-of p t h)
-    ∙ all-ext (λ k. p (t + k)) q (n - t) g
-
 tail-bytes : (s : List ℕ) (n i : ℕ) →
     allBelow (tailB s n i) blockBytes ≡ allBelow (λ j. eqb (getD s (blockAt n (kthBlock s n i (sizeOf s i / blockBytes)) + sizeOf s i % blockBytes + j) 0) 0) (blockBytes - sizeOf s i % blockBytes)
 tail-bytes s n i =
     let t = sizeOf s i % blockBytes in
     let c = kthBlock s n i (sizeOf s i / blockBytes) in
-    from-on (tailB s n i) (λ j. eqb (getD s (blockAt n c + t + j) 0) 0) t blockBytes (omega arith)
+    all-from (tailB s n i) (λ j. eqb (getD s (blockAt n c + t + j) 0) 0) t blockBytes (omega arith)
     (λ o l. or-l (not (leb t o)) (eqb (tailByte s n i o) 0) (ap not (lt-leb t o l)))
     (λ j l.
     let e : blockAt n c + (t + j) ≡ blockAt n c + t + j = omega arith in
@@ -313,4 +274,4 @@ module _ (s : List ℕ) (n b i : ℕ) (h : attributesZero s i && addressesZero s
       (and-right (addressesB s n b i) (newBlocksB s n i) x))
 
   pub blank-noted : (map : List ℕ) → 1 ≤ i → Seen (addressOf s n) 4097 (addressIndex i 0) map → Seen (addressOf s n) 4097 (addressCount * i) (set map 0 1)
-  blank-noted map l g = seen-as (addressOf s n) (set map 0 1) (omega arith) (seen-run (addressOf s n) 4097 (addressIndex i 0) 12 0 map (omega arith) (addresses-none s n i d) (omega arith) g)
+  blank-noted map l g = seen-as (addressOf s n) 4097 (set map 0 1) (omega arith) (seen-run (addressOf s n) 4097 (addressIndex i 0) 12 0 map (omega arith) (addresses-none s n i d) (omega arith) g)

@@ -1,5 +1,5 @@
 -- A splice leaves every field that it does not touch; and what its own field then holds.
-use Prim.Native.Nat.{ℕ, _+_, _-_, _≤_}
+use Prim.Native.Nat.{ℕ, _+_, _≤_}
 use mathlib.Core.Path.{_≡_, refl, ap, _∙_}
 use mathlib.Core.List.{List}
 use native.Mathlib.Omega.{arith}
@@ -10,7 +10,7 @@ use Rattle.octets.proofs.NumLaws.{num-apart, num-in, length-num}
 use Rattle.layout.specs.declared.header.Header.{Header}
 use Rattle.layout.specs.declared.inode.Inode.{Inode}
 use Rattle.layout.specs.Header.{headerOf, putHeader, putFree, putComplete}
-use Rattle.layout.specs.Inode.{attributesAt, addressAt, addressIndex, kindOf, spareOf, linksOf, sizeOf, parentOf, addressOf, attributeEntry, putAttributes, putAddresses, putInode, putLinks, putAddress}
+use Rattle.layout.specs.Inode.{attributesAt, addressAt, addressIndex, kindOf, spareOf, linksOf, sizeOf, parentOf, addressOf, attributeEntry, putAttributes, putAddresses, putInode, putAddress}
 use Rattle.layout.specs.Block.{putInBlock}
 
 -- ---- lengths
@@ -25,10 +25,6 @@ length-complete s v = length-num 1 s 8 v
 pub length-header : (s : List ℕ) (h : Header) → length (putHeader s h) ≡ length s
 unfolding putHeader
 length-header s h = simp (length-num, length-complete, length-free)
-
-pub length-links : (s : List ℕ) (i v : ℕ) → length (putLinks s i v) ≡ length s
-unfolding putLinks
-length-links s i v = length-num 2 s (attributesAt i + 2) v
 
 pub length-attributes : (s : List ℕ) (i : ℕ) (v : Inode) → length (putAttributes s i v) ≡ length s
 unfolding putAttributes

@@ -1,12 +1,10 @@
 -- A store or an image as numbers and total functions, 0 out of range, so that a write changes one of them and leaves the others as they are.
 -- n is the inode count. Inodes go from 1 to n, the addresses of all inodes stand in a row from 0, and so do the bytes of all blocks.
-use mathlib.Core.Bool.{_&&_}
 use mathlib.Core.List.{List}
-use Prim.Native.Nat.{ℕ, _+_, _*_, _-_}
-use lib.Dec.{leb, ltb}
-use lib.ListN.{length, getD}
-use Rattle.bounded.specs.Search.{pick}
+use Prim.Native.Nat.{ℕ, _+_, _*_}
+use lib.ListN.{getD}
 use Rattle.bounded.specs.Update.{upd}
+use Rattle.bounded.proofs.RangeLaws.{within, below}
 use Rattle.octets.specs.Octets.{numAt}
 use Rattle.layout.specs.Sizes.{headerBytes, inodeBytes, addressCount}
 use Rattle.layout.specs.declared.header.Header.{Header}
@@ -26,14 +24,6 @@ pub record View : Type 0 where
   pub address : ℕ → ℕ
   pub content : ℕ → ℕ
 
--- f from 1 to n, else 0
-unfoldable pub within : ℕ → (ℕ → ℕ) → ℕ → ℕ
-within n f i = pick (leb 1 i && leb i n) (f i) 0
-
--- f below m, else 0
-unfoldable pub below : ℕ → (ℕ → ℕ) → ℕ → ℕ
-below m f x = pick (ltb x m) (f x) 0
-
 -- byte x of all blocks
 unfoldable pub contentOf : ℕ → List ℕ → ℕ → ℕ
 contentOf n s x = getD s (headerBytes + inodeBytes * n + x) 0
@@ -51,10 +41,6 @@ viewOf n s = record {
   address = below (addressCount * n) (addressOf s n);
   content = contentOf n s;
 }
-
--- f with the numbers xs from o on
-unfoldable pub overlay : (ℕ → ℕ) → ℕ → List ℕ → ℕ → ℕ
-overlay f o xs x = pick (leb o x && ltb x (o + length xs)) (getD xs (x - o) 0) (f x)
 
 -- ---- what a writer does to the view
 abbrev pub withHeader : View → Header → View

@@ -1,121 +1,25 @@
 -- Each writer is one update of the view: a reader of any field, after any writer, reads off the view.
 use Prim.Native.Nat.{ℕ, _+_, _*_, _-_, _≤_, _<_}
 use mathlib.Core.Path.{_≡_, refl, sym, ap, ap₂, _∙_, fun-ext}
-use mathlib.Core.Bool.{Bool}
 use mathlib.Core.Logic.{_≢_}
 use mathlib.Core.List.{List}
-use native.Mathlib.Decide.{ℕ-discrete, decLt}
 use native.Mathlib.Omega.{arith}
-use borrow.Author.Tests.{le-leb, lt-leb, lt-ltb, le-ltb}
-use lib.Dec.{leb, ltb}
 use lib.ListN.{length, getD, replicate}
-use Rattle.bounded.specs.Search.{pick}
-use Rattle.bounded.specs.Update.{upd, Changed, here, there}
-use Rattle.bounded.proofs.BoolLaws.{and-true, and-false-l, and-false-r}
-use Rattle.bounded.proofs.UpdateLaws.{changed-upd}
+use Rattle.bounded.specs.Update.{upd}
+use Rattle.bounded.proofs.CaseLaws.{is-below}
+use Rattle.bounded.proofs.RangeLaws.{within, below, within-ext, within-upd, below-in, below-out, below-ext, below-upd}
 use Rattle.octets.specs.Octets.{splice, Apart, numAt, toBytes, putNum, wordBytes, zeroed}
 use Rattle.octets.proofs.PartLaws.{splice-in, splice-out}
 use Rattle.octets.proofs.NumLaws.{num-apart, num-in, num-same, num-other, length-num, length-toBytes}
 use Rattle.octets.proofs.WordLaws.{length-words, word-at}
+use Rattle.octets.proofs.OverlayLaws.{overlay, is-overlay}
 use Rattle.layout.specs.declared.header.Header.{Header}
 use Rattle.layout.specs.declared.inode.Inode.{Inode}
 use Rattle.layout.specs.Header.{headerOf, putHeader, putFree, putComplete}
 use Rattle.layout.specs.Inode.{InodeFits, attributesAt, addressAt, addressIndex, kindOf, spareOf, linksOf, sizeOf, parentOf, addressOf, attributeEntry, putAttributes, putAddresses, putInode, putLinks, putAddress}
 use Rattle.layout.specs.Block.{blockAt, putInBlock, zeroBlock}
-use Rattle.layout.proofs.View.{View, viewOf, contentOf, within, below, overlay, withHeader, withLinks, withAttributes, withAddress, withContent, freeCounts, completion}
+use Rattle.layout.proofs.View.{View, viewOf, contentOf, withHeader, withLinks, withAttributes, withAddress, withContent, freeCounts, completion}
 use Rattle.layout.proofs.FrameLaws.{length-entry, length-attributes, header-past, kind-apart, spare-apart, links-apart, size-apart, parent-apart, address-apart, kind-put, spare-put, links-put, size-put, parent-put}
-
--- ---- functions cut to a range
-pub within-in : (n : ℕ) (f : ℕ → ℕ) (i : ℕ) → 1 ≤ i → i ≤ n → within n f i ≡ f i
-unfolding within
-within-in n f i l h = ap (λ (b : Bool). pick b (f i) 0) (and-true (leb 1 i) (leb i n) (le-leb 1 i l) (le-leb i n h))
-
-pub within-out : (n : ℕ) (f : ℕ → ℕ) (i : ℕ) → (1 ≤ i → i ≤ n → ⊥) → within n f i ≡ 0
-unfolding within
-within-out n f i h = go (decLt i 1) (decLt n i)
-  where
-    go : Dec (i < 1) → Dec (n < i) → within n f i ≡ 0
-    go (yes l) d = ap (λ (b : Bool). pick b (f i) 0) (and-false-l (leb 1 i) (leb i n) (lt-leb 1 i l))
-    go (no l) (yes m) = ap (λ (b : Bool). pick b (f i) 0) (and-false-r (leb 1 i) (leb i n) (lt-leb i n m))
-    go (no l) (no m) = absurd (h (omega arith) (omega arith))
-
--- a number lies in the range, or does not
-pub in-range : (n i : ℕ) {P : Type 0} → (1 ≤ i → i ≤ n → P) → ((1 ≤ i → i ≤ n → ⊥) → P) → P
-in-range n i {P} f g = go (decLt i 1) (decLt n i)
-  where
-    go : Dec (i < 1) → Dec (n < i) → P
-    go (yes l) d = g (λ a b. omega arith)
-    go (no l) (yes m) = g (λ a b. omega arith)
-    go (no l) (no m) = f (omega arith) (omega arith)
-
-pub within-ext : (n : ℕ) (f g : ℕ → ℕ) → ((i : ℕ) → 1 ≤ i → i ≤ n → f i ≡ g i) → within n f ≡ within n g
-within-ext n f g h =
-    fun-ext (λ i. in-range n i (λ l m. within-in n f i l m ∙ h i l m ∙ sym (within-in n g i l m)) (λ o. within-out n f i o ∙ sym (within-out n g i o)))
-
-pub within-upd : (n : ℕ) (f g : ℕ → ℕ) (i v : ℕ) → 1 ≤ i → i ≤ n → g i ≡ v → ((j : ℕ) → 1 ≤ j → j ≤ n → j ≢ i → g j ≡ f j) → within n g ≡ upd (within n f) i v
-within-upd n f g i v l m e h = changed-upd (within n f) i v (within n g) (λ j. at j (ℕ-discrete j i))
-  where
-    at : (j : ℕ) → Dec (j ≡ i) → Changed (within n f) i v j (within n g j)
-    at j (yes q) = here q (ap (within n g) q ∙ within-in n g i l m ∙ e)
-    at j (no q) =
-        there q (in-range n j (λ a b. within-in n g j a b ∙ h j a b q ∙ sym (within-in n f j a b)) (λ o. within-out n g j o ∙ sym (within-out n f j o)))
-
-pub below-in : (m : ℕ) (f : ℕ → ℕ) (x : ℕ) → x < m → below m f x ≡ f x
-unfolding below
-below-in m f x h = ap (λ (b : Bool). pick b (f x) 0) (lt-ltb x m h)
-
-pub below-out : (m : ℕ) (f : ℕ → ℕ) (x : ℕ) → m ≤ x → below m f x ≡ 0
-unfolding below
-below-out m f x h = ap (λ (b : Bool). pick b (f x) 0) (le-ltb x m h)
-
-pub is-below : (m x : ℕ) {P : Type 0} → (x < m → P) → (m ≤ x → P) → P
-is-below m x {P} f g = go (decLt x m)
-  where
-    go : Dec (x < m) → P
-    go (yes l) = f l
-    go (no l) = g (omega arith)
-
-pub below-ext : (m : ℕ) (f g : ℕ → ℕ) → ((x : ℕ) → x < m → f x ≡ g x) → below m f ≡ below m g
-below-ext m f g h =
-    fun-ext (λ x. is-below m x (λ l. below-in m f x l ∙ h x l ∙ sym (below-in m g x l)) (λ l. below-out m f x l ∙ sym (below-out m g x l)))
-
-pub below-upd : (m : ℕ) (f g : ℕ → ℕ) (y v : ℕ) → y < m → g y ≡ v → ((x : ℕ) → x < m → x ≢ y → g x ≡ f x) → below m g ≡ upd (below m f) y v
-below-upd m f g y v l e h = changed-upd (below m f) y v (below m g) (λ x. at x (ℕ-discrete x y))
-  where
-    at : (x : ℕ) → Dec (x ≡ y) → Changed (below m f) y v x (below m g x)
-    at x (yes q) = here q (ap (below m g) q ∙ below-in m g y l ∙ e)
-    at x (no q) =
-        there q (is-below m x (λ a. below-in m g x a ∙ h x a q ∙ sym (below-in m f x a)) (λ a. below-out m g x a ∙ sym (below-out m f x a)))
-
--- ---- numbers laid over a function
-pub overlay-in : (f : ℕ → ℕ) (o : ℕ) (xs : List ℕ) (x : ℕ) → o ≤ x → x < o + length xs → overlay f o xs x ≡ getD xs (x - o) 0
-unfolding overlay
-overlay-in f o xs x l h =
-    ap (λ (b : Bool). pick b (getD xs (x - o) 0) (f x)) (and-true (leb o x) (ltb x (o + length xs)) (le-leb o x l) (lt-ltb x (o + length xs) h))
-
-pub overlay-out : (f : ℕ → ℕ) (o : ℕ) (xs : List ℕ) (x : ℕ) → Apart x 1 o (length xs) → overlay f o xs x ≡ f x
-unfolding overlay
-overlay-out f o xs x h = go (decLt x o) (decLt x (o + length xs))
-  where
-    go : Dec (x < o) → Dec (x < o + length xs) → overlay f o xs x ≡ f x
-    go (yes l) d = ap (λ (b : Bool). pick b (getD xs (x - o) 0) (f x)) (and-false-l (leb o x) (ltb x (o + length xs)) (lt-leb o x l))
-    go (no l) (no m) = ap (λ (b : Bool). pick b (getD xs (x - o) 0) (f x)) (and-false-r (leb o x) (ltb x (o + length xs)) (le-ltb x (o + length xs) (omega arith)))
-    go (no l) (yes m) = absurd (omega arith)
-
--- x lies in [o, o + k), or apart from it
-pub is-inside : (o k x : ℕ) {P : Type 0} → (o ≤ x → x < o + k → P) → (Apart x 1 o k → P) → P
-is-inside o k x {P} f g = go (decLt x o) (decLt x (o + k))
-  where
-    go : Dec (x < o) → Dec (x < o + k) → P
-    go (yes l) d = g (omega arith)
-    go (no l) (yes m) = f (omega arith) m
-    go (no l) (no m) = g (omega arith)
-
-pub is-overlay : (f g : ℕ → ℕ) (o : ℕ) (xs : List ℕ) → ((j : ℕ) → j < length xs → g (o + j) ≡ getD xs j 0) → ((x : ℕ) → Apart x 1 o (length xs) → g x ≡ f x) → g ≡ overlay f o xs
-is-overlay f g o xs h k =
-    fun-ext (λ x. is-inside o (length xs) x
-    (λ l m. let e : x ≡ o + (x - o) = omega arith in ap g e ∙ h (x - o) (omega arith) ∙ sym (overlay-in f o xs x l m))
-    (λ a. k x a ∙ sym (overlay-out f o xs x a)))
 
 -- ---- what a splice leaves
 module _ (n : ℕ) (s : List ℕ) (p : ℕ) (xs : List ℕ) where

@@ -1,13 +1,11 @@
 -- Laws of what a line asks for: what the code's turns and branches find is the definition's.
-use Prim.Native.Nat.{ℕ, _-_, _≤_, _<_}
-use mathlib.Core.Path.{_≡_, refl, sym, ap, _∙_}
+use Prim.Native.Nat.{ℕ, _≤_, _<_}
+use mathlib.Core.Path.{_≡_, refl, sym, _∙_}
 use mathlib.Core.Bool.{Bool, true, false}
 use mathlib.Core.List.{List}
 use borrow.Author.Tests.{le-leb, lt-leb}
-use lib.Dec.{eqb, leb}
+use lib.Dec.{eqb}
 use lib.ListN.{length}
-use Rattle.bounded.specs.Search.{first, firstFrom}
-use Rattle.bounded.proofs.SearchLaws.{first-begin}
 use Rattle.text.specs.Letters.{letters}
 use Rattle.text.specs.Number.{numberOf}
 use Rattle.text.specs.Pieces.{piece, pieces, isWord}
@@ -77,6 +75,3 @@ field-turn form p l k v e h = rw (← e) h
 
 pub form-turn : (lines l f : List ℕ) (j : ℕ) (r v : Bool) → f ≡ piece lines 10 j → r ≡ fits f l → r ≡ v → fits (piece lines 10 j) l ≡ v
 form-turn lines l f j r v e h t = rw (← e) (sym h ∙ t)
-
-pub search-begin : (f : ℕ → Bool) (n m : ℕ) → m ≡ n → first f n ≡ firstFrom f 0 (m - 0)
-search-begin f n m e = first-begin f n ∙ ap (λ (i : ℕ). firstFrom f 0 (i - 0)) (sym e)

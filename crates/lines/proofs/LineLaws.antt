@@ -5,15 +5,15 @@ use mathlib.Core.Bool.{Bool, true, false}
 use mathlib.Core.List.{List, [], _∷_}
 use native.Mathlib.Omega.{arith}
 use borrow.Author.Tests.{lt-ltb, le-ltb}
-use lib.Dec.{eqb, ltb}
-use lib.ListN.{length, getD, take, drop, drop-of-length-le}
+use lib.Dec.{eqb}
+use lib.ListN.{length, getD, drop, drop-of-length-le}
 use lib.Seq.{drop-cons}
 use Rattle.bounded.specs.Search.{pick}
 use Rattle.octets.specs.Octets.{part}
+use Rattle.octets.proofs.PartLaws.{part-cons, part-one}
 use Rattle.text.specs.Pieces.{findFrom}
 use Rattle.text.proofs.PieceLaws.{place-found, place-turn, place-end}
-use Rattle.lines.specs.Lines.{newline, begun, linesIn, lineAt}
-use Rattle.lines.specs.declared.Next.{Next}
+use Rattle.lines.specs.Lines.{begun, linesIn, lineAt}
 use Rattle.lines.specs.declared.Next.the-variants.{Line, End}
 
 module _ (s : List ℕ) (at : ℕ) where
@@ -44,18 +44,9 @@ module _ (s : List ℕ) where
   unfolding linesIn
   head-is at l = rw (drop-cons s at 0 l) refl
 
-  -- a line that begins with byte `at`
-  grown : (at e : ℕ) → at < length s → suc at ≤ e → getD s at 0 ∷ part s (suc at) (e - suc at) ≡ part s at (e - at)
-  unfolding part
-  grown at e l m = let q : e - at ≡ suc (e - suc at) = omega arith in sym (rw (drop-cons s at 0 l, q) refl)
-
-  one : (at : ℕ) → at < length s → getD s at 0 ∷ [] ≡ part s at (suc at - at)
-  unfolding part
-  one at l = let z : 0 ≡ suc at - suc at = omega arith in ap (λ (k : ℕ). getD s at 0 ∷ take k (drop (suc at) s)) z ∙ grown at (suc at) l (omega arith)
-
-  none-after : (e : ℕ) → length s ≤ e → linesIn (drop e s) ≡ []
+  pub lines-end : (e : ℕ) → length s ≤ e → linesIn (drop e s) ≡ []
   unfolding linesIn
-  none-after e l = rw (drop-of-length-le s l) refl
+  lines-end e l = rw (drop-of-length-le s l) refl
 
   here : (at : ℕ) → at < length s → eqb (getD s at 0) 10 ≡ true → Splits s at (findFrom s 10 at)
   unfolding findFrom part
@@ -70,14 +61,14 @@ module _ (s : List ℕ) where
   last at l h m =
       let o : at + 1 ≡ suc at = omega arith in
       let p : findFrom s 10 at ≡ suc at = place-turn (λ k. eqb (getD s k 0) 10) at (length s) l h ∙ place-end (λ k. eqb (getD s k 0) 10) (at + 1) (length s) (omega arith) ∙ sym m in
-      rw p (record { from = omega arith; to = omega arith; lines = head-is at l ∙ rw (h, none-after (suc at) (omega arith)) (ap₂ (λ (a : List ℕ) (b : List (List ℕ)). a ∷ b) (one at l) (sym (none-after (suc at + 1) (omega arith)))) })
+      rw p (record { from = omega arith; to = omega arith; lines = head-is at l ∙ rw (h, lines-end (suc at) (omega arith)) (ap₂ (λ (a : List ℕ) (b : List (List ℕ)). a ∷ b) (part-one s at l) (sym (lines-end (suc at + 1) (omega arith)))) })
 
   more : (at : ℕ) → at < length s → eqb (getD s at 0) 10 ≡ false → Splits s (suc at) (findFrom s 10 (suc at)) → Splits s at (findFrom s 10 at)
   unfolding findFrom
   more at l h i =
       let o : at + 1 ≡ suc at = omega arith in
       let p : findFrom s 10 at ≡ findFrom s 10 (suc at) = place-turn (λ k. eqb (getD s k 0) 10) at (length s) l h ∙ ap (findFrom s 10) o in
-      rw p (record { from = omega (arith, i .from); to = i .to; lines = head-is at l ∙ rw (h, i .lines) (ap (λ (a : List ℕ). a ∷ linesIn (drop (findFrom s 10 (suc at) + 1) s)) (grown at (findFrom s 10 (suc at)) l (i .from))) })
+      rw p (record { from = omega (arith, i .from); to = i .to; lines = head-is at l ∙ rw (h, i .lines) (ap (λ (a : List ℕ). a ∷ linesIn (drop (findFrom s 10 (suc at) + 1) s)) (part-cons s at (findFrom s 10 (suc at)) l (i .from))) })
 
   splits : (k at : ℕ) → at + suc k ≡ length s → Splits s at (findFrom s 10 at)
   splits zero at e = go (eqb (getD s at 0) 10) refl
@@ -93,6 +84,3 @@ module _ (s : List ℕ) where
 
   pub line-splits : (at : ℕ) → at < length s → Splits s at (findFrom s 10 at)
   line-splits at l = splits (length s - (at + 1)) at (omega arith)
-
-  pub lines-end : (at : ℕ) → length s ≤ at → linesIn (drop at s) ≡ []
-  lines-end = none-after

@@ -6,7 +6,6 @@ use mathlib.Core.List.{List, _++_}
 use native.Mathlib.Omega.{arith}
 use borrow.Author.Tests.{eq-eqb, ne-eqb, lt-ltb, le-ltb}
 use lib.ListN.{take, drop}
-use Rattle.bounded.specs.Reflect.{Reflects}
 use Rattle.octets.proofs.PartLaws.{cut}
 use Rattle.layout.specs.Inode.{InodeFits, kindOf, directoryKind}
 use Rattle.names.specs.Entry.{entryInode, isEmpty}

@@ -1,15 +1,11 @@
 -- The calls behind the guards: what the guards let through, and each way that a call returns. s is the store, m the image, d the desk, n and b the counts of inodes and blocks.
 use Prim.Native.Nat.{ℕ, _≤_}
 use mathlib.Core.Path.{_≡_, sym, ap, _∙_, subst}
-use mathlib.Core.Bool.{Bool, true, false, _&&_}
+use mathlib.Core.Bool.{Bool, true, false}
 use mathlib.Core.List.{List}
 use native.Mathlib.Omega.{arith}
-use borrow.Author.Tests.{eqb-true, leb-true}
-use lib.Dec.{eqb, leb}
 use Rattle.bounded.specs.Search.{pick}
-use Rattle.bounded.proofs.BoolLaws.{and-right}
-use Rattle.layout.specs.Sizes.{mostInodes, mostImageBlocks}
-use Rattle.desk.specs.Sizes.{idle}
+use Rattle.layout.specs.Sizes.{mostInodes}
 use Rattle.desk.specs.Desk.{deskOf}
 use Rattle.sound.specs.Sound.{inodesIn, blocksIn}
 use Rattle.answers.specs.declared.Refusal.{Refusal}
@@ -21,26 +17,20 @@ use Rattle.files.proofs.Lawful.{Lawful, Each}
 use Rattle.files.proofs.LawfulCalls.{lawful}
 use Rattle.checkpoint.specs.Busy.{anyLocked, unlessBusy}
 use Rattle.checkpoint.specs.Notes.{cutEntries, clearMarks, setMarks}
-use Rattle.checkpoint.specs.Fit.{blocksFit, deskFits, imageFits}
+use Rattle.checkpoint.specs.Fit.{deskFits, imageFits}
 use Rattle.checkpoint.specs.Live.{World, left, refuse, threeGuards, leavesIn}
-use Rattle.checkpoint.proofs.Copy.FitLaws.{desk-framed-is, desk-fits-is, image-fits-is, notes-fit-is}
+use Rattle.checkpoint.proofs.Copy.FitLaws.{desk-framed-is, image-fits-is, notes-fit-is}
 use Rattle.tallies.specs.Addressed.{Addressed}
 use Rattle.guards.proofs.GuardLaws.{passed, desk-passed}
+use Rattle.guards.proofs.FitLaws.{fits-few}
 use Rattle.live.specs.Fits.{Fits, Readable}
 
 -- ---- what the guards let through
-few-blocks : (d : List ℕ) → deskFits d ≡ true → deskOf d .blocks ≤ mostImageBlocks
-few-blocks d f = unfold blocksFit in go (eqb (deskOf d .state) idle) (desk-fits-is d .to f .1 .0)
-  where
-    go : (i : Bool) → pick i (eqb (deskOf d .blocks) 0) (leb 1 (deskOf d .blocks) && leb (deskOf d .blocks) mostImageBlocks) ≡ true → deskOf d .blocks ≤ mostImageBlocks
-    go true e = let z = eqb-true (deskOf d .blocks) 0 e in omega arith
-    go false e = leb-true (deskOf d .blocks) mostImageBlocks (and-right (leb 1 (deskOf d .blocks)) (leb (deskOf d .blocks) mostImageBlocks) e)
-
 image-addressed : (m d : List ℕ) → deskOf d .inodes ≤ mostInodes → deskFits d ≡ true → imageFits m d ≡ true → Addressed m (deskOf d .inodes)
 image-addressed m d l w f =
     let k = image-fits-is m d .to f in
     let e = k .0 in
-    let b = few-blocks d w in
+    let b = fits-few d w in
     record {
       few = l;
       area = omega arith;

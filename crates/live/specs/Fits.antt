@@ -1,7 +1,7 @@
 -- What refusals 1, 2 and 3 leave to a call that they let through. s is the store, m the image, d the desk, n the inode count.
 use Prim.Native.Nat.{ℕ, _≤_}
 use mathlib.Core.Path.{_≡_}
-use mathlib.Core.Bool.{true, false}
+use mathlib.Core.Bool.{true}
 use mathlib.Core.List.{List}
 use lib.ListN.{length}
 use Rattle.desk.specs.Sizes.{deskLength}

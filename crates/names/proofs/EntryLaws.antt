@@ -1,28 +1,27 @@
 -- Laws of directory entries: names compared as words, the entry that names an inode, empty entries, and the name of an entry.
 use Prim.Native.Nat.{ℕ, _+_, _-_, _≤_, _<_}
 use mathlib.Core.Path.{_≡_, refl, sym, ap, _∙_}
-use mathlib.Core.Bool.{Bool, true, false, _&&_}
+use mathlib.Core.Bool.{true, false, _&&_}
 use mathlib.Core.List.{List}
 use native.Mathlib.Omega.{arith}
 use native.Mathlib.Nat.{zero-add}
 use native.Mathlib.Decide.{decLt}
 use borrow.Author.Tests.{eq-eqb, ne-eqb}
 use lib.Dec.{eqb}
-use lib.ListN.{length, getD, take, drop, replicate, getD-replicate, length-append, length-replicate, List·getD-append, List·getD-eq-default}
+use lib.ListN.{length, getD, replicate, getD-replicate, length-append, length-replicate, List·getD-append, List·getD-eq-default}
 use lib.Seq.{ext-getD, getD-append-add}
-use Rattle.bounded.specs.Search.{first, firstFrom, onFound}
 use Rattle.bounded.specs.Reflect.{Reflects}
 use Rattle.bounded.specs.Table.{table}
-use Rattle.bounded.proofs.BoolLaws.{and-true, and-left, and-right, clash, fails}
-use Rattle.bounded.proofs.SearchLaws.{lowest-found, absent-of}
+use Rattle.bounded.proofs.BoolLaws.{and-true, and-left, and-right}
+use Rattle.bounded.proofs.SearchLaws.{first-of}
 use Rattle.bounded.proofs.TableLaws.{length-table, getD-table}
 use Rattle.bounded.proofs.ReflectLaws.{r-eq, r-and, r-all, r-says, r-fails, reflects-ext}
 use Rattle.octets.specs.Octets.{Octets, part, splice, numAt, toBytes, putNum, zeroed, pasted}
-use Rattle.octets.proofs.PartLaws.{length-part, length-inside, part-all, cut, getD-part, length-zeroed, length-copied, splice-in, splice-out}
+use Rattle.octets.proofs.PartLaws.{length-inside, part-all, getD-part, length-zeroed, length-copied, splice-in, splice-out}
 use Rattle.octets.proofs.NumLaws.{num-ext, num-inj, num-zero, zero-num, length-toBytes, length-num}
 use Rattle.names.specs.Name.{nameBytes, legalName}
 use Rattle.names.specs.Entry.{entryBytes, nameAt, entryInode, isEmpty, sameByte, sameName, nameLength, entryName, legalEntry, entryFor, wordsAt, sameWords}
-use Rattle.names.proofs.NameLaws.{Nonzero, name-ext, legal-bounds, legal-nonzero}
+use Rattle.names.proofs.NameLaws.{legal-bounds, legal-nonzero}
 
 -- ---- names compared
 -- the 14 bytes from o on in s are those from p on in t
@@ -73,17 +72,6 @@ same-words e name he hn =
 pub same-words-two : (a b : List ℕ) → Octets a → Octets b → Reflects (sameWords (wordsAt a 2) (wordsAt b 2)) ((k : ℕ) → k < nameBytes → getD a (nameAt + k) 0 ≡ getD b (nameAt + k) 0)
 same-words-two a b ha hb = words-agree a 2 b 2 ha hb
 
--- a part of bytes is bytes
-pub octets-part : (s : List ℕ) (o k : ℕ) → Octets s → Octets (part s o k)
-octets-part s o k h i = go (decLt i k)
-  where
-    go : Dec (i < k) → getD (part s o k) i 0 < 256
-    go (yes l) = rw (getD-part s o k i l) (h (o + i))
-    go (no l) =
-        let n = length-part s o k in
-        let z : getD (part s o k) i 0 ≡ 0 = List·getD-eq-default (part s o k) 0 (omega arith) in
-        omega arith
-
 -- ---- the entry that names an inode
 pub length-entry : (i : ℕ) (name : List ℕ) → length (entryFor i name) ≡ entryBytes
 unfolding entryFor
@@ -100,10 +88,6 @@ entry-byte i name k l =
 
 pub entry-named : (i : ℕ) (name : List ℕ) → sameName (entryFor i name) name ≡ true
 entry-named i name = named (entryFor i name) name .from (entry-byte i name)
-
-pub named-other : (i : ℕ) (name other : List ℕ) → length name ≤ nameBytes → length other ≤ nameBytes → Nonzero name → Nonzero other → sameName (entryFor i name) other ≡ true → name ≡ other
-named-other i name other ln lo zn zo h =
-    name-ext name other ln lo zn zo (λ k l. sym (entry-byte i name k l) ∙ named (entryFor i name) other .to h k l)
 
 -- ---- an empty entry
 pub empty : (e : List ℕ) → Reflects (isEmpty e) ((k : ℕ) → k < entryBytes → getD e k 0 ≡ 0)
@@ -142,13 +126,6 @@ empty-words e =
     both w k l (no h) = let x : 8 + (k - 8) ≡ k = omega arith in rw x at (num-zero 8 e 8 (w .1) (k - 8) (omega arith))
 
 -- ---- the name of an entry
-first-of : (f : ℕ → Bool) (m n : ℕ) → n ≤ m → ((k : ℕ) → k < n → f k ≡ false) → (n < m → f n ≡ true) → onFound (first f m) (λ k. k) m ≡ n
-unfolding first
-first-of f m n l b h = elim (decLt n m) as (λ _. onFound (firstFrom f 0 m) (λ k. k) m ≡ n) [
-  | yes lt ↦ rw (lowest-found f 0 m n (record { from = omega arith; below = omega arith; holds = h lt; before = λ j a c. b j c }))
-  | no nlt ↦ rw (absent-of f 0 m (λ j a c. b j (omega arith))) (omega arith)
-]
-
 -- it ends before its first zero byte, or after 14 bytes
 pub length-of : (e : List ℕ) (n : ℕ) → n ≤ nameBytes → ((k : ℕ) → k < n → getD e (nameAt + k) 0 ≡ 0 → ⊥) → (n < nameBytes → getD e (nameAt + n) 0 ≡ 0) → nameLength e ≡ n
 unfolding nameLength
@@ -186,24 +163,7 @@ pub entry-legal : (e : List ℕ) → legalEntry e ≡ true → (legalName (entry
 unfolding legalEntry
 entry-legal e h = (and-left (legalName (entryName e)) (sameName e (entryName e)) h, and-right (legalName (entryName e)) (sameName e (entryName e)) h)
 
-pub legal-not-empty : (e : List ℕ) → legalEntry e ≡ true → isEmpty e ≡ false
-legal-not-empty e h =
-    let l = entry-legal e h in
-    fails (isEmpty e) (λ z. clash (sameName e (entryName e)) (l .1) (empty-not-named e (entryName e) z (l .0)))
-
-pub name-unique : (a b : List ℕ) → legalEntry b ≡ true → entryBytes ≤ length a → sameName a (entryName b) ≡ true → entryName a ≡ entryName b
-name-unique a b h l s = name-of a (entryName b) s (entry-legal b h .0) l
-
 -- ---- what the code makes of a name
--- the name as a part of the entry
-pub name-cut : (e : List ℕ) (k : ℕ) → k ≡ nameLength e → take (nameAt + k - nameAt) (drop nameAt e) ≡ entryName e
-unfolding entryName
-name-cut e k h = cut e nameAt k ∙ ap (part e nameAt) h
-
-pub octets-name : (e : List ℕ) → Octets e → Octets (entryName e)
-unfolding entryName
-octets-name e h = octets-part e nameAt (nameLength e) h
-
 -- zero bytes from o on, and a name copied there
 pub name-filled : (d : List ℕ) (o : ℕ) (name : List ℕ) → length name ≤ nameBytes → o + nameBytes ≤ length d → ((k : ℕ) → k < nameBytes → getD d (o + k) 0 ≡ 0) → (k : ℕ) → k < nameBytes → getD (pasted d o name 0 (length name)) (o + k) 0 ≡ getD name k 0
 unfolding pasted

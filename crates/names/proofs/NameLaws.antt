@@ -1,12 +1,11 @@
 -- Laws of names: the test for a legal name and what it says, and names that agree in 14 bytes.
 use Prim.Native.Nat.{ℕ, _≤_, _<_}
-use mathlib.Core.Path.{_≡_, sym, _∙_}
+use mathlib.Core.Path.{_≡_}
 use mathlib.Core.Bool.{true}
 use mathlib.Core.List.{List}
 use native.Mathlib.Omega.{arith}
 use native.Mathlib.Decide.{decLt}
-use lib.ListN.{length, getD, List·getD-eq-default}
-use lib.Seq.{ext-getD}
+use lib.ListN.{length, getD}
 use Rattle.bounded.specs.Reflect.{Reflects}
 use Rattle.bounded.proofs.ReflectLaws.{r-eq, r-le, r-and, r-not, r-all, r-says}
 use Rattle.names.specs.Name.{nameBytes, slash, dot, plainByte, isDots, legalName, Legal}
@@ -77,20 +76,3 @@ Nonzero name = (k : ℕ) → k < length name → getD name k 0 ≡ 0 → ⊥
 
 pub legal-nonzero : (name : List ℕ) → legalName name ≡ true → Nonzero name
 legal-nonzero name h k l = legal-byte name h k l .0
-
--- zero-filled to 14 bytes they agree
-abbrev pub Agree : List ℕ → List ℕ → Type 0
-Agree a b = (k : ℕ) → k < nameBytes → getD a k 0 ≡ getD b k 0
-
-not-longer : (a b : List ℕ) → length b ≤ nameBytes → Nonzero b → Agree a b → length b ≤ length a
-not-longer a b m z h = go (decLt (length a) (length b))
-  where
-    go : Dec (length a < length b) → length b ≤ length a
-    go (yes l) = absurd (z (length a) l (sym (h (length a) (omega arith)) ∙ List·getD-eq-default a 0 (omega arith)))
-    go (no l) = omega arith
-
-pub name-ext : (a b : List ℕ) → length a ≤ nameBytes → length b ≤ nameBytes → Nonzero a → Nonzero b → Agree a b → a ≡ b
-name-ext a b la lb za zb h =
-    let p = not-longer a b lb zb h in
-    let q = not-longer b a la za (λ k l. sym (h k l)) in
-    ext-getD 0 a b (omega arith) (λ i l. h i (omega arith))

@@ -10,11 +10,12 @@ use lib.Dec.{eqb}
 use lib.ListN.{getD}
 use lib.Bits.{bitAnd, bitOr, bitXor, and-block, or-block, xor-block, and-zero-r, and-le-l, and-le-r, or-lt, xor-lt, xor-self, xor-add-and}
 use Rattle.bounded.specs.Below.{allBelow}
+use Rattle.bounded.proofs.CaseLaws.{each-suc}
 use Rattle.bounded.proofs.BelowLaws.{all-at}
 use Rattle.bounded.proofs.ReflectLaws.{r-eq, r-not, r-imp, r-all, r-says, reflects-ext}
 use Rattle.octets.specs.Octets.{Octets, numAt}
 use Rattle.octets.specs.Flags.{flag, flags}
-use Rattle.octets.proofs.NumLaws.{num-suc, each-byte}
+use Rattle.octets.proofs.NumLaws.{num-suc}
 
 -- k bytes, each x
 abbrev pub every : ℕ → ℕ → ℕ
@@ -134,7 +135,7 @@ module _ (s : List ℕ) (x : ℕ) (hs : Octets s) (hx : x < 256) where
   without-to (suc k) o e =
       let p = same-split (flag (bitXor (getD s o 0) x)) (flags k (bitXor (numAt k s (o + 1)) (every x k))) 128 (every 128 k)
       (flag-small (bitXor (getD s o 0) x)) (omega arith) (sym (without-split k o) ∙ e) in
-      each-byte (λ j. getD s (o + j) 0 ≡ x → ⊥) k
+      each-suc (λ j. getD s (o + j) 0 ≡ x → ⊥) k
       (λ q. flag-set (bitXor (getD s o 0) x) (p .0) (ap (λ (y : ℕ). bitXor y x) (ap (λ (i : ℕ). getD s i 0) (sym (add-zero o)) ∙ q) ∙ xor-self x))
       (λ j l q.
       let i : o + 1 + j ≡ o + suc j = omega arith in
@@ -183,7 +184,7 @@ module _ (s : List ℕ) (hs : Octets s) where
       let q = same-split (bitOr (flag (getD s o 0)) (flag (getD s p 0))) (bitOr (flags k (numAt k s (o + 1))) (flags k (numAt k s (p + 1)))) (flag (getD s o 0)) (flags k (numAt k s (o + 1)))
       (or-lt 8 (flag (getD s o 0)) (flag (getD s p 0)) (flag-small (getD s o 0)) (flag-small (getD s p 0))) (flag-small (getD s o 0))
       (sym (or-at k o p) ∙ e ∙ flags-at k o) in
-      each-byte (λ j. getD s (o + j) 0 ≡ 0 → getD s (p + j) 0 ≡ 0) k
+      each-suc (λ j. getD s (o + j) 0 ≡ 0 → getD s (p + j) 0 ≡ 0) k
       (λ z. ap (λ (i : ℕ). getD s i 0) (add-zero p) ∙ or-flag (getD s o 0) (getD s p 0) (q .0) (ap (λ (i : ℕ). getD s i 0) (sym (add-zero o)) ∙ z))
       (λ j l z.
       let a : o + 1 + j ≡ o + suc j = omega arith in

@@ -3,3 +3,4 @@ pub mod NumLaws
 pub mod WordLaws
 pub mod ZeroLaws
 pub mod FlagLaws
+pub mod OverlayLaws

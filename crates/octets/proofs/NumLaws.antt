@@ -4,9 +4,11 @@ use mathlib.Core.Path.{_≡_, refl, sym, ap, ap₂, _∙_}
 use mathlib.Core.List.{List, _∷_, _++_}
 use native.Mathlib.Omega.{arith}
 use native.Mathlib.Nat.{add-zero, mul-assoc, pow-succ', one-le-pow, div-add-mod, mod-lt, mod-eq-of-lt, mul-add-mod-self-left, div-div-eq-div-mul}
+use native.Mathlib.Decide.{decLt}
 use lib.ListN.{getD, length}
+use Rattle.bounded.proofs.CaseLaws.{each-suc}
 use Rattle.octets.specs.Octets.{part, splice, Apart, Octets, numAt, toBytes, putNum}
-use Rattle.octets.proofs.PartLaws.{length-splice, getD-part, splice-out, splice-in, splice-twice, splice-comm, splice-append, part-apart}
+use Rattle.octets.proofs.PartLaws.{length-splice, splice-out, splice-in, splice-twice, splice-comm, splice-append, part-apart}
 
 -- a number of one byte more, whatever the width
 pub num-suc : (k : ℕ) (s : List ℕ) (o : ℕ) → numAt (suc k) s o ≡ getD s o 0 + 256 * numAt k s (o + 1)
@@ -26,12 +28,6 @@ num-ext (suc k) s o t p h =
     let e : o + 1 + j ≡ o + suc j = omega arith in
     let g : p + 1 + j ≡ p + suc j = omega arith in
     ap (λ (i : ℕ). getD s i 0) e ∙ h (suc j) (omega arith) ∙ ap (λ (i : ℕ). getD t i 0) (sym g))))
-
--- in a part
-pub num-part : (k : ℕ) (s : List ℕ) (o m a : ℕ) → a + k ≤ m → numAt k (part s o m) a ≡ numAt k s (o + a)
-num-part k s o m a h =
-    num-ext k (part s o m) a s (o + a)
-    (λ j l. getD-part s o m (a + j) (omega arith) ∙ ap (λ (i : ℕ). getD s i 0) (omega arith))
 
 -- not touched by a splice apart from it
 pub num-apart : (k : ℕ) (s : List ℕ) (o p : ℕ) (xs : List ℕ) → Apart o k p (length xs) → numAt k (splice s p xs) o ≡ numAt k s o
@@ -98,6 +94,17 @@ unfolding putNum
 num-comm k m s o p v w h =
     splice-comm s o (toBytes k v) p (toBytes m w) (rw (length-toBytes k v, length-toBytes m w) h)
 
+-- a read apart from a write and two writes in either order, with the places first
+pub num-off : (k m o p : ℕ) → Apart o k p m → (s : List ℕ) (v : ℕ) → numAt k (putNum m s p v) o ≡ numAt k s o
+num-off k m o p h s v = num-other k m s o p v h
+
+pub num-swap : (k m o p : ℕ) → Apart o k p m → (s : List ℕ) (v w : ℕ) → putNum m (putNum k s o v) p w ≡ putNum k (putNum m s p w) o v
+num-swap k m o p h s v w = num-comm k m s o p v w h
+
+-- a number that changes nothing stands there
+pub num-stands : (k : ℕ) (s : List ℕ) (o v : ℕ) → 0 < k → o + k ≤ length s → putNum k s o v ≡ s → numAt k s o ≡ v
+num-stands k s o v h f e = ap (λ (t : List ℕ). numAt k t o) (sym e) ∙ num-same k s o v h f
+
 -- ---- bytes that are bytes
 pub num-bound : (k : ℕ) (s : List ℕ) (o : ℕ) → Octets s → numAt k s o < 256 ^ k
 unfolding numAt
@@ -106,11 +113,6 @@ num-bound (suc k) s o h =
     let ih : numAt k s (o + 1) < 256 ^ k = num-bound k s (o + 1) h in
     let b : getD s o 0 < 256 = h o in
     rw (num-suc k s o, pow-succ' 256 k) (omega arith)
-
--- what holds of the lowest byte and of the others holds of all
-pub each-byte : (P : ℕ → Type 0) (k : ℕ) → P 0 → ((i : ℕ) → i < k → P (suc i)) → (j : ℕ) → j < suc k → P j
-each-byte P k z f zero l = z
-each-byte P k z f (suc j) l = f j (omega arith)
 
 -- equal numbers have equal bytes
 pub num-inj : (k : ℕ) (s : List ℕ) (o : ℕ) (t : List ℕ) (p : ℕ) → Octets s → Octets t → numAt k s o ≡ numAt k t p → (j : ℕ) → j < k → getD s (o + j) 0 ≡ getD t (p + j) 0
@@ -121,7 +123,7 @@ num-inj (suc k) s o t p hs ht e j l =
     let b : getD t p 0 < 256 = ht p in
     let low : getD s o 0 ≡ getD t p 0 = omega arith in
     let high : numAt k s (o + 1) ≡ numAt k t (p + 1) = omega arith in
-    each-byte (λ i. getD s (o + i) 0 ≡ getD t (p + i) 0) k
+    each-suc (λ i. getD s (o + i) 0 ≡ getD t (p + i) 0) k
     (rw (add-zero, add-zero) low)
     (λ i m.
     let x : o + suc i ≡ o + 1 + i = omega arith in
@@ -135,7 +137,7 @@ num-zero (suc k) s o e j l =
     let w : getD s o 0 + 256 * numAt k s (o + 1) ≡ 0 = sym (num-suc k s o) ∙ e in
     let low : getD s o 0 ≡ 0 = omega arith in
     let high : numAt k s (o + 1) ≡ 0 = omega arith in
-    each-byte (λ i. getD s (o + i) 0 ≡ 0) k (rw add-zero low)
+    each-suc (λ i. getD s (o + i) 0 ≡ 0) k (rw add-zero low)
     (λ i m. let x : o + suc i ≡ o + 1 + i = omega arith in rw x (num-zero k s (o + 1) high i m)) j l
 
 pub zero-num : (k : ℕ) (s : List ℕ) (o : ℕ) → ((j : ℕ) → j < k → getD s (o + j) 0 ≡ 0) → numAt k s o ≡ 0
@@ -144,6 +146,51 @@ zero-num (suc k) s o h =
     let a : getD s o 0 ≡ 0 = ap (λ (x : ℕ). getD s x 0) (sym (add-zero o)) ∙ h 0 (omega arith) in
     let b : numAt k s (o + 1) ≡ 0 = zero-num k s (o + 1) (λ j l. let x : o + 1 + j ≡ o + suc j = omega arith in rw x (h (suc j) (omega arith))) in
     num-suc k s o ∙ omega arith
+
+-- a number's bytes are those that it was read from
+pub byte-back : (k : ℕ) (d : List ℕ) (o j : ℕ) → Octets d → j < k → getD (toBytes k (numAt k d o)) j 0 ≡ getD d (o + j) 0
+unfolding numAt toBytes
+byte-back zero d o j h l = absurd (omega arith)
+byte-back (suc zero) d o zero h l = ap (λ (x : ℕ). getD d x 0) (same o)
+  where
+    same : (o : ℕ) → o ≡ o + 0
+    same o = omega arith
+byte-back (suc zero) d o (suc j) h l = absurd (omega arith)
+byte-back (suc (suc k)) d o zero h l =
+    let b = h o in
+    let e : (getD d o 0 + 256 * numAt (suc k) d (o + 1)) % 256 ≡ getD d o 0 = omega arith in
+    e ∙ ap (λ (x : ℕ). getD d x 0) (same o)
+  where
+    same : (o : ℕ) → o ≡ o + 0
+    same o = omega arith
+byte-back (suc (suc k)) d o (suc j) h l =
+    let b = h o in
+    let e : (getD d o 0 + 256 * numAt (suc k) d (o + 1)) / 256 ≡ numAt (suc k) d (o + 1) = omega arith in
+    ap (λ (v : ℕ). getD (toBytes (suc k) v) j 0) e ∙ byte-back (suc k) d (o + 1) j h (omega arith) ∙ ap (λ (x : ℕ). getD d x 0) (more o j)
+  where
+    more : (o j : ℕ) → o + 1 + j ≡ o + suc j
+    more o j = omega arith
+
+-- byte x of a number that is written, of another one, and of one written as it was
+pub put-byte : (k : ℕ) (s : List ℕ) (o v x : ℕ) → Apart x 1 o k → getD (putNum k s o v) x 0 ≡ getD s x 0
+unfolding putNum
+put-byte k s o v x a = splice-out s o (toBytes k v) x (rw (length-toBytes k v) a)
+
+pub keep-byte : (k : ℕ) (s d : List ℕ) (o x : ℕ) → Octets d → o + k ≤ length s → getD s x 0 ≡ getD d x 0 → getD (putNum k s o (numAt k d o)) x 0 ≡ getD d x 0
+unfolding putNum
+keep-byte k s d o x h l e = elim (decLt x o) [
+  | yes a ↦ put-byte k s o (numAt k d o) x (omega arith) ∙ e
+  | no a ↦ elim (decLt x (o + k)) [
+    | no c ↦ put-byte k s o (numAt k d o) x (omega arith) ∙ e
+    | yes c ↦
+        let n = length-toBytes k (numAt k d o) in
+        let f : x ≡ o + (x - o) = omega arith in
+        ap (λ (y : ℕ). getD (putNum k s o (numAt k d o)) y 0) f
+        ∙ splice-in s o (toBytes k (numAt k d o)) (x - o) (omega arith) (omega arith)
+        ∙ byte-back k d o (x - o) h (omega arith)
+        ∙ ap (λ (y : ℕ). getD d y 0) (sym f)
+  ]
+]
 
 -- ---- two numbers side by side are one: how the code reads and writes four and eight bytes
 pub num-join : (j k : ℕ) (s : List ℕ) (o : ℕ) → numAt (j + k) s o ≡ numAt j s o + 256 ^ j * numAt k s (o + j)

@@ -1,15 +1,30 @@
 -- Parts and splices: every frame law of the layout follows from part-apart and part-in.
 use Prim.Native.Nat.{ℕ, zero, suc, _+_, _-_, _≤_, _<_, min}
 use mathlib.Core.Path.{_≡_, refl, sym, ap, _∙_}
+use mathlib.Core.Bool.{Bool}
 use mathlib.Core.List.{List, [], _∷_, _++_, append-assoc}
 use native.Mathlib.Omega.{arith}
 use native.Mathlib.Nat.{add-zero}
 use native.Mathlib.Decide.{decLt}
 use native.Mathlib.Numerals.{add-one}
-use lib.ListN.{getD, set, take, drop, length, replicate, length-set, length-take, length-drop, length-replicate, replicate-append-replicate}
-use lib.Seq.{set-comm, set-set, sets, sets-eq, drop-drop, getD-set-same, getD-set-other, getD-take, getD-drop, ext-getD, take-suc}
+use lib.ListN.{getD, set, take, drop, length, replicate, length-set, length-take, length-drop, length-replicate, replicate-append-replicate, List·getD-eq-default}
+use lib.Seq.{set-comm, set-set, sets, sets-eq, drop-drop, getD-set-same, getD-set-other, getD-take, getD-drop, ext-getD, take-suc, take-add, drop-cons}
 use borrow.Rule.Slice.PartMut.{putMid}
-use Rattle.octets.specs.Octets.{part, splice, Apart, zeroed, pasted}
+use Rattle.octets.specs.Octets.{part, splice, Apart, Octets, zeroed, pasted}
+
+-- ---- ranges of bytes
+-- x lies in [o, o + k), or apart from it
+pub is-inside : (o k x : ℕ) {P : Type 0} → (o ≤ x → x < o + k → P) → (Apart x 1 o k → P) → P
+is-inside o k x {P} f g = go (decLt x o) (decLt x (o + k))
+  where
+    go : Dec (x < o) → Dec (x < o + k) → P
+    go (yes l) d = g (omega arith)
+    go (no l) (yes m) = f (omega arith) m
+    go (no l) (no m) = g (omega arith)
+
+-- a range apart from one is apart from what lies in it
+pub apart-within : (o k p m q l : ℕ) → Apart o k p m → p ≤ q → q + l ≤ p + m → Apart o k q l
+apart-within o k p m q l h a b = omega arith
 
 -- ---- lengths, and single bytes
 pub length-splice : (s : List ℕ) (o : ℕ) (xs : List ℕ) → length (splice s o xs) ≡ length s
@@ -28,6 +43,17 @@ length-inside s o k h = length-part s o k ∙ omega arith
 pub getD-part : (s : List ℕ) (o k j : ℕ) → j < k → getD (part s o k) j 0 ≡ getD s (o + j) 0
 unfolding part
 getD-part s o k j h = rw (getD-take, getD-drop)
+
+-- a part of bytes is bytes
+pub octets-part : (s : List ℕ) (o k : ℕ) → Octets s → Octets (part s o k)
+octets-part s o k h i = go (decLt i k)
+  where
+    go : Dec (i < k) → getD (part s o k) i 0 < 256
+    go (yes l) = rw (getD-part s o k i l) (h (o + i))
+    go (no l) =
+        let n = length-part s o k in
+        let z : getD (part s o k) i 0 ≡ 0 = List·getD-eq-default (part s o k) 0 (omega arith) in
+        omega arith
 
 pub splice-out : (s : List ℕ) (o : ℕ) (xs : List ℕ) (k : ℕ) → Apart k 1 o (length xs) → getD (splice s o xs) k 0 ≡ getD s k 0
 unfolding splice
@@ -75,37 +101,6 @@ part-same s o xs k e f =
     let z : o ≡ o + 0 = omega arith in
     ap (λ (p : ℕ). part (splice s o xs) p k) z ∙ part-in s o xs 0 k (omega arith) (omega arith) ∙ part-all xs k e
 
--- around it: the part with the same bytes spliced in
-pub part-around : (s : List ℕ) (o k a : ℕ) (xs : List ℕ) → a + length xs ≤ k → o + k ≤ length s → part (splice s (o + a) xs) o k ≡ splice (part s o k) a xs
-part-around s o k a xs h f =
-    ext-getD 0 _ _ (rw (length-part, length-splice, length-splice, length-part))
-    (λ i b.
-    let b′ : i < min k (length (splice s (o + a) xs) - o) = rw length-part at b in
-    let hk : i < k = omega arith in
-    rw (getD-part (splice s (o + a) xs) o k i hk) (at i hk))
-  where
-    inside : (i : ℕ) → i < k → a ≤ i → i < a + length xs → getD (splice s (o + a) xs) (o + i) 0 ≡ getD (splice (part s o k) a xs) i 0
-    inside i hk l m =
-        let e : o + i ≡ o + a + (i - a) = omega arith in
-        let g : i ≡ a + (i - a) = omega arith in
-        let n : length (part s o k) ≡ k = length-inside s o k f in
-        ap (λ (j : ℕ). getD (splice s (o + a) xs) j 0) e
-        ∙ splice-in s (o + a) xs (i - a) (omega arith) (omega arith)
-        ∙ sym (splice-in (part s o k) a xs (i - a) (omega arith) (omega arith))
-        ∙ ap (λ (j : ℕ). getD (splice (part s o k) a xs) j 0) (sym g)
-
-    outside : (i : ℕ) → i < k → Apart i 1 a (length xs) → getD (splice s (o + a) xs) (o + i) 0 ≡ getD (splice (part s o k) a xs) i 0
-    outside i hk l =
-        splice-out s (o + a) xs (o + i) (omega arith) ∙ sym (getD-part s o k i hk) ∙ sym (splice-out (part s o k) a xs i (omega arith))
-
-    at : (i : ℕ) → i < k → getD (splice s (o + a) xs) (o + i) 0 ≡ getD (splice (part s o k) a xs) i 0
-    at i hk = go (decLt i a) (decLt i (a + length xs))
-      where
-        go : Dec (i < a) → Dec (i < a + length xs) → getD (splice s (o + a) xs) (o + i) 0 ≡ getD (splice (part s o k) a xs) i 0
-        go (yes l) d = outside i hk (omega arith)
-        go (no l) (yes m) = inside i hk (omega arith) m
-        go (no l) (no m) = outside i hk (omega arith)
-
 -- a part of a part
 pub part-part : (s : List ℕ) (o k a m : ℕ) → a + m ≤ k → part (part s o k) a m ≡ part s (o + a) m
 part-part s o k a m h =
@@ -115,6 +110,20 @@ part-part s o k a m h =
     let hm : i < m = omega arith in
     let e : o + (a + i) ≡ o + a + i = omega arith in
     rw (getD-part (part s o k) a m i hm, getD-part s o k (a + i) (omega arith), getD-part s (o + a) m i hm, e))
+
+-- the first j bytes, and then m more
+pub part-join : (xs : List ℕ) (j m : ℕ) → part xs 0 (j + m) ≡ part xs 0 j ++ part xs j m
+unfolding part
+part-join xs j m = take-add j m xs
+
+-- the byte at o, and the rest up to e
+pub part-cons : (s : List ℕ) (o e : ℕ) → o < length s → suc o ≤ e → getD s o 0 ∷ part s (suc o) (e - suc o) ≡ part s o (e - o)
+unfolding part
+part-cons s o e l m = let q : e - o ≡ suc (e - suc o) = omega arith in sym (rw (drop-cons s o 0 l, q) refl)
+
+pub part-one : (s : List ℕ) (o : ℕ) → o < length s → getD s o 0 ∷ [] ≡ part s o (suc o - o)
+unfolding part
+part-one s o l = let z : 0 ≡ suc o - suc o = omega arith in ap (λ (k : ℕ). getD s o 0 ∷ take k (drop (suc o) s)) z ∙ part-cons s o (suc o) l (omega arith)
 
 -- ---- two splices
 pub splice-append : (s : List ℕ) (o : ℕ) (xs ys : List ℕ) → splice (splice s o xs) (o + length xs) ys ≡ splice s o (xs ++ ys)
@@ -143,25 +152,6 @@ splice-twice s o (x ∷ xs) [] e = let z : ⊥ = omega arith in absurd z
 splice-twice s o (x ∷ xs) (y ∷ ys) e =
     rw (set-splice (set s o x) (o + 1) xs o y (omega arith), set-set) (splice-twice (set s o y) (o + 1) xs ys (omega arith))
 
--- what stands there already changes nothing
-pub splice-part : (s : List ℕ) (o k : ℕ) → o + k ≤ length s → splice s o (part s o k) ≡ s
-splice-part s o k h =
-    let n : length (part s o k) ≡ k = length-inside s o k h in
-    ext-getD 0 _ _ (length-splice s o (part s o k)) (λ i b. go i (decLt i o) (decLt i (o + k)))
-  where
-    same : length (part s o k) ≡ k
-    same = length-inside s o k h
-
-    go : (i : ℕ) → Dec (i < o) → Dec (i < o + k) → getD (splice s o (part s o k)) i 0 ≡ getD s i 0
-    go i (yes l) d = let n = same in splice-out s o (part s o k) i (omega arith)
-    go i (no l) (no m) = let n = same in splice-out s o (part s o k) i (omega arith)
-    go i (no l) (yes m) =
-        let n = same in
-        let e : i ≡ o + (i - o) = omega arith in
-        ap (λ (j : ℕ). getD (splice s o (part s o k)) j 0) e
-        ∙ splice-in s o (part s o k) (i - o) (omega arith) (omega arith)
-        ∙ getD-part s o k (i - o) (omega arith) ∙ ap (λ (j : ℕ). getD s j 0) (sym e)
-
 -- one byte more
 pub splice-snoc : (s : List ℕ) (o : ℕ) (xs : List ℕ) (k x : ℕ) → length xs ≡ k → set (splice s o xs) (o + k) x ≡ splice s o (xs ++ (x ∷ []))
 unfolding splice
@@ -172,6 +162,10 @@ splice-snoc s o xs k x e = rw (← e) (splice-append s o xs (x ∷ []))
 pub cut : (s : List ℕ) (o k : ℕ) → take (o + k - o) (drop o s) ≡ part s o k
 unfolding part
 cut s o k = let e : o + k - o ≡ k = omega arith in rw e
+
+-- r is what the test says of a part, as the code cuts it out
+pub cut-test : (p : List ℕ → Bool) (s : List ℕ) (o k : ℕ) {r b : Bool} → r ≡ p (take (o + k - o) (drop o s)) → r ≡ b → p (part s o k) ≡ b
+cut-test p s o k e h = ap p (sym (cut s o k)) ∙ sym e ∙ h
 
 pub length-cut : (s : List ℕ) (o k : ℕ) → o + k ≤ length s → length (take (o + k - o) (drop o s)) ≡ k
 length-cut s o k h = rw (cut, length-part) (omega arith)
@@ -218,13 +212,6 @@ pub copied-more : (d : List ℕ) (o : ℕ) (s : List ℕ) (p k : ℕ) → p + k 
 unfolding pasted
 copied-more d o s p k h =
     splice-snoc d o (part s p k) k (getD s (p + k) 0) (length-inside s p k (omega arith)) ∙ ap (splice d o) (sym (part-more s p k h))
-
--- within one list, for two ranges apart: the byte to copy next is still there
-pub copied-kept : (s : List ℕ) (o p k j : ℕ) → Apart o k p k → j < k → p + k ≤ length s → getD (pasted s o s p j) (p + j) 0 ≡ getD s (p + j) 0
-unfolding pasted
-copied-kept s o p k j h l f =
-    let n : length (part s p j) ≡ j = length-inside s p j (omega arith) in
-    splice-out s o (part s p j) (p + j) (omega arith)
 
 -- a whole list zeroed
 pub zeroed-all : (s : List ℕ) (k : ℕ) → length s ≡ k → zeroed s 0 k ≡ replicate k 0

@@ -1,11 +1,9 @@
 -- What the entries of all directories say of each inode. n is the inode count, i is from 1 to n.
 use Prim.Native.Nat.{ℕ, _*_, _≤_}
 use mathlib.Core.Path.{_≡_}
-use mathlib.Core.Bool.{Bool, not, _&&_, _||_}
 use mathlib.Core.List.{List}
-use lib.Dec.{eqb, leb}
 use Rattle.bounded.specs.Count.{tally}
-use Rattle.bounded.specs.Climb.{Leads, leadsB}
+use Rattle.bounded.specs.Climb.{Leads}
 use Rattle.layout.specs.Sizes.{rootInode}
 use Rattle.layout.specs.Inode.{kindOf, linksOf, parentOf, freeKind, directoryKind}
 use Rattle.directory.specs.Slot.{mostSlots}

@@ -1,5 +1,5 @@
 -- Soundness as tests, condition by condition: what the check answers, and what decides the records on any bytes. n and b are the counts of inodes and blocks.
-use Prim.Native.Nat.{ℕ, _+_, _*_, _%_}
+use Prim.Native.Nat.{ℕ, _*_, _%_}
 use mathlib.Core.Bool.{Bool, not, _&&_, _||_}
 use mathlib.Core.List.{List}
 use lib.Dec.{eqb, leb, ltb}

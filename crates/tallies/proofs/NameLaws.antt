@@ -2,23 +2,21 @@
 use Prim.Native.Nat.{ℕ, zero, suc, _+_, _*_, _-_, _/_, _%_, _≤_, _<_}
 use mathlib.Core.Path.{_≡_, refl, sym, ap, ap₂, _∙_, subst}
 use mathlib.Core.Logic.{_≢_}
-use mathlib.Core.Bool.{Bool, true, false, not, _&&_}
+use mathlib.Core.Bool.{Bool, false, not, _&&_}
 use mathlib.Core.List.{List}
 use native.Mathlib.Numerals.{add-one}
 use native.Mathlib.Omega.{arith}
-use borrow.Author.Tests.{eq-eqb, ne-eqb, eqb-true, le-leb}
+use borrow.Author.Tests.{le-leb}
 use lib.Dec.{eqb}
 use lib.ListN.{length, getD, set, take, drop}
-use Rattle.bounded.specs.Below.{someBelow}
+use Rattle.checker.proofs.CheckLaws.{map-count}
 use Rattle.bounded.specs.Count.{Tallied, tally, countTo}
 use Rattle.bounded.specs.Search.{pick, firstFrom}
 use Rattle.bounded.specs.Seen.{Seen}
-use Rattle.bounded.proofs.BoolLaws.{clash, chain-end}
-use Rattle.bounded.proofs.BelowLaws.{some-at, some-none}
-use Rattle.bounded.proofs.CountLaws.{tally-skip, tally-one, tally-else, met, unmet, count-ext}
+use Rattle.bounded.proofs.BoolLaws.{chain-end}
+use Rattle.bounded.proofs.CountLaws.{tally-skip, tally-one, tally-skips, tally-past, count-some-is}
 use Rattle.bounded.proofs.ReflectLaws.{r-fails}
 use Rattle.bounded.proofs.SearchLaws.{first-ext}
-use Rattle.bounded.proofs.SeenLaws.{seen-test}
 use Rattle.octets.specs.Octets.{part}
 use Rattle.octets.proofs.PartLaws.{cut}
 use Rattle.octets.proofs.NumLaws.{length-num}
@@ -26,13 +24,12 @@ use Rattle.layout.specs.Sizes.{mostInodes, mostImageBlocks, addressCount, isCom
 use Rattle.layout.specs.Header.{putFree, putComplete}
 use Rattle.layout.specs.Inode.{kindOf, directoryKind, addressOf, addressIndex, putLinks}
 use Rattle.layout.specs.Block.{blockAt, kthBlock}
-use Rattle.layout.specs.Free.{blockNamed, inodeFree, blockFree}
+use Rattle.layout.specs.Free.{inodeFree}
 use Rattle.names.specs.Entry.{entryInode}
 use Rattle.directory.specs.Slot.{mostSlots, slotAt, entryOf}
 use Rattle.desk.specs.Desk.{copiedOf}
 use Rattle.sound.specs.Place.{placeOf}
 use Rattle.sound.proofs.PlaceLaws.{place-dir, place-slot}
-use Rattle.checker.proofs.EntryLaws.{tally-skips}
 use Rattle.checkpoint.specs.Image.{hasSlot, slotNames, imageNaming, inodeNamed}
 use Rattle.checkpoint.specs.Notes.{isCopied}
 use Rattle.checkpoint.specs.Copier.{nextInode, putCounts, finishImage}
@@ -41,11 +38,6 @@ use Rattle.checkpoint.proofs.Copy.NoteLaws.{copied-is}
 use Rattle.tallies.specs.Addressed.{Addressed}
 
 -- ---- one entry
-module _ (f : ℕ → ℕ) (lo n p : ℕ) (l : List ℕ) where
-  -- a value of n or more is passed over
-  pub tally-past : n ≤ f p → Tallied f lo n p l → Tallied f lo n (p + 1) l
-  tally-past h t = record { long = t .long; each = λ v a b. t .each v a b ∙ sym (tally-else f p v (λ q. omega arith)) }
-
 -- the 16 bytes at o name i
 module _ (m : List ℕ) (o i : ℕ) (counts : List ℕ) (a : i ≡ entryInode (take (o + 16 - o) (drop o m)))
     (f : ℕ → ℕ) (p : ℕ) (e : f p ≡ entryInode (part m o 16)) (t : Tallied f 1 257 p counts) where
@@ -118,21 +110,7 @@ other-inode m n e l k counts t =
     let w : mostSlots * (e - 1) + mostSlots ≡ mostSlots * e = omega arith in
     subst (λ (p : ℕ). Tallied (imageNaming m n) 1 257 p counts) w (tally-skips (imageNaming m n) 1 257 (mostSlots * (e - 1)) mostSlots counts (λ j b. other-kind m n e j l b k) t)
 
--- the same counts, in other words
-pub tallied-at : (f : ℕ → ℕ) (counts : List ℕ) (p q : ℕ) → p ≡ q → Tallied f 1 257 p counts → Tallied f 1 257 q counts
-tallied-at f counts p q e t = subst (λ (x : ℕ). Tallied f 1 257 x counts) e t
-
 -- ---- what the counts say
-pub some-tally : (f : ℕ → ℕ) (m v : ℕ) → not (eqb (tally f m v) 0) ≡ someBelow (λ p. eqb (f p) v) m
-some-tally f m v = go (someBelow (λ p. eqb (f p) v) m) refl
-  where
-    go : (b : Bool) → someBelow (λ p. eqb (f p) v) m ≡ b → not (eqb (tally f m v) 0) ≡ b
-    go true q =
-        let r = some-at (λ p. eqb (f p) v) m q in
-        let z = met f m (r .0) v (r .1) (eqb-true (f (r .0)) v (r .2)) in
-        ap not (ne-eqb (tally f m v) 0 (λ w. omega arith))
-    go false q = ap not (eq-eqb (tally f m v) 0 (unmet f m v (λ k l w. clash (eqb (f k) v) (eq-eqb (f k) v w) (some-none (λ p. eqb (f p) v) m q k l))))
-
 -- the search over the counts is the search over the slots
 module _ (m d counts : List ℕ) (n : ℕ) (few : n ≤ mostInodes) (t : Tallied (imageNaming m n) 1 257 (mostSlots * n) counts) where
   pub next-read : firstFrom (λ i. not (isCopied d n i) && not (eqb (getD counts i 0) 0)) 1 n ≡ nextInode m d n
@@ -140,7 +118,7 @@ module _ (m d counts : List ℕ) (n : ℕ) (few : n ≤ mostInodes) (t : Tallied
   next-read =
       first-ext (λ i. not (isCopied d n i) && not (eqb (getD counts i 0) 0)) (λ i. not (isCopied d n i) && inodeNamed m n i) 1 n
       (λ i l h. ap (λ (b : Bool). not (isCopied d n i) && b)
-      (ap (λ (x : ℕ). not (eqb x 0)) (t .each i l (omega arith)) ∙ some-tally (imageNaming m n) (mostSlots * n) i))
+      (ap (λ (x : ℕ). not (eqb x 0)) (t .each i l (omega arith)) ∙ count-some-is (λ p. eqb (imageNaming m n p) i) (mostSlots * n)))
 
 -- ---- what the finish writes
 pub counts-none : (m : List ℕ) (n : ℕ) → m ≡ putCounts m m n 0
@@ -156,11 +134,6 @@ pub length-counts : (m : List ℕ) (n k : ℕ) → length (putCounts m m n k) �
 unfolding putCounts putLinks
 length-counts m n zero = refl
 length-counts m n (suc k) = length-num 2 (putCounts m m n k) _ _ ∙ length-counts m n k
-
-pub unnamed-read : (m map : List ℕ) (n b : ℕ) → b ≤ mostImageBlocks → Seen (addressOf m n) (mostImageBlocks + 1) (addressCount * n) map → countTo (λ c. eqb (getD map c 0) 0) b ≡ countTo (blockFree m n) b
-unfolding blockNamed
-unnamed-read m map n b l s =
-    count-ext (λ k. eqb (getD map (k + 1) 0) 0) (λ k. blockFree m n (k + 1)) b (λ k h. seen-test (addressOf m n) (mostImageBlocks + 1) (addressCount * n) (k + 1) map s (omega arith))
 
 -- ---- the copied byte
 module _ (d : List ℕ) (n i : ℕ) where
@@ -178,4 +151,4 @@ pub finish-read : (m map t u v : List ℕ) (n b i k : ℕ) → b ≤ mostImageBl
     → i ≡ countTo (inodeFree m) n → k ≡ countTo (λ c. eqb (getD map c 0) 0) b → t ≡ putCounts m m n n → u ≡ putFree t i k → v ≡ putComplete u isComplete → v ≡ finishImage m n b
 unfolding finishImage
 finish-read m map t u v n b i k l s e f p q r =
-    r ∙ ap (λ (x : List ℕ). putComplete x 1) (q ∙ rw (p, e, f, unnamed-read m map n b l s))
+    r ∙ ap (λ (x : List ℕ). putComplete x 1) (q ∙ rw (p, e, f, map-count m n b (mostImageBlocks + 1) map s (omega arith)))

@@ -1,10 +1,9 @@
 -- Laws of bytes in hex.
-use Prim.Native.Nat.{ℕ, zero, suc, _+_, _-_, _*_, _/_, _%_, _≤_, _<_}
+use Prim.Native.Nat.{ℕ, _+_, _-_, _*_, _/_, _%_, _≤_, _<_}
 use mathlib.Core.Path.{_≡_, refl, sym, ap, ap₂, _∙_}
 use mathlib.Core.Bool.{Bool, true, false, not, _&&_}
-use mathlib.Core.List.{List, [], _∷_, _++_}
+use mathlib.Core.List.{List}
 use native.Mathlib.Omega.{arith}
-use native.Mathlib.Numerals.{add-one}
 use borrow.Author.Tests.{eq-eqb, ne-eqb, le-leb, lt-leb}
 use lib.Dec.{eqb, leb}
 use lib.ListN.{length, getD, set}
@@ -15,7 +14,7 @@ use Rattle.bounded.specs.Table.{table}
 use Rattle.bounded.proofs.BoolLaws.{and-false-l, and-false-r}
 use Rattle.bounded.proofs.BelowLaws.{all-stop}
 use Rattle.bounded.proofs.ReflectLaws.{r-le, r-and, r-fails}
-use Rattle.bounded.proofs.TableLaws.{length-table}
+use Rattle.bounded.proofs.TableLaws.{length-table, table-more}
 use Rattle.octets.specs.Octets.{splice}
 use Rattle.octets.proofs.PartLaws.{splice-snoc}
 use Rattle.text.specs.Letters.{letters}
@@ -104,11 +103,6 @@ unfolding hexCount
 count-within s room n r e f = within s room n (isWord s (letters "-")) (isHex s) (leb (length s / 2) room) (λ t. r-le (length s / 2) room .to t) (sym e ∙ f)
 
 -- ---- bytes
-table-more : (f : ℕ → ℕ) (k : ℕ) → table f (k + 1) ≡ table f k ++ (f k ∷ [])
-unfolding table
-table-more f zero = refl
-table-more f (suc k) = rw add-one (ap (λ (l : List ℕ). f 0 ∷ l) (sym (ap (table (λ j. f (suc j))) (add-one k)) ∙ table-more (λ j. f (suc j)) k))
-
 pub bytes-none : (s out : List ℕ) → out ≡ splice out 0 (table (hexByte s) 0)
 unfolding table splice
 bytes-none s out = refl

@@ -6,18 +6,16 @@ use mathlib.Core.List.{List}
 use native.Mathlib.Nat.{add-zero}
 use native.Mathlib.Numerals.{add-one}
 use native.Mathlib.Omega.{arith}
-use borrow.Author.Tests.{eq-eqb, ne-eqb, eqb-true, le-leb, lt-leb, not-true, not-false}
+use borrow.Author.Tests.{eq-eqb, ne-eqb, le-leb, lt-leb, not-true, not-false}
 use borrow.Rule.Slice.PartMut.{putMid}
 use lib.Dec.{eqb, leb}
 use lib.ListN.{length, take, drop, replicate}
 use Rattle.bounded.specs.Search.{pick}
-use Rattle.bounded.specs.Below.{someBelow}
-use Rattle.bounded.specs.Count.{count, tally}
+use Rattle.bounded.specs.Count.{tally}
 use Rattle.bounded.specs.declared.Found.{Found}
 use Rattle.bounded.specs.declared.Found.the-variants.{At}
-use Rattle.bounded.proofs.BoolLaws.{fails, same-test, chain-end, and-false-l, and-false-r, and-true}
-use Rattle.bounded.proofs.BelowLaws.{none-some, some-none}
-use Rattle.bounded.proofs.CountLaws.{count-none, count-pos}
+use Rattle.bounded.proofs.BoolLaws.{chain-end, and-false-l, and-false-r, and-true}
+use Rattle.bounded.proofs.CountLaws.{count-none-is}
 use Rattle.octets.specs.Octets.{part, splice, zeroed, pasted}
 use Rattle.octets.proofs.PartLaws.{length-splice, length-inside, part-all, part-same, cut, lent}
 use Rattle.layout.specs.Sizes.{addressCount}
@@ -32,12 +30,6 @@ use Rattle.checkpoint.specs.Copier.{copy, targetBlock, copiedEntry, copiedEntri
 use Rattle.checkpoint.proofs.Copy.NoteLaws.{length-copied-block}
 
 -- ---- the image block
-count-none-is : (p : ℕ → Bool) (m : ℕ) → eqb (count p m) 0 ≡ not (someBelow p m)
-count-none-is p m =
-    same-test (eqb (count p m) 0) (not (someBelow p m))
-    (λ t. ap not (none-some p m (λ k l. fails (p k) (λ h. omega (arith, count-pos p m k l h, eqb-true (count p m) 0 t)))))
-    (λ t. eq-eqb (count p m) 0 (count-none p m (some-none p m (not-true (someBelow p m) t))))
-
 module _ (m : List ℕ) (n b c : ℕ) where
   pub own-low : c < 1 → false ≡ leb 1 c && (leb c b && not (blockNamed m n c))
   own-low h = sym (and-false-l _ _ (lt-leb 1 c h))

@@ -1,20 +1,19 @@
 -- Image and desk lie after a file call as they did before it. s is the store, m the image, d the desk, n and b the counts of inodes and image blocks, x the call's effect.
-use Prim.Native.Nat.{ℕ, zero, suc, _+_, _*_, _≤_, _<_}
-use mathlib.Core.Path.{_≡_, refl, sym, ap, ap₂, _∙_, subst}
+use Prim.Native.Nat.{ℕ, _+_, _*_, _≤_, _<_}
+use mathlib.Core.Path.{_≡_, sym, ap, ap₂, _∙_, subst}
 use mathlib.Core.Logic.{_≢_}
-use mathlib.Core.Bool.{Bool, true, false, _&&_}
+use mathlib.Core.Bool.{Bool, true, false}
 use mathlib.Core.List.{List, [], _∷_}
 use native.Mathlib.Omega.{arith}
 use borrow.Author.Tests.{eq-eqb}
 use lib.Dec.{eqb}
-use lib.ListN.{length, replicate}
+use lib.ListN.{length}
 use Rattle.bounded.proofs.SumLaws.{sum-ext}
 use Rattle.bounded.specs.Search.{pick}
-use Rattle.octets.specs.Octets.{part, splice}
+use Rattle.bounded.proofs.EachLaws.{All, all-map}
 use Rattle.layout.specs.Sizes.{addressCount}
 use Rattle.layout.specs.Inode.{kindOf, sizeOf, freeKind, directoryKind}
 use Rattle.layout.specs.Block.{blockOf, blocksUsed, kthBlock}
-use Rattle.names.specs.Entry.{entryBytes, entryInode}
 use Rattle.directory.specs.Slot.{mostSlots, slotsInBlock}
 use Rattle.desk.specs.Sizes.{deskLength, running}
 use Rattle.desk.specs.declared.Desk.{Desk}
@@ -25,30 +24,19 @@ use Rattle.sound.specs.declared.Form.the-variants.{Store}
 use Rattle.changes.proofs.StoreLaws.{dir-of}
 use Rattle.changes.proofs.SoundTreeLaws.{body-at}
 use Rattle.files.specs.Effect.{Entry, placeIn, Effect}
-use Rattle.files.proofs.Lawful.{All, Away, Stands, Stays, Lawful}
-use Rattle.files.proofs.EffectFacts.{all-map}
+use Rattle.files.proofs.Lawful.{Away, Stands, Stays, Lawful}
 use Rattle.checkpoint.specs.Fit.{isRunning}
 use Rattle.checkpoint.specs.Busy.{anyLocked}
 use Rattle.checkpoint.specs.Notes.{isCopied, cutEntries, clearMarks, setMarks}
-use Rattle.checkpoint.specs.Copier.{copiedEntry, copiedEntries, copiedBlock}
+use Rattle.checkpoint.specs.Copier.{copiedEntries, copiedBlock}
 use Rattle.checkpoint.proofs.Copy.Laid.{DeskLaid, Laid, Open, cost, costSoFar}
 use Rattle.checkpoint.proofs.DecisionLaws.{apart-locked}
 use Rattle.checkpoint.proofs.Call.CallNotes.{MarksAlone, same-copied, Ranged, call-notes, mark-away}
 use Rattle.checkpoint.proofs.Call.CutEntries.{Whole, entries-laid}
+use Rattle.checkpoint.proofs.Copy.NoteLaws.{copied-block}
 
 -- ---- a block that is copied by the same marks is the same
 module _ (d e : List ℕ) (n i k : ℕ) (l : k < addressCount) (marks : (t : ℕ) → t < mostSlots → markOf e n i t ≡ markOf d n i t) (copied : (j : ℕ) → isCopied e n j ≡ isCopied d n j) where
-  entry-same : (x : List ℕ) (j : ℕ) → j < slotsInBlock → copiedEntry e n i k x j ≡ copiedEntry d n i k x j
-  unfolding copiedEntry
-  entry-same x j u =
-      ap₂ (λ (a b : Bool). pick (a && b) (splice x (entryBytes * j) (replicate entryBytes 0)) x)
-      (marks (slotsInBlock * k + j) (omega arith)) (copied (entryInode (part x (entryBytes * j) entryBytes)))
-
-  entries-same : (x : List ℕ) (j : ℕ) → j ≤ slotsInBlock → copiedEntries e n i k x j ≡ copiedEntries d n i k x j
-  unfolding copiedEntries
-  entries-same x zero u = refl
-  entries-same x (suc j) u = entry-same (copiedEntries e n i k x j) j (omega arith) ∙ ap (λ (y : List ℕ). copiedEntry d n i k y j) (entries-same x j (omega arith))
-
   -- of an inode that stays
   pub block-same : (s t : List ℕ) → k < blocksUsed (sizeOf s i) → Stays s t n i → copiedBlock t e n i k ≡ copiedBlock s d n i k
   unfolding copiedBlock
@@ -56,7 +44,7 @@ module _ (d e : List ℕ) (n i k : ℕ) (l : k < addressCount) (marks : (t : ℕ
       let a : kindOf t i ≡ kindOf s i = r .inode .kind in
       let b : blockOf t n (kthBlock t n i k) ≡ blockOf s n (kthBlock s n i k) = ap (blockOf t n) (r .inode .blocks k l) ∙ r .bytes k u in
       ap₂ (λ (v : ℕ) (y : List ℕ). pick (eqb v directoryKind) (copiedEntries e n i k y slotsInBlock) y) a b
-      ∙ ap (λ (y : List ℕ). pick (eqb (kindOf s i) directoryKind) y (blockOf s n (kthBlock s n i k))) (entries-same (blockOf s n (kthBlock s n i k)) slotsInBlock (omega arith))
+      ∙ copied-block d e n i k copied (λ j w. marks (slotsInBlock * k + j) (omega arith)) s
 
 -- ---- another store, and other marks: the locked inode stays, and so do its marks
 module _ {n b : ℕ} {s m d : List ℕ} (k : Sound Store s) (x : n ≡ inodesIn s) (h : Laid n b s m d) (t e : List ℕ) (a : MarksAlone n d e)

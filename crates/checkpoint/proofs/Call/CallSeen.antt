@@ -3,17 +3,19 @@ use Prim.Native.Nat.{ℕ, _+_, _*_, _/_, _%_, _≤_, _<_}
 use mathlib.Core.Path.{_≡_, sym, ap, _∙_, subst}
 use mathlib.Core.Logic.{_≢_, _⊎_, inl, inr, ⊎-elim}
 use mathlib.Core.Bool.{Bool, true, false}
-use mathlib.Core.List.{List, _∷_}
+use mathlib.Core.List.{List}
 use native.Mathlib.Omega.{arith}
-use borrow.Author.Tests.{lt-ltb, le-ltb}
+use borrow.Author.Tests.{le-ltb}
 use lib.ListN.{getD}
 use Rattle.bounded.specs.Search.{pick}
 use Rattle.bounded.specs.Table.{table}
 use Rattle.bounded.proofs.TableLaws.{table-ext}
+use Rattle.bounded.proofs.EachLaws.{All, Some, all-map, all-both, some-map, some-get}
+use Rattle.bounded.proofs.CaseLaws.{in-range, is-below}
+use Rattle.bounded.proofs.RangeLaws.{within-in, within-out, within-ext, below-in, below-out}
 use Rattle.layout.specs.Sizes.{blockBytes}
 use Rattle.layout.specs.Inode.{kindOf, sizeOf, parentOf, freeKind, fileKind}
 use Rattle.layout.specs.Block.{blockOf, blocksUsed}
-use Rattle.layout.proofs.ViewLaws.{within-in, within-out, within-ext, in-range, below-in, below-out, is-below}
 use Rattle.directory.specs.Slot.{mostSlots}
 use Rattle.desk.specs.declared.Desk.{Desk}
 use Rattle.desk.specs.Desk.{deskOf, markOf}
@@ -23,8 +25,8 @@ use Rattle.sound.specs.declared.Form.the-variants.{Store}
 use Rattle.changes.proofs.BaredLaws.{naming-none}
 use Rattle.content.specs.Content.{fileByte, fileBytes}
 use Rattle.files.specs.Effect.{Entry, placeIn, Effect}
-use Rattle.files.proofs.Lawful.{All, Some, Away, Stands, Lawful}
-use Rattle.files.proofs.EffectFacts.{all-map, all-both, away-or, some-map}
+use Rattle.files.proofs.Lawful.{Away, Stands, Lawful}
+use Rattle.files.proofs.EffectFacts.{away-or}
 use Rattle.copying.specs.View.{View}
 use Rattle.copying.specs.Deed.{Alike, Cut, cut, kept, Turn, stays, goes, comes, Called}
 use Rattle.checkpoint.specs.Busy.{anyLocked}
@@ -37,17 +39,9 @@ use Rattle.checkpoint.proofs.DecisionLaws.{apart-locked}
 use Rattle.checkpoint.proofs.Call.CallNotes.{same-copied, call-notes, mark-away, mark-made}
 use Rattle.checkpoint.proofs.Call.CutEntries.{CutAt, gone, left, Cuts, cut-by}
 use Rattle.checkpoint.proofs.Call.CallLaid.{runs, desk-long, taken-whole, taken-ranged, made-ranged}
-
--- one of a list
-some-get : {A : Type 0} (P : A → Type 0) (xs : List A) → Some P xs → (x : A) × P x
-some-get P (x ∷ xs) (inl p) = (x, p)
-some-get P (x ∷ xs) (inr p) = some-get P xs p
+use Rattle.checkpoint.proofs.Copy.SeenLaws.{marked-in, names-in}
 
 -- ---- functions of the view
-marked-in : (n : ℕ) (d : List ℕ) (q : ℕ) → q < mostSlots * n → markedAt n d q ≡ markOf d n (dirOf q) (slotOf q)
-unfolding markedAt
-marked-in n d q l = ap (λ (z : Bool). pick z (markOf d n (dirOf q) (slotOf q)) false) (lt-ltb q (mostSlots * n) l)
-
 marked-out : (n : ℕ) (d : List ℕ) (q : ℕ) → mostSlots * n ≤ q → markedAt n d q ≡ false
 unfolding markedAt
 marked-out n d q l = ap (λ (z : Bool). pick z (markOf d n (dirOf q) (slotOf q)) false) (le-ltb q (mostSlots * n) l)
@@ -110,25 +104,21 @@ module _ {n b : ℕ} {s m d : List ℕ} (k : Sound Store s) (e : n ≡ inodesIn 
     unfolding seen shelfOf
     image-stays p = below-in (mostSlots * n) (naming image n) q l ∙ cuts .away q l p ∙ sym (below-in (mostSlots * n) (naming m n) q l)
 
-    names-in : (t : List ℕ) → shelfOf n t .names q ≡ naming t n q
-    unfolding shelfOf
-    names-in t = below-in (mostSlots * n) (naming t n) q l
-
     -- its entry is taken: the image is cut by the rule
     taken-cut : (y : Entry) → Stands s n y → CutAt n m image d y → q ≡ placeIn y → Cut old new q
     unfolding seen
-    taken-cut y r (gone p u) z = cut (names-in image ∙ ap (naming image n) z ∙ p) (ap (isCopied d n) (names-in m ∙ ap (naming m n) z) ∙ u)
+    taken-cut y r (gone p u) z = cut (names-in n image q l ∙ ap (naming image n) z ∙ p) (ap (isCopied d n) (names-in n m q l ∙ ap (naming m n) z) ∙ u)
     taken-cut y r (left p u) z =
-        let w : shelfOf n s .names q ≡ y .inode = names-in s ∙ ap (naming s n) z ∙ r .names in
-        let v : shelfOf n m .names q ≡ naming m n (placeIn y) = names-in m ∙ ap (naming m n) z in
-        kept (names-in image ∙ ap (naming image n) z ∙ p ∙ sym v) (λ i c. u (sym v ∙ i ∙ w) (ap (isCopied d n) (sym w) ∙ c))
+        let w : shelfOf n s .names q ≡ y .inode = names-in n s q l ∙ ap (naming s n) z ∙ r .names in
+        let v : shelfOf n m .names q ≡ naming m n (placeIn y) = names-in n m q l ∙ ap (naming m n) z in
+        kept (names-in n image q l ∙ ap (naming image n) z ∙ p ∙ sym v) (λ i c. u (sym v ∙ i ∙ w) (ap (isCopied d n) (sym w) ∙ c))
 
     taken-turn : (y : Entry) → Taken y → q ≡ placeIn y → Turn old new q
     unfolding seen
     taken-turn y r z =
-        let w : shelfOf n s .names q ≡ y .inode = names-in s ∙ ap (naming s n) z ∙ r .stood .names in
+        let w : shelfOf n s .names q ≡ y .inode = names-in n s q l ∙ ap (naming s n) z ∙ r .stood .names in
         let o = r .some in
-        goes (λ v. omega arith) (λ v. r .free (sym v ∙ w)) (names-in (x .store) ∙ naming-none (x .store) n q (ap (filled (x .store) n) z ∙ r .gone)) (taken-cut y (r .stood) (r .cut) z)
+        goes (λ v. omega arith) (λ v. r .free (sym v ∙ w)) (names-in n (x .store) q l ∙ naming-none (x .store) n q (ap (filled (x .store) n) z ∙ r .gone)) (taken-cut y (r .stood) (r .cut) z)
 
     -- an entry is made
     made-turn : Away q (x .taken) → Some (λ y. (Away (placeIn y) (x .taken) → filled s n (placeIn y) ≡ false) × (q ≡ placeIn y)) (x .made) → Turn old new q
@@ -136,11 +126,11 @@ module _ {n b : ℕ} {s m d : List ℕ} (k : Sound Store s) (e : n ≡ inodesIn 
     made-turn p r =
         let g = some-get _ (x .made) r in
         let u = ap (filled s n) (g .1 .1) ∙ g .1 .0 (subst (λ (z : ℕ). Away z (x .taken)) (g .1 .1) p) in
-        comes (names-in s ∙ naming-none s n q u) (mark-comes (some-map _ _ (x .made) (λ y w. w .1) r)) (image-stays p)
+        comes (names-in n s q l ∙ naming-none s n q u) (mark-comes (some-map _ _ (x .made) (λ y w. w .1) r)) (image-stays p)
 
     stays-turn : Away q (x .taken) → Away q (x .made) → Turn old new q
     unfolding seen
-    stays-turn p r = stays (names-in (x .store) ∙ f .others q l p r .names ∙ sym (names-in s)) (mark-stays p r) (image-stays p)
+    stays-turn p r = stays (names-in n (x .store) q l ∙ f .others q l p r .names ∙ sym (names-in n s q l)) (mark-stays p r) (image-stays p)
 
     in-turn : Turn old new q
     in-turn = ⊎-elim

@@ -11,6 +11,7 @@ use lib.Dec.{eqb}
 use lib.ListN.{length}
 use Rattle.bounded.specs.Search.{pick}
 use Rattle.bounded.proofs.BoolLaws.{clash, holds, and-left, and-right}
+use Rattle.bounded.proofs.EachLaws.{All}
 use Rattle.layout.specs.Sizes.{addressCount}
 use Rattle.layout.specs.Inode.{kindOf, sizeOf, fileKind}
 use Rattle.layout.specs.Block.{blocksUsed, kthBlock}
@@ -22,7 +23,7 @@ use Rattle.sound.specs.declared.Form.the-variants.{Store}
 use Rattle.changes.proofs.SameLaws.{SameInode, SameBlock, inode-stays}
 use Rattle.changes.proofs.EntryWriteLaws.{SlotIn}
 use Rattle.files.specs.Effect.{Entry, placeIn}
-use Rattle.files.proofs.Lawful.{All, Away}
+use Rattle.files.proofs.Lawful.{Away}
 use Rattle.checkpoint.specs.Fit.{isRunning}
 use Rattle.checkpoint.specs.Image.{slotNames}
 use Rattle.checkpoint.specs.Notes.{isCopied, cutsImage, cutImage, cutEntries}

@@ -2,7 +2,7 @@
 use Prim.Native.Nat.{ℕ, _+_, _*_, _/_, _≤_, _<_}
 use mathlib.Core.Path.{_≡_, sym, ap, _∙_, subst}
 use mathlib.Core.Logic.{_≢_, inl}
-use mathlib.Core.Bool.{true, false, not}
+use mathlib.Core.Bool.{true, not}
 use mathlib.Core.List.{List}
 use native.Mathlib.Decide.{ℕ-discrete}
 use native.Mathlib.Omega.{arith}
@@ -21,7 +21,6 @@ use Rattle.sound.specs.Place.{isSlot, entryAt, placeOf}
 use Rattle.sound.specs.Sound.{Sound, inodesIn}
 use Rattle.sound.proofs.FactLaws.{unnamed}
 use Rattle.sound.specs.declared.Form.the-variants.{Store}
-use Rattle.changes.proofs.StoreLaws.{dir-of}
 use Rattle.changes.proofs.KeepLaws.{inode-kept}
 use Rattle.changes.proofs.AddressLaws.{same-named, same-differ}
 use Rattle.changes.proofs.EntryWriteLaws.{SlotIn}
@@ -29,14 +28,7 @@ use Rattle.checkpoint.specs.Notes.{isCopied}
 use Rattle.checkpoint.proofs.Copy.Laid.{Laid, Open, Frame, frame-kept, Fair, cost, costSoFar}
 use Rattle.checkpoint.proofs.Copy.NamingLaws.{used-other}
 use Rattle.checkpoint.proofs.Call.CutLaws.{inside, in-use, slot-same, cut-inode, cut-block, cut-file, cut-empty, cut-other}
-
--- no more than twelve blocks are copied
-pub copied-few : {n b : ℕ} {s m d : List ℕ} → Sound Store s → n ≡ inodesIn s → Laid n b s m d → deskOf d .locked ≢ 0 → deskOf d .progress ≤ addressCount
-copied-few {n} {b} {s} {m} {d} k x h z =
-    let o = h .opened z in
-    let u = o .few in
-    let v = dir-of s n k x (deskOf d .locked) (o .low) (h .desk .high) .few in
-    omega arith
+use Rattle.checkpoint.proofs.Copy.FitLaws.{laid-copied}
 
 module _ {n b : ℕ} {s m d : List ℕ} (k : Sound Store s) (x : n ≡ inodesIn s) (h : Laid n b s m d) (e t : ℕ) (slot : SlotIn m n e t) where
   abbrev cut : List ℕ
@@ -55,7 +47,7 @@ module _ {n b : ℕ} {s m d : List ℕ} (k : Sound Store s) (x : n ≡ inodesIn 
       let l = deskOf d .locked in
       let high = h .desk .high in
       let r = cut-inode h e t slot l (o .low) high in
-      let w = copied-few k x h z in
+      let w = laid-copied h k x in
       record {
         low = o .low;
         new = o .new;

@@ -8,7 +8,8 @@ use native.Mathlib.Omega.{arith}
 use borrow.Author.Tests.{eq-eqb}
 use lib.Dec.{eqb}
 use Rattle.bounded.specs.Search.{pick}
-use Rattle.bounded.proofs.BoolLaws.{clash, or-l}
+use Rattle.bounded.proofs.BoolLaws.{clash, or-l, or-false-r}
+use Rattle.bounded.proofs.EachLaws.{some-none}
 use Rattle.directory.specs.Slot.{mostSlots}
 use Rattle.sound.specs.Place.{filled, naming}
 use Rattle.sound.specs.Sound.{Sound, inodesIn, blocksIn}
@@ -23,7 +24,7 @@ use Rattle.files.specs.Guard.{guardOf, onGuard}
 use Rattle.files.specs.Effect.{Call, Entry, placeIn, Effect, Planned, refused, does, onPlanned, planned, plainDecision}
 use Rattle.files.proofs.Lawful.{Away, Lawful, Each}
 use Rattle.files.proofs.LawfulCalls.{lawful}
-use Rattle.files.proofs.EffectFacts.{away-or, some-none}
+use Rattle.files.proofs.EffectFacts.{away-or}
 use Rattle.checkpoint.specs.Busy.{anyLocked, unlessBusy}
 use Rattle.checkpoint.specs.Notes.{cutEntries, clearMarks, setMarks}
 use Rattle.checkpoint.specs.Live.{World, Outcome, threeGuards, storeAlone, decision, leavesIn, live}
@@ -130,12 +131,8 @@ unfolding anyAt
 any-away [] p e = tt
 any-away (y ∷ ys) p e = (
   λ z. clash (eqb (placeIn y) p || anyAt ys p) (or-l (eqb (placeIn y) p) (anyAt ys p) (eq-eqb (placeIn y) p (sym z))) e,
-  any-away ys p (or-no (eqb (placeIn y) p) (anyAt ys p) e),
+  any-away ys p (or-false-r (eqb (placeIn y) p) (anyAt ys p) e),
 )
-  where
-    or-no : (a b : Bool) → (a || b) ≡ false → b ≡ false
-    or-no true b e = absurd (clash true refl e)
-    or-no false b e = e
 
 pub taken-none : (c : Call) (w : World) (x : Effect) (p : ℕ) → Does c w x → takes (call c) w p ≡ false → Away p (x .taken)
 taken-none c w x p k e =

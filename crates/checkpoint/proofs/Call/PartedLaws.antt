@@ -2,9 +2,9 @@
 use Prim.Native.Nat.{ℕ, _≤_, _<_}
 use mathlib.Core.Path.{_≡_, refl}
 use mathlib.Core.Logic.{_≢_}
-use mathlib.Core.Bool.{false}
 use mathlib.Core.List.{List}
 use native.Mathlib.Omega.{arith}
+use Rattle.bounded.proofs.EachLaws.{All, all-map, all-both}
 use Rattle.directory.specs.Slot.{mostSlots}
 use Rattle.sound.specs.Sound.{Sound, inodesIn, blocksIn}
 use Rattle.sound.specs.declared.Form.the-variants.{Store}
@@ -22,9 +22,8 @@ use Rattle.entries.specs.declared.UnlinkPlan.the-variants.{Take, NoUnlink}
 use Rattle.entries.specs.Plan.{lookUpPlan, createPlan, linkPlan, unlinkPlan, renamePlan}
 use Rattle.entries.proofs.PlanFacts.{moves}
 use Rattle.files.specs.Effect.{Call, lookUp, read, create, write, shorten, link, unlink, rename, Entry, placeIn, Effect, Planned, refused, does, planned, doLookUp, doRead, doCreate, doWrite, doShorten, doLink, doUnlink, doRename}
-use Rattle.files.proofs.Lawful.{All, Away, Lawful, Each}
+use Rattle.files.proofs.Lawful.{Away, Lawful, Each}
 use Rattle.files.proofs.LawfulCalls.{lawful}
-use Rattle.files.proofs.EffectFacts.{all-map, all-both}
 
 abbrev pub Parted : Effect → Type 0
 Parted x = All (λ y. Away (placeIn y) (x .made)) (x .taken)

@@ -14,11 +14,12 @@ use Rattle.bounded.proofs.BoolLaws.{clash, holds, and-left, and-right, and-true
 use Rattle.bounded.specs.Reflect.{Reflects}
 use Rattle.bounded.proofs.ReflectLaws.{r-eq, r-some}
 use Rattle.bounded.proofs.SearchLaws.{found-lowest, none-below}
+use Rattle.bounded.proofs.CaseLaws.{is-below}
+use Rattle.bounded.proofs.RangeLaws.{below-out}
 use Rattle.layout.specs.Sizes.{addressCount, rootInode}
 use Rattle.layout.specs.Inode.{sizeOf}
 use Rattle.layout.specs.Block.{blocksUsed, kthBlock}
 use Rattle.layout.specs.Free.{blockNamed}
-use Rattle.layout.proofs.ViewLaws.{below-out, is-below}
 use Rattle.directory.specs.Slot.{mostSlots}
 use Rattle.desk.specs.Desk.{deskOf}
 use Rattle.sound.specs.Place.{naming}

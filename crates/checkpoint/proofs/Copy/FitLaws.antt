@@ -12,7 +12,7 @@ use Rattle.bounded.specs.Search.{pick}
 use Rattle.bounded.specs.Reflect.{Reflects}
 use Rattle.bounded.proofs.BoolLaws.{clash}
 use Rattle.bounded.proofs.ReflectLaws.{r-eq, r-le, r-true, r-and, r-or, r-all, r-imp}
-use Rattle.layout.specs.Sizes.{mostInodes, mostStoreBlocks, mostImageBlocks, addressCount, rootInode, notComplete, mostBlocks}
+use Rattle.layout.specs.Sizes.{mostInodes, mostImageBlocks, addressCount, rootInode, notComplete, mostBlocks}
 use Rattle.layout.specs.Header.{headerOf}
 use Rattle.layout.specs.Inode.{sizeOf, addressOf}
 use Rattle.layout.specs.Block.{storeLength, blocksUsed, kthBlock}

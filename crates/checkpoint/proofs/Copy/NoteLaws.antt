@@ -1,9 +1,9 @@
 -- What a header written to the desk leaves: copied inodes, marks, and what a step would copy. s is the store, m the image, d the desk, n the inode count.
-use Prim.Native.Nat.{ℕ, zero, suc, _+_, _*_, _≤_}
+use Prim.Native.Nat.{ℕ, zero, suc, _+_, _*_, _≤_, _<_}
 use mathlib.Core.Path.{_≡_, refl, ap, ap₂, _∙_}
 use mathlib.Core.Bool.{Bool, true, false, _&&_}
 use mathlib.Core.List.{List}
-use lib.Dec.{eqb, leb, ltb}
+use lib.Dec.{eqb, leb}
 use lib.ListN.{length, replicate}
 use native.Mathlib.Omega.{arith}
 use Rattle.bounded.specs.Search.{pick}
@@ -15,15 +15,15 @@ use Rattle.octets.proofs.PartLaws.{length-splice}
 use Rattle.layout.specs.Inode.{kindOf, sizeOf, directoryKind}
 use Rattle.layout.specs.Block.{blockOf, blocksUsed, kthBlock}
 use Rattle.names.specs.Entry.{entryBytes, entryInode}
-use Rattle.directory.specs.Slot.{mostSlots, slotsInBlock}
+use Rattle.directory.specs.Slot.{slotsInBlock}
 use Rattle.desk.specs.declared.Desk.{Desk}
 use Rattle.desk.specs.Desk.{putDesk, copiedOf, markOf}
 use Rattle.desk.proofs.DeskLaws.{copied-putDesk, mark-putDesk}
-use Rattle.sound.specs.Place.{dirOf, slotOf}
 use Rattle.checkpoint.specs.Notes.{isCopied}
 use Rattle.checkpoint.specs.Copier.{copiedEntry, copiedEntries, copiedBlock}
 use Rattle.checkpoint.proofs.Copy.Seen.{markedAt}
 use Rattle.checkpoint.proofs.Copy.Laid.{cost}
+use Rattle.checkpoint.proofs.Copy.SeenLaws.{marked-same}
 use Rattle.bounded.proofs.SumLaws.{sum-ext}
 
 -- ---- desks with the same copied inodes and the same marks
@@ -44,21 +44,22 @@ unfolding isCopied
 copied-is d n i = r-and (r-le 1 i) (r-and (r-le i n) (r-eq (copiedOf d i) 1))
 
 -- ---- the block that a step copies depends on the marks of its directory and on the copied inodes
-module _ (d e : List ℕ) (n i : ℕ) (copied : (j : ℕ) → isCopied e n j ≡ isCopied d n j) (marks : (t : ℕ) → markOf e n i t ≡ markOf d n i t) where
-  copied-entry : (k : ℕ) (x : List ℕ) (j : ℕ) → copiedEntry e n i k x j ≡ copiedEntry d n i k x j
+module _ (d e : List ℕ) (n i k : ℕ) (copied : (j : ℕ) → isCopied e n j ≡ isCopied d n j)
+    (marks : (t : ℕ) → t < slotsInBlock → markOf e n i (slotsInBlock * k + t) ≡ markOf d n i (slotsInBlock * k + t)) where
+  copied-entry : (x : List ℕ) (j : ℕ) → j < slotsInBlock → copiedEntry e n i k x j ≡ copiedEntry d n i k x j
   unfolding copiedEntry
-  copied-entry k x j = rw (marks (slotsInBlock * k + j), copied (entryInode (part x (entryBytes * j) entryBytes)))
+  copied-entry x j l = rw (marks j l, copied (entryInode (part x (entryBytes * j) entryBytes)))
 
-  copied-entries : (k : ℕ) (x : List ℕ) (j : ℕ) → copiedEntries e n i k x j ≡ copiedEntries d n i k x j
+  copied-entries : (x : List ℕ) (j : ℕ) → j ≤ slotsInBlock → copiedEntries e n i k x j ≡ copiedEntries d n i k x j
   unfolding copiedEntries
-  copied-entries k x zero = refl
-  copied-entries k x (suc j) =
-      copied-entry k (copiedEntries e n i k x j) j ∙ ap (λ (y : List ℕ). copiedEntry d n i k y j) (copied-entries k x j)
+  copied-entries x zero l = refl
+  copied-entries x (suc j) l =
+      copied-entry (copiedEntries e n i k x j) j (omega arith) ∙ ap (λ (y : List ℕ). copiedEntry d n i k y j) (copied-entries x j (omega arith))
 
-  pub copied-block : (s : List ℕ) (k : ℕ) → copiedBlock s e n i k ≡ copiedBlock s d n i k
+  pub copied-block : (s : List ℕ) → copiedBlock s e n i k ≡ copiedBlock s d n i k
   unfolding copiedBlock
-  copied-block s k =
-      ap (λ (y : List ℕ). pick (eqb (kindOf s i) directoryKind) y (blockOf s n (kthBlock s n i k))) (copied-entries k (blockOf s n (kthBlock s n i k)) slotsInBlock)
+  copied-block s =
+      ap (λ (y : List ℕ). pick (eqb (kindOf s i) directoryKind) y (blockOf s n (kthBlock s n i k))) (copied-entries (blockOf s n (kthBlock s n i k)) slotsInBlock (omega arith))
 
 -- its length is that of the store's block
 module _ (d : List ℕ) (n i k : ℕ) where
@@ -70,7 +71,7 @@ module _ (d : List ℕ) (n i k : ℕ) where
       go true = length-splice x (entryBytes * j) (replicate entryBytes 0)
       go false = refl
 
-  length-entries : (x : List ℕ) (j : ℕ) → length (copiedEntries d n i k x j) ≡ length x
+  pub length-entries : (x : List ℕ) (j : ℕ) → length (copiedEntries d n i k x j) ≡ length x
   unfolding copiedEntries
   length-entries x zero = refl
   length-entries x (suc j) = length-entry (copiedEntries d n i k x j) j ∙ length-entries x j
@@ -85,8 +86,7 @@ module _ (d : List ℕ) (n i k : ℕ) where
 
 -- ---- the marks that are seen
 pub same-marked : {d e : List ℕ} {n : ℕ} → SameNotes d e n → (p : ℕ) → markedAt n e p ≡ markedAt n d p
-unfolding markedAt
-same-marked {n = n} h p = ap (λ (x : Bool). pick (ltb p (mostSlots * n)) x false) (h .marks (dirOf p) (slotOf p))
+same-marked {d} {e} {n} h p = marked-same n d e p (h .marks)
 
 -- ---- the steps that were taken: the same where the copied inodes and the image's sizes are
 pub same-costs : (m t d e : List ℕ) (n : ℕ) → ((i : ℕ) → isCopied e n i ≡ isCopied d n i) → ((i : ℕ) → 1 ≤ i → i ≤ n → sizeOf t i ≡ sizeOf m i) → sum (cost t e n) n ≡ sum (cost m d n) n

@@ -4,8 +4,8 @@ use mathlib.Core.Bool.{Bool, false}
 use mathlib.Core.List.{List}
 use lib.Dec.{ltb}
 use Rattle.bounded.specs.Search.{pick}
+use Rattle.bounded.proofs.RangeLaws.{within, below}
 use Rattle.layout.specs.Inode.{kindOf, sizeOf, parentOf}
-use Rattle.layout.proofs.View.{within, below}
 use Rattle.directory.specs.Slot.{mostSlots}
 use Rattle.desk.specs.Desk.{deskOf, markOf}
 use Rattle.sound.specs.Place.{dirOf, slotOf, entryAt, naming}

@@ -10,11 +10,11 @@ use lib.ListN.{getD}
 use Rattle.bounded.proofs.BoolLaws.{and-true}
 use Rattle.bounded.proofs.ReflectLaws.{r-eq, r-le, r-and, r-says, reflects-ext}
 use Rattle.bounded.proofs.TableLaws.{table-ext}
+use Rattle.bounded.proofs.CaseLaws.{in-range, is-below}
+use Rattle.bounded.proofs.RangeLaws.{within, below, within-in, within-out, below-in, below-out}
 use Rattle.layout.specs.Sizes.{blockBytes}
 use Rattle.layout.specs.Inode.{kindOf, sizeOf, parentOf}
 use Rattle.layout.specs.Block.{blockOf, blocksUsed, kthBlock}
-use Rattle.layout.proofs.View.{within, below}
-use Rattle.layout.proofs.ViewLaws.{within-in, within-out, below-in, below-out, in-range, is-below}
 use Rattle.directory.specs.Slot.{mostSlots}
 use Rattle.desk.specs.Desk.{copiedOf, markOf}
 use Rattle.sound.specs.Inode.{InodeSound}

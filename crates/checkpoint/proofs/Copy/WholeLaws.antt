@@ -9,11 +9,11 @@ use lib.ListN.{getD}
 use Rattle.bounded.specs.Search.{pick}
 use Rattle.bounded.specs.Table.{table}
 use Rattle.bounded.proofs.TableLaws.{table-ext}
+use Rattle.bounded.proofs.CaseLaws.{in-range, is-below}
+use Rattle.bounded.proofs.RangeLaws.{within, within-in, within-out, below-in, below-out}
 use Rattle.layout.specs.Sizes.{mostFileBytes}
 use Rattle.layout.specs.Inode.{kindOf, sizeOf, parentOf, fileKind}
 use Rattle.layout.specs.Block.{blockOf, blocksUsed, kthBlock}
-use Rattle.layout.proofs.View.{within}
-use Rattle.layout.proofs.ViewLaws.{within-in, within-out, in-range, below-in, below-out, is-below}
 use Rattle.names.specs.Entry.{entryInode}
 use Rattle.directory.specs.Slot.{mostSlots, slots}
 use Rattle.sound.specs.Place.{dirOf, slotOf, isSlot, entryAt, naming}

@@ -4,13 +4,14 @@ use mathlib.Core.Path.{_≡_, refl, sym, ap, _∙_, subst}
 use mathlib.Core.Bool.{Bool, true, false}
 use native.Mathlib.Omega.{arith}
 use Rattle.bounded.specs.Search.{pick}
+use Rattle.bounded.proofs.EachLaws.{Some}
 use Rattle.sound.specs.Sound.{inodesIn, blocksIn}
 use Rattle.answers.specs.Refusal.{refusalNumber}
 use Rattle.answers.specs.declared.Refusal.{Refusal}
 use Rattle.answers.specs.declared.Refusal.the-variants.{Busy}
 use Rattle.files.specs.Effect.{Call, Effect, Planned, does, refused, planned, onPlanned, given}
 use Rattle.files.specs.Plain.{plain, leaves}
-use Rattle.files.proofs.Lawful.{Some, Each}
+use Rattle.files.proofs.Lawful.{Each}
 use Rattle.desk.specs.Desk.{deskOf}
 use Rattle.checkpoint.specs.Busy.{anyLocked, unlessBusy}
 use Rattle.checkpoint.specs.Live.{World, decision, leavesIn, live, outOf}

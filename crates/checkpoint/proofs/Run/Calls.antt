@@ -1,9 +1,8 @@
 -- A file call, a question and a start while a copy runs. n and b are the counts of inodes and image blocks.
-use Prim.Native.Nat.{ℕ, _≤_}
+use Prim.Native.Nat.{ℕ}
 use mathlib.Core.Path.{_≡_, refl, sym, ap, _∙_, subst}
 use mathlib.Core.Bool.{true, false}
 use native.Mathlib.Omega.{arith}
-use borrow.Author.Tests.{eq-eqb, le-leb}
 use lib.ListN.{length}
 use Rattle.bounded.specs.Count.{count}
 use Rattle.layout.specs.Sizes.{mostImageBlocks}
@@ -29,7 +28,7 @@ use Rattle.checkpoint.proofs.Call.PartedLaws.{Parted, taken-made-apart}
 use Rattle.checkpoint.proofs.Copy.TidyLaws.{store-tidy}
 use Rattle.checkpoint.proofs.Call.CallLaid.{call-laid}
 use Rattle.checkpoint.proofs.Call.CallSeen.{call-called}
-use Rattle.checkpoint.proofs.Run.Going.{seenIn, Running, ready, runs, locked-used, guards-pass, leftIn, next-is, start-passes}
+use Rattle.checkpoint.proofs.Run.Going.{seenIn, Running, ready, runs, locked-used, leftIn, next-is, start-passes}
 use Rattle.checkpoint.proofs.Run.Turned.{Goes}
 use Rattle.checkpoint.proofs.Step.StartLaws.{image-allowed-is}
 

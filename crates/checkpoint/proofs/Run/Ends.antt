@@ -28,15 +28,15 @@ use Rattle.answers.specs.declared.Refusal.the-variants.{ImageFull}
 use Rattle.answers.specs.declared.Answer.the-variants.{Done, Refused}
 use Rattle.answers.specs.Told.{Told, told}
 use Rattle.checkpoint.specs.Fit.{deskFramed, deskFits, blocksFit, isRunning, mostSteps, notesFit, imageFits}
-use Rattle.checkpoint.specs.Copier.{Step, finish, full, stepOf, finishImage}
-use Rattle.checkpoint.specs.Live.{World, doStep}
-use Rattle.checkpoint.specs.Shown.{Shown, shown}
+use Rattle.checkpoint.specs.Copier.{Step, finish, full, finishImage}
+use Rattle.checkpoint.specs.Live.{World}
+use Rattle.checkpoint.specs.Shown.{Shown}
 use Rattle.checkpoint.specs.List.{advances, outcome, next, accepted, completes}
 use Rattle.checkpoint.proofs.Copy.Laid.{DeskLaid}
 use Rattle.checkpoint.proofs.Copy.FitLaws.{laid-steps}
 use Rattle.checkpoint.proofs.Step.FinishFacts as facts
 use Rattle.checkpoint.proofs.Step.FinishSeen.{finish-sound, finish-quiet}
-use Rattle.checkpoint.proofs.Run.Going.{seenIn, Running, ready, step-is, next-is}
+use Rattle.checkpoint.proofs.Run.Going.{seenIn, Running, ready, step-does, next-is}
 use Rattle.checkpoint.proofs.Run.Turned.{Finishes, Fills}
 use Rattle.checkpoint.proofs.Run.Rests.{Resting}
 
@@ -155,9 +155,6 @@ module _ (n b : ℕ) (w : World) (r : Running n b w) where
   few-steps : deskOf (w .desk) .steps ≤ stepsAnInode * n
   few-steps = laid-steps (r .laid) (r .sound) (r .count)
 
-  outcome-is : (p : Step) → stepOf (w .store) (w .image) (w .desk) n ≡ p → outcome advances w ≡ shown (doStep (w .store) (w .image) (w .desk) n p)
-  outcome-is p e = step-is r ∙ ap (λ (q : Step). shown (doStep (w .store) (w .image) (w .desk) n q)) e
-
   header : (h : Desk) → deskOf (putDesk (w .desk) h) ≡ h
   header h = let e = r .laid .desk .long in desk-putDesk (w .desk) h (omega arith)
 
@@ -180,7 +177,7 @@ module _ (n b : ℕ) (w : World) (r : Running n b w) where
 
   done-is : Finishes n b w → next advances w ≡ done
   done-is f =
-      next-is advances w _ (outcome-is finish (f .is))
+      next-is advances w _ (step-does r finish (f .is))
       ∙ ap (λ (m : List ℕ). record { store = w .store; image = m; desk = putDesk (w .desk) (finishing (deskOf (w .desk))) }) (ap (finishImage (w .image) n) (r .laid .desk .blocks))
 
   done-rest : Finishes n b w → Resting n b done
@@ -209,7 +206,7 @@ module _ (n b : ℕ) (w : World) (r : Running n b w) where
         state = ap (λ (x : World). deskOf (x .desk) .state) v ∙ ap (λ (x : Desk). x .state) h;
         locked = ap (λ (x : World). deskOf (x .desk) .locked) v ∙ ap (λ (x : Desk). x .locked) h;
         counts = ap (λ (x : World). deskOf (x .desk) .steps) v ∙ ap (λ (x : Desk). x .steps) h;
-        answer = ap (λ (o : Shown). o .answer) (outcome-is finish (f .is));
+        answer = ap (λ (o : Shown). o .answer) (step-does r finish (f .is));
         sound = finish-sound (r .laid) (f .none) (tidy-image (r .holds) (f .ended));
         quiet = rw v (finish-quiet (r .laid) (f .none));
       }
@@ -224,7 +221,7 @@ module _ (n b : ℕ) (w : World) (r : Running n b w) where
 
   pub halted : Fills n b w → Halted
   halted f =
-      let o = outcome-is full (f .is) in
+      let o = step-does r full (f .is) in
       let v = next-is advances w _ o in
       let h = header (stopping (deskOf (w .desk))) in
       let few = few-steps in

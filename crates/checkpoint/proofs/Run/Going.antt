@@ -6,10 +6,10 @@ use mathlib.Core.Bool.{true, false}
 use native.Mathlib.Omega.{arith}
 use borrow.Author.Tests.{eq-eqb, ne-eqb}
 use lib.Dec.{eqb}
+use Rattle.bounded.proofs.RangeLaws.{within-in}
 use Rattle.layout.specs.Sizes.{isComplete}
 use Rattle.layout.specs.Header.{headerOf}
 use Rattle.layout.specs.Inode.{kindOf, freeKind}
-use Rattle.layout.proofs.ViewLaws.{within-in}
 use Rattle.desk.specs.Sizes.{running}
 use Rattle.desk.specs.Desk.{deskOf}
 use Rattle.sound.specs.Sound.{Sound, inodesIn}
@@ -17,7 +17,7 @@ use Rattle.sound.specs.declared.Form.the-variants.{Store}
 use Rattle.copying.specs.View.{View}
 use Rattle.copying.specs.Holds.{Holds}
 use Rattle.checkpoint.specs.Fit.{isRunning, imageAllowed}
-use Rattle.checkpoint.specs.Copier.{lock, stepOf}
+use Rattle.checkpoint.specs.Copier.{Step, lock, stepOf}
 use Rattle.checkpoint.specs.Live.{World, Outcome, guarded, doStep, step, threeGuards, start, started}
 use Rattle.checkpoint.specs.Shown.{Shown, shown}
 use Rattle.checkpoint.specs.List.{Ready, Event, advances, outcome, next}
@@ -68,6 +68,10 @@ unfolding outcome step
 step-is {n} {b} {w} r =
     ap shown (guards-pass w (ready r) _)
     ∙ rw (runs r) (ap (λ (k : ℕ). shown (doStep (w .store) (w .image) (w .desk) k (stepOf (w .store) (w .image) (w .desk) k))) (sym (r .count)))
+
+-- the same, once it is known what the step does
+pub step-does : {n b : ℕ} {w : World} → Running n b w → (p : Step) → stepOf (w .store) (w .image) (w .desk) n ≡ p → outcome advances w ≡ shown (doStep (w .store) (w .image) (w .desk) n p)
+step-does {n} {b} {w} r p e = step-is r ∙ ap (λ (q : Step). shown (doStep (w .store) (w .image) (w .desk) n q)) e
 
 -- a world after an outcome
 abbrev pub leftIn : Outcome → World

@@ -9,6 +9,7 @@ use borrow.Author.Tests.{eqb-true}
 use lib.ListN.{length}
 use Rattle.bounded.proofs.SearchLaws.{pick-not}
 use Rattle.bounded.proofs.BoolLaws.{clash, and-left, and-right, or-cases}
+use Rattle.bounded.proofs.EachLaws.{Some}
 use Rattle.desk.specs.Desk.{deskOf}
 use Rattle.layout.specs.Inode.{fileKind, directoryKind, isKind, isDirectory}
 use Rattle.names.specs.Name.{legalName}
@@ -34,7 +35,7 @@ use Rattle.entries.specs.Plan.{lookUpPlan, createPlan, linkPlan, unlinkPlan, re
 use Rattle.content.proofs.PlanFacts.{shortens, writes}
 use Rattle.entries.proofs.PlanFacts.{FoundIn, creates, links, unlinks, renames, moves}
 use Rattle.files.specs.Effect.{Call, lookUp, read, create, write, shorten, link, unlink, rename, Effect, planned, doLookUp, doRead, doCreate, doWrite, doShorten, doLink, doUnlink, doRename}
-use Rattle.files.proofs.Lawful.{Some, Each}
+use Rattle.files.proofs.Lawful.{Each}
 use Rattle.checkpoint.specs.Fit.{isRunning}
 use Rattle.checkpoint.specs.Busy.{isLocked, anyLocked}
 use Rattle.checkpoint.specs.Progress.{Hinders}

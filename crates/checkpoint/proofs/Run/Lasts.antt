@@ -1,11 +1,10 @@
 -- The end of a list that finishes its copy: its last view, as the theory has it and in bytes. n and b are the counts of inodes and image blocks.
 use Prim.Native.Nat.{ℕ, _*_, _≤_, _<_}
 use mathlib.Core.Path.{_≡_, sym, ap, _∙_, subst}
-use mathlib.Core.Bool.{true}
 use mathlib.Core.List.{List}
 use lib.ListN.{length}
+use Rattle.bounded.proofs.RangeLaws.{within-in, below-in}
 use Rattle.layout.specs.Inode.{kindOf, sizeOf, parentOf, fileKind}
-use Rattle.layout.proofs.ViewLaws.{within-in, below-in}
 use Rattle.directory.specs.Slot.{mostSlots}
 use Rattle.desk.specs.Sizes.{finished}
 use Rattle.desk.specs.Desk.{deskOf}

@@ -14,7 +14,7 @@ use Rattle.answers.specs.Told.{Told, told}
 use Rattle.checkpoint.specs.Fit.{imageAllowed, isRunning}
 use Rattle.checkpoint.specs.Live.{World, Outcome, started}
 use Rattle.checkpoint.specs.List.{Ready, Event, call, advances, asks, starts, outcome, next, accepted, run, Moment, here, after}
-use Rattle.checkpoint.proofs.Run.Going.{Running, ready, guards-pass, start-passes}
+use Rattle.checkpoint.proofs.Run.Going.{Running, ready, start-passes}
 use Rattle.checkpoint.proofs.Run.Turned.{Stepped, on, ends, halts, stepped}
 use Rattle.checkpoint.proofs.Run.Calls.{blocks-told, image-allowed, call-goes, asks-goes, starts-goes}
 use Rattle.checkpoint.proofs.Run.Starts.{Fresher, opens, opened-runs}

@@ -3,7 +3,7 @@ use Prim.Native.Nat.{ℕ, _≤_}
 use mathlib.Core.Path.{_≡_, refl, sym, ap, _∙_}
 use mathlib.Core.Logic.{_⊎_, inl, inr}
 use mathlib.Core.Bool.{false}
-use mathlib.Core.List.{List, [], _∷_}
+use mathlib.Core.List.{List}
 use native.Mathlib.Omega.{arith}
 use borrow.Author.Tests.{ne-eqb}
 use lib.Dec.{eqb}
@@ -20,17 +20,17 @@ use Rattle.sound.specs.declared.Form.the-variants.{Store}
 use Rattle.sound.proofs.SoundLaws.{is-sound}
 use Rattle.sound.specs.Test.{framedB, isSound}
 use Rattle.answers.specs.declared.Refusal.the-variants.{WrongState}
-use Rattle.files.specs.Effect.{Call, Entry, Planned, does, refused}
+use Rattle.files.specs.Effect.{Call, Planned, does, refused}
 use Rattle.files.proofs.Lawful.{Each, Lawful}
 use Rattle.files.proofs.LawfulCalls.{lawful}
 use Rattle.checkpoint.specs.Fit.{isRunning, notesFit}
-use Rattle.checkpoint.specs.Notes.{noteMade, noteTaken, cutsImage, cutImage, cutEntries, clearMarks, setMarks}
 use Rattle.checkpoint.specs.Live.{World, refuse, decision, leavesIn, live, step}
 use Rattle.checkpoint.specs.Shown.{shown}
 use Rattle.checkpoint.specs.List.{Ready, call, advances, asks, outcome, next}
 use Rattle.checkpoint.proofs.DecisionLaws.{Unhindered, each-decided}
 use Rattle.checkpoint.proofs.Run.Calls.{asks-same}
 use Rattle.checkpoint.proofs.Run.Going.{guards-pass, leftIn, next-is}
+use Rattle.checkpoint.proofs.Call.CallNotes.{idle-call}
 
 pub record Resting (n b : ℕ) (w : World) : Type 0 where
   pub count : n ≡ inodesIn (w .store)
@@ -46,22 +46,6 @@ unfolding isRunning
 idle {w = w} r = ne-eqb (deskOf (w .desk) .state) running (λ e. elim (r .state) [ inl f ↦ omega arith | inr f ↦ omega arith ])
 
 -- ---- a call writes neither image nor desk
-module _ (d : List ℕ) (i : isRunning d ≡ false) (n : ℕ) where
-  no-cut : (m : List ℕ) (xs : List Entry) → cutEntries m d n xs ≡ m
-  unfolding cutEntries cutImage cutsImage
-  no-cut m [] = refl
-  no-cut m (x ∷ xs) = rw i (no-cut m xs)
-
-  no-clear : (xs : List Entry) → clearMarks d n xs ≡ d
-  unfolding clearMarks noteTaken
-  no-clear [] = refl
-  no-clear (x ∷ xs) = rw i (no-clear xs)
-
-  no-set : (xs : List Entry) → setMarks d n xs ≡ d
-  unfolding setMarks noteMade
-  no-set [] = refl
-  no-set (x ∷ xs) = rw i (no-set xs)
-
 -- the buffers fit another sound store of as many inodes
 refit : (w : World) (s : List ℕ) → Ready w → Sound Store s → inodesIn s ≡ inodesIn (w .store) → Ready (record { store = s; image = w .image; desk = w .desk })
 unfolding isSound notesFit
@@ -97,8 +81,8 @@ module _ (n b : ℕ) (w : World) (r : Resting n b w) where
   decided : (q : Planned) → Each (Lawful (w .store) (inodesIn (w .store))) q → Kept (leftIn (leavesIn w q))
   decided (refused e) k = same-kept w refl
   decided (does x) k =
-      let i = idle r in
-      rw (no-cut (w .desk) i (inodesIn (w .store)) (w .image) (x .taken), no-clear (w .desk) i (inodesIn (w .store)) (x .taken), no-set (w .desk) i (inodesIn (w .store)) (x .made))
+      let z = idle-call (w .image) (w .desk) (inodesIn (w .store)) (x .taken) (x .made) (idle r) in
+      rw (z .0, z .1)
       (stays (x .store) (k .sound) (k .frame .inodes))
 
   drop-allowed : (q : Planned) → Each (Unhindered (Lawful (w .store) (inodesIn (w .store))) w) q → Each (Lawful (w .store) (inodesIn (w .store))) q

@@ -5,13 +5,12 @@ use mathlib.Core.Bool.{Bool, true, false, not, _&&_}
 use mathlib.Core.List.{List}
 use native.Mathlib.Omega.{arith}
 use borrow.Author.Tests.{eqb-true}
-use lib.Dec.{eqb, leb}
+use lib.Dec.{eqb}
 use lib.ListN.{length}
 use Rattle.bounded.specs.Search.{pick}
 use Rattle.bounded.proofs.BoolLaws.{clash, and-left, and-right}
-use Rattle.layout.specs.Sizes.{mostInodes}
 use Rattle.layout.specs.Block.{allowed}
-use Rattle.desk.specs.Sizes.{deskHeaderBytes, deskLength}
+use Rattle.desk.specs.Sizes.{deskHeaderBytes}
 use Rattle.desk.specs.declared.Desk.{Desk}
 use Rattle.desk.specs.Desk.{deskOf, clearNotes}
 use Rattle.desk.specs.Next.{starting}

@@ -2,7 +2,7 @@
 use Prim.Native.Nat.{ℕ, _*_, _≤_, _<_}
 use mathlib.Core.Path.{_≡_, refl, sym, ap, _∙_, subst}
 use mathlib.Core.Logic.{_≢_, inl, inr}
-use mathlib.Core.Bool.{Bool, true, false}
+use mathlib.Core.Bool.{true, false}
 use mathlib.Core.List.{List}
 use native.Mathlib.Decide.{ℕ-discrete}
 use native.Mathlib.Omega.{arith}
@@ -11,9 +11,9 @@ use lib.ListN.{length}
 use Rattle.bounded.proofs.BoolLaws.{clash, holds-or-fails, same-test}
 use Rattle.bounded.proofs.CountLaws.{count-ext}
 use Rattle.bounded.specs.Count.{count}
+use Rattle.bounded.proofs.RangeLaws.{within-in}
 use Rattle.layout.specs.Sizes.{rootInode}
 use Rattle.layout.specs.Inode.{kindOf, linksOf, freeKind}
-use Rattle.layout.proofs.ViewLaws.{within-in}
 use Rattle.directory.specs.Slot.{mostSlots}
 use Rattle.sound.specs.Place.{entryAt, filled, naming}
 use Rattle.sound.specs.Inode.{InodeSound}

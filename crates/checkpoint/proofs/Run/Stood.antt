@@ -6,7 +6,6 @@ use mathlib.Core.Bool.{true, false}
 use mathlib.Core.List.{List, [], _∷_}
 use native.Mathlib.Omega.{arith}
 use Rattle.bounded.proofs.BoolLaws.{holds-or-fails}
-use Rattle.layout.proofs.ViewLaws.{below-in}
 use Rattle.directory.specs.Slot.{mostSlots}
 use Rattle.sound.specs.Place.{dirOf, filled, naming}
 use Rattle.sound.specs.Entry.{EntrySound}
@@ -17,12 +16,11 @@ use Rattle.checkpoint.specs.Live.{World}
 use Rattle.checkpoint.specs.List.{Event, call, advances, asks, starts, next, accepted, takes, Untouched, Kept}
 use Rattle.checkpoint.specs.List as list
 use Rattle.checkpoint.proofs.PlainLaws.{steps-keep, asks-keep, starts-keep}
-use Rattle.checkpoint.proofs.Copy.Seen.{seen, shelfOf}
 use Rattle.checkpoint.proofs.Call.LiveLaws.{ready-sound, live-accepted, live-refused, taken-none, untaken-stays}
 use Rattle.checkpoint.proofs.Run.Moments.{at}
-use Rattle.checkpoint.proofs.Run.Going.{seenIn}
 use Rattle.checkpoint.proofs.Run.Lists.{Going, fit, counted, going-next}
 use Rattle.checkpoint.proofs.Run.Finales.{views}
+use Rattle.checkpoint.proofs.Run.Lasts.{store-names}
 
 -- ---- one event
 module _ (n b : ℕ) (w : World) (g : Going n b w) (p : ℕ) (l : p < mostSlots * n) (z : naming (w .store) n p ≢ 0) where
@@ -70,14 +68,10 @@ kept-range n b es w g l p (list.below {q = q} f u d k) =
     let i : naming (w .store) n q ≡ dirOf p = ap (λ (m : ℕ). naming (w .store) m q) e ∙ d in
     record { below = omega arith; stands = subst (λ (m : ℕ). filled (w .store) m p ≡ true) (sym e) f }
 
-names-at : (n : ℕ) (w : World) (p : ℕ) → p < mostSlots * n → seenIn n w .store .names p ≡ naming (w .store) n p
-unfolding seen shelfOf
-names-at n w p l = below-in (mostSlots * n) (naming (w .store) n) p l
-
 stood : (n b : ℕ) (es : List Event) (w : World) → Going n b w → (p : ℕ) → InRange n w p → Untouched es w p → (k : ℕ) → Stood (views n es w) k p
 stood n b es w g p r u k m l z =
     let i = entry-of n b w g p (r .below) (r .stands) .low in
-    let e = names-at n (at es w m) p (r .below) in
+    let e = store-names n (at es w m) p (r .below) in
     let h = stood-names n b es w g p (r .below) (λ x. omega arith) u m in
     omega arith
 
@@ -87,4 +81,4 @@ chain n b es w g l p k (list.top f u d) = top (stood n b es w g p (kept-range n 
 chain n b es w g l p k (list.below {q = q} f u d h) =
     let r = kept-range n b es w g l q h in
     let i : naming (w .store) n q ≡ dirOf p = ap (λ (m : ℕ). naming (w .store) m q) (counted g) ∙ d in
-    below {q = q} (stood n b es w g p (kept-range n b es w g l p (list.below {q = q} f u d h)) u k) (names-at n w q (r .below) ∙ i) (chain n b es w g l q k h)
+    below {q = q} (stood n b es w g p (kept-range n b es w g l p (list.below {q = q} f u d h)) u k) (store-names n w q (r .below) ∙ i) (chain n b es w g l q k h)

@@ -1,13 +1,12 @@
 -- What 16 and a finish leave in the desk, byte by byte.
-use Prim.Native.Nat.{ℕ, zero, suc, _+_, _-_, _*_, _/_, _%_, _≤_, _<_}
-use mathlib.Core.Path.{_≡_, refl, sym, ap, _∙_}
+use Prim.Native.Nat.{ℕ, _+_, _≤_}
+use mathlib.Core.Path.{_≡_, refl, ap, _∙_}
 use mathlib.Core.List.{List}
 use native.Mathlib.Omega.{arith}
 use native.Mathlib.Decide.{decLt}
 use lib.ListN.{length, getD}
-use Rattle.octets.specs.Octets.{Octets, Apart, numAt, toBytes, putNum}
-use Rattle.octets.proofs.PartLaws.{splice-out, splice-in}
-use Rattle.octets.proofs.NumLaws.{length-toBytes, length-num}
+use Rattle.octets.specs.Octets.{Octets, Apart, numAt, putNum}
+use Rattle.octets.proofs.NumLaws.{length-num, put-byte, keep-byte}
 use Rattle.desk.specs.declared.Desk.{Desk}
 use Rattle.desk.specs.Sizes.{finished, stopped, deskHeaderBytes}
 use Rattle.desk.specs.Desk.{deskOf, putDesk}
@@ -16,51 +15,6 @@ use Rattle.desk.proofs.DeskLaws.{length-putDesk, desk-putDesk}
 use Rattle.checkpoint.specs.Live.{World}
 use Rattle.checkpoint.specs.Shown.{world}
 use Rattle.checkpoint.specs.Progress.{Stopped}
-
--- a number's bytes are those that it was read from
-byte-back : (k : ℕ) (d : List ℕ) (o j : ℕ) → Octets d → j < k → getD (toBytes k (numAt k d o)) j 0 ≡ getD d (o + j) 0
-unfolding numAt toBytes
-byte-back zero d o j h l = absurd (omega arith)
-byte-back (suc zero) d o zero h l = ap (λ (x : ℕ). getD d x 0) (same o)
-  where
-    same : (o : ℕ) → o ≡ o + 0
-    same o = omega arith
-byte-back (suc zero) d o (suc j) h l = absurd (omega arith)
-byte-back (suc (suc k)) d o zero h l =
-    let b = h o in
-    let e : (getD d o 0 + 256 * numAt (suc k) d (o + 1)) % 256 ≡ getD d o 0 = omega arith in
-    e ∙ ap (λ (x : ℕ). getD d x 0) (same o)
-  where
-    same : (o : ℕ) → o ≡ o + 0
-    same o = omega arith
-byte-back (suc (suc k)) d o (suc j) h l =
-    let b = h o in
-    let e : (getD d o 0 + 256 * numAt (suc k) d (o + 1)) / 256 ≡ numAt (suc k) d (o + 1) = omega arith in
-    ap (λ (v : ℕ). getD (toBytes (suc k) v) j 0) e ∙ byte-back (suc k) d (o + 1) j h (omega arith) ∙ ap (λ (x : ℕ). getD d x 0) (more o j)
-  where
-    more : (o j : ℕ) → o + 1 + j ≡ o + suc j
-    more o j = omega arith
-
--- byte x of a number that is written, of another one, and of one written as it was
-put-byte : (k : ℕ) (s : List ℕ) (o v x : ℕ) → Apart x 1 o k → getD (putNum k s o v) x 0 ≡ getD s x 0
-unfolding putNum
-put-byte k s o v x a = splice-out s o (toBytes k v) x (rw (length-toBytes k v) a)
-
-keep-byte : (k : ℕ) (s d : List ℕ) (o x : ℕ) → Octets d → o + k ≤ length s → getD s x 0 ≡ getD d x 0 → getD (putNum k s o (numAt k d o)) x 0 ≡ getD d x 0
-unfolding putNum
-keep-byte k s d o x h l e = elim (decLt x o) [
-  | yes a ↦ put-byte k s o (numAt k d o) x (omega arith) ∙ e
-  | no a ↦ elim (decLt x (o + k)) [
-    | no c ↦ put-byte k s o (numAt k d o) x (omega arith) ∙ e
-    | yes c ↦
-        let n = length-toBytes k (numAt k d o) in
-        let f : x ≡ o + (x - o) = omega arith in
-        ap (λ (y : ℕ). getD (putNum k s o (numAt k d o)) y 0) f
-        ∙ splice-in s o (toBytes k (numAt k d o)) (x - o) (omega arith) (omega arith)
-        ∙ byte-back k d o (x - o) h (omega arith)
-        ∙ ap (λ (y : ℕ). getD d y 0) (sym f)
-  ]
-]
 
 pub stop-bytes : (d : List ℕ) → Octets d → deskHeaderBytes ≤ length d → (x : ℕ) → (x ≡ 4 → ⊥) → (6 ≤ x → x ≤ 9 → ⊥) → getD (putDesk d (stopping (deskOf d))) x 0 ≡ getD d x 0
 unfolding putDesk deskOf

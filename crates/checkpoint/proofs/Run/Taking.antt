@@ -8,12 +8,12 @@ use native.Mathlib.Omega.{arith}
 use borrow.Author.Tests.{eqb-true}
 use lib.Dec.{eqb}
 use Rattle.bounded.proofs.BoolLaws.{clash, and-left, and-right, or-cases}
+use Rattle.bounded.proofs.EachLaws.{All, all-both}
 use Rattle.directory.specs.Slot.{mostSlots}
 use Rattle.sound.specs.Place.{filled}
 use Rattle.sound.proofs.PlaceLaws.{naming-filled}
 use Rattle.files.specs.Effect.{Call, Entry, placeIn, Effect, Planned, onPlanned}
-use Rattle.files.proofs.Lawful.{All, Away, Lawful}
-use Rattle.files.proofs.EffectFacts.{all-both}
+use Rattle.files.proofs.Lawful.{Away, Lawful}
 use Rattle.checkpoint.specs.Live.{World}
 use Rattle.checkpoint.specs.List.{Event, call, advances, asks, starts, next, accepted, anyAt, takes}
 use Rattle.checkpoint.specs.Finished.{countOf}

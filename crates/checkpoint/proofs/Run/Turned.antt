@@ -23,7 +23,7 @@ use Rattle.answers.specs.declared.Answer.the-variants.{Done}
 use Rattle.answers.specs.Told.{told}
 use Rattle.checkpoint.specs.Copier.{Step, lock, copy, close, finish, full, stepOf, targetBlock}
 use Rattle.checkpoint.specs.Live.{World, doStep}
-use Rattle.checkpoint.specs.Shown.{Shown, shown}
+use Rattle.checkpoint.specs.Shown.{Shown}
 use Rattle.checkpoint.specs.List.{advances, outcome, next}
 use Rattle.bounded.specs.declared.Found.the-variants.{At}
 use Rattle.bounded.specs.Count.{count}
@@ -36,7 +36,7 @@ use Rattle.checkpoint.proofs.Step.CloseFacts.{Closing}
 use Rattle.checkpoint.proofs.Step.CloseLaws.{close-laid}
 use Rattle.checkpoint.proofs.Step.CloseSeen.{close-closed}
 use Rattle.checkpoint.proofs.Copy.ChosenLaws.{Chosen, will-lock, will-copy, will-close, will-finish, no-room, chosen, chosen-ended}
-use Rattle.checkpoint.proofs.Run.Going.{seenIn, Running, locked-used, step-is, leftIn, next-is}
+use Rattle.checkpoint.proofs.Run.Going.{seenIn, Running, locked-used, step-does, leftIn, next-is}
 
 -- nothing is left to copy, and the next step finishes
 pub record Finishes (n b : ℕ) (w : World) : Type 0 where
@@ -82,15 +82,11 @@ module _ (n b : ℕ) (w : World) (r : Running n b w) where
     deed = rw e d;
   }
 
-  -- the outcome, once it is known what the step does
-  does-is : (p : Step) → stepOf (w .store) (w .image) (w .desk) n ≡ p → outcome advances w ≡ shown (doStep (w .store) (w .image) (w .desk) n p)
-  does-is p e = step-is r ∙ ap (λ (q : Step). shown (doStep (w .store) (w .image) (w .desk) n q)) e
-
   step-on : (p : Step) → stepOf (w .store) (w .image) (w .desk) n ≡ p → Goes n b w (after p) → deskOf (after p .desk) .steps ≡ deskOf (w .desk) .steps + 1
       → doStep (w .store) (w .image) (w .desk) n p .answer ≡ Done (deskOf (w .desk) .steps + 1) → Stepped n b w
   step-on p e g c a =
-      let h : next advances w ≡ after p = next-is advances w _ (does-is p e) in
-      on (rw h g) (ap (λ (v : World). deskOf (v .desk) .steps) h ∙ c) (ap (λ (o : Shown). o .answer) (does-is p e) ∙ ap told a)
+      let h : next advances w ≡ after p = next-is advances w _ (step-does r p e) in
+      on (rw h g) (ap (λ (v : World). deskOf (v .desk) .steps) h ∙ c) (ap (λ (o : Shown). o .answer) (step-does r p e) ∙ ap told a)
 
   long : deskHeaderBytes ≤ length (w .desk)
   long = let e = r .laid .desk .long in omega arith

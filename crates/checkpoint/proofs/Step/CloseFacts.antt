@@ -1,13 +1,14 @@
 -- The step that closes the locked inode: what it leaves of image and desk, and what the inode then is in the image. l is the locked inode.
-use Prim.Native.Nat.{ℕ, _+_, _*_, _-_, _/_, _%_, _≤_, _<_}
+use Prim.Native.Nat.{ℕ, _+_, _*_, _/_, _%_, _≤_, _<_}
 use mathlib.Core.Path.{_≡_, refl, sym, ap, _∙_, subst}
 use mathlib.Core.Logic.{_≢_}
-use mathlib.Core.Bool.{true, false}
+use mathlib.Core.Bool.{true}
 use mathlib.Core.List.{List}
 use native.Mathlib.Decide.{ℕ-discrete}
 use native.Mathlib.Omega.{arith}
 use lib.ListN.{length, getD}
 use Rattle.bounded.specs.Update.{Changed, here, there}
+use Rattle.bounded.proofs.CaseLaws.{each-else}
 use Rattle.octets.proofs.PartLaws.{length-inside}
 use Rattle.layout.specs.Sizes.{addressCount, blockBytes}
 use Rattle.layout.specs.Inode.{InodeFits, kindOf, sizeOf, parentOf, inodeOf, freeKind, fileKind, directoryKind}
@@ -20,7 +21,7 @@ use Rattle.desk.proofs.DeskLaws.{length-putDesk, length-putCopied, desk-putDesk
 use Rattle.sound.specs.Inode.{InodeSound}
 use Rattle.sound.specs.Sound.{Sound, inodesIn, blocksIn}
 use Rattle.sound.specs.declared.Form.the-variants.{Store}
-use Rattle.changes.proofs.SameLaws.{InInode, NewInode, each-inode, put-attributes, attributes-blocks, attributes-new}
+use Rattle.changes.proofs.SameLaws.{InInode, NewInode, put-attributes, attributes-blocks, attributes-new}
 use Rattle.changes.proofs.KeepLaws.{inode-kept}
 use Rattle.changes.proofs.StoreLaws.{dir-of}
 use Rattle.changes.proofs.SoundTreeLaws.{body-at}
@@ -97,7 +98,7 @@ module _ {n b : ℕ} {s m d : List ℕ} (c : Closing n b s m d) where
         blocks = ap (λ (v : Desk). v .blocks) e ∙ f .blocks;
         state = ap (λ (v : Desk). v .state) e ∙ f .state;
         reserved = reserved-putDesk (putCopied d l 1) (unlocking (deskOf d)) ∙ reserved-putCopied d l 1 ∙ f .reserved;
-        bytes = λ i o q. each-inode (λ i. 1 ≤ i → i ≤ n → copiedOf d′ i ≤ 1) l i (λ _ _. let z = copied-new in omega arith) (λ z _ _. subst (λ (y : ℕ). y ≤ 1) (sym (copied-else i o z)) (f .bytes i o q)) o q;
+        bytes = λ i o q. each-else (λ i. 1 ≤ i → i ≤ n → copiedOf d′ i ≤ 1) l i (λ _ _. let z = copied-new in omega arith) (λ z _ _. subst (λ (y : ℕ). y ≤ 1) (sym (copied-else i o z)) (f .bytes i o q)) o q;
         high = let z = ap (λ (v : Desk). v .locked) e in omega arith;
         none = λ _. ap (λ (v : Desk). v .progress) e;
       }
@@ -122,7 +123,7 @@ module _ {n b : ℕ} {s m d : List ℕ} (c : Closing n b s m d) where
   new-parent = new .parent ∙ (unfold inodeOf in refl)
 
   pub same-blocks : (i : ℕ) → 1 ≤ i → i ≤ n → (k : ℕ) → k < addressCount → kthBlock m′ n i k ≡ kthBlock m n i k
-  same-blocks i o q k a = each-inode (λ i. 1 ≤ i → i ≤ n → kthBlock m′ n i k ≡ kthBlock m n i k) l i (λ _ _. attributes-blocks m n l fits (unlinkedInode (inodeOf s n l)) k a) (λ z x y. in-inode .others i x y z .blocks k a) o q
+  same-blocks i o q k a = each-else (λ i. 1 ≤ i → i ≤ n → kthBlock m′ n i k ≡ kthBlock m n i k) l i (λ _ _. attributes-blocks m n l fits (unlinkedInode (inodeOf s n l)) k a) (λ z x y. in-inode .others i x y z .blocks k a) o q
 
   pub few : blocksUsed (sizeOf s l) ≤ addressCount
   few = dir-of s n (c .sound) (c .inodes) l low high .few
@@ -181,5 +182,5 @@ module _ {n b : ℕ} {s m d : List ℕ} (c : Closing n b s m d) where
 
   pub inodes-sound : (i : ℕ) → 1 ≤ i → i ≤ n → InodeSound m′ n b i
   inodes-sound i o q =
-      each-inode (λ i. 1 ≤ i → i ≤ n → InodeSound m′ n b i) l i (λ _ _. new-sound)
+      each-else (λ i. 1 ≤ i → i ≤ n → InodeSound m′ n b i) l i (λ _ _. new-sound)
       (λ z x y. inode-kept m m′ n b i (in-inode .others i x y z) (λ _ _. in-inode .bytes _) (c .laid .inodes i x y z)) o q

@@ -6,7 +6,7 @@ use mathlib.Core.Bool.{Bool, true, false, not}
 use mathlib.Core.List.{List}
 use native.Mathlib.Decide.{ℕ-discrete}
 use native.Mathlib.Omega.{arith}
-use borrow.Author.Tests.{eq-eqb, ne-eqb}
+use borrow.Author.Tests.{eq-eqb}
 use lib.ListN.{getD}
 use Rattle.bounded.specs.Sum.{sum}
 use Rattle.bounded.proofs.BoolLaws.{clash}
@@ -30,6 +30,7 @@ use Rattle.checkpoint.proofs.Copy.Laid.{Frame, frame-kept, Fair, Laid, 
 use Rattle.bounded.proofs.SumLaws.{sum-but}
 use Rattle.checkpoint.proofs.Step.PasteLaws.{pasted, pasted-either}
 use Rattle.checkpoint.proofs.Step.CloseFacts.{Closing, lock, low, high, full, desk-closed, copied-closed, desk-laid, in-inode, new-kind, new-size, same-blocks, entry-new, inodes-sound}
+use Rattle.checkpoint.proofs.Step.LockLaws.{locked-cost}
 
 module _ {n b : ℕ} {s m d : List ℕ} (c : Closing n b s m d) where
   abbrev l : ℕ
@@ -116,10 +117,6 @@ module _ {n b : ℕ} {s m d : List ℕ} (c : Closing n b s m d) where
   unfolding cost
   cost-after = let g = lock c .low in let e : l - 1 + 1 ≡ l = omega arith in rw (e, changed-here refl (copied-closed c l), new-size c)
 
-  so-far : costSoFar d ≡ 1 + deskOf d .progress
-  unfolding costSoFar
-  so-far = rw (ne-eqb (deskOf d .locked) 0 (c .on))
-
   none : costSoFar d′ ≡ 0
   unfolding costSoFar
   none = rw (eq-eqb (deskOf d′ .locked) 0 (ap (λ (v : Desk). v .locked) (desk-closed c)))
@@ -133,7 +130,7 @@ module _ {n b : ℕ} {s m d : List ℕ} (c : Closing n b s m d) where
       let w = sum-but (cost m d n) (cost m′ d′ n) n (l - 1) (omega arith) cost-else in
       let x = cost-before in
       let y = cost-after in
-      let z = so-far in
+      let z = locked-cost d (c .on) in
       let k = none in
       let f = full c in
       omega arith

@@ -7,7 +7,7 @@ use mathlib.Core.List.{List}
 use native.Mathlib.Decide.{ℕ-discrete}
 use native.Mathlib.Omega.{arith}
 use Rattle.bounded.proofs.BoolLaws.{clash}
-use Rattle.layout.proofs.ViewLaws.{is-below}
+use Rattle.bounded.proofs.CaseLaws.{is-below}
 use Rattle.names.specs.Entry.{entryInode}
 use Rattle.names.proofs.EntryLaws.{empty-zeros, empty-inode}
 use Rattle.directory.specs.Slot.{mostSlots}

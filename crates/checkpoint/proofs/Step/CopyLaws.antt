@@ -11,12 +11,13 @@ use lib.ListN.{length, getD}
 use Rattle.bounded.specs.declared.Found.the-variants.{At}
 use Rattle.bounded.specs.Count.{Differ}
 use Rattle.bounded.proofs.ReflectLaws.{r-fails}
+use Rattle.bounded.proofs.DifferLaws.{differ-new}
 use Rattle.octets.proofs.PartLaws.{length-inside}
 use Rattle.layout.specs.Sizes.{addressCount, blockBytes}
 use Rattle.layout.specs.Inode.{kindOf, sizeOf, addressOf, addressIndex}
 use Rattle.layout.specs.Block.{blockAt, blockOf, blocksUsed, kthBlock}
 use Rattle.layout.specs.Free.{blockNamed, blockFree}
-use Rattle.directory.specs.Slot.{slots}
+use Rattle.directory.specs.Slot.{slots, slotsInBlock}
 use Rattle.desk.specs.declared.Desk.{Desk}
 use Rattle.desk.specs.Desk.{deskOf}
 use Rattle.desk.specs.Next.{copyingOne}
@@ -28,7 +29,6 @@ use Rattle.sound.specs.declared.Form.the-variants.{Store}
 use Rattle.changes.proofs.StoreLaws.{dir-of}
 use Rattle.changes.proofs.FreeLaws.{FreeBlock}
 use Rattle.changes.proofs.KeepLaws.{slot-kept}
-use Rattle.changes.proofs.AddressLaws.{differ-new}
 use Rattle.copying.specs.Deed.{Quiet}
 use Rattle.checkpoint.specs.Copier.{copy, targetBlock, copiedBlock, stepImage, stepDesk}
 use Rattle.checkpoint.proofs.Copy.Seen.{seen}
@@ -182,7 +182,7 @@ module _ {n b : ℕ} {s m d : List ℕ} (h : Laid n b s m d) (sound : Sound Stor
       name j x y (no q) = rw (old j x q) (was .named j x (omega arith))
 
       block : (j : ℕ) → j < k + 1 → Dec (j ≡ k) → blockOf after n (kthBlock after n l j) ≡ copiedBlock s notes n l j
-      block j y (yes q) = rw (q, new) (wrote .block ∙ sym (copied-block d notes n l (same-notes .copied) (same-notes .marks l) s k))
+      block j y (yes q) = rw (q, new) (wrote .block ∙ sym (copied-block d notes n l k (same-notes .copied) (λ t _. same-notes .marks l (slotsInBlock * k + t)) s))
       block j y (no q) =
           let f = few in
           let x : j < 12 = omega arith in
@@ -190,7 +190,7 @@ module _ {n b : ℕ} {s m d : List ℕ} (h : Laid n b s m d) (sound : Sound Stor
           let z = high in
           ap (blockOf after n) (old j x q)
           ∙ wrote .blocks (kthBlock m n l j) (was .named j x (omega arith) .0) (unfold kthBlock in apart (addressIndex l j) (omega arith))
-          ∙ was .blocks j (omega arith) ∙ sym (copied-block d notes n l (same-notes .copied) (same-notes .marks l) s j)
+          ∙ was .blocks j (omega arith) ∙ sym (copied-block d notes n l j (same-notes .copied) (λ t _. same-notes .marks l (slotsInBlock * j + t)) s)
 
   -- ---- the blocks that no address names
   once : Differ (addressOf after n) (addressCount * n)

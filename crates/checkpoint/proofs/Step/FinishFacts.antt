@@ -7,6 +7,7 @@ use native.Mathlib.Omega.{arith}
 use lib.Dec.{eqb}
 use lib.ListN.{length}
 use Rattle.bounded.specs.Count.{tally, countTo}
+use Rattle.bounded.proofs.CaseLaws.{each-else}
 use Rattle.octets.specs.Octets.{putNum, toBytes}
 use Rattle.octets.proofs.PartLaws.{part-apart}
 use Rattle.octets.proofs.NumLaws.{num-other, length-toBytes}
@@ -20,7 +21,7 @@ use Rattle.layout.proofs.FrameLaws.{length-complete, kind-apart, spare-apart, s
 use Rattle.layout.proofs.ViewLaws.{header-complete}
 use Rattle.layout.specs.Free.{inodeFree, blockFree}
 use Rattle.directory.specs.Slot.{mostSlots}
-use Rattle.changes.proofs.SameLaws.{SameFrame, SameInode, SameBody, SameBlock, same-body, body-then, frame-then, frame-stays, inode-stays, each-inode, put-links, links-new, links-body, links-parent, put-free}
+use Rattle.changes.proofs.SameLaws.{SameFrame, SameInode, SameBody, SameBlock, same-body, body-then, frame-then, frame-stays, inode-stays, put-links, links-new, links-body, links-parent, put-free}
 use Rattle.checkpoint.specs.Image.{imageNaming}
 use Rattle.checkpoint.specs.Copier.{putCounts, finishImage}
 
@@ -66,10 +67,10 @@ module _ (m : List ℕ) (n : ℕ) (few : n ≤ mostInodes) (area : 16 + 32 * n �
       let p = put-links t n (k + 1) f v in
       record {
         frame = frame-then (h .frame) (p .frame);
-        bodies = λ j a b. each-inode (λ j. 1 ≤ j → j ≤ n → SameBody m u n j) (k + 1) j (λ a b. body-then (h .bodies (k + 1) a b) (links-body t n (k + 1) f v)) (λ z a b. body-then (h .bodies j a b) (same-body (p .others j a b z))) a b;
-        parents = λ j a b. each-inode (λ j. 1 ≤ j → j ≤ n → parentOf u j ≡ parentOf m j) (k + 1) j (λ a b. links-parent t n (k + 1) f v ∙ h .parents (k + 1) a b) (λ z a b. p .others j a b z .parent ∙ h .parents j a b) a b;
+        bodies = λ j a b. each-else (λ j. 1 ≤ j → j ≤ n → SameBody m u n j) (k + 1) j (λ a b. body-then (h .bodies (k + 1) a b) (links-body t n (k + 1) f v)) (λ z a b. body-then (h .bodies j a b) (same-body (p .others j a b z))) a b;
+        parents = λ j a b. each-else (λ j. 1 ≤ j → j ≤ n → parentOf u j ≡ parentOf m j) (k + 1) j (λ a b. links-parent t n (k + 1) f v ∙ h .parents (k + 1) a b) (λ z a b. p .others j a b z .parent ∙ h .parents j a b) a b;
         bytes = λ c. p .bytes c ∙ h .bytes c;
-        links = λ j a b. each-inode (λ j. 1 ≤ j → j ≤ suc k → linksOf u j ≡ tally (imageNaming m n) (mostSlots * n) j) (k + 1) j (λ _ _. links-new t n (k + 1) f v) (λ z a b. p .others j a (omega arith) z .links ∙ h .links j a (omega arith)) a b;
+        links = λ j a b. each-else (λ j. 1 ≤ j → j ≤ suc k → linksOf u j ≡ tally (imageNaming m n) (mostSlots * n) j) (k + 1) j (λ _ _. links-new t n (k + 1) f v) (λ z a b. p .others j a (omega arith) z .links ∙ h .links j a (omega arith)) a b;
       }
 
   counts : (k : ℕ) → k ≤ n → Counts m (putCounts m m n k) n k

@@ -4,15 +4,14 @@ use mathlib.Core.Path.{_≡_, sym, ap, _∙_, subst}
 use mathlib.Core.Logic.{_≢_, inl, inr}
 use mathlib.Core.Bool.{true, false, not}
 use mathlib.Core.List.{List}
-use native.Mathlib.Decide.{ℕ-discrete}
 use native.Mathlib.Omega.{arith}
 use lib.ListN.{getD}
 use Rattle.bounded.specs.Count.{one, tally}
 use Rattle.bounded.specs.Climb.{Closed}
-use Rattle.bounded.specs.Update.{upd}
 use Rattle.bounded.proofs.BoolLaws.{clash}
 use Rattle.bounded.proofs.CountLaws.{met, unmet}
-use Rattle.bounded.proofs.UpdateLaws.{upd-same, upd-other}
+use Rattle.bounded.proofs.ClimbLaws.{leads-kept}
+use Rattle.bounded.proofs.TallyLaws.{tally-same, met-one}
 use Rattle.layout.specs.Sizes.{addressCount, blockBytes, rootInode}
 use Rattle.layout.specs.Inode.{kindOf, linksOf, parentOf, freeKind, directoryKind}
 use Rattle.layout.specs.Block.{blockOf, kthBlock}
@@ -24,11 +23,11 @@ use Rattle.sound.specs.Place.{dirOf, entryAt, filled, naming}
 use Rattle.sound.specs.Entry.{sameNames}
 use Rattle.sound.specs.Inode.{InodeSound}
 use Rattle.sound.proofs.PlaceLaws.{filled-is, naming-entry}
-use Rattle.changes.proofs.KeepLaws.{Body, SamePlace, place-kept, inode-like, tail-kept, leads-kept}
+use Rattle.changes.proofs.KeepLaws.{Body, SamePlace, place-kept, inode-like, tail-kept}
 use Rattle.changes.proofs.FreeLaws.{same-free}
 use Rattle.changes.proofs.AddressLaws.{same-differ, same-named, same-unnamed}
 use Rattle.changes.proofs.ChangeLaws.{NamesSound}
-use Rattle.changes.proofs.TreeLaws.{Tree, Names, Linked, tally-but, tally-same, one-same, one-other}
+use Rattle.changes.proofs.TreeLaws.{Tree, Names, Linked}
 use Rattle.changes.proofs.SoundTreeLaws.{nodesOf, entries-back, links-back}
 use Rattle.copying.specs.View.{Tidy}
 use Rattle.checkpoint.specs.Image.{imageNaming}
@@ -38,21 +37,6 @@ use Rattle.checkpoint.proofs.Copy.SeenLaws.{names-in, names-below, entr
 use Rattle.checkpoint.proofs.Copy.Laid.{Laid}
 use Rattle.checkpoint.proofs.Copy.NamingLaws.{same-naming}
 use Rattle.checkpoint.proofs.Step.FinishFacts.{Finished, finished}
-
--- a value that one number alone has is met once
-pub met-one : (f : ℕ → ℕ) (m p v : ℕ) → 1 ≤ v → p < m → f p ≡ v → ((q : ℕ) → q < m → f q ≡ v → q ≡ p) → tally f m v ≡ 1
-met-one f m p v o l e h =
-    let g = upd f p 0 in
-    let a = tally-but f g m p l (λ q _ z. upd-other f p 0 q z) v in
-    let b = unmet g m v (λ q k w. other q k w (ℕ-discrete q p)) in
-    let c = one-same (f p) v e in
-    let x = upd-same f p 0 in
-    let d = one-other (g p) v (λ w. omega arith) in
-    omega arith
-  where
-    other : (q : ℕ) → q < m → upd f p 0 q ≡ v → Dec (q ≡ p) → ⊥
-    other q k w (yes z) = let x = upd-same f p 0 in let y : upd f p 0 q ≡ upd f p 0 p = ap (upd f p 0) z in omega arith
-    other q k w (no z) = z (h q k (sym (upd-other f p 0 q z) ∙ w))
 
 module _ {n b : ℕ} {s m d : List ℕ} (h : Laid n b s m d) where
   abbrev t : List ℕ

@@ -6,10 +6,10 @@ use mathlib.Core.Bool.{true}
 use mathlib.Core.List.{List}
 use native.Mathlib.Omega.{arith}
 use lib.ListN.{length, getD}
+use Rattle.bounded.proofs.CaseLaws.{is-below}
 use Rattle.layout.specs.Sizes.{mostInodes, mostImageBlocks, blockBytes, rootInode, isComplete}
 use Rattle.layout.specs.Header.{headerOf, headerRestZero}
 use Rattle.layout.specs.Block.{storeLength, blockOf}
-use Rattle.layout.proofs.ViewLaws.{is-below}
 use Rattle.layout.specs.Free.{blockFree}
 use Rattle.directory.specs.Slot.{mostSlots}
 use Rattle.desk.specs.declared.Desk.{Desk}

@@ -6,10 +6,10 @@ use mathlib.Core.Bool.{false}
 use mathlib.Core.List.{List}
 use native.Mathlib.Omega.{arith}
 use borrow.Author.Tests.{ne-eqb}
+use Rattle.bounded.proofs.RangeLaws.{below-in}
 use Rattle.layout.specs.Sizes.{rootInode}
 use Rattle.layout.specs.Inode.{sizeOf}
 use Rattle.layout.specs.Block.{blocksUsed}
-use Rattle.layout.proofs.ViewLaws.{below-in}
 use Rattle.directory.specs.Slot.{mostSlots}
 use Rattle.desk.specs.declared.Desk.{Desk}
 use Rattle.desk.specs.Desk.{deskOf, putDesk}

@@ -11,7 +11,7 @@ use lib.ListN.{length, replicate, length-replicate}
 use Rattle.bounded.specs.Search.{pick}
 use Rattle.bounded.proofs.BoolLaws.{clash}
 use Rattle.octets.specs.Octets.{part, splice}
-use Rattle.octets.proofs.PartLaws.{length-splice, part-apart, part-same}
+use Rattle.octets.proofs.PartLaws.{part-apart, part-same}
 use Rattle.layout.specs.Sizes.{blockBytes}
 use Rattle.layout.specs.Inode.{kindOf, directoryKind}
 use Rattle.layout.specs.Block.{blockOf, kthBlock}
@@ -21,6 +21,7 @@ use Rattle.desk.specs.Desk.{markOf}
 use Rattle.changes.proofs.KeepLaws.{entry-in}
 use Rattle.checkpoint.specs.Notes.{isCopied}
 use Rattle.checkpoint.specs.Copier.{copiedEntry, copiedEntries, copiedBlock}
+use Rattle.checkpoint.proofs.Copy.NoteLaws.{length-entries}
 
 -- "a marked entry that names a copied inode is zeroed": the entry e of slot t
 unfoldable pub pasted : List ℕ → ℕ → ℕ → ℕ → List ℕ → List ℕ
@@ -46,14 +47,6 @@ module _ (d : List ℕ) (n i k : ℕ) where
     zeros : length (replicate {A = ℕ} entryBytes 0) ≡ entryBytes
     zeros = length-replicate {A = ℕ} entryBytes 0
 
-    length-one : length (copiedEntry d n i k x j) ≡ length x
-    unfolding copiedEntry
-    length-one = go test
-      where
-        go : (b : Bool) → length (pick b (splice x (entryBytes * j) (replicate entryBytes 0)) x) ≡ length x
-        go true = length-splice x (entryBytes * j) (replicate entryBytes 0)
-        go false = refl
-
     one-other : (t : ℕ) → t ≢ j → part (copiedEntry d n i k x j) (entryBytes * t) entryBytes ≡ part x (entryBytes * t) entryBytes
     unfolding copiedEntry
     one-other t h = go test
@@ -72,11 +65,6 @@ module _ (d : List ℕ) (n i k : ℕ) where
 
   -- ---- the first m entries
   module _ (x : List ℕ) where
-    pub length-pasted : (m : ℕ) → length (copiedEntries d n i k x m) ≡ length x
-    unfolding copiedEntries
-    length-pasted zero = refl
-    length-pasted (suc m) = length-one (copiedEntries d n i k x m) m ∙ length-pasted m
-
     past : (m t : ℕ) → m ≤ t → part (copiedEntries d n i k x m) (entryBytes * t) entryBytes ≡ part x (entryBytes * t) entryBytes
     unfolding copiedEntries
     past zero t l = refl
@@ -90,7 +78,7 @@ module _ (d : List ℕ) (n i k : ℕ) where
         go : Dec (t ≡ m) → (t < m → part (copiedEntries d n i k x m) (entryBytes * t) entryBytes ≡ pasted d n i (slotsInBlock * k + t) (part x (entryBytes * t) entryBytes))
             → part (copiedEntry d n i k (copiedEntries d n i k x m) m) (entryBytes * t) entryBytes ≡ pasted d n i (slotsInBlock * k + t) (part x (entryBytes * t) entryBytes)
         go (yes e) r =
-            let z = length-pasted m in
+            let z = length-entries d n i k x m in
             rw e (one-same (copiedEntries d n i k x m) m (omega arith) ∙ ap (pasted d n i (slotsInBlock * k + m)) (past m m (omega arith)))
         go (no e) r = one-other (copiedEntries d n i k x m) m t e ∙ r (omega arith)
 

@@ -3,39 +3,27 @@ use Prim.Native.Nat.{ℕ, _+_, _*_, _-_, _≤_, _<_}
 use mathlib.Core.Path.{_≡_, sym, ap, ap₂, _∙_}
 use mathlib.Core.Bool.{true, false, _&&_}
 use mathlib.Core.List.{List}
-use native.Mathlib.Decide.{decLt}
 use native.Mathlib.Omega.{arith}
 use lib.Dec.{eqb}
-use lib.ListN.{length, getD, replicate, length-replicate, getD-replicate, List·getD-eq-default}
+use lib.ListN.{length, getD, replicate, length-replicate}
 use Rattle.bounded.proofs.ReflectLaws.{r-fails}
-use Rattle.octets.specs.Octets.{numAt}
+use Rattle.bounded.proofs.RangeLaws.{within, within-in, below-in}
 use Rattle.octets.proofs.PartLaws.{getD-part}
-use Rattle.octets.proofs.NumLaws.{zero-num}
+use Rattle.octets.proofs.ZeroLaws.{byte-zeros, num-zeros}
 use Rattle.layout.specs.Sizes.{addressCount, blockBytes, rootInode, notComplete}
 use Rattle.layout.specs.declared.header.Header.{Header}
 use Rattle.layout.specs.Header.{headerOf, putHeader, headerRestZero}
 use Rattle.layout.specs.Inode.{kindOf, spareOf, linksOf, sizeOf, parentOf, addressOf, addressIndex}
 use Rattle.layout.specs.Block.{blockAt, blockOf, blocksUsed}
-use Rattle.layout.proofs.View.{View, viewOf, within, contentOf}
+use Rattle.layout.proofs.View.{View, viewOf, contentOf}
 use Rattle.layout.proofs.FrameLaws.{length-header}
-use Rattle.layout.proofs.ViewLaws.{view-header, header-put, within-in, below-in}
+use Rattle.layout.proofs.ViewLaws.{view-header, header-put}
 use Rattle.directory.specs.Slot.{mostSlots}
 use Rattle.sound.specs.Place.{dirOf, isSlot, naming}
 use Rattle.sound.specs.Inode.{InodeSound}
 use Rattle.sound.proofs.PlaceLaws.{slot-is}
 use Rattle.checkpoint.specs.Fit.{imageBlocks}
 use Rattle.checkpoint.specs.Copier.{startImage}
-
--- ---- bytes that are all zero
-zero-byte : (k i : ℕ) → getD (replicate {A = ℕ} k 0) i 0 ≡ 0
-zero-byte k i = go (decLt i k)
-  where
-    go : Dec (i < k) → getD (replicate {A = ℕ} k 0) i 0 ≡ 0
-    go (yes l) = getD-replicate k i 0 0 l
-    go (no l) = List·getD-eq-default (replicate {A = ℕ} k 0) 0 (let e = length-replicate {A = ℕ} k 0 in omega arith)
-
-zero-number : (j k o : ℕ) → numAt j (replicate k 0) o ≡ 0
-zero-number j k o = zero-num j (replicate k 0) o (λ i _. zero-byte k (o + i))
 
 -- ---- the image
 module _ (n k : ℕ) where
@@ -60,43 +48,43 @@ module _ (n k : ℕ) where
 
     pub start-kind : kindOf (startImage n k) i ≡ 0
     unfolding startImage viewOf
-    start-kind = zero-field (kindOf (putHeader zeros head)) (kindOf zeros) (ap (λ (v : View). v .kind i) (view-header n zeros head)) (unfold kindOf in zero-number 1 k _)
+    start-kind = zero-field (kindOf (putHeader zeros head)) (kindOf zeros) (ap (λ (v : View). v .kind i) (view-header n zeros head)) (unfold kindOf in num-zeros 1 k _)
 
     pub start-spare : spareOf (startImage n k) i ≡ 0
     unfolding startImage viewOf
-    start-spare = zero-field (spareOf (putHeader zeros head)) (spareOf zeros) (ap (λ (v : View). v .spare i) (view-header n zeros head)) (unfold spareOf in zero-number 1 k _)
+    start-spare = zero-field (spareOf (putHeader zeros head)) (spareOf zeros) (ap (λ (v : View). v .spare i) (view-header n zeros head)) (unfold spareOf in num-zeros 1 k _)
 
     pub start-links : linksOf (startImage n k) i ≡ 0
     unfolding startImage viewOf
-    start-links = zero-field (linksOf (putHeader zeros head)) (linksOf zeros) (ap (λ (v : View). v .links i) (view-header n zeros head)) (unfold linksOf in zero-number 2 k _)
+    start-links = zero-field (linksOf (putHeader zeros head)) (linksOf zeros) (ap (λ (v : View). v .links i) (view-header n zeros head)) (unfold linksOf in num-zeros 2 k _)
 
     pub start-size : sizeOf (startImage n k) i ≡ 0
     unfolding startImage viewOf
-    start-size = zero-field (sizeOf (putHeader zeros head)) (sizeOf zeros) (ap (λ (v : View). v .size i) (view-header n zeros head)) (unfold sizeOf in zero-number 2 k _)
+    start-size = zero-field (sizeOf (putHeader zeros head)) (sizeOf zeros) (ap (λ (v : View). v .size i) (view-header n zeros head)) (unfold sizeOf in num-zeros 2 k _)
 
     pub start-parent : parentOf (startImage n k) i ≡ 0
     unfolding startImage viewOf
-    start-parent = zero-field (parentOf (putHeader zeros head)) (parentOf zeros) (ap (λ (v : View). v .parent i) (view-header n zeros head)) (unfold parentOf in zero-number 2 k _)
+    start-parent = zero-field (parentOf (putHeader zeros head)) (parentOf zeros) (ap (λ (v : View). v .parent i) (view-header n zeros head)) (unfold parentOf in num-zeros 2 k _)
 
   pub start-address : (x : ℕ) → x < addressCount * n → addressOf (startImage n k) n x ≡ 0
   unfolding startImage viewOf
   start-address x l =
       sym (below-in (12 * n) (addressOf (putHeader zeros head) n) x l) ∙ ap (λ (v : View). v .address x) (view-header n zeros head)
-      ∙ below-in (12 * n) (addressOf zeros n) x l ∙ (unfold addressOf in zero-number 2 k _)
+      ∙ below-in (12 * n) (addressOf zeros n) x l ∙ (unfold addressOf in num-zeros 2 k _)
 
   pub start-byte : (c o : ℕ) → o < blockBytes → getD (blockOf (startImage n k) n c) o 0 ≡ 0
   unfolding startImage viewOf blockOf contentOf
   start-byte c o l =
       let e : blockAt n c + o ≡ 16 + 32 * n + (64 * (c - 1) + o) = omega arith in
       getD-part (putHeader zeros head) (blockAt n c) 64 o l ∙ ap (λ (x : ℕ). getD (putHeader zeros head) x 0) e
-      ∙ ap (λ (v : View). v .content (64 * (c - 1) + o)) (view-header n zeros head) ∙ zero-byte k (16 + 32 * n + (64 * (c - 1) + o))
+      ∙ ap (λ (v : View). v .content (64 * (c - 1) + o)) (view-header n zeros head) ∙ byte-zeros k (16 + 32 * n + (64 * (c - 1) + o))
 
   pub start-reserved : headerRestZero (startImage n k) ≡ true
   unfolding startImage viewOf headerRestZero
   start-reserved =
       ap₂ (λ (a b : ℕ). eqb a 0 && eqb b 0)
-      (ap (λ (v : View). v .reserved) (view-header n zeros head) ∙ zero-number 1 k 9)
-      (ap (λ (v : View). v .reserved4) (view-header n zeros head) ∙ zero-number 4 k 12)
+      (ap (λ (v : View). v .reserved) (view-header n zeros head) ∙ num-zeros 1 k 9)
+      (ap (λ (v : View). v .reserved4) (view-header n zeros head) ∙ num-zeros 4 k 12)
 
   -- so every inode is free
   pub start-inode : (b i : ℕ) → 1 ≤ i → i ≤ n → InodeSound (startImage n k) n b i

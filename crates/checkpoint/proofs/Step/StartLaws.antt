@@ -9,12 +9,11 @@ use borrow.Author.Tests.{lt-ltb, le-ltb}
 use lib.ListN.{length}
 use Rattle.bounded.specs.Reflect.{Reflects}
 use Rattle.bounded.proofs.BoolLaws.{clash}
-use Rattle.bounded.proofs.ReflectLaws.{r-eq, r-le, r-and, r-fails}
+use Rattle.bounded.proofs.ReflectLaws.{r-fails}
 use Rattle.layout.specs.Sizes.{mostImageBlocks}
 use Rattle.layout.specs.declared.header.Header.{Header}
 use Rattle.layout.specs.Inode.{kindOf}
-use Rattle.layout.specs.Block.{storeLength, allowed, Allowed}
-use Rattle.layout.proofs.ViewLaws.{within-in, within-out, in-range, below-in, below-out, is-below}
+use Rattle.layout.specs.Block.{allowed, Allowed}
 use Rattle.layout.proofs.AllowedLaws.{allowed-is}
 use Rattle.directory.specs.Slot.{mostSlots}
 use Rattle.desk.specs.Sizes.{deskLength}
@@ -32,6 +31,8 @@ use Rattle.checkpoint.specs.Copier.{startImage, startDesk}
 use Rattle.checkpoint.proofs.Copy.Seen.{shelfOf, markedAt, seen}
 use Rattle.checkpoint.proofs.Copy.Laid.{Laid, DeskLaid, Frame, cost}
 use Rattle.bounded.proofs.SumLaws.{sum-none}
+use Rattle.bounded.proofs.CaseLaws.{in-range, is-below}
+use Rattle.bounded.proofs.RangeLaws.{within-in, within-out, below-in, below-out}
 use Rattle.checkpoint.proofs.Copy.NoteLaws.{copied-is}
 use Rattle.checkpoint.proofs.Step.LockLaws.{free-cost}
 use Rattle.checkpoint.proofs.Copy.FitLaws.{desk-framed-is, desk-fits-is, idle-free}

@@ -4,10 +4,11 @@ use native.Mathlib.Omega.{arith}
 use denote.Ref.{now}
 use borrow.Author.Needs.{needs}
 use Rattle.bounded.specs.Count.{count}
+use Rattle.bounded.proofs.SearchLaws.{found-below}
 use Rattle.octets.proofs.PartLaws.{length-cut}
 use Rattle.names.specs.Entry.{isEmpty}
 use Rattle.directory.specs.Slot.{emptySlot}
-use Rattle.directory.proofs.SlotLaws.{fromBlock, found-below, block-hit, block-skip, blocks-end, empty-blocks}
+use Rattle.directory.proofs.SlotLaws.{fromBlock, block-hit, block-skip, blocks-end, empty-blocks}
 use Rattle.directory.proofs.empty_slot.Statement.{statement}
 use Rattle.directory.proofs.empty_slot.Tie as tie
 
@@ -50,7 +51,7 @@ mul-t16 : tie.Need-mul-t16 Inv-loop μ-loop
 mul-t16 c = omega arith
 
 add-t17 : tie.Need-add-t17 Inv-loop μ-loop
-add-t17 c = omega (arith, found-below _ (c .before .before .before .empty-in-block .ensures) (c .before .found .given .1))
+add-t17 c = omega (arith, found-below _ 4 (c .before .before .before .empty-in-block .ensures) (c .before .found .given .1))
 
 returns : tie.Need-returns Inv-loop μ-loop
 returns c =

@@ -4,9 +4,10 @@ use native.Mathlib.Omega.{arith}
 use denote.Ref.{now}
 use borrow.Author.Needs.{needs}
 use Rattle.bounded.specs.Count.{count}
+use Rattle.bounded.proofs.SearchLaws.{found-below}
 use Rattle.octets.proofs.PartLaws.{length-cut}
 use Rattle.directory.specs.Slot.{findSlot}
-use Rattle.directory.proofs.SlotLaws.{fromBlock, wordsTest, found-below, block-hit, block-skip, blocks-end, find-blocks}
+use Rattle.directory.proofs.SlotLaws.{fromBlock, wordsTest, block-hit, block-skip, blocks-end, find-blocks}
 use Rattle.directory.proofs.find_slot.Statement.{statement}
 use Rattle.directory.proofs.find_slot.Tie as tie
 
@@ -55,7 +56,7 @@ mul-t18 : tie.Need-mul-t18 Inv-loop μ-loop
 mul-t18 c = omega arith
 
 add-t19 : tie.Need-add-t19 Inv-loop μ-loop
-add-t19 c = omega (arith, found-below _ (c .before .before .before .named-in-block .ensures) (c .before .found .given .1))
+add-t19 c = omega (arith, found-below _ 4 (c .before .before .before .named-in-block .ensures) (c .before .found .given .1))
 
 returns : tie.Need-returns Inv-loop μ-loop
 returns c =

@@ -6,8 +6,9 @@ use borrow.Author.Needs.{needs}
 use Rattle.bounded.specs.Search.{first, firstFrom}
 use Rattle.bounded.proofs.SearchLaws.{first-begin, first-turn, first-found, first-end}
 use Rattle.octets.specs.Octets.{part}
+use Rattle.octets.proofs.PartLaws.{cut-test}
 use Rattle.names.specs.Entry.{wordsAt, sameWords}
-use Rattle.directory.proofs.SlotLaws.{cut-test, wordsTest}
+use Rattle.directory.proofs.SlotLaws.{wordsTest}
 use Rattle.directory.proofs.named_in_block.Statement.{statement}
 use Rattle.directory.proofs.named_in_block.Tie as tie
 
@@ -45,7 +46,7 @@ returns : tie.Need-returns Inv-loop μ-loop
 returns c =
     let i = c .before .before .before .before .loop in
     let a = c .before .before .before .before .before .before .args in
-    sym (i .inv ∙ first-found _ (i .j) 4 (omega arith) (cut-test (wordsTest (a .name)) (now (a .block)) (i .j) (c .before .same-name .ensures) (c .if1 .taken)))
+    sym (i .inv ∙ first-found _ (i .j) 4 (omega arith) (cut-test (wordsTest (a .name)) (now (a .block)) (16 * i .j) 16 (c .before .same-name .ensures) (c .if1 .taken)))
 
 add-j : tie.Need-add-j Inv-loop μ-loop
 add-j c = omega arith
@@ -57,7 +58,7 @@ loop-again : tie.Need-loop-again Inv-loop μ-loop
 loop-again c =
     let i = c .before .before .before .before .loop in
     let a = c .before .before .before .before .before .before .args in
-    i .inv ∙ first-turn _ (i .j) 4 (omega arith) (cut-test (wordsTest (a .name)) (now (a .block)) (i .j) (c .before .same-name .ensures) (c .if1 .left))
+    i .inv ∙ first-turn _ (i .j) 4 (omega arith) (cut-test (wordsTest (a .name)) (now (a .block)) (16 * i .j) 16 (c .before .same-name .ensures) (c .if1 .left))
 
 returns-2 : tie.Need-returns-2 Inv-loop μ-loop
 returns-2 c = let i = c .before .loop in sym (i .inv ∙ first-end _ (i .j) 4 (omega arith))

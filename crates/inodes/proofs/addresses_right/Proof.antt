@@ -8,10 +8,11 @@ use Rattle.bounded.specs.Below.{allBelow}
 use Rattle.bounded.specs.Seen.{Seen}
 use Rattle.bounded.proofs.BelowLaws.{all-stopped, all-done, all-none, all-more}
 use Rattle.bounded.proofs.BoolLaws.{chain-on, chain-off, never}
+use Rattle.bounded.proofs.SeenLaws.{seen-as}
 use Rattle.layout.specs.Block.{blocksUsed}
 use Rattle.layout.specs.Inode.{sizeOf, addressOf, addressIndex}
 use Rattle.inodes.specs.Pass.{addressB}
-use Rattle.inodes.proofs.InodeLaws.{seen-as, addresses-are}
+use Rattle.inodes.proofs.InodeLaws.{addresses-are}
 use Rattle.inodes.proofs.addresses_right.Statement.{statement}
 use Rattle.inodes.proofs.addresses_right.Tie as tie
 
@@ -56,7 +57,7 @@ loop-again c =
       omega arith,
       i .inv .1,
       all-more _ _ (i .inv .2) (chain-on _ _ (y .ensures .0) (c .if1 .left)),
-      seen-as _ _ (omega arith) (y .ensures .1 (not-false _ (c .if1 .left))),
+      seen-as _ _ _ (omega arith) (y .ensures .1 (not-false _ (c .if1 .left))),
     )
 
 same-length-2 : tie.Need-same-length-2 Inv-loop μ-loop
@@ -66,7 +67,7 @@ returns-2 : tie.Need-returns-2 Inv-loop μ-loop
 returns-2 c =
     let i = c .before .loop in
     let p = c .before .before .before .before .before .before .pre .0 .low in
-    (all-done _ _ (i .k) (omega arith) (omega arith) (i .inv .2) ∙ addresses-are _ _ _ _, λ q. seen-as _ _ (omega arith) (i .inv .3))
+    (all-done _ _ (i .k) (omega arith) (omega arith) (i .inv .2) ∙ addresses-are _ _ _ _, λ q. seen-as _ _ _ (omega arith) (i .inv .3))
 
 pub addresses-right-spec : {M : Type 1} → statement M
 addresses-right-spec =

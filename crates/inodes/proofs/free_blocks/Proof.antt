@@ -7,8 +7,7 @@ use borrow.Author.Tests.{eq-eqb, ne-eqb}
 use lib.Dec.{eqb}
 use lib.ListN.{getD}
 use Rattle.bounded.specs.Count.{countTo}
-use Rattle.bounded.proofs.CountLaws.{count-hit, count-miss, count-le}
-use Rattle.inodes.proofs.InodeLaws.{count-zero}
+use Rattle.bounded.proofs.CountLaws.{count-hit, count-miss, count-le, count-zero}
 use Rattle.inodes.proofs.free_blocks.Statement.{statement}
 use Rattle.inodes.proofs.free_blocks.Tie as tie
 

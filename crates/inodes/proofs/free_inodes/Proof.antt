@@ -6,8 +6,7 @@ use borrow.Author.Needs.{needs}
 use borrow.Author.Tests.{eq-eqb, ne-eqb}
 use Rattle.layout.specs.Free.{inodeFree}
 use Rattle.bounded.specs.Count.{countTo}
-use Rattle.bounded.proofs.CountLaws.{count-hit, count-miss, count-le}
-use Rattle.inodes.proofs.InodeLaws.{count-zero}
+use Rattle.bounded.proofs.CountLaws.{count-hit, count-miss, count-le, count-zero}
 use Rattle.inodes.proofs.free_inodes.Statement.{statement}
 use Rattle.inodes.proofs.free_inodes.Tie as tie
 

@@ -8,12 +8,12 @@ use lib.ListN.{length, length-replicate}
 use Rattle.sound.specs.Test.{inodeB}
 use Rattle.bounded.specs.Seen.{Seen}
 use Rattle.bounded.specs.Below.{allBelow}
-use Rattle.bounded.proofs.SeenLaws.{seen-start}
+use Rattle.bounded.proofs.SeenLaws.{seen-start, seen-as}
 use Rattle.bounded.proofs.BoolLaws.{chain-on, chain-off, never}
 use Rattle.bounded.proofs.BelowLaws.{all-none, all-more, all-stopped, all-done}
 use Rattle.layout.specs.Inode.{addressOf}
 use Rattle.inodes.specs.Pass.{newBlocksB}
-use Rattle.inodes.proofs.InodeLaws.{seen-as, inodes-are}
+use Rattle.inodes.proofs.InodeLaws.{inodes-are}
 use Rattle.inodes.proofs.inodes_right.Statement.{statement}
 use Rattle.inodes.proofs.inodes_right.Tie as tie
 
@@ -33,7 +33,7 @@ inode-right-requires : tie.Need-inode-right-requires Inv-loop μ-loop
 inode-right-requires c κs =
     let p = c .before .before .before .before .before .pre .0 in
     let l = p .long in
-    (p, record { low = omega arith; high = omega arith; few = p .inodes; area = omega arith }, seen-as _ _ (omega arith) (c .before .before .loop .inv .2))
+    (p, record { low = omega arith; high = omega arith; few = p .inodes; area = omega arith }, seen-as _ _ _ (omega arith) (c .before .before .loop .inv .2))
 
 same-length : tie.Need-same-length Inv-loop μ-loop
 same-length c =
@@ -60,7 +60,7 @@ same-length-2 c = c .before .loop .inv .2 .long ∙ sym (ap length (c .before .b
 returns-2 : tie.Need-returns-2 Inv-loop μ-loop
 returns-2 c =
     let i = c .before .loop in
-    (all-done _ _ (i .k) (omega arith) (omega arith) (i .inv .1) ∙ inodes-are _ _ _, λ q. seen-as _ _ (omega arith) (i .inv .2))
+    (all-done _ _ (i .k) (omega arith) (omega arith) (i .inv .1) ∙ inodes-are _ _ _, λ q. seen-as _ _ _ (omega arith) (i .inv .2))
 
 pub inodes-right-spec : {M : Type 1} → statement M
 inodes-right-spec =

@@ -1,6 +1,5 @@
 -- `marks::with_mark` meets its contract. Assumes nothing.
 use mathlib.Core.Path.{ap}
-use Prim.Native.Nat.{_-_}
 use lib.Bits.{bitOr}
 use borrow.Author.Needs.{needs}
 use Rattle.marks.specs.Mark.{withMark}

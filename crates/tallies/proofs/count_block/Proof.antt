@@ -1,11 +1,11 @@
 use native.Mathlib.Nat.{add-zero}
-use Rattle.tallies.proofs.NameLaws.{block-inside, entry-names, empty-block, tallied-at}
+use Rattle.tallies.proofs.NameLaws.{block-inside, entry-names, empty-block}
 use Prim.Native.Nat.{_+_, _*_, _-_, _≤_}
 use mathlib.Core.Path.{_≡_, sym, _∙_}
 use native.Mathlib.Omega.{arith}
 use denote.Ref.{now}
 use Rattle.bounded.specs.Count.{Tallied}
-use Rattle.bounded.proofs.CountLaws.{tallied-le}
+use Rattle.bounded.proofs.CountLaws.{tallied-le, tallied-as}
 use Rattle.sound.specs.Place.{placeOf}
 use Rattle.checkpoint.specs.Image.{imageNaming}
 use borrow.Author.Needs.{needs}
@@ -41,7 +41,7 @@ block-at-requires c κs =
     (p .0 .few, omega arith, omega (arith, c .before .kth-block .ensures, block-inside (now (a .m)) (a .n) (a .e) (a .k) (p .0) (p .1) (p .2) (p .3)))
 
 loop-holds : tie.Need-loop-holds Inv-loop μ-loop
-loop-holds c = (omega arith, tallied-at _ _ _ _ (sym (add-zero _)) (c .before .before .before .before .before .pre .5))
+loop-holds c = (omega arith, tallied-as _ _ _ _ (sym (add-zero _)) (c .before .before .before .before .before .pre .5))
 
 mul-count-entry : tie.Need-mul-count-entry Inv-loop μ-loop
 mul-count-entry c = omega arith
@@ -78,7 +78,7 @@ loop-again c =
     let p = z .pre in
     let w : placeOf (a .e) (4 * a .k) + l .loop .j + 1 ≡ placeOf (a .e) (4 * a .k) + (l .loop .j + 1) = omega arith in (
       omega arith,
-      tallied-at _ _ _ _ w (c .before .before .count-entry .ensures _ (placeOf (a .e) (4 * a .k) + l .loop .j)
+      tallied-as _ _ _ _ w (c .before .before .count-entry .ensures _ (placeOf (a .e) (4 * a .k) + l .loop .j)
           (entry-names (now (a .m)) (a .n) (a .e) (a .k) (p .1) (p .3) _ _ (l .loop .j) (l .before .before .before .kth-block .ensures) (omega (arith, l .before .before .if1 .left)) (l .before .block-at .ensures) (omega arith) (p .4)) (l .loop .inv .1)),
     )
 
@@ -89,7 +89,7 @@ returns-2 : tie.Need-returns-2 Inv-loop μ-loop
 returns-2 c =
     let a = c .before .before .before .before .before .before .before .args in
     let w : placeOf (a .e) (4 * a .k) + c .before .loop .j ≡ placeOf (a .e) (4 * (a .k + 1)) = omega arith in
-    tallied-at _ _ _ _ w (c .before .loop .inv .1)
+    tallied-as _ _ _ _ w (c .before .loop .inv .1)
 
 pub count-block-spec : {M : Type 1} → statement M
 count-block-spec =

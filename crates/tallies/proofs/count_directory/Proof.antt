@@ -3,9 +3,10 @@ use mathlib.Core.Path.{_≡_, sym, _∙_}
 use native.Mathlib.Omega.{arith}
 use denote.Ref.{now}
 use Rattle.bounded.specs.Count.{Tallied}
+use Rattle.bounded.proofs.CountLaws.{tallied-as}
 use Rattle.sound.specs.Place.{placeOf}
 use Rattle.checkpoint.specs.Image.{imageNaming}
-use Rattle.tallies.proofs.NameLaws.{other-inode, tallied-at}
+use Rattle.tallies.proofs.NameLaws.{other-inode}
 use borrow.Author.Needs.{needs}
 use Rattle.tallies.proofs.count_directory.Statement.{statement}
 use Rattle.tallies.proofs.count_directory.Tie as tie
@@ -31,7 +32,7 @@ loop-holds : tie.Need-loop-holds Inv-loop μ-loop
 loop-holds c =
     let e = c .before .before .before .before .args .e in
     let w : 48 * (e - 1) ≡ placeOf e (4 * 0) = omega arith in
-    (omega arith, tallied-at _ _ _ _ w (c .before .before .before .before .pre .3))
+    (omega arith, tallied-as _ _ _ _ w (c .before .before .before .before .pre .3))
 
 count-block-requires : tie.Need-count-block-requires Inv-loop μ-loop
 count-block-requires c κs =
@@ -55,7 +56,7 @@ returns-2 c =
     let e = c .before .before .before .before .before .before .args .e in
     let l = c .before .before .before .before .before .before .pre .1 in
     let w : placeOf e (4 * c .before .loop .k) ≡ 48 * e = omega arith in
-    tallied-at _ _ _ _ w (c .before .loop .inv .1)
+    tallied-as _ _ _ _ w (c .before .loop .inv .1)
 
 pub count-directory-spec : {M : Type 1} → statement M
 count-directory-spec =

@@ -2,9 +2,8 @@ use Prim.Native.Nat.{_+_, _*_, _-_, _≤_}
 use mathlib.Core.Path.{_≡_}
 use native.Mathlib.Omega.{arith}
 use Rattle.bounded.specs.Count.{Tallied}
-use Rattle.bounded.proofs.CountLaws.{tally-start}
+use Rattle.bounded.proofs.CountLaws.{tally-start, tallied-as}
 use Rattle.checkpoint.specs.Image.{imageNaming}
-use Rattle.tallies.proofs.NameLaws.{tallied-at}
 use borrow.Author.Needs.{needs}
 use Rattle.tallies.proofs.count_names.Statement.{statement}
 use Rattle.tallies.proofs.count_names.Tie as tie
@@ -28,7 +27,7 @@ count-directory-requires : tie.Need-count-directory-requires Inv-loop μ-loop
 count-directory-requires c κs =
     let k = c .before .before .loop .k in
     let w : 48 * k ≡ 48 * (k + 1 - 1) = omega arith in
-    (c .before .before .before .before .pre, omega arith, omega arith, tallied-at _ _ _ _ w (c .before .before .loop .inv .1))
+    (c .before .before .before .before .pre, omega arith, omega arith, tallied-as _ _ _ _ w (c .before .before .loop .inv .1))
 
 add-k : tie.Need-add-k Inv-loop μ-loop
 add-k c = search needs
@@ -42,7 +41,7 @@ loop-again c = (omega arith, c .before .count-directory .ensures)
 returns : tie.Need-returns Inv-loop μ-loop
 returns c =
     let w : 48 * c .before .loop .k ≡ 48 * c .before .before .before .args .n = omega arith in
-    tallied-at _ _ _ _ w (c .before .loop .inv .1)
+    tallied-as _ _ _ _ w (c .before .loop .inv .1)
 
 pub count-names-spec : {M : Type 1} → statement M
 count-names-spec =

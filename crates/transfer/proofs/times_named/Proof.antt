@@ -4,10 +4,9 @@ use mathlib.Core.Logic.{⊎-elim}
 use native.Mathlib.Omega.{arith}
 use denote.Ref.{now}
 use Rattle.bounded.specs.Count.{tally}
-use Rattle.bounded.proofs.CountLaws.{tally-here, tally-else, tally-le}
+use Rattle.bounded.proofs.CountLaws.{tally-here, tally-else, tally-le, count-zero}
 use Rattle.layout.specs.Sizes.{addressCount}
 use Rattle.layout.specs.Inode.{addressOf}
-use Rattle.inodes.proofs.InodeLaws.{count-zero}
 use borrow.Author.Needs.{needs}
 use Rattle.transfer.proofs.times_named.Statement.{statement}
 use Rattle.transfer.proofs.times_named.Tie as tie

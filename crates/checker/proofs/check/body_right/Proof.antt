@@ -1,5 +1,5 @@
 use mathlib.Core.Path.{_≡_, refl, sym, ap, _∙_}
-use mathlib.Core.Bool.{Bool, true, false, not, _||_}
+use mathlib.Core.Bool.{Bool, true, not}
 use mathlib.Core.List.{List}
 use Prim.Native.Nat.{ℕ}
 use native.Mathlib.Omega.{arith}
@@ -9,7 +9,7 @@ use denote.Ref.{now}
 use Rattle.sound.specs.Test.{bodyB}
 use Rattle.sound.specs.declared.Form.{Form}
 use Rattle.sound.specs.Sound.{blankOf}
-use Rattle.bounded.proofs.BoolLaws.{and-left, chain-stop, chain-on, chain-end, or-l}
+use Rattle.bounded.proofs.BoolLaws.{and-left, chain-stop, chain-on, chain-end, or-l, or-end}
 use Rattle.layout.specs.Block.{Sized}
 use Rattle.checker.proofs.CheckLaws.{inodesRight, bodyAs, afterHeader, afterInodes, afterEntries, afterLinks, afterParents, afterCounts, body-as, frame-sized, root-fits, dir-fits, parents-closed}
 use Rattle.checker.proofs.check.body_right.Statement.{statement}
@@ -40,10 +40,6 @@ past-parents c x q = past-links (c .before .before) x (chain-end _ _ _ (chain-on
 
 past-counts : (c : tie.Else6) → Left (c .before .before .before .before .before .before .before .before .before .before .before .before .before .before .before .before .before .before .before) afterCounts
 past-counts c x q = past-parents (c .before .before .before) x (chain-end _ _ _ (chain-on _ _ (c .before .counts-right .ensures) (c .if6 .left)) q)
-
--- a test whose first part fails
-or-end : (x a b : Bool) → a ≡ false → x ≡ b → x ≡ a || b
-or-end x a b h q = q ∙ sym (ap (λ (y : Bool). y || b) h)
 
 -- ---- what the passes found
 sized : (z : tie.Start) → Sized (now (z .args .s)) (z .args .n) (z .args .b)

@@ -1,5 +1,5 @@
-use Rattle.commands.proofs.CommandLaws.{search-begin, word-field, bytes-found, bytes-none}
-use Rattle.bounded.proofs.SearchLaws.{first-turn, first-found, first-end}
+use Rattle.commands.proofs.CommandLaws.{word-field, bytes-found, bytes-none}
+use Rattle.bounded.proofs.SearchLaws.{first-turn, first-found, first-end, search-begin}
 use Rattle.bounded.specs.Search.{first, firstFrom}
 use Rattle.text.specs.Pieces.{piece, pieces, isWord}
 use Prim.Native.Nat.{ℕ, _-_}

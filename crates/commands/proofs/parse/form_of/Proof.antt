@@ -1,6 +1,6 @@
-use Rattle.commands.proofs.CommandLaws.{search-begin, fits-line}
+use Rattle.commands.proofs.CommandLaws.{fits-line}
 use Rattle.commands.specs.Command.{fits, formOf}
-use Rattle.bounded.proofs.SearchLaws.{first-turn, first-found, first-end}
+use Rattle.bounded.proofs.SearchLaws.{first-turn, first-found, first-end, search-begin}
 use Rattle.bounded.specs.Search.{firstFrom}
 use Rattle.text.specs.Pieces.{piece}
 use Prim.Native.Nat.{ℕ, _-_}

@@ -5,8 +5,7 @@ use borrow.Author.Tests.{eq-eqb, ne-eqb}
 use lib.ListN.{getD}
 use lib.Dec.{eqb}
 use Rattle.bounded.specs.Search.{firstFrom}
-use Rattle.bounded.proofs.SearchLaws.{first-turn, first-found}
-use Rattle.content.proofs.GrowCodeLaws.{search-left}
+use Rattle.bounded.proofs.SearchLaws.{first-turn, first-found, search-left}
 use borrow.Author.Needs.{needs}
 use Rattle.content.proofs.apply.next_unnamed.Statement.{statement}
 use Rattle.content.proofs.apply.next_unnamed.Tie as tie

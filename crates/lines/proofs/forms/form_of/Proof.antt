@@ -1,7 +1,7 @@
 use native.Mathlib.Omega.{arith}
-use Rattle.lines.proofs.AskLaws.{search-begin, form-turn}
+use Rattle.lines.proofs.AskLaws.{form-turn}
 use Rattle.lines.specs.Ask.{fits, formOf}
-use Rattle.bounded.proofs.SearchLaws.{first-turn, first-found, first-end}
+use Rattle.bounded.proofs.SearchLaws.{first-turn, first-found, first-end, search-begin}
 use Rattle.bounded.specs.Search.{firstFrom}
 use Rattle.text.specs.Pieces.{piece}
 use Prim.Native.Nat.{ℕ, _-_}

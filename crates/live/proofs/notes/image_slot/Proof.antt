@@ -1,8 +1,6 @@
 use Prim.Native.Nat.{_/_}
-use mathlib.Core.Path.{ap, _∙_}
 use native.Mathlib.Omega.{arith}
-use denote.Ref.{now}
-use Rattle.layout.specs.Block.{blockAt, kthBlock}
+use Rattle.layout.specs.Block.{kthBlock}
 use Rattle.layout.specs.Inode.{addressIndex}
 use Rattle.directory.specs.Slot.{slotAt}
 use borrow.Author.Needs.{needs}
