@@ -1,4 +1,4 @@
--- "looked at lowest first, when and only when the condition holds for that call": conditions in a table. The order stands apart from the numbers.
+-- "looked at lowest first, when and only when the condition holds for that call": conditions in a table, and the order in which refusals are looked at.
 use Prim.Native.Nat.{ℕ, suc}
 use mathlib.Core.Bool.{Bool, true, _&&_}
 use mathlib.Core.List.{List, [], _∷_}
@@ -26,13 +26,13 @@ firstBy f (r ∷ rs) a = pick (r .holds) (f (r .refusal)) (firstBy f rs a)
 abbrev pub firstOf : List Row → Answer → Answer
 firstOf rs a = firstBy Refused rs a
 
--- ---- the order in which refusals are looked at
+-- ---- the order: a list of its own, since a number says who causes a refusal and not when it is looked at; it is that of the numbers (`lowest-first`)
 abbrev pub order : List Refusal
 order =
     BadBuffer ∷ UnsoundStore ∷ BadDesk ∷ IllegalName ∷ WrongInode ∷ NameAbsent ∷ NameTaken ∷ NotEmpty
     ∷ PastEnd ∷ IntoItself ∷ NoInode ∷ NoBlocks ∷ NoSlot ∷ Busy ∷ WrongState ∷ ImageFull ∷ []
 
--- where the refusal of number k stands in a list, counted from 1
+-- where the refusal of number k stands in a list that has it, counted from 1
 abbrev pub rankIn : List Refusal → ℕ → ℕ
 rankIn [] k = 0
 rankIn (e ∷ es) k = pick (eqb (refusalNumber e) k) 1 (suc (rankIn es k))

@@ -15,8 +15,9 @@ use Rattle.layout.specs.Block.{blocksUsed, kthBlock}
 use Rattle.layout.proofs.ViewLaws.{inode-fits}
 use Rattle.names.specs.Entry.{entryInode, entryFor, isEmpty}
 use Rattle.names.proofs.EntryLaws.{entry-inode, empty-inode, empty-zeros, filled-not-empty}
-use Rattle.directory.specs.Slot.{mostSlots, slots, slotAt, entryOf, putEntry, clearEntry, DirFits}
+use Rattle.directory.specs.Slot.{mostSlots, slots, slotAt, entryOf, putEntry, clearEntry}
 use Rattle.directory.proofs.SlotLaws.{few-slots, slot-fits, apart-blocks, apart-slots, entry-put, entry-put-other, entry-clear, entry-clear-other}
+use Rattle.directory.specs.Fits.{DirFits}
 use Rattle.sound.specs.Place.{dirOf, slotOf, isSlot, entryAt, filled, placeOf}
 use Rattle.sound.specs.Sound.{Sound, inodesIn}
 use Rattle.sound.proofs.PlaceLaws.{slot-is, filled-is, naming-entry, entry-place, slot-place}

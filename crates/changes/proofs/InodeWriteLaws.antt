@@ -4,8 +4,9 @@ use mathlib.Core.Path.{_≡_, sym, _∙_}
 use mathlib.Core.List.{List}
 use native.Mathlib.Omega.{arith}
 use Rattle.bounded.proofs.CaseLaws.{each-else}
-use Rattle.layout.specs.Inode.{InodeFits, spareOf, linksOf, parentOf, inodeOf, putAttributes, putLinks, withParent}
+use Rattle.layout.specs.Inode.{spareOf, linksOf, parentOf, inodeOf, putAttributes, putLinks, withParent}
 use Rattle.layout.specs.Block.{kthBlock}
+use Rattle.layout.specs.Fits.{InodeFits}
 use Rattle.directory.specs.Slot.{mostSlots}
 use Rattle.sound.specs.Place.{dirOf}
 use Rattle.changes.proofs.SameLaws.{SameBody, InInode, same-body, put-links, links-body, put-attributes, attributes-blocks, attributes-new}

@@ -6,11 +6,12 @@ use mathlib.Core.List.{List}
 use native.Mathlib.Omega.{arith}
 use borrow.Author.Tests.{eq-eqb, leb-true, eqb-true, le-leb, lt-leb}
 use lib.Dec.{eqb, leb}
+use Rattle.directory.specs.Fits.{DirFits}
 use Rattle.bounded.proofs.BoolLaws.{and-false-l, and-left, and-right, chain-end}
 use Rattle.layout.specs.Sizes.{mostImageBlocks, mostFileBytes, addressCount}
-use Rattle.layout.specs.Inode.{InodeFits, kindOf, sizeOf, addressOf, isKind}
-use Rattle.layout.specs.Block.{Sized, blocksUsed, kthBlock}
-use Rattle.directory.specs.Slot.{DirFits}
+use Rattle.layout.specs.Inode.{kindOf, sizeOf, addressOf, isKind}
+use Rattle.layout.specs.Block.{blocksUsed, kthBlock}
+use Rattle.layout.specs.Fits.{InodeFits, Sized}
 use Rattle.sound.specs.Sound.{Sound, inodesIn, blocksIn}
 use Rattle.sound.proofs.FactLaws.{sized, one-block, inode-fits, dir-fits, address-bound}
 use Rattle.sound.specs.declared.Form.the-variants.{Store}

@@ -26,11 +26,13 @@ use Rattle.layout.specs.Inode.{kindOf, parentOf, freeKind, directoryKind}
 use Rattle.layout.specs.Block.{blockAt, kthBlock}
 use Rattle.names.specs.Name.{nameBytes}
 use Rattle.names.specs.declared.Name.{Name}
-use Rattle.names.specs.Entry.{entryInode, isEmpty, nameAt, sameName, entryName, legalEntry, wordsAt, sameWords}
+use Rattle.names.specs.Entry.{entryInode, isEmpty, nameAt, sameName, entryName, legalEntry}
 use Rattle.names.proofs.NameLaws.{legal-bounds, legal-nonzero}
 use Rattle.names.proofs.EntryLaws.{named, same-words-two, empty-all, empty-inode, entry-legal}
-use Rattle.directory.specs.Slot.{mostSlots, slots, slotAt, entryOf, DirFits}
+use Rattle.names.specs.Words.{wordsAt, sameWords}
+use Rattle.directory.specs.Slot.{mostSlots, slots, slotAt, entryOf}
 use Rattle.directory.proofs.SlotLaws.{few-slots, slot-fits}
+use Rattle.directory.specs.Fits.{DirFits}
 use Rattle.sound.specs.Entry.{sameNames}
 use Rattle.sound.specs.Place.{dirOf, slotOf, isSlot, entryAt, filled, naming, placeOf}
 use Rattle.sound.proofs.PlaceLaws.{filled-is, naming-entry, place-dir, entry-place, slot-place}

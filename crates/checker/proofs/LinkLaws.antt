@@ -11,14 +11,15 @@ use borrow.Author.Tests.{eq-eqb, ne-eqb, eqb-true, eqb-false}
 use lib.Dec.{eqb, leb}
 use lib.ListN.{length, getD, set, replicate, length-set, length-replicate}
 use lib.Seq.{getD-set-same, getD-set-other}
-use Rattle.bounded.specs.Count.{tally, count}
+use Rattle.bounded.specs.Count.{tally}
 use Rattle.bounded.specs.Climb.{Leads, leadsB, Closed}
 use Rattle.bounded.proofs.BoolLaws.{holds-or-fails}
 use Rattle.bounded.proofs.ClimbLaws.{leads-self, leads-up, leads-turn, leads-end, leads-bool, leads-on}
 use Rattle.bounded.proofs.ReflectLaws.{r-eq, r-le, r-says, r-fails, reflects-ext}
 use Rattle.octets.proofs.ZeroLaws.{byte-zeros}
 use Rattle.layout.specs.Sizes.{rootInode}
-use Rattle.layout.specs.Inode.{InodeFits, kindOf, linksOf, parentOf, freeKind, directoryKind}
+use Rattle.layout.specs.Inode.{kindOf, linksOf, parentOf, freeKind, directoryKind}
+use Rattle.layout.specs.Fits.{InodeFits}
 use Rattle.directory.specs.Slot.{mostSlots}
 use Rattle.sound.specs.Place.{naming, IsDir}
 use Rattle.sound.proofs.SoundLaws.{counted-is}

@@ -6,7 +6,8 @@ use lib.ListN.{length, getD}
 use Rattle.bounded.specs.Climb.{Leads}
 use Rattle.bounded.specs.Count.{Tallied}
 use Rattle.bounded.specs.Table.{Tabulated}
-use Rattle.names.specs.Entry.{wordsAt, nameAt}
+use Rattle.names.specs.Entry.{nameAt}
+use Rattle.names.specs.Words.{wordsAt}
 use Rattle.directory.specs.Slot.{mostSlots, entryOf}
 use Rattle.layout.specs.Sizes.{mostInodes, rootInode}
 use Rattle.layout.specs.Inode.{parentOf}

@@ -1,11 +1,10 @@
 // The check of a store or an image: any bytes, yes or no.
 ghost use mathlib.Core.Path.{_≡_};
-ghost use mathlib.Core.Bool.{true};
 ghost use Prim.Native.Nat.{_+_, _*_, _≤_};
-ghost use lib.ListN.{length};
 ghost use Rattle.bounded.specs.Seen.{Seen};
 ghost use Rattle.layout.specs.Sizes.{mostImageBlocks, addressCount, rootInode};
-ghost use Rattle.layout.specs.Inode.{InodeFits, addressOf};
+ghost use Rattle.layout.specs.Inode.{addressOf};
+ghost use Rattle.layout.specs.Fits.{InodeFits};
 ghost use Rattle.sound.specs.Sound.{inodesIn, blocksIn, Framed, limitOf};
 ghost use Rattle.sound.specs.Test.{framedB, headerB, freeCountsB, bodyB, isSound};
 ghost use Rattle.sound.specs.declared.Form.the-variants.{Image};

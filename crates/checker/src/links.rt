@@ -1,13 +1,13 @@
 // What the entries say of each inode: its link count, and that parents lead to the root.
 ghost use mathlib.Core.Path.{_≡_};
-ghost use mathlib.Core.Bool.{true};
 ghost use Prim.Native.Nat.{_+_, _*_, _≤_};
 ghost use lib.ListN.{length};
 ghost use Rattle.bounded.specs.Below.{allTo};
-ghost use Rattle.bounded.specs.Count.{tally, Tallied, count};
+ghost use Rattle.bounded.specs.Count.{tally, Tallied};
 ghost use Rattle.bounded.specs.Climb.{Leads, leadsB, Closed};
 ghost use Rattle.layout.specs.Sizes.{headerBytes, mostInodes, inodeBytes, rootInode};
-ghost use Rattle.layout.specs.Inode.{InodeFits, parentOf};
+ghost use Rattle.layout.specs.Inode.{parentOf};
+ghost use Rattle.layout.specs.Fits.{InodeFits};
 ghost use Rattle.directory.specs.Slot.{mostSlots};
 ghost use Rattle.sound.specs.Place.{naming, IsDir};
 ghost use Rattle.sound.specs.Test.{countedB, leadB};

@@ -88,7 +88,7 @@ module _ (s m d : List ℕ) where
   unfolding step stepOf freeStep lockedStep stepTable
   step-table =
       let i : ℕ = deskOf d .locked in
-      let k : ℕ = deskOf d .progress in
+      let k : ℕ = deskOf d .transferred in
       give _ (stepTable s m d) _
       (by-guards s m d _
       (by-full i k (isRunning d) (eqb i 0) (ltb k (blocksUsed (sizeOf s i))) (targetBlock m (inodesIn s) (deskOf d .blocks) (kthBlock s (inodesIn s) i k))

@@ -24,7 +24,7 @@ pub record Earliest (rs : List Row) (e : Refusal) : Type 0 where
   pub stands : List·Memᴰ condition rs
   pub met : condition .holds ≡ true
   pub gives : condition .refusal ≡ e
-  pub lower : (r : Row) → List·Memᴰ r rs → rank (r .refusal) < rank e → r .holds ≡ false
+  pub earlier : (r : Row) → List·Memᴰ r rs → rank (r .refusal) < rank e → r .holds ≡ false
 
 -- the rows of a table in order from k on have ranks above k
 above : (k : ℕ) (rs : List Row) → inOrder k rs ≡ true → (r : Row) → List·Memᴰ r rs → k < placed r
@@ -51,7 +51,7 @@ refused-from k (q ∷ rs) x e u h = go (refused-from (placed q) rs x e up) (q .h
 
     some : (w : Earliest rs e) → q .holds ≡ false → (r : Row) → placed r < rank e → (r ≡ q) ⊎ List·Memᴰ r rs → r .holds ≡ false
     some w p r l (inl m) = cc
-    some w p r l (inr m) = w .lower r m l
+    some w p r l (inr m) = w .earlier r m l
 
     go : (firstOf rs (Done x) ≡ Refused e → Earliest rs e)
         → (b : Bool)
@@ -59,10 +59,10 @@ refused-from k (q ∷ rs) x e u h = go (refused-from (placed q) rs x e up) (q .h
         → pick b (Refused (q .refusal)) (firstOf rs (Done x)) ≡ Refused e
         → Earliest (q ∷ rs) e
     go f true p y =
-        record { condition = q; stands = List·Memᴰ·head refl; met = p; gives = cc; lower = λ r m l. none (cc) r l (List·Memᴰ·cases-cons m) }
+        record { condition = q; stands = List·Memᴰ·head refl; met = p; gives = cc; earlier = λ r m l. none (cc) r l (List·Memᴰ·cases-cons m) }
     go f false p y =
         let w : Earliest rs e = f y in
-        record { condition = w .condition; stands = List·Memᴰ·tail (w .stands); met = w .met; gives = w .gives; lower = λ r m l. some w p r l (List·Memᴰ·cases-cons m) }
+        record { condition = w .condition; stands = List·Memᴰ·tail (w .stands); met = w .met; gives = w .gives; earlier = λ r m l. some w p r l (List·Memᴰ·cases-cons m) }
 
 from-refused : (k : ℕ) (rs : List Row) (a : Answer) (e : Refusal) → inOrder k rs ≡ true → Earliest rs e → firstOf rs a ≡ Refused e
 from-refused k [] a e u w = absurd (List·Memᴰ·not-nil (w .stands))
@@ -80,9 +80,9 @@ from-refused k (q ∷ rs) a e u w = go (from-refused (placed q) rs a e up) (q .h
     go f true p (inr m) =
         let l : placed q < placed (w .condition) = above (placed q) rs up (w .condition) m in
         let same : placed (w .condition) ≡ rank e = cc (w .gives) in
-        absurd (true≢false (sym p ∙ w .lower q (List·Memᴰ·head refl) (omega arith)))
+        absurd (true≢false (sym p ∙ w .earlier q (List·Memᴰ·head refl) (omega arith)))
     go f false p (inl m) = let z : true ≡ false = cc (m, p, w .met) in absurd (true≢false z)
-    go f false p (inr m) = f (record { condition = w .condition; stands = m; met = w .met; gives = w .gives; lower = λ r n l. w .lower r (List·Memᴰ·tail n) l })
+    go f false p (inr m) = f (record { condition = w .condition; stands = m; met = w .met; gives = w .gives; earlier = λ r n l. w .earlier r (List·Memᴰ·tail n) l })
 
 -- a table gives e, when and only when e is its earliest
 pub first-of : (rs : List Row) (x : ℕ) (e : Refusal) → inOrder 0 rs ≡ true → firstOf rs (Done x) ≡ Refused e → Earliest rs e

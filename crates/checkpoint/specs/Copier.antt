@@ -61,7 +61,7 @@ freeStep m desk n = pick (isCopied desk n rootInode) (onFound (nextInode m desk 
 
 unfoldable pub stepOf : List ℕ → List ℕ → List ℕ → ℕ → Step
 stepOf s m desk n =
-    pick (eqb (deskOf desk .locked) 0) (freeStep m desk n) (lockedStep s m n (deskOf desk .blocks) (deskOf desk .locked) (deskOf desk .progress))
+    pick (eqb (deskOf desk .locked) 0) (freeStep m desk n) (lockedStep s m n (deskOf desk .blocks) (deskOf desk .locked) (deskOf desk .transferred))
 
 -- ---- The image and the desk after it
 -- "In a directory block, a marked entry that names a copied inode is zeroed": the bytes x of entry j of the k-th block of directory i

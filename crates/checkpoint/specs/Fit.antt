@@ -55,8 +55,8 @@ deskFits desk =
     && (deskRestZero desk
     && (allTo (λ i. leb (copiedOf desk i) 1) (deskOf desk .inodes)
     && (leb (deskOf desk .locked) (deskOf desk .inodes)
-    && (leb (deskOf desk .progress) mostBlocks
-    && ((isRunning desk || (eqb (deskOf desk .locked) 0 && eqb (deskOf desk .progress) 0))
+    && (leb (deskOf desk .transferred) mostBlocks
+    && ((isRunning desk || (eqb (deskOf desk .locked) 0 && eqb (deskOf desk .transferred) 0))
     && leb (deskOf desk .steps) (mostSteps desk)))))))
 
 -- the opposite of refusal 3's "while running, the image's length, N or block count differ from the desk's, its root is not 1, its byte 8 is not 0, or an address exceeds its block count"

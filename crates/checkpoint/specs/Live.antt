@@ -1,20 +1,18 @@
 -- The public calls over the three buffers: guards (1, 2, 3), the plain store's plan with its refusals, busy (14), then the bytes. s is the store, m the image.
 use Prim.Native.Nat.{ℕ, _+_}
 use mathlib.Core.Bool.{Bool, true, false, not}
-use mathlib.Core.List.{List, [], _∷_}
+use mathlib.Core.List.{List, [], _∷_, _++_}
 use lib.ListN.{length}
 use Rattle.bounded.specs.Search.{pick}
 use Rattle.desk.specs.Desk.{deskOf}
 use Rattle.sound.specs.Sound.{inodesIn}
-use Rattle.sound.specs.declared.Form.the-variants.{Store}
-use Rattle.sound.specs.Test.{isSound}
 use Rattle.answers.specs.declared.Refusal.{Refusal}
-use Rattle.answers.specs.declared.Refusal.the-variants.{BadBuffer, UnsoundStore, BadDesk, WrongState, ImageFull}
+use Rattle.answers.specs.declared.Refusal.the-variants.{BadDesk, WrongState, ImageFull}
 use Rattle.answers.specs.declared.Answer.{Answer}
 use Rattle.answers.specs.declared.Answer.the-variants.{Done, Refused}
 use Rattle.answers.specs.Order.{Row, row}
 use Rattle.files.specs.declared.Guard.{Guard}
-use Rattle.files.specs.Guard.{guardOf, onGuard, guardBy}
+use Rattle.files.specs.Guard.{guardOf, onGuard, guardBy, firstRows}
 use Rattle.files.specs.Effect.{Call, lookUp, read, create, write, shorten, link, unlink, rename, Planned, refused, does, onPlanned, planned, given}
 use Rattle.checkpoint.specs.declared.Status.{Status}
 use Rattle.checkpoint.specs.declared.Status.the-variants.{Is, NoStatus}
@@ -43,9 +41,9 @@ left a s m desk = record { answer = a; store = s; image = m; desk = desk }
 abbrev pub refuse : Refusal → List ℕ → List ℕ → List ℕ → Outcome
 refuse e s m desk = left (Refused e) s m desk
 
--- "looked at lowest first": 1, 2 and 3 by the buffers, before all others. framed says whether lengths and counts are those allowed
+-- "looked at lowest first": 1, 2 and 3 by the buffers, before all others
 abbrev pub guardRows : Bool → List ℕ → List ℕ → List ℕ → List Row
-guardRows framed s m desk = row (not framed) BadBuffer ∷ row (not (isSound Store s)) UnsoundStore ∷ row (not (notesFit s m desk)) BadDesk ∷ []
+guardRows framed s m desk = firstRows framed s ++ row (not (notesFit s m desk)) BadDesk ∷ []
 
 -- of a call on all three buffers, and of a start, which looks at the image's length too
 unfoldable pub threeGuards : List ℕ → List ℕ → List ℕ → Guard

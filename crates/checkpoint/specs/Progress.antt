@@ -33,7 +33,7 @@ use Rattle.checkpoint.specs.Finished.{countOf}
 -- "a block step with every image block named": the locked inode has a block left, and no image block is left
 pub record ImageTaken (w : World) : Type 0 where
   pub locked : 1 ≤ deskOf (w .desk) .locked
-  pub more : deskOf (w .desk) .progress < blocksUsed (sizeOf (w .store) (deskOf (w .desk) .locked))
+  pub more : deskOf (w .desk) .transferred < blocksUsed (sizeOf (w .store) (deskOf (w .desk) .locked))
   pub taken : (c : ℕ) → 1 ≤ c → storeLength (countOf w) c ≤ length (w .image) → blockNamed (w .image) (countOf w) c ≡ true
 
 -- what a finish leaves: "state finished", and one step more in bytes 12 to 15; byte 4 has the state. v is the world after it, and a desk is bytes
@@ -113,7 +113,7 @@ pub record Stopped (w v : World) : Type 0 where
   pub image : v .image ≡ w .image
   pub state : deskOf (v .desk) .state ≡ stopped
   pub locked : deskOf (v .desk) .locked ≡ 0
-  pub progress : deskOf (v .desk) .progress ≡ 0
+  pub transferred : deskOf (v .desk) .transferred ≡ 0
   pub long : length (v .desk) ≡ length (w .desk)
   pub rest : Octets (w .desk) → (x : ℕ) → (x ≡ 4 → ⊥) → (6 ≤ x → x ≤ 9 → ⊥) → getD (v .desk) x 0 ≡ getD (w .desk) x 0
 

@@ -150,7 +150,7 @@ askTable s m desk = liveRows s m desk
 unfoldable pub stepTable : List ℕ → List ℕ → List ℕ → List Row
 stepTable s m desk =
     let i = deskOf desk .locked in
-    let k = deskOf desk .progress in
+    let k = deskOf desk .transferred in
     liveRows s m desk
     ++ (row (not (isRunning desk)) WrongState
     ∷ row (not (eqb i 0) && (ltb k (blocksUsed (sizeOf s i)) && allTo (blockNamed m (inodesIn s)) (deskOf desk .blocks))) ImageFull

@@ -12,10 +12,11 @@ use Rattle.answers.specs.Refusal.{refusalNumber}
 use Rattle.answers.specs.declared.Refusal.{Refusal}
 use Rattle.answers.specs.declared.Answer.{Answer}
 use Rattle.answers.specs.declared.Answer.the-variants as answer
-use Rattle.commands.specs.Line.{replyOf, numberText, sumsText, shownText, lineText, wordAt, saidText, Says}
+use Rattle.commands.specs.Line.{replyOf, numberText, sumsText, shownText, lineText}
 use Rattle.commands.specs.declared.Reply.{Reply}
 use Rattle.commands.specs.declared.Reply.the-variants.{Done, Refused}
 use Rattle.commands.specs.declared.Sums.{Sums}
+use Rattle.commands.specs.Said.{wordAt, saidText, Says}
 
 -- ---- a call's answer
 pub done-reply : (a : Answer) (n : ℕ) → a ≡ answer.Done n → Done n ≡ replyOf a

@@ -3,7 +3,8 @@ ghost use mathlib.Core.Path.{_≡_};
 ghost use Prim.Native.Nat.{_+_, _*_, _≤_};
 ghost use lib.ListN.{length};
 ghost use Rattle.text.specs.Put.{Put};
-ghost use Rattle.commands.specs.Line.{replyOf, sumsText, lineText, saidText, saidRoom, Says};
+ghost use Rattle.commands.specs.Line.{replyOf, sumsText, lineText};
+ghost use Rattle.commands.specs.Said.{saidText, saidRoom, Says};
 use crate::Reply;
 use crate::Sums;
 use answers::Answer;
@@ -41,7 +42,7 @@ pub fn reply(a: Answer) -> Reply
 }
 
 // The parts of a reply.
-fn told(reply: Reply) -> Said
+fn parts(reply: Reply) -> Said
     ensures { λ r. ⌜ Says reply (r .0) (r .1) (r .2) (r .3) ⌝ }
 {
     match reply {
@@ -97,7 +98,7 @@ pub fn put_line(out: &mut [u8], o: usize, reply: Reply, page: &[u8], sums: Sums)
     ensures { λ r. ⌜ Put (now (out .entry)) o (lineText reply (now (page .entry)) sums) r (now (out .exit)) ⌝ }
     ensures { λ r. ⌜ r ≤ o + 119 + 2 * length (now (page .entry)) ⌝ }
 {
-    let said = told(reply);
+    let said = parts(reply);
     let word = said.0;
     let e = put_said(&mut *out, o, said, page);
     if word == ERR {

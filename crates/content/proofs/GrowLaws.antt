@@ -19,10 +19,11 @@ use Rattle.layout.specs.Sizes.{addressCount, blockBytes}
 use Rattle.layout.specs.declared.header.Header.{Header}
 use Rattle.layout.specs.declared.inode.Inode.{Inode}
 use Rattle.layout.specs.Header.{headerOf}
-use Rattle.layout.specs.Inode.{InodeFits, kindOf, spareOf, linksOf, sizeOf, parentOf, addressOf, addressesOf, inodeOf, addressIndex, putInode, freeKind, directoryKind, withBlocks}
+use Rattle.layout.specs.Inode.{kindOf, spareOf, linksOf, sizeOf, parentOf, addressOf, addressesOf, inodeOf, addressIndex, putInode, freeKind, directoryKind, withBlocks}
 use Rattle.layout.specs.Block.{blockAt, blockOf, zeroBlock, blocksUsed, kthBlock}
 use Rattle.layout.specs.Free.{blockNamed}
 use Rattle.layout.proofs.ViewLaws.{inode-fits}
+use Rattle.layout.specs.Fits.{InodeFits}
 use Rattle.names.specs.Entry.{isEmpty}
 use Rattle.names.proofs.EntryLaws.{empty}
 use Rattle.directory.specs.Slot.{slots, entryOf}

@@ -9,6 +9,7 @@ use native.Mathlib.Omega.{arith}
 use borrow.Author.Tests.{lt-ltb, le-ltb, eq-eqb, ne-eqb}
 use lib.Dec.{ltb}
 use lib.ListN.{length, getD, replicate, length-replicate, getD-replicate}
+use Rattle.directory.specs.Fits.{DirFits}
 use Rattle.bounded.specs.Search.{pick}
 use Rattle.bounded.proofs.TableLaws.{getD-table}
 use Rattle.layout.specs.Sizes.{addressCount, blockBytes}
@@ -18,7 +19,6 @@ use Rattle.layout.specs.Header.{headerOf}
 use Rattle.layout.specs.Inode.{sizeOf, addressOf, addressesOf, inodeOf, addressIndex, putInode, fileKind, withBlocks}
 use Rattle.layout.specs.Block.{blockAt, blockOf, blocksUsed, kthBlock, putInBlock}
 use Rattle.layout.proofs.ViewLaws.{inode-fits}
-use Rattle.directory.specs.Slot.{DirFits}
 use Rattle.sound.specs.Sound.{Sound, inodesIn, blocksIn}
 use Rattle.sound.specs.declared.Form.the-variants.{Store}
 use Rattle.changes.proofs.StoreLaws.{fits, dir-of, kind-some, kind-most, kind-is}

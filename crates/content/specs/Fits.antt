@@ -1,10 +1,10 @@
 -- Where the bytes of a file stand, and which lie inside of the store. n is the inode count.
 use Prim.Native.Nat.{ℕ, _+_, _*_, _/_, _%_, _≤_, _<_}
 use mathlib.Core.List.{List}
+use Rattle.directory.specs.Fits.{BlockFits}
 use Rattle.layout.specs.Sizes.{blockBytes, mostFileBytes}
-use Rattle.layout.specs.Inode.{InodeFits}
 use Rattle.layout.specs.Block.{blockAt, kthBlock}
-use Rattle.directory.specs.Slot.{BlockFits}
+use Rattle.layout.specs.Fits.{InodeFits}
 
 -- where byte x of inode i stands
 unfoldable pub byteAt : List ℕ → ℕ → ℕ → ℕ → ℕ

@@ -1,6 +1,6 @@
 // The bytes of a file: read and written block by block, made more and fewer. n and b are the store's counts.
 ghost use mathlib.Core.Path.{_≡_};
-ghost use mathlib.Core.Bool.{true, false};
+ghost use mathlib.Core.Bool.{true};
 ghost use Prim.Native.Nat.{_+_, _-_, _/_, _%_, _<_, _≤_, min};
 ghost use lib.Dec.{eqb};
 ghost use lib.ListN.{length, getD};
@@ -9,8 +9,9 @@ ghost use Rattle.bounded.specs.declared.Found.the-variants.{At, Absent};
 ghost use Rattle.octets.specs.Octets.{splice};
 ghost use Rattle.layout.specs.Sizes.{headerBytes, addressCount, mostImageBlocks, blockBytes, mostFileBytes};
 ghost use Rattle.layout.specs.Header.{headerOf, lessFree, moreFree};
-ghost use Rattle.layout.specs.Inode.{InodeFits, sizeOf, inodeOf, isFile};
-ghost use Rattle.layout.specs.Block.{Sized, blocksUsed, kthBlock};
+ghost use Rattle.layout.specs.Inode.{sizeOf, inodeOf, isFile};
+ghost use Rattle.layout.specs.Block.{blocksUsed, kthBlock};
+ghost use Rattle.layout.specs.Fits.{InodeFits, Sized};
 ghost use Rattle.sound.specs.Sound.{Sound, inodesIn, blocksIn};
 ghost use Rattle.sound.specs.declared.Form.the-variants.{Store};
 ghost use Rattle.content.specs.declared.NumberPlan.the-variants.{To};

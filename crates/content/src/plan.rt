@@ -1,6 +1,5 @@
 // What a read, a write and a shortening are to do, decided before any byte changes. n is the count of inodes.
 ghost use mathlib.Core.Path.{_≡_};
-ghost use mathlib.Core.Bool.{false};
 ghost use Prim.Native.Nat.{min, max};
 ghost use Rattle.layout.specs.Inode.{isKind};
 ghost use Rattle.sound.specs.Sound.{Sound, inodesIn};

@@ -7,11 +7,11 @@ use native.Mathlib.Omega.{arith}
 use borrow.Author.Tests.{eqb-true, ne-eqb}
 use lib.Dec.{eqb, leb}
 use lib.ListN.{length}
+use Rattle.directory.specs.Fits.{DirFits}
 use Rattle.bounded.proofs.ReflectLaws.{r-and, r-le}
 use Rattle.layout.specs.Sizes.{mostInodes, mostImageBlocks, addressCount}
 use Rattle.layout.specs.Inode.{addressOf}
-use Rattle.layout.specs.Block.{Sized}
-use Rattle.directory.specs.Slot.{DirFits}
+use Rattle.layout.specs.Fits.{Sized}
 use Rattle.desk.specs.Sizes.{deskLength, stepsAnInode}
 use Rattle.desk.specs.Desk.{deskOf}
 use Rattle.desk.specs.declared.Desk.{Desk}

@@ -12,8 +12,9 @@ use Rattle.bounded.specs.declared.Found.the-variants.{At, Absent}
 use Rattle.bounded.proofs.SearchLaws.{found-lowest}
 use Rattle.layout.specs.Sizes.{rootInode, mostImageBlocks, blockBytes}
 use Rattle.layout.specs.Inode.{sizeOf, inodeOf, putAttributes}
-use Rattle.layout.specs.Block.{Sized, blockAt, blocksUsed, kthBlock}
+use Rattle.layout.specs.Block.{blockAt, blocksUsed, kthBlock}
 use Rattle.layout.specs.declared.inode.Inode.{Inode}
+use Rattle.layout.specs.Fits.{Sized}
 use Rattle.desk.specs.Desk.{deskOf, putDesk, putCopied}
 use Rattle.desk.specs.Next.{locking, copyingOne, unlocking, finishing, stopping}
 use Rattle.desk.specs.declared.Desk.{Desk}
@@ -71,14 +72,14 @@ module _ (s m : List ℕ) (n b i k u : ℕ) (e : u ≡ blocksUsed (sizeOf s i)) 
 module _ (s m d : List ℕ) (n : ℕ) (h : Desk) (e : h ≡ deskOf d) where
   pub step-free : h .locked ≡ 0 → stepOf s m d n ≡ freeStep m d n
   unfolding stepOf
-  step-free q = ap (λ (t : Bool). pick t (freeStep m d n) (lockedStep s m n (deskOf d .blocks) (deskOf d .locked) (deskOf d .progress)))
+  step-free q = ap (λ (t : Bool). pick t (freeStep m d n) (lockedStep s m n (deskOf d .blocks) (deskOf d .locked) (deskOf d .transferred)))
       (eq-eqb (deskOf d .locked) 0 (ap (λ (v : Desk). v .locked) (sym e) ∙ q))
 
-  pub step-locked : (h .locked ≡ 0 → ⊥) → stepOf s m d n ≡ lockedStep s m n (h .blocks) (h .locked) (h .progress)
+  pub step-locked : (h .locked ≡ 0 → ⊥) → stepOf s m d n ≡ lockedStep s m n (h .blocks) (h .locked) (h .transferred)
   unfolding stepOf
-  step-locked q = ap (λ (t : Bool). pick t (freeStep m d n) (lockedStep s m n (deskOf d .blocks) (deskOf d .locked) (deskOf d .progress)))
+  step-locked q = ap (λ (t : Bool). pick t (freeStep m d n) (lockedStep s m n (deskOf d .blocks) (deskOf d .locked) (deskOf d .transferred)))
       (ne-eqb (deskOf d .locked) 0 (λ z. q (ap (λ (v : Desk). v .locked) e ∙ z)))
-      ∙ ap (λ (v : Desk). lockedStep s m n (v .blocks) (v .locked) (v .progress)) (sym e)
+      ∙ ap (λ (v : Desk). lockedStep s m n (v .blocks) (v .locked) (v .transferred)) (sym e)
 
 -- ---- what is left then
 pub same-left : (s : List ℕ) {r q : Answer} {m t d e : List ℕ} → r ≡ q → m ≡ t → d ≡ e → left r s m d ≡ left q s t e
@@ -103,8 +104,8 @@ module _ (d : List ℕ) (h next : Desk) (e : h ≡ deskOf d) where
   stop-done q t w = w ∙ ap (putDesk d) (q ∙ ap stopping e)
 
   module _ (m : List ℕ) (n : ℕ) (t : List ℕ) where
-    pub copy-done : (s a : List ℕ) (c : ℕ) → a ≡ stepImage s m d n (copy (h .locked) (h .progress) c) → next ≡ copyingOne h → t ≡ putDesk d next
-        → left (Done (next .steps)) s a t ≡ doStep s m d n (copy (h .locked) (h .progress) c)
+    pub copy-done : (s a : List ℕ) (c : ℕ) → a ≡ stepImage s m d n (copy (h .locked) (h .transferred) c) → next ≡ copyingOne h → t ≡ putDesk d next
+        → left (Done (next .steps)) s a t ≡ doStep s m d n (copy (h .locked) (h .transferred) c)
     copy-done s a c p q w = same-left s (rw (q, e)) p (w ∙ ap (putDesk d) (q ∙ ap copyingOne e))
 
     pub close-done : (s a u : List ℕ) (v : Inode) → v ≡ inodeOf s n (h .locked) → a ≡ putAttributes m (h .locked) (unlinkedInode v) → u ≡ putCopied d (h .locked) 1 → next ≡ unlocking h → t ≡ putDesk u next

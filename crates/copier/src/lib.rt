@@ -4,10 +4,11 @@ ghost use mathlib.Core.Bool.{true};
 ghost use mathlib.Core.List.{List};
 ghost use Prim.Native.Nat.{ℕ, _+_, _<_, _≤_};
 ghost use lib.ListN.{length};
+ghost use Rattle.directory.specs.Fits.{DirFits};
 ghost use Rattle.layout.specs.Sizes.{mostImageBlocks, blockBytes};
 ghost use Rattle.layout.specs.Inode.{sizeOf};
-ghost use Rattle.layout.specs.Block.{Sized, blockAt, blocksUsed};
-ghost use Rattle.directory.specs.Slot.{DirFits};
+ghost use Rattle.layout.specs.Block.{blockAt, blocksUsed};
+ghost use Rattle.layout.specs.Fits.{Sized};
 ghost use Rattle.desk.specs.Sizes.{deskHeaderBytes};
 ghost use Rattle.desk.specs.Desk.{deskOf};
 ghost use Rattle.sound.specs.Sound.{inodesIn};
@@ -43,12 +44,12 @@ fn lock(d: &mut [u8], h: Desk, i: usize) -> Answer
 
 // 3: the next block of the locked inode goes to image block c.
 fn copy(s: &[u8], m: &mut [u8], d: &mut [u8], h: Desk, n: usize, c: usize) -> Answer
-    requires { ⌜ Held (now d) n h × DirFits (now s) n (h .locked) × (h .progress < blocksUsed (sizeOf (now s) (h .locked))) ⌝ }
+    requires { ⌜ Held (now d) n h × DirFits (now s) n (h .locked) × (h .transferred < blocksUsed (sizeOf (now s) (h .locked))) ⌝ }
     requires { ⌜ (1 ≤ c) × (c ≤ mostImageBlocks) × (blockAt n c + blockBytes ≤ length (now m)) ⌝ }
-    ensures { λ r. ⌜ left r (now (s .entry)) (now (m .exit)) (now (d .exit)) ≡ doStep (now (s .entry)) (now (m .entry)) (now (d .entry)) n (copy (h .locked) (h .progress) c) ⌝ }
+    ensures { λ r. ⌜ left r (now (s .entry)) (now (m .exit)) (now (d .exit)) ≡ doStep (now (s .entry)) (now (m .entry)) (now (d .entry)) n (copy (h .locked) (h .transferred) c) ⌝ }
 {
     let i = h.locked as usize;
-    let k = h.progress as usize;
+    let k = h.transferred as usize;
     let o = block::block_at(n, c);
     transfer::copy_block(&mut m[o..o + BLOCK_BYTES], s, &*d, n, i, k);
     inode::put_address(&mut *m, n, ADDRESS_COUNT * (i - 1) + k, c as u16);
@@ -109,10 +110,10 @@ fn free_step(m: &mut [u8], d: &mut [u8], h: Desk, n: usize) -> Answer
 // An inode is locked.
 fn locked_step(s: &[u8], m: &mut [u8], d: &mut [u8], h: Desk, n: usize) -> Answer
     requires { ⌜ Held (now d) n h × DirFits (now s) n (h .locked) × Addressed (now m) n × Sized (now m) n (h .blocks) ⌝ }
-    ensures { λ r. ⌜ left r (now (s .entry)) (now (m .exit)) (now (d .exit)) ≡ doStep (now (s .entry)) (now (m .entry)) (now (d .entry)) n (lockedStep (now (s .entry)) (now (m .entry)) n (h .blocks) (h .locked) (h .progress)) ⌝ }
+    ensures { λ r. ⌜ left r (now (s .entry)) (now (m .exit)) (now (d .exit)) ≡ doStep (now (s .entry)) (now (m .entry)) (now (d .entry)) n (lockedStep (now (s .entry)) (now (m .entry)) n (h .blocks) (h .locked) (h .transferred)) ⌝ }
 {
     let i = h.locked as usize;
-    let k = h.progress as usize;
+    let k = h.transferred as usize;
     if block::blocks_used(inode::size(s, n, i) as usize) <= k {
         return close(s, &mut *m, &mut *d, h, n);
     }

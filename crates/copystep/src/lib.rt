@@ -1,6 +1,5 @@
 // One step of the copy, with its guards. Any bytes may be lent; a refused step changes nothing, save that 16 writes the desk.
 ghost use mathlib.Core.Path.{_≡_};
-ghost use mathlib.Core.Bool.{true};
 ghost use Rattle.bounded.specs.Search.{pick};
 ghost use Rattle.sound.specs.Sound.{inodesIn};
 ghost use Rattle.answers.specs.declared.Refusal.the-variants.{WrongState};

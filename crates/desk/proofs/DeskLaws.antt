@@ -50,39 +50,39 @@ length-clearNotes d n = length-zeroed d deskHeaderBytes (deskInodeBytes * n)
 
 -- ---- one field written over a header
 module _ (d : List ℕ) (h : Desk) (v : ℕ) where
-  over-inodes : putNum 2 (putDesk d h) 0 v ≡ putDesk d (record { inodes = v; blocks = h .blocks; state = h .state; locked = h .locked; progress = h .progress; steps = h .steps })
+  over-inodes : putNum 2 (putDesk d h) 0 v ≡ putDesk d (record { inodes = v; blocks = h .blocks; state = h .state; locked = h .locked; transferred = h .transferred; steps = h .steps })
   unfolding putDesk
   over-inodes =
       rw (num-swap 4 2 12 0 (omega arith), num-swap 2 2 8 0 (omega arith), num-swap 2 2 6 0 (omega arith), num-swap 1 2 4 0 (omega arith), num-swap 2 2 2 0 (omega arith), num-twice)
 
-  over-blocks : putNum 2 (putDesk d h) 2 v ≡ putDesk d (record { inodes = h .inodes; blocks = v; state = h .state; locked = h .locked; progress = h .progress; steps = h .steps })
+  over-blocks : putNum 2 (putDesk d h) 2 v ≡ putDesk d (record { inodes = h .inodes; blocks = v; state = h .state; locked = h .locked; transferred = h .transferred; steps = h .steps })
   unfolding putDesk
   over-blocks =
       rw (num-swap 4 2 12 2 (omega arith), num-swap 2 2 8 2 (omega arith), num-swap 2 2 6 2 (omega arith), num-swap 1 2 4 2 (omega arith), num-twice)
 
-  over-state : putNum 1 (putDesk d h) 4 v ≡ putDesk d (record { inodes = h .inodes; blocks = h .blocks; state = v; locked = h .locked; progress = h .progress; steps = h .steps })
+  over-state : putNum 1 (putDesk d h) 4 v ≡ putDesk d (record { inodes = h .inodes; blocks = h .blocks; state = v; locked = h .locked; transferred = h .transferred; steps = h .steps })
   unfolding putDesk
   over-state = rw (num-swap 4 1 12 4 (omega arith), num-swap 2 1 8 4 (omega arith), num-swap 2 1 6 4 (omega arith), num-twice)
 
-  over-locked : putNum 2 (putDesk d h) 6 v ≡ putDesk d (record { inodes = h .inodes; blocks = h .blocks; state = h .state; locked = v; progress = h .progress; steps = h .steps })
+  over-locked : putNum 2 (putDesk d h) 6 v ≡ putDesk d (record { inodes = h .inodes; blocks = h .blocks; state = h .state; locked = v; transferred = h .transferred; steps = h .steps })
   unfolding putDesk
   over-locked = rw (num-swap 4 2 12 6 (omega arith), num-swap 2 2 8 6 (omega arith), num-twice)
 
-  over-progress : putNum 2 (putDesk d h) 8 v ≡ putDesk d (record { inodes = h .inodes; blocks = h .blocks; state = h .state; locked = h .locked; progress = v; steps = h .steps })
+  over-transferred : putNum 2 (putDesk d h) 8 v ≡ putDesk d (record { inodes = h .inodes; blocks = h .blocks; state = h .state; locked = h .locked; transferred = v; steps = h .steps })
   unfolding putDesk
-  over-progress = rw (num-swap 4 2 12 8 (omega arith), num-twice)
+  over-transferred = rw (num-swap 4 2 12 8 (omega arith), num-twice)
 
-  over-steps : putNum 4 (putDesk d h) 12 v ≡ putDesk d (record { inodes = h .inodes; blocks = h .blocks; state = h .state; locked = h .locked; progress = h .progress; steps = v })
+  over-steps : putNum 4 (putDesk d h) 12 v ≡ putDesk d (record { inodes = h .inodes; blocks = h .blocks; state = h .state; locked = h .locked; transferred = h .transferred; steps = v })
   unfolding putDesk
   over-steps = rw num-twice
 
-fields : (s : List ℕ) (h : Desk) → putDesk s h ≡ putNum 4 (putNum 2 (putNum 2 (putNum 1 (putNum 2 (putNum 2 s 0 (h .inodes)) 2 (h .blocks)) 4 (h .state)) 6 (h .locked)) 8 (h .progress)) 12 (h .steps)
+fields : (s : List ℕ) (h : Desk) → putDesk s h ≡ putNum 4 (putNum 2 (putNum 2 (putNum 1 (putNum 2 (putNum 2 s 0 (h .inodes)) 2 (h .blocks)) 4 (h .state)) 6 (h .locked)) 8 (h .transferred)) 12 (h .steps)
 unfolding putDesk
 fields s h = refl
 
 pub putDesk-twice : (d : List ℕ) (h k : Desk) → putDesk (putDesk d h) k ≡ putDesk d k
 putDesk-twice d h k =
-    rw (fields (putDesk d h) k, over-inodes, over-blocks, over-state, over-locked, over-progress, over-steps)
+    rw (fields (putDesk d h) k, over-inodes, over-blocks, over-state, over-locked, over-transferred, over-steps)
 
 -- ---- a header is read back
 pub desk-putDesk : (d : List ℕ) (h : Desk) → deskHeaderBytes ≤ length d → deskOf (putDesk d h) ≡ h
@@ -94,7 +94,7 @@ desk-putDesk d h f =
       blocks = num-stands 2 (putDesk d h) 2 (h .blocks) (omega arith) (omega arith) (over-blocks d h (h .blocks)) i;
       state = num-stands 1 (putDesk d h) 4 (h .state) (omega arith) (omega arith) (over-state d h (h .state)) i;
       locked = num-stands 2 (putDesk d h) 6 (h .locked) (omega arith) (omega arith) (over-locked d h (h .locked)) i;
-      progress = num-stands 2 (putDesk d h) 8 (h .progress) (omega arith) (omega arith) (over-progress d h (h .progress)) i;
+      transferred = num-stands 2 (putDesk d h) 8 (h .transferred) (omega arith) (omega arith) (over-transferred d h (h .transferred)) i;
       steps = num-stands 4 (putDesk d h) 12 (h .steps) (omega arith) (omega arith) (over-steps d h (h .steps)) i;
     }
 

@@ -15,14 +15,14 @@ deskOf desk = record {
   blocks = numAt 2 desk 2;
   state = numAt 1 desk 4;
   locked = numAt 2 desk 6;
-  progress = numAt 2 desk 8;
+  transferred = numAt 2 desk 8;
   steps = numAt 4 desk 12;
 }
 
 -- bytes 5, 10 and 11 stay
 unfoldable pub putDesk : List ℕ → Desk → List ℕ
 putDesk desk h =
-    putNum 4 (putNum 2 (putNum 2 (putNum 1 (putNum 2 (putNum 2 desk 0 (h .inodes)) 2 (h .blocks)) 4 (h .state)) 6 (h .locked)) 8 (h .progress)) 12 (h .steps)
+    putNum 4 (putNum 2 (putNum 2 (putNum 1 (putNum 2 (putNum 2 desk 0 (h .inodes)) 2 (h .blocks)) 4 (h .state)) 6 (h .locked)) 8 (h .transferred)) 12 (h .steps)
 
 -- "the rest 0": bytes 5, 10 and 11
 unfoldable pub deskRestZero : List ℕ → Bool

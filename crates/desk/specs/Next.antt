@@ -5,24 +5,24 @@ use Rattle.desk.specs.declared.Desk.{Desk}
 
 -- "sets the desk's block count and running", and zeroes the steps
 abbrev pub starting : Desk → ℕ → Desk
-starting h b = record { inodes = h .inodes; blocks = b; state = running; locked = h .locked; progress = h .progress; steps = 0 }
+starting h b = record { inodes = h .inodes; blocks = b; state = running; locked = h .locked; transferred = h .transferred; steps = 0 }
 
 -- "Locking zeroes desk bytes 8-9"
 abbrev pub locking : Desk → ℕ → Desk
-locking h i = record { inodes = h .inodes; blocks = h .blocks; state = h .state; locked = i; progress = 0; steps = h .steps + 1 }
+locking h i = record { inodes = h .inodes; blocks = h .blocks; state = h .state; locked = i; transferred = 0; steps = h .steps + 1 }
 
 -- "copy the next block and add 1 to desk bytes 8-9"
 abbrev pub copyingOne : Desk → Desk
-copyingOne h = record { inodes = h .inodes; blocks = h .blocks; state = h .state; locked = h .locked; progress = h .progress + 1; steps = h .steps + 1 }
+copyingOne h = record { inodes = h .inodes; blocks = h .blocks; state = h .state; locked = h .locked; transferred = h .transferred + 1; steps = h .steps + 1 }
 
 -- "unlocking [zeroes] 6-9"
 abbrev pub unlocking : Desk → Desk
-unlocking h = record { inodes = h .inodes; blocks = h .blocks; state = h .state; locked = 0; progress = 0; steps = h .steps + 1 }
+unlocking h = record { inodes = h .inodes; blocks = h .blocks; state = h .state; locked = 0; transferred = 0; steps = h .steps + 1 }
 
 -- "state finished"
 abbrev pub finishing : Desk → Desk
-finishing h = record { inodes = h .inodes; blocks = h .blocks; state = finished; locked = h .locked; progress = h .progress; steps = h .steps + 1 }
+finishing h = record { inodes = h .inodes; blocks = h .blocks; state = finished; locked = h .locked; transferred = h .transferred; steps = h .steps + 1 }
 
 -- refusal 16 "sets state 3 and fields 6-9 to zero and changes nothing more"
 abbrev pub stopping : Desk → Desk
-stopping h = record { inodes = h .inodes; blocks = h .blocks; state = stopped; locked = 0; progress = 0; steps = h .steps }
+stopping h = record { inodes = h .inodes; blocks = h .blocks; state = stopped; locked = 0; transferred = 0; steps = h .steps }

@@ -43,7 +43,7 @@ pub struct Desk {
     pub blocks: u16,
     pub state: u8,
     pub locked: u16,
-    pub progress: u16,
+    pub transferred: u16,
     pub steps: u32,
 }
 
@@ -57,7 +57,7 @@ impl Desk {
             blocks: octets::get_16(d, 2),
             state: octets::get_8(d, 4),
             locked: octets::get_16(d, 6),
-            progress: octets::get_16(d, 8),
+            transferred: octets::get_16(d, 8),
             steps: octets::get_32(d, 12),
         }
     }
@@ -70,7 +70,7 @@ impl Desk {
         octets::put_16(&mut *d, 2, self.blocks);
         octets::put_8(&mut *d, 4, self.state);
         octets::put_16(&mut *d, 6, self.locked);
-        octets::put_16(&mut *d, 8, self.progress);
+        octets::put_16(&mut *d, 8, self.transferred);
         octets::put_32(&mut *d, 12, self.steps);
     }
 
@@ -88,16 +88,16 @@ impl Desk {
         ensures { λ r. ⌜ r ≡ locking self i ⌝ }
     {
         self.locked = i;
-        self.progress = 0;
+        self.transferred = 0;
         self.steps += 1;
         self
     }
 
     pub fn copied_one_more(mut self) -> Desk
-        requires { ⌜ (self .progress + 1 < 65536) × (self .steps + 1 < 4294967296) ⌝ }
+        requires { ⌜ (self .transferred + 1 < 65536) × (self .steps + 1 < 4294967296) ⌝ }
         ensures { λ r. ⌜ r ≡ copyingOne self ⌝ }
     {
-        self.progress += 1;
+        self.transferred += 1;
         self.steps += 1;
         self
     }
@@ -107,7 +107,7 @@ impl Desk {
         ensures { λ r. ⌜ r ≡ unlocking self ⌝ }
     {
         self.locked = 0;
-        self.progress = 0;
+        self.transferred = 0;
         self.steps += 1;
         self
     }
@@ -126,7 +126,7 @@ impl Desk {
     {
         self.state = STOPPED;
         self.locked = 0;
-        self.progress = 0;
+        self.transferred = 0;
         self
     }
 }

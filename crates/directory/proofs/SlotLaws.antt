@@ -19,9 +19,11 @@ use Rattle.layout.proofs.View.{viewOf, withContent}
 use Rattle.layout.proofs.FrameLaws.{size-apart, address-apart}
 use Rattle.layout.proofs.ViewLaws.{inode-fits, view-in-block}
 use Rattle.names.specs.declared.Name.{Name}
-use Rattle.names.specs.Entry.{isEmpty, sameName, entryFor, wordsAt, sameWords}
+use Rattle.names.specs.Entry.{isEmpty, sameName, entryFor}
 use Rattle.names.proofs.EntryLaws.{same-words, length-entry}
-use Rattle.directory.specs.Slot.{mostSlots, slots, slotAt, entryOf, slotHasName, findSlot, slotEmpty, emptySlot, putEntry, clearEntry, BlockFits, DirFits}
+use Rattle.names.specs.Words.{wordsAt, sameWords}
+use Rattle.directory.specs.Slot.{mostSlots, slots, slotAt, entryOf, slotHasName, findSlot, slotEmpty, emptySlot, putEntry, clearEntry}
+use Rattle.directory.specs.Fits.{BlockFits, DirFits}
 
 -- ---- where slots lie
 pub slot-low : (s : List ℕ) (n d t : ℕ) → 16 + 32 * n ≤ slotAt s n d t

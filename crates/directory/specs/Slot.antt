@@ -1,13 +1,13 @@
 -- The slots of a directory, counted from 0: their entries read, searched and written. n is the inode count, d a directory.
-use Prim.Native.Nat.{ℕ, _+_, _*_, _/_, _%_, _≤_, _<_}
+use Prim.Native.Nat.{ℕ, _+_, _*_, _/_, _%_}
 use mathlib.Core.Bool.{Bool}
 use mathlib.Core.List.{List}
-use lib.ListN.{length, replicate}
+use lib.ListN.{replicate}
 use Rattle.bounded.specs.Search.{first}
 use Rattle.bounded.specs.declared.Found.{Found}
 use Rattle.octets.specs.Octets.{part, splice}
-use Rattle.layout.specs.Sizes.{headerBytes, inodeBytes, blockBytes, mostDirectoryBlocks}
-use Rattle.layout.specs.Inode.{InodeFits, sizeOf}
+use Rattle.layout.specs.Sizes.{mostDirectoryBlocks}
+use Rattle.layout.specs.Inode.{sizeOf}
 use Rattle.layout.specs.Block.{blockAt, blocksUsed, kthBlock}
 use Rattle.names.specs.Entry.{entryBytes, isEmpty, sameName, entryFor, entryInode}
 
@@ -58,14 +58,3 @@ putEntry s n d t i name = splice s (slotAt s n d t) (entryFor i name)
 -- s with slot t empty
 unfoldable pub clearEntry : List ℕ → ℕ → ℕ → ℕ → List ℕ
 clearEntry s n d t = splice s (slotAt s n d t) (replicate entryBytes 0)
-
--- block b lies inside of s
-pub record BlockFits (s : List ℕ) (n b : ℕ) : Type 0 where
-  pub low : 1 ≤ b
-  pub inside : headerBytes + inodeBytes * n + blockBytes * b ≤ length s
-
--- d is an inode, and the blocks that its size uses lie inside of s
-pub record DirFits (s : List ℕ) (n d : ℕ) : Type 0 where
-  pub inode : InodeFits s n d
-  pub few : blocksUsed (sizeOf s d) ≤ mostDirectoryBlocks
-  pub blocks : (k : ℕ) → k < blocksUsed (sizeOf s d) → BlockFits s n (kthBlock s n d k)

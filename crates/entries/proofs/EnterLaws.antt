@@ -14,13 +14,15 @@ use Rattle.layout.specs.Sizes.{headerBytes, mostInodes, mostStoreBlocks, addres
 use Rattle.layout.specs.declared.header.Header.{Header}
 use Rattle.layout.specs.declared.inode.Inode.{Inode}
 use Rattle.layout.specs.Header.{headerOf, moreFree}
-use Rattle.layout.specs.Inode.{InodeFits, kindOf, linksOf, sizeOf, inodeOf, putInode, putLinks, putAttributes, directoryKind, isDirectory, zeroInode, withParent}
-use Rattle.layout.specs.Block.{Sized, blocksUsed, kthBlock}
+use Rattle.layout.specs.Inode.{kindOf, linksOf, sizeOf, inodeOf, putInode, putLinks, putAttributes, directoryKind, isDirectory, zeroInode, withParent}
+use Rattle.layout.specs.Block.{blocksUsed, kthBlock}
 use Rattle.layout.specs.Free.{freeInode}
 use Rattle.layout.proofs.ViewLaws.{inode-fits}
 use Rattle.layout.proofs.FrameLaws.{length-inode}
-use Rattle.directory.specs.Slot.{DirFits, slots, putEntry, clearEntry}
+use Rattle.layout.specs.Fits.{InodeFits, Sized}
+use Rattle.directory.specs.Slot.{slots, putEntry, clearEntry}
 use Rattle.directory.proofs.SlotLaws.{block-fits, length-put, fits-clear, slots-clear, length-clear}
+use Rattle.directory.specs.Fits.{DirFits}
 use Rattle.sound.specs.Sound.{Sound, inodesIn, blocksIn}
 use Rattle.sound.specs.Place.{naming}
 use Rattle.sound.specs.declared.Form.the-variants.{Store}

@@ -9,8 +9,9 @@ use Rattle.bounded.specs.declared.Found.the-variants.{At, Absent}
 use Rattle.names.specs.Name.{legalName}
 use Rattle.names.specs.Entry.{entryFor}
 use Rattle.layout.specs.Inode.{isDirectory}
-use Rattle.directory.specs.Slot.{DirFits, slots, entryOf, findSlot, inodeAt}
+use Rattle.directory.specs.Slot.{slots, entryOf, findSlot, inodeAt}
 use Rattle.directory.proofs.SlotLaws.{slot-fits, few-slots, entry-put}
+use Rattle.directory.specs.Fits.{DirFits}
 use Rattle.entries.specs.declared.RenamePlan.the-variants.{Rename}
 use Rattle.entries.specs.Plan.{renameTo, renamePlan}
 use Rattle.entries.specs.Apply.{renamed}

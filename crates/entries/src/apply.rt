@@ -1,14 +1,15 @@
 // Entries made, taken and moved, as planned: the bytes of create, link, unlink and rename. n and b are the store's counts.
 ghost use mathlib.Core.Path.{_≡_};
-ghost use mathlib.Core.Bool.{true, false};
+ghost use mathlib.Core.Bool.{true};
 ghost use Prim.Native.Nat.{_<_, _≤_};
 ghost use lib.ListN.{length};
 ghost use Rattle.bounded.specs.declared.Found.the-variants.{At};
 ghost use Rattle.layout.specs.Sizes.{mostInodes, mostStoreBlocks};
 ghost use Rattle.layout.specs.Header.{headerOf, moreFree};
-ghost use Rattle.layout.specs.Inode.{InodeFits, sizeOf, putInode, isFile, isDirectory, zeroInode};
+ghost use Rattle.layout.specs.Inode.{sizeOf, putInode, isFile, isDirectory, zeroInode};
 ghost use Rattle.layout.specs.Block.{blocksUsed};
 ghost use Rattle.layout.specs.Free.{freeInode};
+ghost use Rattle.layout.specs.Fits.{InodeFits};
 ghost use Rattle.names.specs.Name.{nameBytes};
 ghost use Rattle.directory.specs.Slot.{slots};
 ghost use Rattle.sound.specs.Sound.{Sound, inodesIn, blocksIn};

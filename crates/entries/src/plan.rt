@@ -1,12 +1,12 @@
 // What look up, create, link, unlink and rename are to do on a sound store, decided before any byte changes. n and b are the store's counts.
 ghost use mathlib.Core.Path.{_≡_};
-ghost use mathlib.Core.Bool.{true, false};
+ghost use mathlib.Core.Bool.{true};
 ghost use Prim.Native.Nat.{_≤_};
 ghost use lib.ListN.{length};
+ghost use Rattle.directory.specs.Fits.{DirFits};
 ghost use Rattle.bounded.specs.Climb.{leadsB};
 ghost use Rattle.layout.specs.Inode.{parentOf, isDirectory};
 ghost use Rattle.names.specs.Name.{nameBytes};
-ghost use Rattle.directory.specs.Slot.{DirFits};
 ghost use Rattle.sound.specs.Sound.{Sound, inodesIn, blocksIn};
 ghost use Rattle.sound.specs.declared.Form.the-variants.{Store};
 ghost use Rattle.entries.specs.Room.{roomIn};

@@ -9,7 +9,6 @@ use borrow.Author.Tests.{eqb-false}
 use lib.Dec.{eqb}
 use lib.ListN.{length, replicate, length-replicate}
 use Rattle.bounded.specs.Search.{pick}
-use Rattle.bounded.specs.Count.{count}
 use Rattle.layout.specs.Sizes.{blockBytes, addressCount}
 use Rattle.layout.specs.Inode.{kindOf, linksOf, sizeOf, parentOf, fileKind}
 use Rattle.layout.specs.Block.{blocksUsed, blockOf, putInBlock, kthBlock}

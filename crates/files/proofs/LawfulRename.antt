@@ -7,13 +7,13 @@ use mathlib.Core.List.{List, [], _∷_}
 use native.Mathlib.Omega.{arith}
 use lib.Dec.{eqb}
 use Rattle.bounded.specs.Search.{pick}
-use Rattle.layout.specs.Inode.{InodeFits, kindOf, spareOf, inodeOf, putAttributes, directoryKind, isKind, isDirectory, withParent}
+use Rattle.layout.specs.Inode.{kindOf, spareOf, inodeOf, putAttributes, directoryKind, isKind, isDirectory, withParent}
 use Rattle.layout.specs.Block.{kthBlock}
 use Rattle.layout.proofs.ViewLaws.{inode-fits}
+use Rattle.layout.specs.Fits.{InodeFits}
 use Rattle.directory.specs.Slot.{slots, slotEmpty, findSlot, putEntry, clearEntry, inodeAt}
 use Rattle.directory.proofs.SlotLaws.{find-below}
 use Rattle.bounded.specs.declared.Found.the-variants.{Absent}
-use Rattle.bounded.specs.Count.{count}
 use Rattle.bounded.proofs.CaseLaws.{each-else}
 use Rattle.names.specs.Name.{legalName}
 use Rattle.names.specs.Entry.{isEmpty, entryInode}

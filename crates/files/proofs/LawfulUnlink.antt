@@ -10,11 +10,12 @@ use borrow.Author.Tests.{leb-true, leb-false}
 use lib.Dec.{leb}
 use Rattle.bounded.specs.Search.{pick}
 use Rattle.bounded.proofs.CaseLaws.{each-else}
-use Rattle.layout.specs.Inode.{InodeFits, kindOf, linksOf, sizeOf, putInode, putLinks, freeKind, directoryKind, isDirectory, zeroInode}
+use Rattle.layout.specs.Inode.{kindOf, linksOf, sizeOf, putInode, putLinks, freeKind, directoryKind, isDirectory, zeroInode}
 use Rattle.layout.specs.Block.{blocksUsed, kthBlock}
 use Rattle.layout.specs.Header.{moreFree}
 use Rattle.layout.proofs.FrameLaws.{length-inode}
 use Rattle.layout.proofs.ViewLaws.{inode-fits}
+use Rattle.layout.specs.Fits.{InodeFits}
 use Rattle.directory.specs.Slot.{slots, slotEmpty, clearEntry, inodeAt}
 use Rattle.directory.proofs.SlotLaws.{find-below}
 use Rattle.sound.specs.Sound.{Sound, inodesIn}

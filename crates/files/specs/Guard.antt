@@ -1,5 +1,5 @@
 -- Refusals 1 and 2, which come before all others: what each call looks at first. A store that passes tells its counts of inodes and blocks.
-use mathlib.Core.Bool.{not}
+use mathlib.Core.Bool.{Bool, not}
 use mathlib.Core.List.{List, [], _∷_}
 use Prim.Native.Nat.{ℕ}
 use Rattle.sound.specs.Sound.{inodesIn, blocksIn}
@@ -15,9 +15,13 @@ use Rattle.files.specs.declared.Guard.the-variants.{Pass, Stop}
 abbrev pub guardBy : List ℕ → List Row → Guard
 guardBy s rs = firstBy Stop rs (Pass (inodesIn s) (blocksIn s))
 
--- 1 and 2 of a call on the store alone
+-- 1 and 2; framed says whether lengths and counts are those allowed
+abbrev pub firstRows : Bool → List ℕ → List Row
+firstRows framed s = row (not framed) BadBuffer ∷ row (not (isSound Store s)) UnsoundStore ∷ []
+
+-- of a call on the store alone
 abbrev pub storeRows : List ℕ → List Row
-storeRows s = row (not (framedB Store s)) BadBuffer ∷ row (not (isSound Store s)) UnsoundStore ∷ []
+storeRows s = firstRows (framedB Store s) s
 
 unfoldable pub guardOf : List ℕ → Guard
 guardOf s = guardBy s (storeRows s)

@@ -1,6 +1,5 @@
 // The eight file calls on a store alone. Any bytes may be lent and any numbers handed in; a refused call changes nothing.
 ghost use mathlib.Core.Path.{_≡_};
-ghost use mathlib.Core.Bool.{false};
 ghost use mathlib.Core.List.{[]};
 ghost use lib.ListN.{length};
 ghost use Rattle.sound.specs.Sound.{Sound, inodesIn, blocksIn};

@@ -36,7 +36,7 @@ unfolding layOutDesk
 desk-refused d n e = rw e
 
 pub desk-done : (d : List ℕ) (n : ℕ) → deskAllowed n (length d) ≡ true →
-    laidOut (Done 0) (putDesk (zeroed d 0 (length d)) (record { inodes = n; blocks = 0; state = idle; locked = 0; progress = 0; steps = 0 })) ≡ layOutDesk d n
+    laidOut (Done 0) (putDesk (zeroed d 0 (length d)) (record { inodes = n; blocks = 0; state = idle; locked = 0; transferred = 0; steps = 0 })) ≡ layOutDesk d n
 unfolding layOutDesk freshDesk
 desk-done d n e =
     let r = desk-allowed n (length d) .to e in

@@ -277,7 +277,7 @@ module _ (n : ℕ) where
   unfolding freshDesk
   length-fresh-desk = simp (length-putDesk, length-replicate)
 
-  pub desk-fresh : deskOf (freshDesk n) ≡ record { inodes = n; blocks = 0; state = idle; locked = 0; progress = 0; steps = 0 }
+  pub desk-fresh : deskOf (freshDesk n) ≡ record { inodes = n; blocks = 0; state = idle; locked = 0; transferred = 0; steps = 0 }
   unfolding freshDesk
   desk-fresh =
       let e = length-replicate {A = ℕ} (deskLength n) 0 in

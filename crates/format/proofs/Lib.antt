@@ -1,2 +1,3 @@
 pub mod FormatLaws
 pub mod FreshLaws
+pub mod Numbers

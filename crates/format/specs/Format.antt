@@ -42,7 +42,7 @@ layOutStore s n b = pick (allowed mostStoreBlocks n b (length s)) (laidOut (Done
 -- ---- A desk
 -- its N, and nothing else
 unfoldable pub freshDesk : ℕ → List ℕ
-freshDesk n = putDesk (replicate (deskLength n) 0) (record { inodes = n; blocks = 0; state = idle; locked = 0; progress = 0; steps = 0 })
+freshDesk n = putDesk (replicate (deskLength n) 0) (record { inodes = n; blocks = 0; state = idle; locked = 0; transferred = 0; steps = 0 })
 
 unfoldable pub layOutDesk : List ℕ → ℕ → LaidOut
 layOutDesk d n = pick (deskAllowed n (length d)) (laidOut (Done 0) (freshDesk n)) (laidOut (Refused BadBuffer) d)

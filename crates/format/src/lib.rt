@@ -1,7 +1,6 @@
 // The two layout calls: a store with an empty root, and a desk that is idle.
 ghost use mathlib.Core.Path.{_≡_};
 ghost use Prim.Native.Nat.{_≤_};
-ghost use lib.ListN.{length};
 ghost use Rattle.layout.specs.Sizes.{mostInodes, mostStoreBlocks};
 ghost use Rattle.format.specs.Format.{laidOut, freshHeader, layOutStore, layOutDesk};
 use answers::Answer;
@@ -56,7 +55,7 @@ pub fn lay_out_desk(buffer: &mut [u8], inodes: usize) -> Answer
         blocks: 0,
         state: IDLE,
         locked: 0,
-        progress: 0,
+        transferred: 0,
         steps: 0,
     };
     fresh.write(&mut *buffer);

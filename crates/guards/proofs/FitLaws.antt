@@ -54,13 +54,13 @@ module _ (h : Desk) where
   counts-locked l = sym (and-false-l _ _ (lt-leb (h .locked) (h .inodes) l))
 
   module _ (a : h .locked ≤ h .inodes) where
-    pub counts-progress : mostBlocks < h .progress → false ≡ countsRight h
-    counts-progress l = chain-end _ _ _ (le-leb (h .locked) (h .inodes) a) (sym (and-false-l _ _ (lt-leb (h .progress) mostBlocks l)))
+    pub counts-transferred : mostBlocks < h .transferred → false ≡ countsRight h
+    counts-transferred l = chain-end _ _ _ (le-leb (h .locked) (h .inodes) a) (sym (and-false-l _ _ (lt-leb (h .transferred) mostBlocks l)))
 
-    module _ (b : h .progress ≤ mostBlocks) where
+    module _ (b : h .transferred ≤ mostBlocks) where
       -- past the first two conditions
-      counts-on : (x rest : Bool) → x ≡ rest → x ≡ leb (h .locked) (h .inodes) && (leb (h .progress) mostBlocks && rest)
-      counts-on x rest q = chain-end _ _ _ (le-leb (h .locked) (h .inodes) a) (chain-end _ _ _ (le-leb (h .progress) mostBlocks b) q)
+      counts-on : (x rest : Bool) → x ≡ rest → x ≡ leb (h .locked) (h .inodes) && (leb (h .transferred) mostBlocks && rest)
+      counts-on x rest q = chain-end _ _ _ (le-leb (h .locked) (h .inodes) a) (chain-end _ _ _ (le-leb (h .transferred) mostBlocks b) q)
 
       pub counts-running : h .state ≡ running → leb (h .steps) (stepsAnInode * h .inodes) ≡ countsRight h
       counts-running e = counts-on _ _ (rw (eq-eqb (h .state) running e))
@@ -69,11 +69,11 @@ module _ (h : Desk) where
         pub counts-held : (h .locked ≡ 0 → ⊥) → false ≡ countsRight h
         counts-held f = counts-on _ _ (rw (ne-eqb (h .state) running e, ne-eqb (h .locked) 0 f))
 
-        pub counts-begun : h .locked ≡ 0 → (h .progress ≡ 0 → ⊥) → false ≡ countsRight h
-        counts-begun f g = counts-on _ _ (rw (ne-eqb (h .state) running e, eq-eqb (h .locked) 0 f, ne-eqb (h .progress) 0 g))
+        pub counts-begun : h .locked ≡ 0 → (h .transferred ≡ 0 → ⊥) → false ≡ countsRight h
+        counts-begun f g = counts-on _ _ (rw (ne-eqb (h .state) running e, eq-eqb (h .locked) 0 f, ne-eqb (h .transferred) 0 g))
 
-        pub counts-idle : h .locked ≡ 0 → h .progress ≡ 0 → leb (h .steps) (stepsAnInode * h .inodes + 1) ≡ countsRight h
-        counts-idle f g = counts-on _ _ (rw (ne-eqb (h .state) running e, eq-eqb (h .locked) 0 f, eq-eqb (h .progress) 0 g))
+        pub counts-idle : h .locked ≡ 0 → h .transferred ≡ 0 → leb (h .steps) (stepsAnInode * h .inodes + 1) ≡ countsRight h
+        counts-idle f g = counts-on _ _ (rw (ne-eqb (h .state) running e, eq-eqb (h .locked) 0 f, eq-eqb (h .transferred) 0 g))
 
 -- ---- the desk: h is its header as the code has read it
 module _ (d : List ℕ) (h : Desk) (e : h ≡ deskOf d) where

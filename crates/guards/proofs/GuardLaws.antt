@@ -4,7 +4,6 @@ use mathlib.Core.Path.{_≡_, sym, ap, _∙_}
 use mathlib.Core.Bool.{Bool, true, false}
 use mathlib.Core.List.{List}
 use lib.ListN.{length}
-use Rattle.layout.specs.Block.{allowed}
 use Rattle.bounded.proofs.BoolLaws.{and-right}
 use Rattle.bounded.proofs.SearchLaws.{pick-not}
 use Rattle.desk.specs.declared.Desk.{Desk}

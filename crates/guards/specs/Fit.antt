@@ -24,8 +24,8 @@ copiedRight desk n = allTo (λ i. leb (copiedOf desk i) 1) n
 abbrev pub countsRight : Desk → Bool
 countsRight h =
     leb (h .locked) (h .inodes)
-    && (leb (h .progress) mostBlocks
-    && ((eqb (h .state) running || (eqb (h .locked) 0 && eqb (h .progress) 0))
+    && (leb (h .transferred) mostBlocks
+    && ((eqb (h .state) running || (eqb (h .locked) 0 && eqb (h .transferred) 0))
     && leb (h .steps) (pick (eqb (h .state) running) (stepsAnInode * h .inodes) (stepsAnInode * h .inodes + 1))))
 
 -- the opposite of "an address exceeds its block count", of b blocks

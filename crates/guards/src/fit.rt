@@ -90,7 +90,7 @@ fn counts_fit(h: Desk) -> bool
     if h.inodes < h.locked {
         return false;
     }
-    if MOST_BLOCKS < h.progress as usize {
+    if MOST_BLOCKS < h.transferred as usize {
         return false;
     }
     let most = STEPS_AN_INODE * (h.inodes as u32);
@@ -100,7 +100,7 @@ fn counts_fit(h: Desk) -> bool
     if h.locked != 0 {
         return false;
     }
-    if h.progress != 0 {
+    if h.transferred != 0 {
         return false;
     }
     h.steps <= most + 1

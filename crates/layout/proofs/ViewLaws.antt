@@ -16,10 +16,11 @@ use Rattle.octets.proofs.OverlayLaws.{overlay, is-overlay}
 use Rattle.layout.specs.declared.header.Header.{Header}
 use Rattle.layout.specs.declared.inode.Inode.{Inode}
 use Rattle.layout.specs.Header.{headerOf, putHeader, putFree, putComplete}
-use Rattle.layout.specs.Inode.{InodeFits, attributesAt, addressAt, addressIndex, kindOf, spareOf, linksOf, sizeOf, parentOf, addressOf, attributeEntry, putAttributes, putAddresses, putInode, putLinks, putAddress}
+use Rattle.layout.specs.Inode.{attributesAt, addressAt, addressIndex, kindOf, spareOf, linksOf, sizeOf, parentOf, addressOf, attributeEntry, putAttributes, putAddresses, putInode, putLinks, putAddress}
 use Rattle.layout.specs.Block.{blockAt, putInBlock, zeroBlock}
 use Rattle.layout.proofs.View.{View, viewOf, contentOf, withHeader, withLinks, withAttributes, withAddress, withContent, freeCounts, completion}
 use Rattle.layout.proofs.FrameLaws.{length-entry, length-attributes, header-past, kind-apart, spare-apart, links-apart, size-apart, parent-apart, address-apart, kind-put, spare-put, links-put, size-put, parent-put}
+use Rattle.layout.specs.Fits.{InodeFits}
 
 -- ---- what a splice leaves
 module _ (n : ℕ) (s : List ℕ) (p : ℕ) (xs : List ℕ) where

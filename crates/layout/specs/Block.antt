@@ -4,9 +4,8 @@ use mathlib.Core.Path.{_≡_}
 use mathlib.Core.Bool.{Bool, _&&_}
 use mathlib.Core.List.{List}
 use lib.Dec.{eqb, leb}
-use lib.ListN.{length}
 use Rattle.octets.specs.Octets.{part, splice, zeroed}
-use Rattle.layout.specs.Sizes.{headerBytes, inodeBytes, blockBytes, mostInodes, mostImageBlocks}
+use Rattle.layout.specs.Sizes.{headerBytes, inodeBytes, blockBytes, mostInodes}
 use Rattle.layout.specs.Inode.{addressIndex, addressOf}
 
 -- "Length is 16 + 32 × N + 64 × B exactly."
@@ -24,12 +23,6 @@ pub record Allowed (limit n b k : ℕ) : Type 0 where
 -- the same as a test
 unfoldable pub allowed : ℕ → ℕ → ℕ → ℕ → Bool
 allowed limit n b k = leb 1 n && (leb n mostInodes && (leb 1 b && (leb b limit && eqb k (storeLength n b))))
-
--- s is as long as n inodes and b blocks are
-pub record Sized (s : List ℕ) (n b : ℕ) : Type 0 where
-  pub inodes : n ≤ mostInodes
-  pub blocks : b ≤ mostImageBlocks
-  pub long : length s ≡ storeLength n b
 
 -- where block b starts
 abbrev pub blockAt : ℕ → ℕ → ℕ

@@ -1,21 +1,14 @@
 -- Inodes, numbered from 1: attributes and addresses, read and written. n is the inode count.
-use Prim.Native.Nat.{ℕ, _+_, _*_, _-_, _≤_}
+use Prim.Native.Nat.{ℕ, _+_, _*_, _-_}
 use mathlib.Core.Bool.{Bool, _&&_}
 use mathlib.Core.List.{List, _++_}
 use lib.Dec.{eqb, leb}
-use lib.ListN.{length, replicate}
+use lib.ListN.{replicate}
 use Rattle.octets.specs.Octets.{splice, numAt, toBytes, putNum, wordBytes}
 use Rattle.bounded.specs.Below.{allBelow}
 use Rattle.bounded.specs.Table.{table}
-use Rattle.layout.specs.Sizes.{headerBytes, attributeBytes, addressCount, inodeBytes, mostInodes}
+use Rattle.layout.specs.Sizes.{headerBytes, attributeBytes, addressCount}
 use Rattle.layout.specs.declared.inode.Inode.{Inode}
-
--- i is an inode of n, and the inodes lie inside of s
-pub record InodeFits (s : List ℕ) (n i : ℕ) : Type 0 where
-  pub low : 1 ≤ i
-  pub high : i ≤ n
-  pub few : n ≤ mostInodes
-  pub area : headerBytes + inodeBytes * n ≤ length s
 
 -- ---- "N attribute entries of 8 bytes: kind, a zero byte, link count (2), size in bytes (2), parent directory (2)"
 -- where those of inode i start
@@ -48,7 +41,7 @@ unfoldable pub putAttributes : List ℕ → ℕ → Inode → List ℕ
 putAttributes s i v = splice s (attributesAt i) (attributeEntry v)
 
 -- ---- "then N address entries of 24 bytes: twelve 16-bit block numbers, 0 for none"
--- the addresses of all inodes in a row: address k of inode i has number place i k, from 0
+-- the addresses of all inodes in a row: address k of inode i has index addressIndex i k, from 0
 abbrev pub addressIndex : ℕ → ℕ → ℕ
 addressIndex i k = addressCount * (i - 1) + k
 

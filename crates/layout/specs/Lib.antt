@@ -3,3 +3,4 @@ pub mod Header
 pub mod Inode
 pub mod Block
 pub mod Free
+pub mod Fits

@@ -43,7 +43,7 @@ mostBlocks = addressCount
 abbrev pub mostFileBytes : ℕ
 mostFileBytes = blockBytes * mostBlocks
 
--- "fewer than twelve blocks": the most that a directory takes, from which its slots follow
+-- "fewer than twelve blocks": the most that a directory takes, from which its slots follow. Its size is held to the limit of a file's, which is as many blocks
 abbrev pub mostDirectoryBlocks : ℕ
 mostDirectoryBlocks = 12
 

@@ -1,10 +1,9 @@
 // Blocks: where they stand, how many a size uses, and which an inode uses.
 ghost use mathlib.Core.Path.{_≡_};
 ghost use Prim.Native.Nat.{_<_, _≤_};
-ghost use Rattle.bounded.specs.Count.{count};
 ghost use Rattle.layout.specs.Sizes.{addressCount, mostInodes, mostImageBlocks};
-ghost use Rattle.layout.specs.Inode.{InodeFits};
-ghost use Rattle.layout.specs.Block.{storeLength, allowed, Sized, blockAt, zeroBlock, blocksUsed, kthBlock};
+ghost use Rattle.layout.specs.Block.{storeLength, allowed, blockAt, zeroBlock, blocksUsed, kthBlock};
+ghost use Rattle.layout.specs.Fits.{InodeFits, Sized};
 use crate::inode::address;
 use crate::sizes::ADDRESS_COUNT;
 use crate::sizes::BLOCK_BYTES;

@@ -7,9 +7,11 @@ use native.Mathlib.Omega.{arith}
 use borrow.Author.Tests.{eq-eqb, ne-eqb, lt-ltb, le-ltb}
 use lib.ListN.{take, drop}
 use Rattle.octets.proofs.PartLaws.{cut}
-use Rattle.layout.specs.Inode.{InodeFits, kindOf, directoryKind}
+use Rattle.layout.specs.Inode.{kindOf, directoryKind}
+use Rattle.layout.specs.Fits.{InodeFits}
 use Rattle.names.specs.Entry.{entryInode, isEmpty}
-use Rattle.directory.specs.Slot.{mostSlots, slots, slotAt, entryOf, DirFits}
+use Rattle.directory.specs.Slot.{mostSlots, slots, slotAt, entryOf}
+use Rattle.directory.specs.Fits.{DirFits}
 use Rattle.sound.specs.Sound.{Sound, inodesIn}
 use Rattle.sound.specs.Place.{isSlot, entryAt, filled, naming}
 use Rattle.sound.proofs.PlaceLaws.{slot-is, filled-is, naming-entry}

@@ -5,7 +5,7 @@ ghost use Prim.Native.Nat.{_+_, _*_, _-_, _<_, _≤_};
 ghost use lib.ListN.{length};
 ghost use Rattle.bounded.specs.Search.{firstFrom};
 ghost use Rattle.layout.specs.Sizes.{headerBytes};
-ghost use Rattle.layout.specs.Inode.{InodeFits};
+ghost use Rattle.layout.specs.Fits.{InodeFits};
 ghost use Rattle.names.specs.Name.{nameBytes};
 ghost use Rattle.names.specs.Entry.{entryBytes, nameLength};
 ghost use Rattle.directory.specs.Slot.{mostSlots};

@@ -20,8 +20,9 @@ use Rattle.octets.specs.Octets.{Octets, part, splice, numAt, toBytes, putNum, z
 use Rattle.octets.proofs.PartLaws.{length-inside, part-all, getD-part, length-zeroed, length-copied, splice-in, splice-out}
 use Rattle.octets.proofs.NumLaws.{num-ext, num-inj, num-zero, zero-num, length-toBytes, length-num}
 use Rattle.names.specs.Name.{nameBytes, legalName}
-use Rattle.names.specs.Entry.{entryBytes, nameAt, entryInode, isEmpty, sameByte, sameName, nameLength, entryName, legalEntry, entryFor, wordsAt, sameWords}
+use Rattle.names.specs.Entry.{entryBytes, nameAt, entryInode, isEmpty, sameByte, sameName, nameLength, entryName, legalEntry, entryFor}
 use Rattle.names.proofs.NameLaws.{legal-bounds, legal-nonzero}
+use Rattle.names.specs.Words.{wordsAt, sameWords}
 
 -- ---- names compared
 -- the 14 bytes from o on in s are those from p on in t

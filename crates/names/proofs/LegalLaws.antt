@@ -19,9 +19,10 @@ use Rattle.bounded.proofs.SearchLaws.{found-lowest, none-below}
 use Rattle.bounded.proofs.ReflectLaws.{r-eq, r-and, r-or, r-not, r-imp, r-all, r-says, r-fails, reflects-ext}
 use Rattle.octets.proofs.PartLaws.{length-inside, getD-part}
 use Rattle.names.specs.Name.{nameBytes, slash, dot, legalName, Legal}
-use Rattle.names.specs.Entry.{entryBytes, nameAt, sameName, nameLength, entryName, legalEntry, hasDots}
+use Rattle.names.specs.Entry.{entryBytes, nameAt, sameName, nameLength, entryName, legalEntry}
 use Rattle.names.proofs.NameLaws.{legal}
 use Rattle.names.proofs.EntryLaws.{named, entry-legal}
+use Rattle.names.specs.Words.{hasDots}
 
 -- one dot or two, then a zero byte
 abbrev Dotted : List ℕ → Type 0

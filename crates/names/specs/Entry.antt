@@ -1,6 +1,6 @@
 -- A directory entry: its 16 bytes, starting anywhere in a block.
 use Prim.Native.Nat.{ℕ, _+_}
-use mathlib.Core.Bool.{Bool, _&&_, _||_}
+use mathlib.Core.Bool.{Bool, _&&_}
 use mathlib.Core.List.{List, _++_}
 use lib.Dec.{eqb}
 use lib.ListN.{getD}
@@ -8,8 +8,7 @@ use Rattle.bounded.specs.Below.{allBelow}
 use Rattle.bounded.specs.Search.{first, onFound}
 use Rattle.bounded.specs.Table.{table}
 use Rattle.octets.specs.Octets.{part, numAt, toBytes}
-use Rattle.names.specs.Name.{nameBytes, dot, legalName}
-use Rattle.names.specs.declared.Name.{Name}
+use Rattle.names.specs.Name.{nameBytes, legalName}
 
 -- "entries of 16 bytes: inode number (2), then the name in 14 bytes"
 abbrev pub entryBytes : ℕ
@@ -45,17 +44,6 @@ entryName e = part e nameAt (nameLength e)
 unfoldable pub legalEntry : List ℕ → Bool
 legalEntry e = legalName (entryName e) && sameName e (entryName e)
 
--- "is not `.` or `..`": one dot or two and then a zero byte, as the code reads it
-unfoldable pub hasDots : List ℕ → Bool
-hasDots e = eqb (getD e nameAt 0) dot && (eqb (getD e (nameAt + 1) 0) 0 || (eqb (getD e (nameAt + 1) 0) dot && eqb (getD e (nameAt + 2) 0) 0))
-
 -- the entry that names the inode i by name
 unfoldable pub entryFor : ℕ → List ℕ → List ℕ
 entryFor i name = toBytes 2 i ++ table (λ k. getD name k 0) nameBytes
-
--- The 14 bytes of a name from o on as two numbers, of 8 bytes and of 6: what the code compares.
-unfoldable pub wordsAt : List ℕ → ℕ → Name
-wordsAt s o = record { low = numAt 8 s o; high = numAt 6 s (o + 8) }
-
-unfoldable pub sameWords : Name → Name → Bool
-sameWords a b = eqb (a .low) (b .low) && eqb (a .high) (b .high)

@@ -4,7 +4,8 @@ ghost use Prim.Native.Nat.{_+_, _≤_};
 ghost use lib.ListN.{length};
 ghost use Rattle.names.specs.Name.{nameBytes, plainByte, isDots, legalName};
 ghost use Rattle.bounded.specs.Below.{allBelow};
-ghost use Rattle.names.specs.Entry.{entryBytes, nameAt, entryInode, isEmpty, hasDots, legalEntry, entryFor, wordsAt, sameWords};
+ghost use Rattle.names.specs.Entry.{entryBytes, nameAt, entryInode, isEmpty, legalEntry, entryFor};
+ghost use Rattle.names.specs.Words.{hasDots, wordsAt, sameWords};
 
 pub const ENTRY_BYTES: usize = 16;
 

@@ -1,6 +1,4 @@
 // Lines run on the three buffers, and their answers printed.
-ghost use Prim.Native.Nat.{_≤_};
-ghost use lib.ListN.{length};
 ghost use Rattle.replay.specs.Fit.{Inside, Within};
 use crate::input::Input;
 use crate::input::next_line;

@@ -4,7 +4,6 @@ ghost use mathlib.Core.Bool.{false, _||_};
 ghost use Prim.Native.Nat.{_≤_};
 ghost use lib.Dec.{eqb};
 ghost use lib.ListN.{length};
-ghost use Rattle.bounded.specs.Count.{count};
 ghost use Rattle.answers.specs.Told.{told};
 ghost use Rattle.layout.specs.Sizes.{headerBytes, isComplete};
 ghost use Rattle.layout.specs.Header.{headerOf};

@@ -9,10 +9,12 @@ use Rattle.bounded.specs.Reflect.{Reflects}
 use Rattle.bounded.proofs.CountLaws.{met-once}
 use Rattle.bounded.proofs.ReflectLaws.{r-eq, r-some, r-no}
 use Rattle.layout.specs.Sizes.{addressCount, mostImageBlocks, rootInode}
-use Rattle.layout.specs.Inode.{InodeFits, kindOf, sizeOf, addressOf, addressIndex, directoryKind}
-use Rattle.layout.specs.Block.{Sized, blocksUsed, kthBlock}
+use Rattle.layout.specs.Inode.{kindOf, sizeOf, addressOf, addressIndex, directoryKind}
+use Rattle.layout.specs.Block.{blocksUsed, kthBlock}
 use Rattle.layout.specs.Free.{blockNamed}
-use Rattle.directory.specs.Slot.{mostSlots, DirFits}
+use Rattle.layout.specs.Fits.{InodeFits, Sized}
+use Rattle.directory.specs.Slot.{mostSlots}
+use Rattle.directory.specs.Fits.{DirFits}
 use Rattle.sound.specs.Sound.{inodesIn, blocksIn, Sound, limitOf}
 use Rattle.sound.specs.Place.{naming, IsDir}
 use Rattle.sound.proofs.PlaceLaws.{naming-filled}

@@ -56,5 +56,5 @@ pub record Sound (f : Form) (s : List ℕ) : Type 0 where
   -- "The free counts are true."
   pub free-inodes : headerOf s .«free_inodes» ≡ countTo (inodeFree s) (inodesIn s)
   pub free-blocks : headerOf s .«free_blocks» ≡ countTo (blockFree s (inodesIn s)) (blocksIn s)
-  -- block k + 1 is free
+  -- "in a finished image they are zero": each block k + 1 that is free
   pub blanks : blankOf f ≡ true → (k : ℕ) → k < blocksIn s → blockFree s (inodesIn s) (k + 1) ≡ true → (o : ℕ) → o < blockBytes → getD (blockOf s (inodesIn s) (k + 1)) o 0 ≡ 0

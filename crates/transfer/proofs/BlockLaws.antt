@@ -10,6 +10,7 @@ use borrow.Author.Tests.{eq-eqb, ne-eqb, le-leb, lt-leb, not-true, not-false}
 use borrow.Rule.Slice.PartMut.{putMid}
 use lib.Dec.{eqb, leb}
 use lib.ListN.{length, take, drop, replicate}
+use Rattle.directory.specs.Fits.{DirFits}
 use Rattle.bounded.specs.Search.{pick}
 use Rattle.bounded.specs.Count.{tally}
 use Rattle.bounded.specs.declared.Found.{Found}
@@ -23,7 +24,6 @@ use Rattle.layout.specs.Inode.{kindOf, directoryKind, addressOf, sizeOf, addres
 use Rattle.layout.specs.Block.{blockAt, blockOf, putInBlock, kthBlock, blocksUsed}
 use Rattle.layout.specs.Free.{blockNamed, freeBlock}
 use Rattle.names.specs.Entry.{entryInode}
-use Rattle.directory.specs.Slot.{DirFits}
 use Rattle.desk.specs.Desk.{markOf}
 use Rattle.checkpoint.specs.Notes.{isCopied}
 use Rattle.checkpoint.specs.Copier.{copy, targetBlock, copiedEntry, copiedEntries, copiedBlock, stepImage}

@@ -9,7 +9,8 @@ ghost use Rattle.layout.specs.Sizes.{mostImageBlocks, addressCount, blockBytes}
 ghost use Rattle.layout.specs.Inode.{sizeOf, addressOf};
 ghost use Rattle.layout.specs.Block.{blocksUsed};
 ghost use Rattle.layout.specs.Free.{blockNamed};
-ghost use Rattle.directory.specs.Slot.{DirFits, slotsInBlock};
+ghost use Rattle.directory.specs.Slot.{slotsInBlock};
+ghost use Rattle.directory.specs.Fits.{DirFits};
 ghost use Rattle.desk.specs.Sizes.{deskLength};
 ghost use Rattle.checkpoint.specs.Copier.{targetBlock, copiedEntry, copiedEntries, copiedBlock};
 ghost use Rattle.tallies.specs.Addressed.{Addressed};

@@ -5,7 +5,6 @@ use mathlib.Core.Bool.{Bool, true, false}
 use mathlib.Core.List.{List, [], _∷_, _++_}
 use borrow.Author.Tests.{eqb-true, eq-eqb}
 use Rattle.bounded.specs.Search.{pick}
-use Rattle.bounded.specs.Count.{count}
 use Rattle.answers.specs.Told.{told}
 use Rattle.files.specs.Effect.{Call}
 use Rattle.files.specs.Plain.{plain}

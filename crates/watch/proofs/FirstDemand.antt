@@ -14,6 +14,7 @@ use Rattle.answers.specs.declared.Answer.{Answer}
 use Rattle.answers.specs.declared.Answer.the-variants.{Done, Refused}
 use Rattle.answers.specs.Told.{Told, told}
 use Rattle.answers.specs.Order.{row}
+use Rattle.answers.proofs.RefusalLaws.{lowest-first}
 use Rattle.format.specs.Format.{LaidOut, laidOut, freshStore, freshDesk, layOutStore, layOutDesk}
 use Rattle.checkpoint.specs.Live.{World}
 use Rattle.checkpoint.specs.List.{Event}
@@ -45,6 +46,7 @@ lays b s fresh t r h =
 pub first-demand : FirstDemand
 unfolding layOutStore layOutDesk
 first-demand = record {
+  lowest-first = lowest-first;
   calls = λ d. calls d;
   lays-store = λ {s} {t} r n b h. lays (allowed mostStoreBlocks n b (length s)) s (freshStore n b) t r h;
   lays-desk = λ {d} {t} r n h. lays (deskAllowed n (length d)) d (freshDesk n) t r h;

@@ -16,10 +16,11 @@ use Rattle.sound.specs.declared.Form.{Form}
 use Rattle.sound.specs.Sound.{Sound, inodesIn}
 use Rattle.sound.specs.Test.{isSound}
 use Rattle.answers.specs.declared.Answer.{Answer}
+use Rattle.answers.specs.declared.Refusal.{Refusal}
 use Rattle.answers.specs.declared.Refusal.the-variants.{BadBuffer, ImageFull}
 use Rattle.answers.specs.Refusal.{refusalNumber}
 use Rattle.answers.specs.Told.{Told, told}
-use Rattle.answers.specs.Order.{Row, row, inOrder}
+use Rattle.answers.specs.Order.{Row, row, rank, inOrder}
 use Rattle.format.specs.Format.{laidOut, layOutStore, layOutDesk}
 use Rattle.files.specs.Effect.{lookUp, read, create, write, shorten, link, unlink, rename, given}
 use Rattle.checkpoint.specs.Live.{World}
@@ -100,6 +101,8 @@ pub record LayAnswers (rs : List Row) (s : List ℕ) (r : Answer) (t : List ℕ)
 
 -- ---- demand 1: each call as its contract promises it. The check refuses nothing: it "takes any bytes and answers yes or no"; demand 2: "The soundness check says yes to a store that meets its conditions and no to every other."
 pub record FirstDemand : Type 0 where
+  -- "looked at lowest first"
+  pub lowest-first : (f : Refusal) → rank f ≡ refusalNumber f
   pub calls : {e : Event} {w v : World} {a : Received} → Did e w a v → Answers e w a v
   pub lays-store : {s t : List ℕ} (r : Answer) (inodes blocks : ℕ) → laidOut r t ≡ layOutStore s inodes blocks → LayAnswers (storeLayTable s inodes blocks) s r t
   pub lays-desk : {d t : List ℕ} (r : Answer) (inodes : ℕ) → laidOut r t ≡ layOutDesk d inodes → LayAnswers (deskLayTable d inodes) d r t

@@ -52,8 +52,8 @@ module _ {n b : ℕ} {s m d : List ℕ} (k : Sound Store s) (x : n ≡ inodesIn 
   lock-same : deskOf e .locked ≡ deskOf d .locked
   lock-same = ap (λ (z : Desk). z .locked) (a .head)
 
-  copied-same : deskOf e .progress ≡ deskOf d .progress
-  copied-same = ap (λ (z : Desk). z .progress) (a .head)
+  copied-same : deskOf e .transferred ≡ deskOf d .transferred
+  copied-same = ap (λ (z : Desk). z .transferred) (a .head)
 
   desk : DeskLaid n b e
   desk =
@@ -71,7 +71,7 @@ module _ {n b : ℕ} {s m d : List ℕ} (k : Sound Store s) (x : n ≡ inodesIn 
         none = λ z. copied-same ∙ f .none (sym l ∙ z);
       }
 
-  opened-here : deskOf d .locked ≢ 0 → Open n b t m e (deskOf d .locked) (deskOf d .progress)
+  opened-here : deskOf d .locked ≢ 0 → Open n b t m e (deskOf d .locked) (deskOf d .transferred)
   opened-here z =
       let o = h .opened z in
       let r = stays z in
@@ -84,14 +84,14 @@ module _ {n b : ℕ} {s m d : List ℕ} (k : Sound Store s) (x : n ≡ inodesIn 
         links = o .links;
         size = o .size;
         parent = o .parent;
-        few = subst (λ (y : ℕ). deskOf d .progress ≤ blocksUsed y) (sym (r .inode .size)) f;
+        few = subst (λ (y : ℕ). deskOf d .transferred ≤ blocksUsed y) (sym (r .inode .size)) f;
         named = o .named;
         rest = o .rest;
         blocks = λ j l. o .blocks j l ∙ sym (block-same d e n (deskOf d .locked) j (omega arith) (marks z) (same-copied a) s t (omega arith) r);
       }
 
-  opened : deskOf e .locked ≢ 0 → Open n b t m e (deskOf e .locked) (deskOf e .progress)
-  opened z = subst (λ (y : Desk). Open n b t m e (y .locked) (y .progress)) (sym (a .head)) (opened-here (λ w. z (lock-same ∙ w)))
+  opened : deskOf e .locked ≢ 0 → Open n b t m e (deskOf e .locked) (deskOf e .transferred)
+  opened z = subst (λ (y : Desk). Open n b t m e (y .locked) (y .transferred)) (sym (a .head)) (opened-here (λ w. z (lock-same ∙ w)))
 
   costs : (j : ℕ) → j < n → cost m d n j ≡ cost m e n j
   unfolding cost
@@ -99,7 +99,7 @@ module _ {n b : ℕ} {s m d : List ℕ} (k : Sound Store s) (x : n ≡ inodesIn 
 
   so-far : costSoFar d ≡ costSoFar e
   unfolding costSoFar
-  so-far = ap (λ (z : Desk). pick (eqb (z .locked) 0) 0 (1 + z .progress)) (sym (a .head))
+  so-far = ap (λ (z : Desk). pick (eqb (z .locked) 0) 0 (1 + z .transferred)) (sym (a .head))
 
   pub notes-laid : Laid n b t m e
   notes-laid = record {

@@ -40,7 +40,7 @@ module _ {n b : ℕ} {s m d : List ℕ} (k : Sound Store s) (x : n ≡ inodesIn 
   not-locked : deskOf d .locked ≢ e
   not-locked z = used-other h e (slot .low) (slot .high) (in-use h e t slot) (sym z)
 
-  opened : deskOf d .locked ≢ 0 → Open n b s cut d (deskOf d .locked) (deskOf d .progress)
+  opened : deskOf d .locked ≢ 0 → Open n b s cut d (deskOf d .locked) (deskOf d .transferred)
   unfolding kthBlock
   opened z =
       let o = h .opened z in

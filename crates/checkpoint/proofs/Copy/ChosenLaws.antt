@@ -45,33 +45,33 @@ pub data Chosen (s m d : List ℕ) (n : ℕ) : Step → Type 0 where
   will-lock : (l : ℕ) → deskOf d .locked ≡ 0 → 1 ≤ l → l ≤ n → isCopied d n l ≡ false
       → ((l ≡ rootInode) ⊎ ((p : ℕ) × (p < mostSlots * n) × (imageNaming m n p ≡ l))) → Chosen s m d n (lock l)
   -- 3
-  will-copy : (c : ℕ) → deskOf d .locked ≢ 0 → deskOf d .progress < blocksUsed (sizeOf s (deskOf d .locked))
-      → targetBlock m n (deskOf d .blocks) (kthBlock s n (deskOf d .locked) (deskOf d .progress)) ≡ At c → Chosen s m d n (copy (deskOf d .locked) (deskOf d .progress) c)
+  will-copy : (c : ℕ) → deskOf d .locked ≢ 0 → deskOf d .transferred < blocksUsed (sizeOf s (deskOf d .locked))
+      → targetBlock m n (deskOf d .blocks) (kthBlock s n (deskOf d .locked) (deskOf d .transferred)) ≡ At c → Chosen s m d n (copy (deskOf d .locked) (deskOf d .transferred) c)
   -- 4
-  will-close : deskOf d .locked ≢ 0 → blocksUsed (sizeOf s (deskOf d .locked)) ≤ deskOf d .progress → Chosen s m d n (close (deskOf d .locked))
+  will-close : deskOf d .locked ≢ 0 → blocksUsed (sizeOf s (deskOf d .locked)) ≤ deskOf d .transferred → Chosen s m d n (close (deskOf d .locked))
   -- 5
   will-finish : deskOf d .locked ≡ 0 → isCopied d n rootInode ≡ true
       → ((p : ℕ) → p < mostSlots * n → 1 ≤ imageNaming m n p → imageNaming m n p ≤ n → isCopied d n (imageNaming m n p) ≡ true) → Chosen s m d n finish
   -- 16
-  no-room : deskOf d .locked ≢ 0 → deskOf d .progress < blocksUsed (sizeOf s (deskOf d .locked))
+  no-room : deskOf d .locked ≢ 0 → deskOf d .transferred < blocksUsed (sizeOf s (deskOf d .locked))
       → ((c : ℕ) → 1 ≤ c → c ≤ deskOf d .blocks → blockNamed m n c ≡ true) → Chosen s m d n full
 
 module _ (s m d : List ℕ) (n : ℕ) where
   -- ---- something is locked
   module _ (z : deskOf d .locked ≢ 0) where
-    block : deskOf d .progress < blocksUsed (sizeOf s (deskOf d .locked)) → (r : Found)
-        → targetBlock m n (deskOf d .blocks) (kthBlock s n (deskOf d .locked) (deskOf d .progress)) ≡ r
-        → Chosen s m d n (onFound r (λ c. copy (deskOf d .locked) (deskOf d .progress) c) full)
+    block : deskOf d .transferred < blocksUsed (sizeOf s (deskOf d .locked)) → (r : Found)
+        → targetBlock m n (deskOf d .blocks) (kthBlock s n (deskOf d .locked) (deskOf d .transferred)) ≡ r
+        → Chosen s m d n (onFound r (λ c. copy (deskOf d .locked) (deskOf d .transferred) c) full)
     block l (At c) e = will-copy c z l e
-    block l Absent e = no-room z l (target-absent m n (deskOf d .blocks) (kthBlock s n (deskOf d .locked) (deskOf d .progress)) e)
+    block l Absent e = no-room z l (target-absent m n (deskOf d .blocks) (kthBlock s n (deskOf d .locked) (deskOf d .transferred)) e)
 
-    chosen-locked : Chosen s m d n (lockedStep s m n (deskOf d .blocks) (deskOf d .locked) (deskOf d .progress))
+    chosen-locked : Chosen s m d n (lockedStep s m n (deskOf d .blocks) (deskOf d .locked) (deskOf d .transferred))
     unfolding lockedStep
-    chosen-locked = go (ltb (deskOf d .progress) (blocksUsed (sizeOf s (deskOf d .locked)))) refl
+    chosen-locked = go (ltb (deskOf d .transferred) (blocksUsed (sizeOf s (deskOf d .locked)))) refl
       where
-        go : (t : Bool) → ltb (deskOf d .progress) (blocksUsed (sizeOf s (deskOf d .locked))) ≡ t
-            → Chosen s m d n (pick t (onFound (targetBlock m n (deskOf d .blocks) (kthBlock s n (deskOf d .locked) (deskOf d .progress))) (λ c. copy (deskOf d .locked) (deskOf d .progress) c) full) (close (deskOf d .locked)))
-        go true e = block (ltb-true _ _ e) (targetBlock m n (deskOf d .blocks) (kthBlock s n (deskOf d .locked) (deskOf d .progress))) refl
+        go : (t : Bool) → ltb (deskOf d .transferred) (blocksUsed (sizeOf s (deskOf d .locked))) ≡ t
+            → Chosen s m d n (pick t (onFound (targetBlock m n (deskOf d .blocks) (kthBlock s n (deskOf d .locked) (deskOf d .transferred))) (λ c. copy (deskOf d .locked) (deskOf d .transferred) c) full) (close (deskOf d .locked)))
+        go true e = block (ltb-true _ _ e) (targetBlock m n (deskOf d .blocks) (kthBlock s n (deskOf d .locked) (deskOf d .transferred))) refl
         go false e = will-close z (ltb-false _ _ e)
 
   -- ---- nothing is locked
@@ -103,7 +103,7 @@ module _ (s m d : List ℕ) (n : ℕ) where
   unfolding stepOf
   chosen l = go (eqb (deskOf d .locked) 0) refl
     where
-      go : (t : Bool) → eqb (deskOf d .locked) 0 ≡ t → Chosen s m d n (pick t (freeStep m d n) (lockedStep s m n (deskOf d .blocks) (deskOf d .locked) (deskOf d .progress)))
+      go : (t : Bool) → eqb (deskOf d .locked) 0 ≡ t → Chosen s m d n (pick t (freeStep m d n) (lockedStep s m n (deskOf d .blocks) (deskOf d .locked) (deskOf d .transferred)))
       go true e = chosen-free (eqb-true (deskOf d .locked) 0 e) l
       go false e = chosen-locked (eqb-false (deskOf d .locked) 0 e)
 
@@ -132,6 +132,6 @@ never-full {n} {b} {s} {m} {d} h sound e enough q = go (stepOf s m d n) q (chose
     go x q (no-room z l all) =
         let r = laid-room h sound e z l enough in
         let k = h .desk .blocks in
-        let w = target-at m n b (kthBlock s n (deskOf d .locked) (deskOf d .progress)) (r .0) (r .1) in
+        let w = target-at m n b (kthBlock s n (deskOf d .locked) (deskOf d .transferred)) (r .0) (r .1) in
         let v = w .high in
         clash (blockNamed m n (r .0)) (all (r .0) (w .low) (omega arith)) (w .free)

@@ -42,8 +42,8 @@ pub desk-fits-is : (d : List ℕ) → Reflects (deskFits d)
     × ((deskRestZero d ≡ true)
     × (((k : ℕ) → k < deskOf d .inodes → copiedOf d (k + 1) ≤ 1)
     × ((deskOf d .locked ≤ deskOf d .inodes)
-    × ((deskOf d .progress ≤ mostBlocks)
-    × (((isRunning d ≡ true) ⊎ ((deskOf d .locked ≡ 0) × (deskOf d .progress ≡ 0)))
+    × ((deskOf d .transferred ≤ mostBlocks)
+    × (((isRunning d ≡ true) ⊎ ((deskOf d .locked ≡ 0) × (deskOf d .transferred ≡ 0)))
     × (deskOf d .steps ≤ mostSteps d))))))))
 unfolding deskFits
 desk-fits-is d =
@@ -52,15 +52,15 @@ desk-fits-is d =
     (r-and (r-true (deskRestZero d))
     (r-and (r-all (deskOf d .inodes) (λ k. r-le (copiedOf d (k + 1)) 1))
     (r-and (r-le (deskOf d .locked) (deskOf d .inodes))
-    (r-and (r-le (deskOf d .progress) mostBlocks)
-    (r-and (r-or (r-true (isRunning d)) (r-and (r-eq (deskOf d .locked) 0) (r-eq (deskOf d .progress) 0)))
+    (r-and (r-le (deskOf d .transferred) mostBlocks)
+    (r-and (r-or (r-true (isRunning d)) (r-and (r-eq (deskOf d .locked) 0) (r-eq (deskOf d .transferred) 0)))
     (r-le (deskOf d .steps) (mostSteps d))))))))
 
 -- "fields 6-9 not zero unless running"
-pub idle-free : (d : List ℕ) → deskFits d ≡ true → isRunning d ≡ false → (deskOf d .locked ≡ 0) × (deskOf d .progress ≡ 0)
+pub idle-free : (d : List ℕ) → deskFits d ≡ true → isRunning d ≡ false → (deskOf d .locked ≡ 0) × (deskOf d .transferred ≡ 0)
 idle-free d fits idle = go (desk-fits-is d .to fits .1 .1 .1 .1 .1 .1 .0)
   where
-    go : (isRunning d ≡ true) ⊎ ((deskOf d .locked ≡ 0) × (deskOf d .progress ≡ 0)) → (deskOf d .locked ≡ 0) × (deskOf d .progress ≡ 0)
+    go : (isRunning d ≡ true) ⊎ ((deskOf d .locked ≡ 0) × (deskOf d .transferred ≡ 0)) → (deskOf d .locked ≡ 0) × (deskOf d .transferred ≡ 0)
     go (inl t) = absurd (clash (isRunning d) t idle)
     go (inr z) = z
 
@@ -88,9 +88,9 @@ module _ {n b : ℕ} {s m d : List ℕ} (h : Laid n b s m d) where
   -- ---- the image
   -- an address is at most b: that of an inode by itself, and that of the locked one
   pub laid-address : (x : ℕ) → x < addressCount * n → addressOf m n x ≤ b
-  laid-address x l = rw (address-kth m n x) (go (ℕ-discrete (x / 12 + 1) (deskOf d .locked)) (decLt (x % 12) (deskOf d .progress)))
+  laid-address x l = rw (address-kth m n x) (go (ℕ-discrete (x / 12 + 1) (deskOf d .locked)) (decLt (x % 12) (deskOf d .transferred)))
     where
-      go : Dec (x / 12 + 1 ≡ deskOf d .locked) → Dec (x % 12 < deskOf d .progress) → kthBlock m n (x / 12 + 1) (x % 12) ≤ b
+      go : Dec (x / 12 + 1 ≡ deskOf d .locked) → Dec (x % 12 < deskOf d .transferred) → kthBlock m n (x / 12 + 1) (x % 12) ≤ b
       go (no q) y = kth-bound m n b (x / 12 + 1) (x % 12) (omega arith) (h .inodes (x / 12 + 1) (omega arith) (omega arith) q)
       go (yes q) (yes y) = rw q (h .opened (λ z. omega arith) .named (x % 12) (omega arith) y .1)
       go (yes q) (no y) =
@@ -130,10 +130,10 @@ module _ {n b : ℕ} {s m d : List ℕ} (h : Laid n b s m d) where
 
   module _ (sound : Sound Store s) (e : n ≡ inodesIn s) where
     -- "more than 12 blocks copied" never
-    pub laid-copied : deskOf d .progress ≤ addressCount
+    pub laid-copied : deskOf d .transferred ≤ addressCount
     laid-copied = go (ℕ-discrete (deskOf d .locked) 0)
       where
-        go : Dec (deskOf d .locked ≡ 0) → deskOf d .progress ≤ 12
+        go : Dec (deskOf d .locked ≡ 0) → deskOf d .transferred ≤ 12
         go (yes z) = let c = h .desk .none z in omega arith
         go (no z) =
             let o = h .opened z .few in
@@ -157,7 +157,7 @@ module _ {n b : ℕ} {s m d : List ℕ} (h : Laid n b s m d) where
             let u = h .desk .high in
             let i : deskOf d .locked - 1 + 1 ≡ deskOf d .locked = omega arith in
             let v = cost-none (deskOf d .locked - 1) (rw i (h .opened z .new)) in
-            let r = sum-spare (cost m d n) 14 (1 + deskOf d .progress) (deskOf d .locked - 1) n cost-most (omega arith) (omega arith) in
+            let r = sum-spare (cost m d n) 14 (1 + deskOf d .transferred) (deskOf d .locked - 1) n cost-most (omega arith) (omega arith) in
             omega arith
 
     -- ---- the desk

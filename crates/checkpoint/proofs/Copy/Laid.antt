@@ -35,7 +35,7 @@ pub record DeskLaid (n b : ℕ) (d : List ℕ) : Type 0 where
   pub bytes : (i : ℕ) → 1 ≤ i → i ≤ n → copiedOf d i ≤ 1
   pub high : deskOf d .locked ≤ n
   -- with nothing locked no block is counted
-  pub none : deskOf d .locked ≡ 0 → deskOf d .progress ≡ 0
+  pub none : deskOf d .locked ≡ 0 → deskOf d .transferred ≡ 0
 
 -- the image's frame
 pub record Frame (n b : ℕ) (m : List ℕ) : Type 0 where
@@ -87,7 +87,7 @@ cost m d n j = pick (isCopied d n (j + 1)) (2 + blocksUsed (sizeOf m (j + 1))) 0
 
 -- the steps that the locked inode has taken so far
 unfoldable pub costSoFar : List ℕ → ℕ
-costSoFar d = pick (eqb (deskOf d .locked) 0) 0 (1 + deskOf d .progress)
+costSoFar d = pick (eqb (deskOf d .locked) 0) 0 (1 + deskOf d .transferred)
 
 pub record Laid (n b : ℕ) (s m d : List ℕ) : Type 0 where
   pub desk : DeskLaid n b d
@@ -95,7 +95,7 @@ pub record Laid (n b : ℕ) (s m d : List ℕ) : Type 0 where
   -- an inode that is not locked is sound by itself, and one that is not copied is blank
   pub inodes : (i : ℕ) → 1 ≤ i → i ≤ n → i ≢ deskOf d .locked → InodeSound m n b i
   pub blank : (i : ℕ) → 1 ≤ i → i ≤ n → isCopied d n i ≡ false → kindOf m i ≡ freeKind
-  pub opened : deskOf d .locked ≢ 0 → Open n b s m d (deskOf d .locked) (deskOf d .progress)
+  pub opened : deskOf d .locked ≢ 0 → Open n b s m d (deskOf d .locked) (deskOf d .transferred)
   -- no image block is named twice, and those that none names are zero
   pub once : Differ (addressOf m n) (addressCount * n)
   pub blanks : (k : ℕ) → k < b → blockFree m n (k + 1) ≡ true → (o : ℕ) → o < blockBytes → getD (blockOf m n (k + 1)) o 0 ≡ 0

@@ -66,15 +66,15 @@ module _ (m : List ℕ) (n b x : ℕ) (l : x < addressCount * n) (z : addressOf 
 
 -- "With 12 × N image blocks or more, 16 never comes in a run."
 pub laid-room : {n b : ℕ} {s m d : List ℕ} → Laid n b s m d → Sound Store s → n ≡ inodesIn s
-    → deskOf d .locked ≢ 0 → deskOf d .progress < blocksUsed (sizeOf s (deskOf d .locked)) → addressCount * n ≤ b
-    → (c : ℕ) × (targetBlock m n b (kthBlock s n (deskOf d .locked) (deskOf d .progress)) ≡ At c)
+    → deskOf d .locked ≢ 0 → deskOf d .transferred < blocksUsed (sizeOf s (deskOf d .locked)) → addressCount * n ≤ b
+    → (c : ℕ) × (targetBlock m n b (kthBlock s n (deskOf d .locked) (deskOf d .transferred)) ≡ At c)
 laid-room {n} {b} {s} {m} {d} h sound e lock more enough = go (targetBlock m n b (kthBlock s n l k)) refl
   where
     l : ℕ
     l = deskOf d .locked
 
     k : ℕ
-    k = deskOf d .progress
+    k = deskOf d .transferred
 
     go : (r : Found) → targetBlock m n b (kthBlock s n l k) ≡ r → (c : ℕ) × (targetBlock m n b (kthBlock s n l k) ≡ At c)
     go (At c) q = (c, q)

@@ -4,7 +4,6 @@ use mathlib.Core.Path.{_≡_, refl, sym, ap, _∙_, subst}
 use mathlib.Core.Bool.{true, false}
 use native.Mathlib.Omega.{arith}
 use lib.ListN.{length}
-use Rattle.bounded.specs.Count.{count}
 use Rattle.layout.specs.Sizes.{mostImageBlocks}
 use Rattle.layout.specs.Block.{storeLength, Allowed}
 use Rattle.sound.specs.Sound.{Sound, inodesIn, blocksIn}

@@ -7,7 +7,6 @@ use native.Mathlib.Omega.{arith}
 use lib.Dec.{eqb}
 use Rattle.bounded.specs.Search.{pick}
 use Rattle.bounded.proofs.BoolLaws.{and-false-l, and-false-r}
-use Rattle.bounded.specs.Count.{count}
 use Rattle.desk.specs.declared.Desk.{Desk}
 use Rattle.desk.specs.Desk.{deskOf, setMark, clearMark}
 use Rattle.desk.proofs.DeskLaws.{desk-setMark, desk-clearMark}

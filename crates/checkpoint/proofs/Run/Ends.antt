@@ -12,7 +12,6 @@ use Rattle.bounded.specs.Search.{pick}
 use Rattle.bounded.specs.Below.{allBelow}
 use Rattle.bounded.proofs.BoolLaws.{and-true, or-l, or-r}
 use Rattle.bounded.proofs.BelowLaws.{all-of}
-use Rattle.bounded.specs.Count.{count}
 use Rattle.layout.specs.Sizes.{mostInodes, mostImageBlocks, isComplete, notComplete, mostBlocks}
 use Rattle.layout.specs.Header.{headerOf}
 use Rattle.desk.specs.Sizes.{deskHeaderBytes, deskLength, idle, running, finished, stopped, stepsAnInode}
@@ -46,7 +45,7 @@ pub record AtRest (n b : ℕ) (h : Desk) : Type 0 where
   pub blocks : h .blocks ≡ b
   pub state : (h .state ≡ finished) ⊎ (h .state ≡ stopped)
   pub locked : h .locked ≡ 0
-  pub progress : h .progress ≡ 0
+  pub transferred : h .transferred ≡ 0
   pub steps : h .steps ≤ stepsAnInode * n + 1
 
 module _ (n b : ℕ) (d : List ℕ) (k : DeskLaid n b d) (h : Desk) (r : AtRest n b h) where
@@ -68,8 +67,8 @@ module _ (n b : ℕ) (d : List ℕ) (k : DeskLaid n b d) (h : Desk) (r : AtRest 
   locked-is : deskOf (putDesk d h) .locked ≡ 0
   locked-is = ap (λ (x : Desk). x .locked) is ∙ r .locked
 
-  progress-is : deskOf (putDesk d h) .progress ≡ 0
-  progress-is = ap (λ (x : Desk). x .progress) is ∙ r .progress
+  transferred-is : deskOf (putDesk d h) .transferred ≡ 0
+  transferred-is = ap (λ (x : Desk). x .transferred) is ∙ r .transferred
 
   steps-is : deskOf (putDesk d h) .steps ≡ h .steps
   steps-is = ap (λ (x : Desk). x .steps) is
@@ -116,15 +115,15 @@ module _ (n b : ℕ) (d : List ℕ) (k : DeskLaid n b d) (h : Desk) (r : AtRest 
   rest-fits l m =
       let x = deskOf (putDesk d h) in
       let lo = locked-is in
-      let co = progress-is in
+      let co = transferred-is in
       and-true (leb (x .state) stopped) _ (le-leb (x .state) stopped (elim rest-state [ inl f ↦ omega arith | inr f ↦ omega arith ]))
       (and-true (blocksFit (putDesk d h)) _ (rest-blocks l m)
       (and-true (deskRestZero (putDesk d h)) _ (reserved-putDesk d h ∙ k .reserved)
       (and-true (allBelow (λ j. leb (copiedOf (putDesk d h) (j + 1)) 1) (x .inodes)) _ rest-bytes
       (and-true (leb (x .locked) (x .inodes)) _ (le-leb (x .locked) (x .inodes) (omega arith))
-      (and-true (leb (x .progress) mostBlocks) _ (le-leb (x .progress) mostBlocks (omega arith))
-      (and-true (isRunning (putDesk d h) || (eqb (x .locked) 0 && eqb (x .progress) 0)) _
-      (or-r (isRunning (putDesk d h)) _ (and-true (eqb (x .locked) 0) _ (eq-eqb (x .locked) 0 lo) (eq-eqb (x .progress) 0 co)))
+      (and-true (leb (x .transferred) mostBlocks) _ (le-leb (x .transferred) mostBlocks (omega arith))
+      (and-true (isRunning (putDesk d h) || (eqb (x .locked) 0 && eqb (x .transferred) 0)) _
+      (or-r (isRunning (putDesk d h)) _ (and-true (eqb (x .locked) 0) _ (eq-eqb (x .locked) 0 lo) (eq-eqb (x .transferred) 0 co)))
       rest-steps))))))
 
 module _ (n b : ℕ) (w : World) (r : Running n b w) where
@@ -190,7 +189,7 @@ module _ (n b : ℕ) (w : World) (r : Running n b w) where
         blocks = r .laid .desk .blocks;
         state = inl refl;
         locked = f .none;
-        progress = r .laid .desk .none (f .none);
+        transferred = r .laid .desk .none (f .none);
         steps = omega arith;
       }
 
@@ -227,7 +226,7 @@ module _ (n b : ℕ) (w : World) (r : Running n b w) where
       let few = few-steps in
       record {
         is = v;
-        rest = rw v (comes-to-rest (w .image) (stopping (deskOf (w .desk))) refl (r .laid .frame .complete) record { inodes = r .laid .desk .inodes; blocks = r .laid .desk .blocks; state = inr refl; locked = refl; progress = refl; steps = omega arith });
+        rest = rw v (comes-to-rest (w .image) (stopping (deskOf (w .desk))) refl (r .laid .frame .complete) record { inodes = r .laid .desk .inodes; blocks = r .laid .desk .blocks; state = inr refl; locked = refl; transferred = refl; steps = omega arith });
         state = ap (λ (x : World). deskOf (x .desk) .state) v ∙ ap (λ (x : Desk). x .state) h;
         counts = ap (λ (x : World). deskOf (x .desk) .steps) v ∙ ap (λ (x : Desk). x .steps) h;
         answer = ap (λ (o : Shown). o .answer) o;

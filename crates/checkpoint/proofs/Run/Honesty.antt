@@ -7,7 +7,6 @@ use mathlib.Core.List.{List}
 use native.Mathlib.Omega.{arith}
 use lib.ListN.{length}
 use Rattle.bounded.proofs.BoolLaws.{holds}
-use Rattle.bounded.specs.Count.{count}
 use Rattle.layout.specs.Inode.{kindOf, freeKind, fileKind}
 use Rattle.directory.specs.Slot.{mostSlots}
 use Rattle.sound.specs.Entry.{EntrySound}

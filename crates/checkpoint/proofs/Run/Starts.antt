@@ -9,7 +9,6 @@ use lib.Dec.{eqb}
 use lib.ListN.{length}
 use Rattle.bounded.specs.Search.{pick}
 use Rattle.bounded.proofs.BoolLaws.{clash, and-left, and-right}
-use Rattle.layout.specs.Block.{allowed}
 use Rattle.desk.specs.Sizes.{deskHeaderBytes}
 use Rattle.desk.specs.declared.Desk.{Desk}
 use Rattle.desk.specs.Desk.{deskOf, clearNotes}

@@ -10,7 +10,6 @@ use lib.Dec.{eqb}
 use lib.ListN.{length}
 use Rattle.bounded.proofs.BoolLaws.{clash, holds-or-fails, same-test}
 use Rattle.bounded.proofs.CountLaws.{count-ext}
-use Rattle.bounded.specs.Count.{count}
 use Rattle.bounded.proofs.RangeLaws.{within-in}
 use Rattle.layout.specs.Sizes.{rootInode}
 use Rattle.layout.specs.Inode.{kindOf, linksOf, freeKind}

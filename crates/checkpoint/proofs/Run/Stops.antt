@@ -48,7 +48,7 @@ stop-leaves w l =
       image = refl;
       state = ap (λ (x : Desk). x .state) k;
       locked = ap (λ (x : Desk). x .locked) k;
-      progress = ap (λ (x : Desk). x .progress) k;
+      transferred = ap (λ (x : Desk). x .transferred) k;
       long = length-putDesk (w .desk) (stopping (deskOf (w .desk)));
       rest = λ o x p q. stop-bytes (w .desk) o l x p q;
     }

@@ -26,7 +26,6 @@ use Rattle.checkpoint.specs.Live.{World, doStep}
 use Rattle.checkpoint.specs.Shown.{Shown}
 use Rattle.checkpoint.specs.List.{advances, outcome, next}
 use Rattle.bounded.specs.declared.Found.the-variants.{At}
-use Rattle.bounded.specs.Count.{count}
 use Rattle.checkpoint.proofs.Copy.Seen.{seen}
 use Rattle.checkpoint.proofs.Copy.Laid.{Laid}
 use Rattle.checkpoint.proofs.Copy.TidyLaws.{store-tidy}
@@ -47,7 +46,7 @@ pub record Finishes (n b : ℕ) (w : World) : Type 0 where
 -- the next step is refused with 16
 pub record Fills (n b : ℕ) (w : World) : Type 0 where
   pub locked : deskOf (w .desk) .locked ≢ 0
-  pub left : deskOf (w .desk) .progress < blocksUsed (sizeOf (w .store) (deskOf (w .desk) .locked))
+  pub left : deskOf (w .desk) .transferred < blocksUsed (sizeOf (w .store) (deskOf (w .desk) .locked))
   pub all : (c : ℕ) → 1 ≤ c → c ≤ deskOf (w .desk) .blocks → blockNamed (w .image) n c ≡ true
   pub is : stepOf (w .store) (w .image) (w .desk) n ≡ full
 
@@ -98,10 +97,10 @@ module _ (n b : ℕ) (w : World) (r : Running n b w) where
       (ap (λ (x : Desk). x .steps) (desk-putDesk (w .desk) (locking (deskOf (w .desk)) l) long))
       refl
   chose p e (will-copy c z l t) =
-      let g : targetBlock (w .image) n b (kthBlock (w .store) n (deskOf (w .desk) .locked) (deskOf (w .desk) .progress)) ≡ At c
-      = ap (λ (x : ℕ). targetBlock (w .image) n x (kthBlock (w .store) n (deskOf (w .desk) .locked) (deskOf (w .desk) .progress))) (sym (r .laid .desk .blocks)) ∙ t in
-      step-on (copy (deskOf (w .desk) .locked) (deskOf (w .desk) .progress) c) e
-      (goes (after (copy (deskOf (w .desk) .locked) (deskOf (w .desk) .progress) c)) refl
+      let g : targetBlock (w .image) n b (kthBlock (w .store) n (deskOf (w .desk) .locked) (deskOf (w .desk) .transferred)) ≡ At c
+      = ap (λ (x : ℕ). targetBlock (w .image) n x (kthBlock (w .store) n (deskOf (w .desk) .locked) (deskOf (w .desk) .transferred))) (sym (r .laid .desk .blocks)) ∙ t in
+      step-on (copy (deskOf (w .desk) .locked) (deskOf (w .desk) .transferred) c) e
+      (goes (after (copy (deskOf (w .desk) .locked) (deskOf (w .desk) .transferred) c)) refl
       (copy-laid (r .laid) (r .sound) (r .count) z l c g)
       (rests (copy-quiet (r .laid) (r .sound) (r .count) z l c g) (copy-now (r .laid) (r .sound) (r .count) z l c g)))
       (ap (λ (x : Desk). x .steps) (desk-putDesk (w .desk) (copyingOne (deskOf (w .desk))) long))

@@ -11,8 +11,9 @@ use Rattle.bounded.specs.Update.{Changed, here, there}
 use Rattle.bounded.proofs.CaseLaws.{each-else}
 use Rattle.octets.proofs.PartLaws.{length-inside}
 use Rattle.layout.specs.Sizes.{addressCount, blockBytes}
-use Rattle.layout.specs.Inode.{InodeFits, kindOf, sizeOf, parentOf, inodeOf, freeKind, fileKind, directoryKind}
+use Rattle.layout.specs.Inode.{kindOf, sizeOf, parentOf, inodeOf, freeKind, fileKind, directoryKind}
 use Rattle.layout.specs.Block.{blockOf, blocksUsed, kthBlock}
+use Rattle.layout.specs.Fits.{InodeFits}
 use Rattle.directory.specs.Slot.{slots, entryOf}
 use Rattle.desk.specs.declared.Desk.{Desk}
 use Rattle.desk.specs.Desk.{deskOf, copiedOf, putCopied, markOf}
@@ -38,7 +39,7 @@ pub record Closing (n b : ℕ) (s m d : List ℕ) : Type 0 where
   pub inodes : n ≡ inodesIn s
   pub on : deskOf d .locked ≢ 0
   pub used : kindOf s (deskOf d .locked) ≢ freeKind
-  pub all : blocksUsed (sizeOf s (deskOf d .locked)) ≤ deskOf d .progress
+  pub all : blocksUsed (sizeOf s (deskOf d .locked)) ≤ deskOf d .transferred
 
 module _ {n b : ℕ} {s m d : List ℕ} (c : Closing n b s m d) where
   abbrev l : ℕ
@@ -51,7 +52,7 @@ module _ {n b : ℕ} {s m d : List ℕ} (c : Closing n b s m d) where
   abbrev d′ : List ℕ
   d′ = stepDesk d (close l)
 
-  pub lock : Open n b s m d l (deskOf d .progress)
+  pub lock : Open n b s m d l (deskOf d .transferred)
   lock = c .laid .opened (c .on)
 
   pub low : 1 ≤ l
@@ -60,7 +61,7 @@ module _ {n b : ℕ} {s m d : List ℕ} (c : Closing n b s m d) where
   pub high : l ≤ n
   high = c .laid .desk .high
 
-  pub full : deskOf d .progress ≡ blocksUsed (sizeOf s l)
+  pub full : deskOf d .transferred ≡ blocksUsed (sizeOf s l)
   full = let a = lock .few in let e = c .all in omega arith
 
   -- ---- the desk
@@ -100,7 +101,7 @@ module _ {n b : ℕ} {s m d : List ℕ} (c : Closing n b s m d) where
         reserved = reserved-putDesk (putCopied d l 1) (unlocking (deskOf d)) ∙ reserved-putCopied d l 1 ∙ f .reserved;
         bytes = λ i o q. each-else (λ i. 1 ≤ i → i ≤ n → copiedOf d′ i ≤ 1) l i (λ _ _. let z = copied-new in omega arith) (λ z _ _. subst (λ (y : ℕ). y ≤ 1) (sym (copied-else i o z)) (f .bytes i o q)) o q;
         high = let z = ap (λ (v : Desk). v .locked) e in omega arith;
-        none = λ _. ap (λ (v : Desk). v .progress) e;
+        none = λ _. ap (λ (v : Desk). v .transferred) e;
       }
 
   -- ---- the image

@@ -41,13 +41,13 @@ use Rattle.checkpoint.proofs.Step.BlockLaws.{OneBlock, one-block, one-f
 use Rattle.checkpoint.proofs.Copy.TargetLaws.{target-at}
 
 module _ {n b : ℕ} {s m d : List ℕ} (h : Laid n b s m d) (sound : Sound Store s) (e : n ≡ inodesIn s)
-    (lock : deskOf d .locked ≢ 0) (more : deskOf d .progress < blocksUsed (sizeOf s (deskOf d .locked))) (c : ℕ)
-    (goes : targetBlock m n b (kthBlock s n (deskOf d .locked) (deskOf d .progress)) ≡ At c) where
+    (lock : deskOf d .locked ≢ 0) (more : deskOf d .transferred < blocksUsed (sizeOf s (deskOf d .locked))) (c : ℕ)
+    (goes : targetBlock m n b (kthBlock s n (deskOf d .locked) (deskOf d .transferred)) ≡ At c) where
   abbrev l : ℕ
   l = deskOf d .locked
 
   abbrev k : ℕ
-  k = deskOf d .progress
+  k = deskOf d .transferred
 
   abbrev after : List ℕ
   after = stepImage s m d n (copy l k c)
@@ -125,7 +125,7 @@ module _ {n b : ℕ} {s m d : List ℕ} (h : Laid n b s m d) (sound : Sound Stor
   same-notes : SameNotes d notes n
   same-notes = put-desk d (copyingOne (deskOf d)) n
 
-  pub copy-quiet : Quiet (seen n s m d) (seen n s (stepImage s m d n (copy (deskOf d .locked) (deskOf d .progress) c)) (stepDesk d (copy (deskOf d .locked) (deskOf d .progress) c)))
+  pub copy-quiet : Quiet (seen n s m d) (seen n s (stepImage s m d n (copy (deskOf d .locked) (deskOf d .transferred) c)) (stepDesk d (copy (deskOf d .locked) (deskOf d .transferred) c)))
   unfolding seen
   copy-quiet = record {
     store = refl;
@@ -139,7 +139,7 @@ module _ {n b : ℕ} {s m d : List ℕ} (h : Laid n b s m d) (sound : Sound Stor
   read : deskOf notes ≡ copyingOne (deskOf d)
   read = put-read (h .desk) (copyingOne (deskOf d))
 
-  pub copy-now : seen n s (stepImage s m d n (copy (deskOf d .locked) (deskOf d .progress) c)) (stepDesk d (copy (deskOf d .locked) (deskOf d .progress) c)) .locked ≡ seen n s m d .locked
+  pub copy-now : seen n s (stepImage s m d n (copy (deskOf d .locked) (deskOf d .transferred) c)) (stepDesk d (copy (deskOf d .locked) (deskOf d .transferred) c)) .locked ≡ seen n s m d .locked
   unfolding seen
   copy-now = ap (λ (x : Desk). x .locked) read
 
@@ -213,11 +213,11 @@ module _ {n b : ℕ} {s m d : List ℕ} (h : Laid n b s m d) (sound : Sound Stor
       ap (λ (x : List ℕ). getD x o 0) (wrote .blocks (j + 1) (omega arith) (not-taken (j + 1) z))
       ∙ h .blanks j a (ap not (still-free (j + 1) (omega arith) z)) o v
 
-  pub copy-laid : Laid n b s (stepImage s m d n (copy (deskOf d .locked) (deskOf d .progress) c)) (stepDesk d (copy (deskOf d .locked) (deskOf d .progress) c))
+  pub copy-laid : Laid n b s (stepImage s m d n (copy (deskOf d .locked) (deskOf d .transferred) c)) (stepDesk d (copy (deskOf d .locked) (deskOf d .transferred) c))
   copy-laid =
       let g = read in
       let x : deskOf notes .locked ≡ l = ap (λ (y : Desk). y .locked) g in
-      let y : deskOf notes .progress ≡ k + 1 = ap (λ (y : Desk). y .progress) g in
+      let y : deskOf notes .transferred ≡ k + 1 = ap (λ (y : Desk). y .transferred) g in
       let v : deskOf notes .steps ≡ deskOf d .steps + 1 = ap (λ (y : Desk). y .steps) g in
       let a = locked-cost d lock in
       let z = locked-cost notes (λ w. omega arith) in

@@ -31,7 +31,7 @@ pub put-read : {n b : ℕ} {d : List ℕ} → DeskLaid n b d → (h : Desk) → 
 put-read {d = d} w h = let e = w .long in desk-putDesk d h (omega arith)
 
 -- it has the same counts and state, and tells of an inode
-pub desk-laid : {n b : ℕ} {d : List ℕ} → DeskLaid n b d → (h : Desk) → h .inodes ≡ n → h .blocks ≡ b → h .state ≡ deskOf d .state → h .locked ≤ n → (h .locked ≡ 0 → h .progress ≡ 0) → DeskLaid n b (putDesk d h)
+pub desk-laid : {n b : ℕ} {d : List ℕ} → DeskLaid n b d → (h : Desk) → h .inodes ≡ n → h .blocks ≡ b → h .state ≡ deskOf d .state → h .locked ≤ n → (h .locked ≡ 0 → h .transferred ≡ 0) → DeskLaid n b (putDesk d h)
 desk-laid {n} {b} {d} w h i k s l z =
     let e = put-read w h in
     record {
@@ -49,7 +49,7 @@ pub free-cost : (d : List ℕ) → deskOf d .locked ≡ 0 → costSoFar d ≡ 0
 unfolding costSoFar
 free-cost d e = rw e
 
-pub locked-cost : (d : List ℕ) → deskOf d .locked ≢ 0 → costSoFar d ≡ 1 + deskOf d .progress
+pub locked-cost : (d : List ℕ) → deskOf d .locked ≢ 0 → costSoFar d ≡ 1 + deskOf d .transferred
 unfolding costSoFar
 locked-cost d e = rw (ne-eqb (deskOf d .locked) 0 e)
 
@@ -113,7 +113,7 @@ module _ {n b : ℕ} {s m d : List ℕ} (h : Laid n b s m d) (l : ℕ) where
     lock-laid =
         let e = read in
         let a : deskOf new .locked ≡ l = ap (λ (x : Desk). x .locked) e in
-        let c : deskOf new .progress ≡ 0 = ap (λ (x : Desk). x .progress) e in
+        let c : deskOf new .transferred ≡ 0 = ap (λ (x : Desk). x .transferred) e in
         let t : deskOf new .steps ≡ deskOf d .steps + 1 = ap (λ (x : Desk). x .steps) e in
         let x = free-cost d none in
         let y = locked-cost new (λ z. omega arith) in

@@ -13,7 +13,7 @@ use Rattle.bounded.proofs.ReflectLaws.{r-fails}
 use Rattle.layout.specs.Sizes.{mostImageBlocks}
 use Rattle.layout.specs.declared.header.Header.{Header}
 use Rattle.layout.specs.Inode.{kindOf}
-use Rattle.layout.specs.Block.{allowed, Allowed}
+use Rattle.layout.specs.Block.{Allowed}
 use Rattle.layout.proofs.AllowedLaws.{allowed-is}
 use Rattle.directory.specs.Slot.{mostSlots}
 use Rattle.desk.specs.Sizes.{deskLength}
@@ -82,7 +82,7 @@ module _ (d : List ℕ) (n b : ℕ) (long : length d ≡ deskLength n) where
         reserved = reserved-putDesk (clearNotes d n) (starting (deskOf d) b) ∙ reserved-clearNotes d n ∙ w .1 .1 .0;
         bytes = λ i l h. let a = start-byte-of i l h in omega arith;
         high = omega arith;
-        none = λ _. ap (λ (y : Desk). y .progress) r ∙ z .1;
+        none = λ _. ap (λ (y : Desk). y .transferred) r ∙ z .1;
       }
 
   start-locked : deskFits d ≡ true → isRunning d ≡ false → deskOf after .locked ≡ 0

@@ -51,7 +51,7 @@ returns-2 c =
     let z = c .before .before .before .before .before .before .before .before .before .before .before .before .before .before in
     let a = z .args in
     let h = c .before .before .before .before .before .before .before .before .before .read .result in
-    does-same (now (a .s)) (now (a .m)) (now (a .d)) (a .n) (stepOf (now (a .s)) (now (a .m)) (now (a .d)) (a .n)) (lockedStep (now (a .s)) (now (a .m)) (a .n) (h .blocks) (h .locked) (h .progress)) (step-locked (now (a .s)) (now (a .m)) (now (a .d)) (a .n) _ (c .before .before .before .before .before .before .before .before .before .read .ensures) (c .before .before .before .before .before .before .before .if1 .left)) _ (c .before .before .before .before .locked-step .ensures)
+    does-same (now (a .s)) (now (a .m)) (now (a .d)) (a .n) (stepOf (now (a .s)) (now (a .m)) (now (a .d)) (a .n)) (lockedStep (now (a .s)) (now (a .m)) (a .n) (h .blocks) (h .locked) (h .transferred)) (step-locked (now (a .s)) (now (a .m)) (now (a .d)) (a .n) _ (c .before .before .before .before .before .before .before .before .before .read .ensures) (c .before .before .before .before .before .before .before .if1 .left)) _ (c .before .before .before .before .locked-step .ensures)
 
 pub advance-spec : {M : Type 1} → statement M
 advance-spec =

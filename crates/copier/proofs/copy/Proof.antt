@@ -69,7 +69,7 @@ returns c =
     let p = z .pre .0 in
     let q = z .pre .1 in
     let o = c .before .before .before .before .before .before .before .before .before .before .before .before .before .before .before .block-at in
-    copy-done (now (a .d)) (a .h) _ (p .0 .read) (now (a .m)) (a .n) _ (now (a .s)) _ (a .c) (block-put (now (a .s)) (now (a .m)) (now (a .d)) (a .n) (a .h .locked) (a .h .progress) (a .c) (p .1) (p .2) (o .result) _ _ (o .ensures) (omega (arith, o .ensures, q .2)) (c .before .before .before .before .before .before .before .before .before .before .before .before .copy-block .ensures) (c .before .before .before .before .before .before .before .before .put-address .ensures)) (c .before .before .before .before .before .copied-one-more .ensures) (c .before .before .before .write .ensures)
+    copy-done (now (a .d)) (a .h) _ (p .0 .read) (now (a .m)) (a .n) _ (now (a .s)) _ (a .c) (block-put (now (a .s)) (now (a .m)) (now (a .d)) (a .n) (a .h .locked) (a .h .transferred) (a .c) (p .1) (p .2) (o .result) _ _ (o .ensures) (omega (arith, o .ensures, q .2)) (c .before .before .before .before .before .before .before .before .before .before .before .before .copy-block .ensures) (c .before .before .before .before .before .before .before .before .put-address .ensures)) (c .before .before .before .before .before .copied-one-more .ensures) (c .before .before .before .write .ensures)
 
 pub copy-spec : {M : Type 1} → statement M
 copy-spec =

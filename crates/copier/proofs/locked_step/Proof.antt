@@ -39,7 +39,7 @@ returns c =
     let a = z .args in
     let h = a .h in
     let u = c .before .before .before .before .before .before .before .before .blocks-used .ensures ∙ ap blocksUsed (c .before .before .before .before .before .before .before .before .before .size .ensures) in
-    does-same (now (a .s)) (now (a .m)) (now (a .d)) (a .n) (lockedStep (now (a .s)) (now (a .m)) (a .n) (h .blocks) (h .locked) (h .progress)) (close (h .locked)) (locked-close (now (a .s)) (now (a .m)) (a .n) (h .blocks) (h .locked) (h .progress) _ u (c .before .before .before .before .before .before .before .if1 .taken)) _ (c .before .before .before .before .close .ensures)
+    does-same (now (a .s)) (now (a .m)) (now (a .d)) (a .n) (lockedStep (now (a .s)) (now (a .m)) (a .n) (h .blocks) (h .locked) (h .transferred)) (close (h .locked)) (locked-close (now (a .s)) (now (a .m)) (a .n) (h .blocks) (h .locked) (h .transferred) _ u (c .before .before .before .before .before .before .before .if1 .taken)) _ (c .before .before .before .before .close .ensures)
 
 kth-block-requires : tie.Need-kth-block-requires
 kth-block-requires c κs =
@@ -47,7 +47,7 @@ kth-block-requires c κs =
     let a = z .args in
     let h = a .h in
     let u = c .before .blocks-used .ensures ∙ ap blocksUsed (c .before .before .size .ensures) in
-    (z .pre .1 .inode, block-few (now (a .s)) (a .n) (h .locked) (h .progress) (z .pre .1) (omega arith))
+    (z .pre .1 .inode, block-few (now (a .s)) (a .n) (h .locked) (h .transferred) (z .pre .1) (omega arith))
 
 cast-own : tie.Need-cast-own
 cast-own c = search needs
@@ -79,7 +79,7 @@ returns-2 c =
     let a = z .args in
     let h = a .h in
     let u = c .before .before .before .before .before .before .before .before .before .before .before .blocks-used .ensures ∙ ap blocksUsed (c .before .before .before .before .before .before .before .before .before .before .before .before .size .ensures) in
-    does-full (now (a .s)) (now (a .m)) (now (a .d)) (a .n) (lockedStep (now (a .s)) (now (a .m)) (a .n) (h .blocks) (h .locked) (h .progress)) (locked-full (now (a .s)) (now (a .m)) (a .n) (h .blocks) (h .locked) (h .progress) _ u (omega arith) _ (c .before .before .before .before .before .before .before .before .before .kth-block .ensures) _ (c .before .before .before .before .before .before .target-block .ensures) (c .before .before .before .before .enum-told .given .1)) _ _ (c .before .before .stop .ensures .0) (c .before .before .stop .ensures .1)
+    does-full (now (a .s)) (now (a .m)) (now (a .d)) (a .n) (lockedStep (now (a .s)) (now (a .m)) (a .n) (h .blocks) (h .locked) (h .transferred)) (locked-full (now (a .s)) (now (a .m)) (a .n) (h .blocks) (h .locked) (h .transferred) _ u (omega arith) _ (c .before .before .before .before .before .before .before .before .before .kth-block .ensures) _ (c .before .before .before .before .before .before .target-block .ensures) (c .before .before .before .before .enum-told .given .1)) _ _ (c .before .before .stop .ensures .0) (c .before .before .stop .ensures .1)
 
 copy-requires : tie.Need-copy-requires
 copy-requires c κs =
@@ -103,7 +103,7 @@ returns-3 c =
     let h = a .h in
     let u = c .before .before .before .before .before .before .before .before .before .before .before .before .before .before .before .blocks-used .ensures ∙ ap blocksUsed (c .before .before .before .before .before .before .before .before .before .before .before .before .before .before .before .before .size .ensures) in
     let i = c .before .before .before .before .before .before .before .before .c .given in
-    does-same (now (a .s)) (now (a .m)) (now (a .d)) (a .n) (lockedStep (now (a .s)) (now (a .m)) (a .n) (h .blocks) (h .locked) (h .progress)) (copy (h .locked) (h .progress) (i .0 .0)) (locked-copy (now (a .s)) (now (a .m)) (a .n) (h .blocks) (h .locked) (h .progress) _ u (omega arith) _ (c .before .before .before .before .before .before .before .before .before .before .before .before .before .kth-block .ensures) _ (c .before .before .before .before .before .before .before .before .before .before .target-block .ensures) (i .0 .0) (i .1)) _ (c .before .before .before .before .copy .ensures)
+    does-same (now (a .s)) (now (a .m)) (now (a .d)) (a .n) (lockedStep (now (a .s)) (now (a .m)) (a .n) (h .blocks) (h .locked) (h .transferred)) (copy (h .locked) (h .transferred) (i .0 .0)) (locked-copy (now (a .s)) (now (a .m)) (a .n) (h .blocks) (h .locked) (h .transferred) _ u (omega arith) _ (c .before .before .before .before .before .before .before .before .before .before .before .before .before .kth-block .ensures) _ (c .before .before .before .before .before .before .before .before .before .before .target-block .ensures) (i .0 .0) (i .1)) _ (c .before .before .before .before .copy .ensures)
 
 pub locked-step-spec : {M : Type 1} → statement M
 locked-step-spec =

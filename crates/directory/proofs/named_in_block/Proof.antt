@@ -7,7 +7,7 @@ use Rattle.bounded.specs.Search.{first, firstFrom}
 use Rattle.bounded.proofs.SearchLaws.{first-begin, first-turn, first-found, first-end}
 use Rattle.octets.specs.Octets.{part}
 use Rattle.octets.proofs.PartLaws.{cut-test}
-use Rattle.names.specs.Entry.{wordsAt, sameWords}
+use Rattle.names.specs.Words.{wordsAt, sameWords}
 use Rattle.directory.proofs.SlotLaws.{wordsTest}
 use Rattle.directory.proofs.named_in_block.Statement.{statement}
 use Rattle.directory.proofs.named_in_block.Tie as tie

@@ -42,7 +42,7 @@ same-length c = search needs
 returns-2 : tie.Need-returns-2
 returns-2 c = let a = c .before .before .before .before .before .before .before .before .before .before .before .args in
     ap (laidOut (Done 0))
-    (c .before .before .write .ensures ∙ ap (λ (t : List ℕ). putDesk t (record { inodes = a .inodes; blocks = 0; state = idle; locked = 0; progress = 0; steps = 0 })) (c .before .before .before .before .before .before .zero-range .ensures))
+    (c .before .before .write .ensures ∙ ap (λ (t : List ℕ). putDesk t (record { inodes = a .inodes; blocks = 0; state = idle; locked = 0; transferred = 0; steps = 0 })) (c .before .before .before .before .before .before .zero-range .ensures))
     ∙ desk-done (now (a .buffer)) (a .inodes) (passed (c .before .before .before .before .before .before .before .before))
 
 pub lay-out-desk-spec : {M : Type 1} → statement M

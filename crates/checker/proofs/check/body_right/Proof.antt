@@ -6,11 +6,11 @@ use native.Mathlib.Omega.{arith}
 use borrow.Author.Needs.{needs}
 use borrow.Author.Tests.{not-false}
 use denote.Ref.{now}
+use Rattle.layout.specs.Fits.{Sized}
 use Rattle.sound.specs.Test.{bodyB}
 use Rattle.sound.specs.declared.Form.{Form}
 use Rattle.sound.specs.Sound.{blankOf}
 use Rattle.bounded.proofs.BoolLaws.{and-left, chain-stop, chain-on, chain-end, or-l, or-end}
-use Rattle.layout.specs.Block.{Sized}
 use Rattle.checker.proofs.CheckLaws.{inodesRight, bodyAs, afterHeader, afterInodes, afterEntries, afterLinks, afterParents, afterCounts, body-as, frame-sized, root-fits, dir-fits, parents-closed}
 use Rattle.checker.proofs.check.body_right.Statement.{statement}
 use Rattle.checker.proofs.check.body_right.Tie as tie

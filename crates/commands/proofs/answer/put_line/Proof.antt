@@ -5,8 +5,8 @@ use borrow.Author.Needs.{needs}
 use Rattle.commands.proofs.answer.put_line.Statement.{statement}
 use Rattle.commands.proofs.answer.put_line.Tie as tie
 
-told-requires : tie.Need-told-requires
-told-requires c κs = search needs
+parts-requires : tie.Need-parts-requires
+parts-requires c κs = search needs
 
 put-said-requires : tie.Need-put-said-requires
 put-said-requires c κs = search needs
@@ -22,7 +22,7 @@ same-length c = search needs
 
 returns : tie.Need-returns
 returns c = let x = c .before .before .before .before .before .before .before .before .put-said .ensures in let y = c .before .before .put .ensures in (
-  put-same _ _ _ _ _ _ (error-line _ _ _ _ _ _ _ (c .before .before .before .before .before .before .before .before .before .before .told .ensures) (c .before .before .before .before .before .if1 .taken)) (put-on _ _ _ _ _ _ _ _ (x .0) y),
+  put-same _ _ _ _ _ _ (error-line _ _ _ _ _ _ _ (c .before .before .before .before .before .before .before .before .before .before .parts .ensures) (c .before .before .before .before .before .if1 .taken)) (put-on _ _ _ _ _ _ _ _ (x .0) y),
   omega (arith, x .1, y .ends),
 )
 
@@ -34,7 +34,7 @@ same-length-2 c = search needs
 
 returns-2 : tie.Need-returns-2
 returns-2 c = let x = c .before .before .before .before .before .before .before .put-said .ensures in let y = c .before .before .put-sums .ensures in (
-  put-same _ _ _ _ _ _ (sums-line _ _ _ _ _ _ _ (c .before .before .before .before .before .before .before .before .before .told .ensures) (c .before .before .before .before .if1 .left)) (put-on _ _ _ _ _ _ _ _ (x .0) (y .0)),
+  put-same _ _ _ _ _ _ (sums-line _ _ _ _ _ _ _ (c .before .before .before .before .before .before .before .before .before .parts .ensures) (c .before .before .before .before .if1 .left)) (put-on _ _ _ _ _ _ _ _ (x .0) (y .0)),
   omega (arith, x .1, y .1),
 )
 
@@ -42,7 +42,7 @@ pub put-line-spec : {M : Type 1} → statement M
 put-line-spec =
     tie.close
     (tie.spec
-    told-requires
+    parts-requires
     put-said-requires
     slice-aggregate-put
     put-requires

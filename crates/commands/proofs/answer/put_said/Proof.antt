@@ -1,7 +1,7 @@
 use Rattle.text.proofs.PutLaws.{put-on, put-same, put-length, put-none, put-more}
 use Rattle.text.specs.Put.{Put, each, bytesText}
 use Rattle.commands.proofs.LineLaws.{said-none, said-shown}
-use Rattle.commands.specs.Line.{numberText, wordAt}
+use Rattle.commands.specs.Line.{numberText}
 use borrow.Author.Needs.{needs}
 use lib.ListN.{length, take, length-take}
 use native.Mathlib.Omega.{arith}
@@ -9,6 +9,7 @@ use Prim.Native.Nat.{_+_, _-_, _*_, _≤_}
 use mathlib.Core.Path.{_≡_, ap, _∙_}
 use Rattle.commands.proofs.answer.put_said.Statement.{statement}
 use Rattle.commands.proofs.answer.put_said.Tie as tie
+use Rattle.commands.specs.Said.{wordAt}
 
 abbrev Inv-loop : tie.InvT-loop
 Inv-loop out₀ o said page numbers e₀ k₀ t12 t13 k-end out e k = (k ≤ said .1) × (e ≤ o + length (wordAt (said .0)) + 21 * k) × (o + 65 + 2 * length page ≤ length out) × Put out₀ e₀ (each numberText (take k numbers)) e out

@@ -4,10 +4,9 @@ use native.Mathlib.Omega.{arith}
 use denote.Ref.{now}
 use Rattle.bounded.specs.declared.Found.the-variants.{At}
 use Rattle.layout.specs.Header.{headerOf}
-use Rattle.layout.specs.Inode.{InodeFits}
-use Rattle.layout.specs.Block.{Sized}
 use Rattle.layout.specs.Free.{freeBlock}
 use Rattle.layout.proofs.ViewLaws.{inode-fits}
+use Rattle.layout.specs.Fits.{InodeFits, Sized}
 use Rattle.changes.proofs.StoreLaws.{sized-at, kind-fits, addresses-most}
 use Rattle.changes.proofs.RecordLaws.{header-inode, used-is}
 use Rattle.changes.proofs.FreeLaws.{free-block}

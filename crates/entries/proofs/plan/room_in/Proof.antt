@@ -3,7 +3,8 @@ use native.Mathlib.Omega.{arith}
 use denote.Ref.{now}
 use Rattle.bounded.specs.declared.Found.the-variants.{Absent}
 use Rattle.layout.specs.Inode.{directoryKind}
-use Rattle.directory.specs.Slot.{DirFits, emptySlot}
+use Rattle.directory.specs.Slot.{emptySlot}
+use Rattle.directory.specs.Fits.{DirFits}
 use Rattle.changes.proofs.StoreLaws.{kind-dir, addresses-most}
 use Rattle.entries.proofs.EntryPlanLaws.{room-empty, room-none, room-blockless, room-more}
 use borrow.Author.Needs.{needs}

@@ -1,4 +1,4 @@
-use Rattle.guards.proofs.FitLaws.{counts-locked, counts-progress, counts-running, counts-held, counts-begun, counts-idle}
+use Rattle.guards.proofs.FitLaws.{counts-locked, counts-transferred, counts-running, counts-held, counts-begun, counts-idle}
 use borrow.Author.Needs.{needs}
 use Rattle.guards.proofs.fit.counts_fit.Statement.{statement}
 use Rattle.guards.proofs.fit.counts_fit.Tie as tie
@@ -10,7 +10,7 @@ cast-if2 : tie.Need-cast-if2
 cast-if2 c = search needs
 
 returns-2 : tie.Need-returns-2
-returns-2 c = counts-progress (c .before .before .before .before .args .h) (c .before .before .if1 .left) (c .if2 .taken)
+returns-2 c = counts-transferred (c .before .before .before .before .args .h) (c .before .before .if1 .left) (c .if2 .taken)
 
 cast-most : tie.Need-cast-most
 cast-most c = search needs

@@ -6,7 +6,6 @@ use lib.Dec.{eqb}
 use lib.ListN.{getD}
 use Rattle.bounded.specs.Search.{firstFrom}
 use Rattle.bounded.proofs.SearchLaws.{first-of-begin, first-turn, first-found, first-end}
-use Rattle.bounded.specs.Count.{count}
 use borrow.Author.Needs.{needs}
 use Rattle.layout.proofs.free.lowest_unnamed.Statement.{statement}
 use Rattle.layout.proofs.free.lowest_unnamed.Tie as tie

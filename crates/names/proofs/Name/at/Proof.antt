@@ -1,7 +1,7 @@
-use Rattle.names.specs.Entry.{wordsAt}
 use borrow.Author.Needs.{needs}
 use Rattle.names.proofs.Name.at.Statement.{statement}
 use Rattle.names.proofs.Name.at.Tie as tie
+use Rattle.names.specs.Words.{wordsAt}
 
 get-64-requires : tie.Need-get-64-requires
 get-64-requires c κs = search needs

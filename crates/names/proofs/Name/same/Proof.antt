@@ -1,9 +1,9 @@
 use mathlib.Core.Path.{refl, sym}
 use borrow.Author.Tests.{eq-eqb, ne-eqb}
 use Rattle.bounded.proofs.BoolLaws.{and-false-l, chain-end}
-use Rattle.names.specs.Entry.{sameWords}
 use Rattle.names.proofs.Name.same.Statement.{statement}
 use Rattle.names.proofs.Name.same.Tie as tie
+use Rattle.names.specs.Words.{sameWords}
 
 returns : tie.Need-returns
 unfolding sameWords

@@ -1,13 +1,14 @@
 use Rattle.commands.proofs.LineLaws.{says}
-use Rattle.commands.specs.Line.{lineText, sumsText, saidText, wordAt}
+use Rattle.commands.specs.Line.{lineText, sumsText}
 use Rattle.text.specs.Pieces.{placeFrom, findFrom, pieceStart, rest, piece}
 use Rattle.text.specs.Put.{each}
 use Rattle.bounded.specs.Search.{firstFrom}
 use native.Mathlib.Omega.{arith}
 use mathlib.Core.Path.{refl}
 use borrow.Author.Needs.{needs}
-use Rattle.commands.proofs.answer.told.Statement.{statement}
-use Rattle.commands.proofs.answer.told.Tie as tie
+use Rattle.commands.proofs.answer.parts.Statement.{statement}
+use Rattle.commands.proofs.answer.parts.Tie as tie
+use Rattle.commands.specs.Said.{wordAt, saidText}
 
 enum-told : tie.Need-enum-told
 enum-told c = search needs
@@ -72,8 +73,8 @@ returns-9 : tie.Need-returns-9
 unfolding lineText sumsText saidText wordAt piece rest pieceStart findFrom placeFrom firstFrom each
 returns-9 c = says _ _ _ _ _ _ (c .before .reply5 .given .1) (record { small = omega arith; line = λ page w. refl })
 
-pub told-spec : {M : Type 1} → statement M
-told-spec =
+pub parts-spec : {M : Type 1} → statement M
+parts-spec =
     tie.close
     (tie.spec
     enum-told
