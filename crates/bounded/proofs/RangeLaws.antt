@@ -1,6 +1,7 @@
 -- Functions cut to a range, and 0 outside of it.
 use mathlib.Core.Path.{_≡_, sym, ap, _∙_, fun-ext}
 use mathlib.Core.Bool.{Bool, _&&_}
+use mathlib.Core.Logic.{_≢_}
 use Prim.Native.Nat.{ℕ, _≤_, _<_}
 use native.Mathlib.Decide.{ℕ-discrete, decLt}
 use native.Mathlib.Omega.{arith}
@@ -64,3 +65,10 @@ below-upd m f g y v l e h = changed-upd (below m f) y v (below m g) (λ x. at x 
     at x (yes q) = here q (ap (below m g) q ∙ below-in m g y l ∙ e)
     at x (no q) =
         there q (is-below m x (λ a. below-in m g x a ∙ h x a q ∙ sym (below-in m f x a)) (λ a. below-out m g x a ∙ sym (below-out m f x a)))
+
+-- where they are not 0
+pub within-some : (n : ℕ) (f : ℕ → ℕ) (i : ℕ) → within n f i ≢ 0 → (1 ≤ i) × (i ≤ n)
+within-some n f i h = in-range n i {P = (1 ≤ i) × (i ≤ n)} (λ l m. (l, m)) (λ o. absurd (h (within-out n f i o)))
+
+pub below-some : (m : ℕ) (f : ℕ → ℕ) (x : ℕ) → below m f x ≢ 0 → x < m
+below-some m f x h = is-below m x {P = x < m} (λ l. l) (λ l. absurd (h (below-out m f x l)))

@@ -10,13 +10,13 @@ use Rattle.bounded.specs.Search.{first}
 use Rattle.bounded.specs.declared.Found.{Found}
 use Rattle.bounded.specs.declared.Found.the-variants.{At, Absent}
 use Rattle.octets.specs.Octets.{part}
+use Rattle.octets.proofs.PartLaws.{front-all, front-part}
 use Rattle.text.specs.Letters.{letters}
 use Rattle.text.specs.Number.{numberOf}
 use Rattle.text.specs.Hex.{hexCount, takeHex}
 use Rattle.text.specs.Pieces.{placeFrom, piece, pieces, isWord}
 use Rattle.text.specs.declared.Number.{Number}
 use Rattle.text.specs.declared.Number.the-variants.{Value, NoNumber}
-use Rattle.text.proofs.PieceLaws.{front-all, front-part}
 use Rattle.commands.specs.Command.{isArrow, commandIn, Form, forms, askedIn, asked, fieldValue, valueAt, worth, hasValue, fits, bytesAt, parsed, formOf, askedBy, parsedBy}
 use Rattle.commands.specs.declared.Command.{Command}
 use Rattle.commands.specs.declared.Command.the-variants.{Bad}

@@ -8,7 +8,7 @@ use native.Mathlib.Nat.{add-zero}
 use native.Mathlib.Decide.{decLt}
 use native.Mathlib.Numerals.{add-one}
 use lib.ListN.{getD, set, take, drop, length, replicate, length-set, length-take, length-drop, length-replicate, replicate-append-replicate, List·getD-eq-default}
-use lib.Seq.{set-comm, set-set, sets, sets-eq, drop-drop, getD-set-same, getD-set-other, getD-take, getD-drop, ext-getD, take-suc, take-add, drop-cons}
+use lib.Seq.{set-comm, set-set, sets, sets-eq, drop-drop, getD-set-same, getD-set-other, getD-take, getD-drop, ext-getD, take-suc, take-add, drop-cons, take-all}
 use borrow.Rule.Slice.PartMut.{putMid}
 use Rattle.octets.specs.Octets.{part, splice, Apart, Octets, zeroed, pasted}
 
@@ -162,6 +162,13 @@ splice-snoc s o xs k x e = rw (← e) (splice-append s o xs (x ∷ []))
 pub cut : (s : List ℕ) (o k : ℕ) → take (o + k - o) (drop o s) ≡ part s o k
 unfolding part
 cut s o k = let e : o + k - o ≡ k = omega arith in rw e
+
+-- `&s[0..k]`, and the whole where it is no longer
+pub front-part : (s : List ℕ) (k : ℕ) → take (k - 0) s ≡ take k s
+front-part s k = let e : k - 0 ≡ k = omega arith in ap (λ (m : ℕ). take m s) e
+
+pub front-all : (s : List ℕ) (k : ℕ) → length s ≤ k → s ≡ take k s
+front-all s k h = sym (take-all k s h)
 
 -- r is what the test says of a part, as the code cuts it out
 pub cut-test : (p : List ℕ → Bool) (s : List ℕ) (o k : ℕ) {r b : Bool} → r ≡ p (take (o + k - o) (drop o s)) → r ≡ b → p (part s o k) ≡ b

@@ -72,10 +72,3 @@ module _ (s : List ℕ) (x : ℕ) where
   pub pieces-done : (k n : ℕ) → n ≡ piecesTo s x k → k ≡ length s → n ≡ pieces s x
   unfolding piecesTo pieces
   pieces-done k n e h = e ∙ ap (λ (j : ℕ). 1 + count (λ i. eqb (getD s i 0) x) j) h
-
--- ---- the front of a list
-pub front-all : (s : List ℕ) (k : ℕ) → length s ≤ k → s ≡ take k s
-front-all s k h = sym (take-all k s h)
-
-pub front-part : (s : List ℕ) (k : ℕ) → take (k - 0) s ≡ take k s
-front-part s k = let e : k - 0 ≡ k = omega arith in ap (λ (m : ℕ). take m s) e

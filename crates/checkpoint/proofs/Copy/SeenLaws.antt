@@ -10,8 +10,8 @@ use lib.ListN.{getD}
 use Rattle.bounded.proofs.BoolLaws.{and-true}
 use Rattle.bounded.proofs.ReflectLaws.{r-eq, r-le, r-and, r-says, reflects-ext}
 use Rattle.bounded.proofs.TableLaws.{table-ext}
-use Rattle.bounded.proofs.CaseLaws.{in-range, is-below}
-use Rattle.bounded.proofs.RangeLaws.{within, below, within-in, within-out, below-in, below-out}
+use Rattle.bounded.proofs.CaseLaws.{in-range}
+use Rattle.bounded.proofs.RangeLaws.{within-in, within-out, below-in, below-out, within-some, below-some}
 use Rattle.layout.specs.Sizes.{blockBytes}
 use Rattle.layout.specs.Inode.{kindOf, sizeOf, parentOf}
 use Rattle.layout.specs.Block.{blockOf, blocksUsed, kthBlock}
@@ -24,13 +24,6 @@ use Rattle.content.specs.Content.{fileByte, fileBytes}
 use Rattle.copying.specs.Deed.{Alike}
 use Rattle.checkpoint.specs.Notes.{isCopied}
 use Rattle.checkpoint.proofs.Copy.Seen.{shelfOf, markedAt}
-
--- a function cut to a range is 0 outside of it
-pub within-some : (n : ℕ) (f : ℕ → ℕ) (i : ℕ) → within n f i ≢ 0 → (1 ≤ i) × (i ≤ n)
-within-some n f i h = in-range n i {P = (1 ≤ i) × (i ≤ n)} (λ l m. (l, m)) (λ o. absurd (h (within-out n f i o)))
-
-pub below-some : (m : ℕ) (f : ℕ → ℕ) (x : ℕ) → below m f x ≢ 0 → x < m
-below-some m f x h = is-below m x {P = x < m} (λ l. l) (λ l. absurd (h (below-out m f x l)))
 
 module _ (n : ℕ) (s : List ℕ) where
   -- ---- places

@@ -27,7 +27,7 @@ use Rattle.answers.specs.declared.Refusal.the-variants.{ImageFull}
 use Rattle.answers.specs.declared.Answer.the-variants.{Done, Refused}
 use Rattle.answers.specs.Told.{Told, told}
 use Rattle.checkpoint.specs.Fit.{deskFramed, deskFits, blocksFit, isRunning, mostSteps, notesFit, imageFits}
-use Rattle.checkpoint.specs.Copier.{Step, finish, full, finishImage}
+use Rattle.checkpoint.specs.Copier.{finish, full, finishImage}
 use Rattle.checkpoint.specs.Live.{World}
 use Rattle.checkpoint.specs.Shown.{Shown}
 use Rattle.checkpoint.specs.List.{advances, outcome, next, accepted, completes}

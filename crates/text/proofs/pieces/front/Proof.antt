@@ -1,7 +1,7 @@
 use denote.Ref.{now}
-use Rattle.text.proofs.PieceLaws.{front-all, front-part}
 use native.Mathlib.Omega.{arith}
 use borrow.Author.Needs.{needs}
+use Rattle.octets.proofs.PartLaws.{front-all, front-part}
 use Rattle.text.proofs.pieces.front.Statement.{statement}
 use Rattle.text.proofs.pieces.front.Tie as tie
 
