@@ -26,7 +26,7 @@ firstBy f (r ∷ rs) a = pick (r .holds) (f (r .refusal)) (firstBy f rs a)
 abbrev pub firstOf : List Row → Answer → Answer
 firstOf rs a = firstBy Refused rs a
 
--- ---- the order: a list of its own, since a number says who causes a refusal and not when it is looked at; it is that of the numbers (`lowest-first`)
+-- ---- the order: a list of its own, so that a table's order need not follow from numbers; it is that of the numbers, by the law `lowest-first`
 abbrev pub order : List Refusal
 order =
     BadBuffer ∷ UnsoundStore ∷ BadDesk ∷ IllegalName ∷ WrongInode ∷ NameAbsent ∷ NameTaken ∷ NotEmpty
