@@ -1,5 +1,5 @@
 -- Where a number stands: at another or elsewhere, at 0 or above, in a range or outside of it.
-use mathlib.Core.Path.{sym, subst}
+use mathlib.Core.Path.{_≡_, sym, subst}
 use mathlib.Core.Logic.{_≢_}
 use Prim.Native.Nat.{ℕ, zero, suc, _≤_, _<_}
 use native.Mathlib.Decide.{ℕ-discrete, decLt}
@@ -30,3 +30,12 @@ is-below m x {P} f g = go (decLt x m)
     go : Dec (x < m) → P
     go (yes l) = f l
     go (no l) = g (omega arith)
+
+-- j is none of the numbers below k, as a `match` leaves it
+abbrev pub NoneBelow : ℕ → ℕ → Type 0
+NoneBelow zero j = Unit
+NoneBelow (suc k) j = NoneBelow k j × (j ≡ k → ⊥)
+
+pub above : (k j : ℕ) → NoneBelow k j → k ≤ j
+above zero j h = omega arith
+above (suc k) j h = let l = above k j (h .0) in let n = h .1 in omega arith

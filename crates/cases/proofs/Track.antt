@@ -14,7 +14,7 @@ use Rattle.bounded.proofs.SearchLaws.{lowest-of, lowest-found, absent-of}
 use Rattle.layout.specs.Sizes.{mostFileBytes}
 use Rattle.layout.specs.Header.{headerOf}
 use Rattle.layout.specs.Inode.{kindOf, sizeOf, fileKind, isKind, isFile}
-use Rattle.layout.specs.Block.{storeLength, blocksUsed}
+use Rattle.blocks.specs.Block.{storeLength, blocksUsed}
 use Rattle.names.specs.Name.{slash, legalName}
 use Rattle.names.proofs.NameLaws.{legal, legal-bounds}
 use Rattle.directory.specs.Slot.{slots, slotEmpty, emptySlot}

@@ -2,7 +2,7 @@
 use Prim.Native.Nat.{ℕ}
 use mathlib.Core.List.{List, [], _∷_}
 use lib.ListN.{replicate}
-use Rattle.layout.specs.Block.{storeLength}
+use Rattle.blocks.specs.Block.{storeLength}
 use Rattle.format.specs.Format.{freshStore, freshDesk}
 use Rattle.entries.specs.declared.Kind.the-variants.{File, Directory}
 use Rattle.files.specs.Effect.{create, write, shorten, unlink, rename}

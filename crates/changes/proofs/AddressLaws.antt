@@ -15,8 +15,8 @@ use Rattle.bounded.proofs.CountLaws.{count-not, count-ext, count-split, count-f
 use Rattle.bounded.proofs.DifferLaws.{nonzero, met-count, differ-less}
 use Rattle.layout.specs.Sizes.{addressCount}
 use Rattle.layout.specs.Inode.{sizeOf, addressOf, addressIndex}
-use Rattle.layout.specs.Block.{blocksUsed, kthBlock}
-use Rattle.layout.specs.Free.{blockNamed, blockFree}
+use Rattle.blocks.specs.Block.{blocksUsed, kthBlock}
+use Rattle.blocks.specs.Free.{blockNamed, blockFree}
 use Rattle.sound.specs.Inode.{InodeSound}
 
 -- ---- a row of twelve: the first k are not 0

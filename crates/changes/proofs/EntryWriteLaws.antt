@@ -11,8 +11,8 @@ use Rattle.bounded.proofs.BoolLaws.{clash, fails}
 use Rattle.octets.specs.Octets.{Apart}
 use Rattle.layout.specs.Header.{headerOf}
 use Rattle.layout.specs.Inode.{kindOf, sizeOf, fileKind, directoryKind, isDirectory}
-use Rattle.layout.specs.Block.{blocksUsed, kthBlock}
-use Rattle.layout.proofs.ViewLaws.{inode-fits}
+use Rattle.blocks.specs.Block.{blocksUsed, kthBlock}
+use Rattle.blocks.proofs.ViewLaws.{inode-fits}
 use Rattle.names.specs.Entry.{entryInode, entryFor, isEmpty}
 use Rattle.names.proofs.EntryLaws.{entry-inode, empty-inode, empty-zeros, filled-not-empty}
 use Rattle.directory.specs.Slot.{mostSlots, slots, slotAt, entryOf, putEntry, clearEntry}

@@ -13,7 +13,7 @@ use Rattle.bounded.proofs.SearchLaws.{found-lowest, lowest-of, lowest-found}
 use Rattle.layout.specs.Sizes.{mostInodes, mostStoreBlocks}
 use Rattle.layout.specs.Header.{headerOf}
 use Rattle.layout.specs.Inode.{kindOf, freeKind}
-use Rattle.layout.specs.Free.{blockNamed, inodeFree, freeInode, freeBlock, blockFree}
+use Rattle.blocks.specs.Free.{blockNamed, inodeFree, freeInode, freeBlock, blockFree}
 use Rattle.sound.specs.Sound.{Sound, inodesIn, blocksIn}
 use Rattle.sound.specs.declared.Form.the-variants.{Store}
 

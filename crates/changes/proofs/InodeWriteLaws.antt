@@ -5,7 +5,7 @@ use mathlib.Core.List.{List}
 use native.Mathlib.Omega.{arith}
 use Rattle.bounded.proofs.CaseLaws.{each-else}
 use Rattle.layout.specs.Inode.{spareOf, linksOf, parentOf, inodeOf, putAttributes, putLinks, withParent}
-use Rattle.layout.specs.Block.{kthBlock}
+use Rattle.blocks.specs.Block.{kthBlock}
 use Rattle.layout.specs.Fits.{InodeFits}
 use Rattle.directory.specs.Slot.{mostSlots}
 use Rattle.sound.specs.Place.{dirOf}

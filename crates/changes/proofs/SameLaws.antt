@@ -18,10 +18,10 @@ use Rattle.layout.specs.declared.header.Header.{Header}
 use Rattle.layout.specs.declared.inode.Inode.{Inode}
 use Rattle.layout.specs.Header.{headerOf, putFree, headerRestZero, lessFree, moreFree}
 use Rattle.layout.specs.Inode.{attributesAt, addressAt, addressIndex, kindOf, spareOf, linksOf, sizeOf, parentOf, addressOf, attributeEntry, putAttributes, putAddresses, putInode, putLinks}
-use Rattle.layout.specs.Block.{blockAt, blockOf, putInBlock, zeroBlock, kthBlock}
-use Rattle.layout.proofs.View.{View, viewOf, freeCounts}
-use Rattle.layout.proofs.FrameLaws.{length-free, length-entry, header-past, kind-apart, spare-apart, links-apart, size-apart, parent-apart, address-apart, kind-put, spare-put, links-put, size-put, parent-put}
-use Rattle.layout.proofs.ViewLaws.{header-free, view-inode}
+use Rattle.blocks.specs.Block.{blockAt, blockOf, putInBlock, zeroBlock, kthBlock}
+use Rattle.blocks.proofs.View.{View, viewOf, freeCounts}
+use Rattle.blocks.proofs.FrameLaws.{length-free, length-entry, header-past, kind-apart, spare-apart, links-apart, size-apart, parent-apart, address-apart, kind-put, spare-put, links-put, size-put, parent-put}
+use Rattle.blocks.proofs.ViewLaws.{header-free, view-inode}
 use Rattle.layout.specs.Fits.{InodeFits}
 use Rattle.names.specs.Entry.{entryFor}
 use Rattle.names.proofs.EntryLaws.{length-entry as length-named}

@@ -10,8 +10,9 @@ use Rattle.directory.specs.Fits.{DirFits}
 use Rattle.bounded.proofs.BoolLaws.{and-false-l, and-left, and-right, chain-end}
 use Rattle.layout.specs.Sizes.{mostImageBlocks, mostFileBytes, addressCount}
 use Rattle.layout.specs.Inode.{kindOf, sizeOf, addressOf, isKind}
-use Rattle.layout.specs.Block.{blocksUsed, kthBlock}
-use Rattle.layout.specs.Fits.{InodeFits, Sized}
+use Rattle.blocks.specs.Block.{blocksUsed, kthBlock}
+use Rattle.layout.specs.Fits.{InodeFits}
+use Rattle.blocks.specs.Fits.{Sized}
 use Rattle.sound.specs.Sound.{Sound, inodesIn, blocksIn}
 use Rattle.sound.proofs.FactLaws.{sized, one-block, inode-fits, dir-fits, address-bound}
 use Rattle.sound.specs.declared.Form.the-variants.{Store}

@@ -18,12 +18,13 @@ use Rattle.bounded.proofs.SeenLaws.{seen-test}
 use Rattle.layout.specs.Sizes.{rootInode, addressCount}
 use Rattle.layout.specs.Header.{headerOf, headerRestZero}
 use Rattle.layout.specs.Inode.{kindOf, parentOf, addressOf, directoryKind}
-use Rattle.layout.specs.Block.{blocksUsed, allowed}
+use Rattle.blocks.specs.Block.{blocksUsed, allowed}
 use Rattle.directory.specs.Slot.{mostSlots}
 use Rattle.directory.specs.Fits.{DirFits}
-use Rattle.layout.specs.Free.{blockNamed, inodeFree, blockFree}
+use Rattle.blocks.specs.Free.{blockNamed, inodeFree, blockFree}
 use Rattle.layout.specs.declared.header.Header.{Header}
-use Rattle.layout.specs.Fits.{InodeFits, Sized}
+use Rattle.layout.specs.Fits.{InodeFits}
+use Rattle.blocks.specs.Fits.{Sized}
 use Rattle.sound.specs.Inode.{InodeSound}
 use Rattle.sound.specs.Place.{IsDir}
 use Rattle.sound.specs.Sound.{inodesIn, blocksIn, Framed, limitOf, blankOf}

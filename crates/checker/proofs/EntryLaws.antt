@@ -23,7 +23,7 @@ use Rattle.octets.specs.Octets.{Octets, part}
 use Rattle.octets.proofs.PartLaws.{cut, getD-part, octets-part}
 use Rattle.layout.specs.Sizes.{rootInode, mostInodes}
 use Rattle.layout.specs.Inode.{kindOf, parentOf, freeKind, directoryKind}
-use Rattle.layout.specs.Block.{blockAt, kthBlock}
+use Rattle.blocks.specs.Block.{blockAt, kthBlock}
 use Rattle.names.specs.Name.{nameBytes}
 use Rattle.names.specs.declared.Name.{Name}
 use Rattle.names.specs.Entry.{entryInode, isEmpty, nameAt, sameName, entryName, legalEntry}

@@ -1,16 +1,17 @@
 // The check of a store or an image: any bytes, yes or no.
 ghost use mathlib.Core.Path.{_≡_};
 ghost use Prim.Native.Nat.{_+_, _*_, _≤_};
-ghost use Rattle.bounded.specs.Seen.{Seen};
 ghost use Rattle.layout.specs.Sizes.{mostImageBlocks, addressCount, rootInode};
-ghost use Rattle.layout.specs.Inode.{addressOf};
 ghost use Rattle.layout.specs.Fits.{InodeFits};
+ghost use Rattle.blocks.specs.Map.{Maps};
 ghost use Rattle.sound.specs.Sound.{inodesIn, blocksIn, Framed, limitOf};
 ghost use Rattle.sound.specs.Test.{framedB, headerB, freeCountsB, bodyB, isSound};
 ghost use Rattle.sound.specs.declared.Form.the-variants.{Image};
 use crate::entries;
 use crate::links;
-use layout::block::allowed;
+use blocks::allowed;
+use blocks::free;
+use blocks::map;
 use layout::header;
 use layout::header::Header;
 use layout::inode;
@@ -73,14 +74,14 @@ fn header_right(s: &[u8], n: usize) -> bool
 
 // The free counts are true.
 fn counts_right(s: &[u8], n: usize, b: usize, map: &[u8]) -> bool
-    requires { ⌜ Framed Image (now s) × (n ≡ inodesIn (now s)) × (b ≡ blocksIn (now s)) × Seen (addressOf (now s) n) (mostImageBlocks + 1) (addressCount * n) (now map) ⌝ }
+    requires { ⌜ Framed Image (now s) × (n ≡ inodesIn (now s)) × (b ≡ blocksIn (now s)) × Maps (now s) n (addressCount * n) (now map) ⌝ }
     ensures { λ r. ⌜ r ≡ freeCountsB (now (s .entry)) ⌝ }
 {
     let h = Header::read(s);
-    if h.free_inodes as usize != inodes::free_inodes(s, n) {
+    if h.free_inodes as usize != free::free_inodes(s, n) {
         return false;
     }
-    h.free_blocks as usize == inodes::free_blocks(map, b)
+    h.free_blocks as usize == map::free_blocks(map, b)
 }
 
 // What holds of a store whose counts and length are right.

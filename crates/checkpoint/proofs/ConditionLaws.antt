@@ -9,8 +9,8 @@ use Rattle.bounded.specs.declared.Found.{Found}
 use Rattle.bounded.specs.declared.Found.the-variants.{At, Absent}
 use Rattle.layout.specs.Sizes.{addressCount}
 use Rattle.layout.specs.Inode.{sizeOf}
-use Rattle.layout.specs.Block.{blocksUsed}
-use Rattle.layout.specs.Free.{freeBlock}
+use Rattle.blocks.specs.Block.{blocksUsed}
+use Rattle.blocks.specs.Free.{freeBlock}
 use Rattle.directory.specs.Slot.{slots, emptySlot}
 use Rattle.sound.specs.Sound.{inodesIn, blocksIn}
 use Rattle.sound.specs.declared.Form.the-variants.{Store}

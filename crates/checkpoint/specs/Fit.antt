@@ -9,7 +9,7 @@ use Rattle.bounded.specs.Search.{pick}
 use Rattle.layout.specs.Sizes.{mostImageBlocks, addressCount, headerBytes, inodeBytes, blockBytes, rootInode, notComplete, mostBlocks}
 use Rattle.layout.specs.Header.{headerOf}
 use Rattle.layout.specs.Inode.{addressOf}
-use Rattle.layout.specs.Block.{storeLength, allowed}
+use Rattle.blocks.specs.Block.{storeLength, allowed}
 use Rattle.desk.specs.Sizes.{idle, running, stopped, deskAllowed, stepsAnInode}
 use Rattle.desk.specs.Desk.{deskOf, copiedOf, deskRestZero}
 use Rattle.sound.specs.Sound.{inodesIn}
@@ -33,7 +33,7 @@ abbrev pub bothFramed : List ℕ → List ℕ → Bool
 bothFramed s desk = framedB Store s && deskFramed desk
 
 abbrev pub allFramed : List ℕ → List ℕ → List ℕ → Bool
-allFramed s m desk = framedB Store s && (deskFramed desk && imageAllowed (inodesIn s) (length m))
+allFramed s m desk = bothFramed s desk && imageAllowed (inodesIn s) (length m)
 
 -- the copy runs
 unfoldable pub isRunning : List ℕ → Bool

@@ -6,7 +6,7 @@ use lib.Dec.{eqb}
 use Rattle.bounded.specs.Below.{someBelow}
 use Rattle.bounded.specs.Search.{pick}
 use Rattle.layout.specs.Inode.{kindOf, directoryKind}
-use Rattle.layout.specs.Block.{kthBlock}
+use Rattle.blocks.specs.Block.{kthBlock}
 use Rattle.names.specs.Entry.{entryInode}
 use Rattle.directory.specs.Slot.{mostSlots, slotsInBlock, entryOf}
 use Rattle.sound.specs.Place.{dirOf, slotOf}

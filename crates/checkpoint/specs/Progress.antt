@@ -9,8 +9,8 @@ use Rattle.octets.specs.Octets.{Octets}
 use Rattle.layout.specs.Sizes.{isComplete, mostBlocks}
 use Rattle.layout.specs.Header.{headerOf}
 use Rattle.layout.specs.Inode.{sizeOf}
-use Rattle.layout.specs.Block.{storeLength, blocksUsed}
-use Rattle.layout.specs.Free.{blockNamed}
+use Rattle.blocks.specs.Block.{storeLength, blocksUsed}
+use Rattle.blocks.specs.Free.{blockNamed}
 use Rattle.desk.specs.Sizes.{finished, stopped, stepsAnInode}
 use Rattle.desk.specs.Desk.{deskOf}
 use Rattle.answers.specs.declared.Refusal.the-variants.{Busy, WrongState, ImageFull}

@@ -9,6 +9,7 @@ use lib.Seq.{take-all}
 use Rattle.bounded.specs.Search.{first}
 use Rattle.bounded.specs.declared.Found.{Found}
 use Rattle.bounded.specs.declared.Found.the-variants.{At, Absent}
+use Rattle.bounded.proofs.CaseLaws.{NoneBelow, above}
 use Rattle.octets.specs.Octets.{part}
 use Rattle.octets.proofs.PartLaws.{front-all, front-part}
 use Rattle.text.specs.Letters.{letters}
@@ -102,15 +103,6 @@ past : (fs : List Form) (j a b c d : ℕ) → length fs ≤ j → Bad ≡ askedI
 past [] j a b c d l = refl
 past (f ∷ fs) zero a b c d l = absurd (omega arith)
 past (f ∷ fs) (suc j) a b c d l = past fs j a b c d (omega arith)
-
--- j is none of the numbers below k, as a `match` leaves it
-abbrev pub NoneBelow : ℕ → ℕ → Type 0
-NoneBelow zero j = Unit
-NoneBelow (suc k) j = NoneBelow k j × (j ≡ k → ⊥)
-
-pub above : (k j : ℕ) → NoneBelow k j → k ≤ j
-above zero j h = omega arith
-above (suc k) j h = let l = above k j (h .0) in let n = h .1 in omega arith
 
 pub asked-no : (j a b c d : ℕ) → NoneBelow 20 j → Bad ≡ asked j a b c d
 unfolding asked forms

@@ -16,8 +16,8 @@ use Rattle.octets.specs.Octets.{splice, zeroed}
 use Rattle.layout.specs.declared.inode.Inode.{Inode}
 use Rattle.layout.specs.Header.{headerOf, moreFree}
 use Rattle.layout.specs.Inode.{sizeOf, inodeOf, putInode, withBlocks}
-use Rattle.layout.specs.Block.{blockAt, putInBlock, blocksUsed, kthBlock}
-use Rattle.layout.proofs.FrameLaws.{header-past}
+use Rattle.blocks.specs.Block.{blockAt, putInBlock, blocksUsed, kthBlock}
+use Rattle.blocks.proofs.FrameLaws.{header-past}
 use Rattle.changes.proofs.RecordLaws.{header-inode, size-is}
 use Rattle.content.specs.Fits.{byteAt}
 use Rattle.content.specs.Content.{zeroRest, keepFirst, cutTo}

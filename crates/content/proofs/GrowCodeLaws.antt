@@ -21,11 +21,12 @@ use Rattle.octets.proofs.PartLaws.{length-zeroed}
 use Rattle.layout.specs.declared.inode.Inode.{Inode}
 use Rattle.layout.specs.Header.{headerOf, lessFree}
 use Rattle.layout.specs.Inode.{attributesAt, attributeEntry, addressIndex, sizeOf, addressOf, inodeOf, putAttributes, putInode, withBlocks}
-use Rattle.layout.specs.Block.{blockAt, zeroBlock, blocksUsed}
-use Rattle.layout.specs.Free.{blockNamed, freeBlock}
-use Rattle.layout.proofs.FrameLaws.{length-inode, header-past}
-use Rattle.layout.proofs.ViewLaws.{inode-fits}
-use Rattle.layout.specs.Fits.{InodeFits, Sized}
+use Rattle.blocks.specs.Block.{blockAt, zeroBlock, blocksUsed}
+use Rattle.blocks.specs.Free.{blockNamed, freeBlock}
+use Rattle.blocks.proofs.FrameLaws.{length-inode, header-past}
+use Rattle.blocks.proofs.ViewLaws.{inode-fits}
+use Rattle.layout.specs.Fits.{InodeFits}
+use Rattle.blocks.specs.Fits.{Sized}
 use Rattle.changes.proofs.FreeLaws.{FreeBlock, free-block}
 use Rattle.changes.proofs.KeepLaws.{body-of}
 use Rattle.changes.proofs.RecordLaws.{less-past, less-less, header-inode, inode-less, inode-past, inode-twice, attributes-twice, inode-read, used-is, twelve}

@@ -20,9 +20,9 @@ use Rattle.layout.specs.declared.header.Header.{Header}
 use Rattle.layout.specs.declared.inode.Inode.{Inode}
 use Rattle.layout.specs.Header.{headerOf}
 use Rattle.layout.specs.Inode.{kindOf, spareOf, linksOf, sizeOf, parentOf, addressOf, addressesOf, inodeOf, addressIndex, putInode, freeKind, directoryKind, withBlocks}
-use Rattle.layout.specs.Block.{blockAt, blockOf, zeroBlock, blocksUsed, kthBlock}
-use Rattle.layout.specs.Free.{blockNamed}
-use Rattle.layout.proofs.ViewLaws.{inode-fits}
+use Rattle.blocks.specs.Block.{blockAt, blockOf, zeroBlock, blocksUsed, kthBlock}
+use Rattle.blocks.specs.Free.{blockNamed}
+use Rattle.blocks.proofs.ViewLaws.{inode-fits}
 use Rattle.layout.specs.Fits.{InodeFits}
 use Rattle.names.specs.Entry.{isEmpty}
 use Rattle.names.proofs.EntryLaws.{empty}

@@ -7,8 +7,8 @@ use native.Mathlib.Omega.{arith}
 use lib.ListN.{length}
 use Rattle.octets.specs.Octets.{part, splice, pasted}
 use Rattle.octets.proofs.PartLaws.{length-splice, length-inside, part-all, part-join}
-use Rattle.layout.specs.Block.{putInBlock, kthBlock}
-use Rattle.layout.proofs.ViewLaws.{inode-fits}
+use Rattle.blocks.specs.Block.{putInBlock, kthBlock}
+use Rattle.blocks.proofs.ViewLaws.{inode-fits}
 use Rattle.directory.proofs.SlotLaws.{block-past}
 use Rattle.content.specs.Fits.{byteAt, FileFits}
 use Rattle.content.specs.Content.{putFile}

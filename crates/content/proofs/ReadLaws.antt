@@ -12,7 +12,7 @@ use Rattle.bounded.proofs.TableLaws.{length-table, getD-table, table-ext, table
 use Rattle.octets.specs.Octets.{part, splice, pasted}
 use Rattle.octets.proofs.PartLaws.{length-inside, getD-part, splice-append}
 use Rattle.layout.specs.Inode.{sizeOf, fileKind, isKind}
-use Rattle.layout.specs.Block.{blockAt, blockOf, blocksUsed, kthBlock}
+use Rattle.blocks.specs.Block.{blockAt, blockOf, blocksUsed, kthBlock}
 use Rattle.sound.specs.Sound.{Sound, inodesIn}
 use Rattle.sound.specs.declared.Form.the-variants.{Store}
 use Rattle.changes.proofs.StoreLaws.{kind-of, kind-dir, kind-size}

@@ -17,8 +17,8 @@ use Rattle.layout.specs.declared.header.Header.{Header}
 use Rattle.layout.specs.declared.inode.Inode.{Inode}
 use Rattle.layout.specs.Header.{headerOf}
 use Rattle.layout.specs.Inode.{sizeOf, addressOf, addressesOf, inodeOf, addressIndex, putInode, fileKind, withBlocks}
-use Rattle.layout.specs.Block.{blockAt, blockOf, blocksUsed, kthBlock, putInBlock}
-use Rattle.layout.proofs.ViewLaws.{inode-fits}
+use Rattle.blocks.specs.Block.{blockAt, blockOf, blocksUsed, kthBlock, putInBlock}
+use Rattle.blocks.proofs.ViewLaws.{inode-fits}
 use Rattle.sound.specs.Sound.{Sound, inodesIn, blocksIn}
 use Rattle.sound.specs.declared.Form.the-variants.{Store}
 use Rattle.changes.proofs.StoreLaws.{fits, dir-of, kind-some, kind-most, kind-is}

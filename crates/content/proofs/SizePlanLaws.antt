@@ -9,7 +9,7 @@ use Rattle.layout.specs.Sizes.{mostFileBytes}
 use Rattle.layout.specs.declared.header.Header.{Header}
 use Rattle.layout.specs.Header.{headerOf}
 use Rattle.layout.specs.Inode.{sizeOf, isFile}
-use Rattle.layout.specs.Block.{blocksUsed}
+use Rattle.blocks.specs.Block.{blocksUsed}
 use Rattle.answers.specs.declared.Refusal.the-variants.{WrongInode, PastEnd, NoBlocks}
 use Rattle.content.specs.declared.NumberPlan.the-variants.{To, NoNumber}
 use Rattle.content.specs.Plan.{readPlan, writePlan, shortenPlan}

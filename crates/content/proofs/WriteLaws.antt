@@ -14,8 +14,8 @@ use Rattle.layout.specs.Sizes.{addressCount, blockBytes}
 use Rattle.layout.specs.declared.header.Header.{Header}
 use Rattle.layout.specs.Header.{headerOf}
 use Rattle.layout.specs.Inode.{kindOf, linksOf, sizeOf, parentOf, inodeOf, freeKind, fileKind, isFile, withSize}
-use Rattle.layout.specs.Block.{blockOf, blocksUsed, kthBlock, putInBlock}
-use Rattle.layout.specs.Free.{freeBlock}
+use Rattle.blocks.specs.Block.{blockOf, blocksUsed, kthBlock, putInBlock}
+use Rattle.blocks.specs.Free.{freeBlock}
 use Rattle.sound.specs.Sound.{Sound, inodesIn, blocksIn}
 use Rattle.sound.specs.declared.Form.the-variants.{Store}
 use Rattle.changes.proofs.StoreLaws.{fits, dir-of, kind-some, kind-most, kind-is, kind-size}

@@ -2,7 +2,7 @@
 use Prim.Native.Nat.{ℕ, _-_}
 use mathlib.Core.List.{List}
 use Rattle.layout.specs.Inode.{sizeOf}
-use Rattle.layout.specs.Block.{blocksUsed}
+use Rattle.blocks.specs.Block.{blocksUsed}
 use Rattle.content.specs.Content.{putFile, addBlocks, putSize, cutTo}
 
 unfoldable pub written : List ℕ → ℕ → ℕ → ℕ → ℕ → List ℕ → ℕ → List ℕ

@@ -8,8 +8,8 @@ use Rattle.bounded.specs.Table.{table}
 use Rattle.layout.specs.Sizes.{addressCount, blockBytes}
 use Rattle.layout.specs.Header.{lessFree, moreFree}
 use Rattle.layout.specs.Inode.{inodeOf, putInode, putAttributes, withSize, withBlocks}
-use Rattle.layout.specs.Block.{blockOf, putInBlock, zeroBlock, blocksUsed, kthBlock}
-use Rattle.layout.specs.Free.{freeBlock}
+use Rattle.blocks.specs.Block.{blockOf, putInBlock, zeroBlock, blocksUsed, kthBlock}
+use Rattle.blocks.specs.Free.{freeBlock}
 
 -- byte x of the file
 unfoldable pub fileByte : List ℕ → ℕ → ℕ → ℕ → ℕ

@@ -3,7 +3,7 @@ use Prim.Native.Nat.{ℕ, _+_, _*_, _/_, _%_, _≤_, _<_}
 use mathlib.Core.List.{List}
 use Rattle.directory.specs.Fits.{BlockFits}
 use Rattle.layout.specs.Sizes.{blockBytes, mostFileBytes}
-use Rattle.layout.specs.Block.{blockAt, kthBlock}
+use Rattle.blocks.specs.Block.{blockAt, kthBlock}
 use Rattle.layout.specs.Fits.{InodeFits}
 
 -- where byte x of inode i stands

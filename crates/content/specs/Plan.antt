@@ -7,7 +7,7 @@ use Rattle.bounded.specs.Search.{pick}
 use Rattle.layout.specs.Sizes.{mostFileBytes}
 use Rattle.layout.specs.Header.{headerOf}
 use Rattle.layout.specs.Inode.{sizeOf, isFile}
-use Rattle.layout.specs.Block.{blocksUsed}
+use Rattle.blocks.specs.Block.{blocksUsed}
 use Rattle.answers.specs.declared.Refusal.the-variants.{WrongInode, PastEnd, NoBlocks}
 use Rattle.content.specs.declared.NumberPlan.{NumberPlan}
 use Rattle.content.specs.declared.NumberPlan.the-variants.{To, NoNumber}

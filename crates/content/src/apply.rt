@@ -2,16 +2,14 @@
 ghost use mathlib.Core.Path.{_≡_};
 ghost use mathlib.Core.Bool.{true};
 ghost use Prim.Native.Nat.{_+_, _-_, _/_, _%_, _<_, _≤_, min};
-ghost use lib.Dec.{eqb};
-ghost use lib.ListN.{length, getD};
-ghost use Rattle.bounded.specs.Search.{firstFrom};
-ghost use Rattle.bounded.specs.declared.Found.the-variants.{At, Absent};
+ghost use lib.ListN.{length};
 ghost use Rattle.octets.specs.Octets.{splice};
-ghost use Rattle.layout.specs.Sizes.{headerBytes, addressCount, mostImageBlocks, blockBytes, mostFileBytes};
+ghost use Rattle.layout.specs.Sizes.{headerBytes, addressCount, blockBytes, mostFileBytes};
 ghost use Rattle.layout.specs.Header.{headerOf, lessFree, moreFree};
 ghost use Rattle.layout.specs.Inode.{sizeOf, inodeOf, isFile};
-ghost use Rattle.layout.specs.Block.{blocksUsed, kthBlock};
-ghost use Rattle.layout.specs.Fits.{InodeFits, Sized};
+ghost use Rattle.layout.specs.Fits.{InodeFits};
+ghost use Rattle.blocks.specs.Block.{blocksUsed, kthBlock};
+ghost use Rattle.blocks.specs.Fits.{Sized};
 ghost use Rattle.sound.specs.Sound.{Sound, inodesIn, blocksIn};
 ghost use Rattle.sound.specs.declared.Form.the-variants.{Store};
 ghost use Rattle.content.specs.declared.NumberPlan.the-variants.{To};
@@ -20,17 +18,17 @@ ghost use Rattle.content.specs.Content.{fileBytes, putFile, addBlock, ad
 ghost use Rattle.content.specs.Plan.{writePlan};
 ghost use Rattle.content.specs.Apply.{written, shortened};
 use crate::plan::lesser;
-use layout::block::block_at;
-use layout::block::blocks_used;
-use layout::block::kth_block;
-use layout::block::zero_block;
-use layout::free::named_blocks;
+use blocks::block_at;
+use blocks::blocks_used;
+use blocks::free::named_blocks;
+use blocks::kth_block;
+use blocks::map;
+use blocks::zero_block;
 use layout::header::Header;
 use layout::header::put_free;
 use layout::inode::Inode;
 use layout::sizes::ADDRESS_COUNT;
 use layout::sizes::BLOCK_BYTES;
-use layout::sizes::BLOCK_PLACES;
 
 // Where byte x of the inode stands.
 fn byte_at(s: &[u8], n: usize, i: usize, x: usize) -> usize
@@ -145,18 +143,6 @@ pub fn add_block(s: &mut [u8], n: usize, b: usize, i: usize, c: usize)
     less_free(&mut *s, 0, 1);
 }
 
-// The lowest of the blocks from first to last that the map does not have.
-fn next_unnamed(map: &[u8; BLOCK_PLACES], first: usize, last: usize) -> usize
-    requires { ⌜ (last ≤ mostImageBlocks) × (firstFrom (λ b. eqb (getD (now map) b 0) 0) first (last + 1 - first) ≡ Absent → ⊥) ⌝ }
-    ensures { λ r. ⌜ firstFrom (λ b. eqb (getD (now (map .entry)) b 0) 0) first (last + 1 - first) ≡ At r ⌝ }
-{
-    let mut c = first;
-    while map[c] != 0 {
-        c = c + 1;
-    }
-    c
-}
-
 // The m lowest free blocks, each zeroed first, are the next of inode i, whose record is old; z is its size. One map tells them all, for a block that was taken is below those that are left.
 fn grow(s: &mut [u8], n: usize, b: usize, i: usize, old: Inode, m: usize, z: usize)
     requires { ⌜ Sound Store (now s) × (n ≡ inodesIn (now s)) × (b ≡ blocksIn (now s)) × (isFile (now s) n i ≡ true) × (old ≡ inodeOf (now s) n i) ⌝ }
@@ -168,7 +154,7 @@ fn grow(s: &mut [u8], n: usize, b: usize, i: usize, old: Inode, m: usize, z: usi
     let mut a = old.addresses;
     let mut taken = 0;
     for j in 0..m {
-        taken = next_unnamed(&map, taken + 1, b);
+        taken = map::next(&map, taken + 1, b);
         zero_block(&mut *s, n, b, taken);
         a[used + j] = taken as u16;
     }

@@ -7,7 +7,7 @@ ghost use Rattle.sound.specs.declared.Form.the-variants.{Store};
 ghost use Rattle.content.specs.Plan.{readPlan, writePlan, shortenPlan};
 use crate::NumberPlan;
 use answers::Refusal;
-use layout::block::blocks_used;
+use blocks::blocks_used;
 use layout::header::Header;
 use layout::inode;
 use layout::sizes::FILE;

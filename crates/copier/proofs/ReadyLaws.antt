@@ -11,7 +11,7 @@ use Rattle.directory.specs.Fits.{DirFits}
 use Rattle.bounded.proofs.ReflectLaws.{r-and, r-le}
 use Rattle.layout.specs.Sizes.{mostInodes, mostImageBlocks, addressCount}
 use Rattle.layout.specs.Inode.{addressOf}
-use Rattle.layout.specs.Fits.{Sized}
+use Rattle.blocks.specs.Fits.{Sized}
 use Rattle.desk.specs.Sizes.{deskLength, stepsAnInode}
 use Rattle.desk.specs.Desk.{deskOf}
 use Rattle.desk.specs.declared.Desk.{Desk}

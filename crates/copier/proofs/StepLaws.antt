@@ -12,9 +12,9 @@ use Rattle.bounded.specs.declared.Found.the-variants.{At, Absent}
 use Rattle.bounded.proofs.SearchLaws.{found-lowest}
 use Rattle.layout.specs.Sizes.{rootInode, mostImageBlocks, blockBytes}
 use Rattle.layout.specs.Inode.{sizeOf, inodeOf, putAttributes}
-use Rattle.layout.specs.Block.{blockAt, blocksUsed, kthBlock}
+use Rattle.blocks.specs.Block.{blockAt, blocksUsed, kthBlock}
 use Rattle.layout.specs.declared.inode.Inode.{Inode}
-use Rattle.layout.specs.Fits.{Sized}
+use Rattle.blocks.specs.Fits.{Sized}
 use Rattle.desk.specs.Desk.{deskOf, putDesk, putCopied}
 use Rattle.desk.specs.Next.{locking, copyingOne, unlocking, finishing, stopping}
 use Rattle.desk.specs.declared.Desk.{Desk}

@@ -7,8 +7,8 @@ ghost use lib.ListN.{length};
 ghost use Rattle.directory.specs.Fits.{DirFits};
 ghost use Rattle.layout.specs.Sizes.{mostImageBlocks, blockBytes};
 ghost use Rattle.layout.specs.Inode.{sizeOf};
-ghost use Rattle.layout.specs.Block.{blockAt, blocksUsed};
-ghost use Rattle.layout.specs.Fits.{Sized};
+ghost use Rattle.blocks.specs.Block.{blockAt, blocksUsed};
+ghost use Rattle.blocks.specs.Fits.{Sized};
 ghost use Rattle.desk.specs.Sizes.{deskHeaderBytes};
 ghost use Rattle.desk.specs.Desk.{deskOf};
 ghost use Rattle.sound.specs.Sound.{inodesIn};
@@ -25,7 +25,6 @@ use answers::Answer;
 use answers::Refusal;
 use bounded::Found;
 use desk::Desk;
-use layout::block;
 use layout::inode;
 use layout::inode::Inode;
 use layout::sizes::ADDRESS_COUNT;
@@ -50,7 +49,7 @@ fn copy(s: &[u8], m: &mut [u8], d: &mut [u8], h: Desk, n: usize, c: usize) -> An
 {
     let i = h.locked as usize;
     let k = h.transferred as usize;
-    let o = block::block_at(n, c);
+    let o = blocks::block_at(n, c);
     transfer::copy_block(&mut m[o..o + BLOCK_BYTES], s, &*d, n, i, k);
     inode::put_address(&mut *m, n, ADDRESS_COUNT * (i - 1) + k, c as u16);
     let grown = h.copied_one_more();
@@ -114,10 +113,10 @@ fn locked_step(s: &[u8], m: &mut [u8], d: &mut [u8], h: Desk, n: usize) -> Answe
 {
     let i = h.locked as usize;
     let k = h.transferred as usize;
-    if block::blocks_used(inode::size(s, n, i) as usize) <= k {
+    if blocks::blocks_used(inode::size(s, n, i) as usize) <= k {
         return close(s, &mut *m, &mut *d, h, n);
     }
-    let own = block::kth_block(s, n, i, k) as usize;
+    let own = blocks::kth_block(s, n, i, k) as usize;
     let Found::At(c) = transfer::target_block(&*m, n, h.blocks as usize, own) else {
         return stop(&mut *d, h);
     };

@@ -14,10 +14,10 @@ use Rattle.octets.specs.Octets.{Octets, part, splice, Apart}
 use Rattle.octets.proofs.PartLaws.{length-splice, cut, part-part, part-apart, part-same, octets-part}
 use Rattle.octets.proofs.OverlayLaws.{overlay}
 use Rattle.layout.specs.Inode.{sizeOf, addressIndex}
-use Rattle.layout.specs.Block.{blockAt, blocksUsed, kthBlock, putInBlock}
-use Rattle.layout.proofs.View.{viewOf, withContent}
-use Rattle.layout.proofs.FrameLaws.{size-apart, address-apart}
-use Rattle.layout.proofs.ViewLaws.{inode-fits, view-in-block}
+use Rattle.blocks.specs.Block.{blockAt, blocksUsed, kthBlock, putInBlock}
+use Rattle.blocks.proofs.View.{viewOf, withContent}
+use Rattle.blocks.proofs.FrameLaws.{size-apart, address-apart}
+use Rattle.blocks.proofs.ViewLaws.{inode-fits, view-in-block}
 use Rattle.names.specs.declared.Name.{Name}
 use Rattle.names.specs.Entry.{isEmpty, sameName, entryFor}
 use Rattle.names.proofs.EntryLaws.{same-words, length-entry}

@@ -4,7 +4,7 @@ use mathlib.Core.List.{List}
 use lib.ListN.{length}
 use Rattle.layout.specs.Sizes.{headerBytes, inodeBytes, blockBytes, mostDirectoryBlocks}
 use Rattle.layout.specs.Inode.{sizeOf}
-use Rattle.layout.specs.Block.{blocksUsed, kthBlock}
+use Rattle.blocks.specs.Block.{blocksUsed, kthBlock}
 use Rattle.layout.specs.Fits.{InodeFits}
 
 -- block b lies inside of s

@@ -8,7 +8,7 @@ use Rattle.bounded.specs.declared.Found.{Found}
 use Rattle.octets.specs.Octets.{part, splice}
 use Rattle.layout.specs.Sizes.{mostDirectoryBlocks}
 use Rattle.layout.specs.Inode.{sizeOf}
-use Rattle.layout.specs.Block.{blockAt, blocksUsed, kthBlock}
+use Rattle.blocks.specs.Block.{blockAt, blocksUsed, kthBlock}
 use Rattle.names.specs.Entry.{entryBytes, isEmpty, sameName, entryFor, entryInode}
 
 -- "A directory block is four entries of 16 bytes"

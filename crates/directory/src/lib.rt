@@ -5,7 +5,7 @@ ghost use lib.ListN.{length};
 ghost use Rattle.octets.specs.Octets.{part};
 ghost use Rattle.bounded.specs.Search.{first};
 ghost use Rattle.layout.specs.Sizes.{blockBytes};
-ghost use Rattle.layout.specs.Block.{blockAt, kthBlock};
+ghost use Rattle.blocks.specs.Block.{blockAt, kthBlock};
 ghost use Rattle.names.specs.Name.{nameBytes};
 ghost use Rattle.names.specs.Entry.{entryBytes, nameAt, isEmpty, entryInode};
 ghost use Rattle.names.specs.Words.{wordsAt, sameWords};
@@ -26,7 +26,7 @@ pub fn slot_count(s: &[u8], n: usize, d: usize) -> usize
     requires { ⌜ DirFits (now s) n d ⌝ }
     ensures { λ r. ⌜ (r ≡ slots (now (s .entry)) d) × (r ≤ mostSlots) ⌝ }
 {
-    SLOTS_IN_BLOCK * layout::block::blocks_used(layout::inode::size(s, n, d) as usize)
+    SLOTS_IN_BLOCK * blocks::blocks_used(layout::inode::size(s, n, d) as usize)
 }
 
 // Where the k-th block of the directory starts.
@@ -34,8 +34,8 @@ pub fn block_start(s: &[u8], n: usize, d: usize, k: usize) -> usize
     requires { ⌜ DirFits (now s) n d × (slotsInBlock * k < slots (now s) d) ⌝ }
     ensures { λ r. ⌜ (r ≡ blockAt n (kthBlock (now (s .entry)) n d k)) × (r + blockBytes ≤ length (now (s .entry))) ⌝ }
 {
-    let b = layout::block::kth_block(s, n, d, k) as usize;
-    layout::block::block_at(n, b)
+    let b = blocks::kth_block(s, n, d, k) as usize;
+    blocks::block_at(n, b)
 }
 
 // Where slot t of the directory starts.

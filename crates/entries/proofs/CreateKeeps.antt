@@ -13,9 +13,9 @@ use Rattle.layout.specs.Header.{headerOf, lessFree}
 use Rattle.layout.specs.declared.header.Header.{Header}
 use Rattle.layout.specs.declared.inode.Inode.{Inode}
 use Rattle.layout.specs.Inode.{kindOf, sizeOf, putInode, freeKind, fileKind, directoryKind, isDirectory}
-use Rattle.layout.specs.Free.{freeInode}
-use Rattle.layout.proofs.FrameLaws.{length-inode}
-use Rattle.layout.proofs.ViewLaws.{inode-fits}
+use Rattle.blocks.specs.Free.{freeInode}
+use Rattle.blocks.proofs.FrameLaws.{length-inode}
+use Rattle.blocks.proofs.ViewLaws.{inode-fits}
 use Rattle.layout.specs.Fits.{InodeFits}
 use Rattle.names.specs.Name.{legalName}
 use Rattle.directory.specs.Slot.{mostSlots, slots, findSlot, slotEmpty, putEntry}

@@ -15,11 +15,12 @@ use Rattle.layout.specs.declared.header.Header.{Header}
 use Rattle.layout.specs.declared.inode.Inode.{Inode}
 use Rattle.layout.specs.Header.{headerOf, moreFree}
 use Rattle.layout.specs.Inode.{kindOf, linksOf, sizeOf, inodeOf, putInode, putLinks, putAttributes, directoryKind, isDirectory, zeroInode, withParent}
-use Rattle.layout.specs.Block.{blocksUsed, kthBlock}
-use Rattle.layout.specs.Free.{freeInode}
-use Rattle.layout.proofs.ViewLaws.{inode-fits}
-use Rattle.layout.proofs.FrameLaws.{length-inode}
-use Rattle.layout.specs.Fits.{InodeFits, Sized}
+use Rattle.blocks.specs.Block.{blocksUsed, kthBlock}
+use Rattle.blocks.specs.Free.{freeInode}
+use Rattle.blocks.proofs.ViewLaws.{inode-fits}
+use Rattle.blocks.proofs.FrameLaws.{length-inode}
+use Rattle.layout.specs.Fits.{InodeFits}
+use Rattle.blocks.specs.Fits.{Sized}
 use Rattle.directory.specs.Slot.{slots, putEntry, clearEntry}
 use Rattle.directory.proofs.SlotLaws.{block-fits, length-put, fits-clear, slots-clear, length-clear}
 use Rattle.directory.specs.Fits.{DirFits}

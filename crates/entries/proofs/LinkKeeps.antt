@@ -6,7 +6,7 @@ use mathlib.Core.List.{List}
 use native.Mathlib.Omega.{arith}
 use Rattle.bounded.specs.declared.Found.the-variants.{Absent}
 use Rattle.layout.specs.Inode.{kindOf, linksOf, parentOf, putLinks, fileKind, isFile, isDirectory}
-use Rattle.layout.proofs.ViewLaws.{inode-fits}
+use Rattle.blocks.proofs.ViewLaws.{inode-fits}
 use Rattle.layout.specs.Fits.{InodeFits}
 use Rattle.names.specs.Name.{legalName}
 use Rattle.directory.specs.Slot.{slots, findSlot, slotEmpty, putEntry}

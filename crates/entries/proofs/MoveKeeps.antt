@@ -14,7 +14,7 @@ use Rattle.bounded.proofs.BoolLaws.{clash, fails, and-left, and-right}
 use Rattle.bounded.proofs.ClimbLaws.{leads-bool, leads-prop, leads-kept, leads-on, leads-top}
 use Rattle.layout.specs.Sizes.{rootInode}
 use Rattle.layout.specs.Inode.{kindOf, linksOf, parentOf, inodeOf, putAttributes, directoryKind, isDirectory, withParent}
-use Rattle.layout.proofs.ViewLaws.{inode-fits}
+use Rattle.blocks.proofs.ViewLaws.{inode-fits}
 use Rattle.names.specs.Name.{legalName}
 use Rattle.directory.specs.Slot.{mostSlots, slots, findSlot, slotEmpty, putEntry, clearEntry, inodeAt}
 use Rattle.sound.specs.Place.{naming, placeOf}

@@ -15,8 +15,8 @@ use Rattle.bounded.proofs.SearchLaws.{first-ext, first-split, absent-of, found-
 use Rattle.layout.specs.Sizes.{mostDirectoryBlocks}
 use Rattle.layout.specs.Header.{headerOf}
 use Rattle.layout.specs.Inode.{kindOf, sizeOf, freeKind, directoryKind, isKind, isDirectory}
-use Rattle.layout.specs.Block.{blocksUsed}
-use Rattle.layout.specs.Free.{inodeFree, freeInode, freeBlock}
+use Rattle.blocks.specs.Block.{blocksUsed}
+use Rattle.blocks.specs.Free.{inodeFree, freeInode, freeBlock}
 use Rattle.names.specs.Name.{legalName}
 use Rattle.names.specs.Entry.{sameName}
 use Rattle.names.proofs.EntryLaws.{empty-not-named}

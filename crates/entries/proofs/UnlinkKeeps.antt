@@ -14,9 +14,9 @@ use Rattle.bounded.proofs.TallyLaws.{one-other}
 use Rattle.layout.specs.Header.{headerOf, moreFree}
 use Rattle.layout.specs.declared.header.Header.{Header}
 use Rattle.layout.specs.Inode.{kindOf, linksOf, sizeOf, parentOf, putInode, putLinks, freeKind, directoryKind, isDirectory, zeroInode}
-use Rattle.layout.specs.Block.{blocksUsed}
-use Rattle.layout.proofs.FrameLaws.{length-inode}
-use Rattle.layout.proofs.ViewLaws.{inode-fits}
+use Rattle.blocks.specs.Block.{blocksUsed}
+use Rattle.blocks.proofs.FrameLaws.{length-inode}
+use Rattle.blocks.proofs.ViewLaws.{inode-fits}
 use Rattle.layout.specs.Fits.{InodeFits}
 use Rattle.names.specs.Entry.{isEmpty}
 use Rattle.directory.specs.Slot.{mostSlots, slots, entryOf, slotEmpty, clearEntry, inodeAt}

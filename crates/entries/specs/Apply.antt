@@ -6,7 +6,7 @@ use Rattle.bounded.specs.Search.{pick}
 use Rattle.layout.specs.Header.{lessFree, moreFree}
 use Rattle.layout.specs.declared.inode.Inode.{Inode}
 use Rattle.layout.specs.Inode.{kindOf, linksOf, sizeOf, inodeOf, putInode, putAttributes, putLinks, fileKind, directoryKind, emptyInode, zeroInode, withLinks, withParent}
-use Rattle.layout.specs.Block.{blocksUsed}
+use Rattle.blocks.specs.Block.{blocksUsed}
 use Rattle.directory.specs.Slot.{putEntry, clearEntry}
 use Rattle.entries.specs.declared.Room.{Room}
 use Rattle.entries.specs.declared.Kind.{Kind}

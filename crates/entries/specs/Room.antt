@@ -5,8 +5,8 @@ use lib.Dec.{eqb, ltb}
 use Rattle.bounded.specs.Search.{pick, onFound}
 use Rattle.layout.specs.Sizes.{mostDirectoryBlocks}
 use Rattle.layout.specs.Inode.{sizeOf}
-use Rattle.layout.specs.Block.{blocksUsed}
-use Rattle.layout.specs.Free.{freeBlock}
+use Rattle.blocks.specs.Block.{blocksUsed}
+use Rattle.blocks.specs.Free.{freeBlock}
 use Rattle.directory.specs.Slot.{slots, emptySlot}
 use Rattle.answers.specs.declared.Refusal.{Refusal}
 use Rattle.answers.specs.declared.Refusal.the-variants.{NoBlocks, NoSlot}

@@ -7,7 +7,7 @@ use mathlib.Core.List.{List}
 use lib.ListN.{length}
 use Rattle.bounded.proofs.EachLaws.{All}
 use Rattle.layout.specs.Inode.{kindOf, sizeOf, freeKind, fileKind}
-use Rattle.layout.specs.Block.{blocksUsed, kthBlock}
+use Rattle.blocks.specs.Block.{blocksUsed, kthBlock}
 use Rattle.directory.specs.Slot.{mostSlots}
 use Rattle.sound.specs.Place.{filled, naming}
 use Rattle.sound.specs.Sound.{Sound}

@@ -11,7 +11,7 @@ use lib.ListN.{length, replicate, length-replicate}
 use Rattle.bounded.specs.Search.{pick}
 use Rattle.layout.specs.Sizes.{blockBytes, addressCount}
 use Rattle.layout.specs.Inode.{kindOf, linksOf, sizeOf, parentOf, fileKind}
-use Rattle.layout.specs.Block.{blocksUsed, blockOf, putInBlock, kthBlock}
+use Rattle.blocks.specs.Block.{blocksUsed, blockOf, putInBlock, kthBlock}
 use Rattle.sound.specs.Sound.{Sound, inodesIn, blocksIn}
 use Rattle.sound.specs.declared.Form.the-variants.{Store}
 use Rattle.changes.proofs.SameLaws.{OtherInodes, SameFrame, SameBlock, InBlock, frame-then, frame-stays, inode-then, inode-stays, same-body, put-in-block}

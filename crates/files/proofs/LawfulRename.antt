@@ -8,8 +8,8 @@ use native.Mathlib.Omega.{arith}
 use lib.Dec.{eqb}
 use Rattle.bounded.specs.Search.{pick}
 use Rattle.layout.specs.Inode.{kindOf, spareOf, inodeOf, putAttributes, directoryKind, isKind, isDirectory, withParent}
-use Rattle.layout.specs.Block.{kthBlock}
-use Rattle.layout.proofs.ViewLaws.{inode-fits}
+use Rattle.blocks.specs.Block.{kthBlock}
+use Rattle.blocks.proofs.ViewLaws.{inode-fits}
 use Rattle.layout.specs.Fits.{InodeFits}
 use Rattle.directory.specs.Slot.{slots, slotEmpty, findSlot, putEntry, clearEntry, inodeAt}
 use Rattle.directory.proofs.SlotLaws.{find-below}

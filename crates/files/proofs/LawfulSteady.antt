@@ -12,9 +12,9 @@ use Rattle.bounded.proofs.CaseLaws.{each-else}
 use Rattle.layout.specs.Sizes.{addressCount}
 use Rattle.layout.specs.declared.inode.Inode.{Inode}
 use Rattle.layout.specs.Inode.{kindOf, sizeOf, putInode, putLinks, freeKind, fileKind, directoryKind, isDirectory}
-use Rattle.layout.specs.Block.{blocksUsed, blockOf, kthBlock}
+use Rattle.blocks.specs.Block.{blocksUsed, blockOf, kthBlock}
 use Rattle.layout.specs.Header.{lessFree}
-use Rattle.layout.proofs.FrameLaws.{length-inode}
+use Rattle.blocks.proofs.FrameLaws.{length-inode}
 use Rattle.layout.specs.Fits.{InodeFits}
 use Rattle.directory.specs.Slot.{putEntry, clearEntry}
 use Rattle.sound.specs.Sound.{Sound, inodesIn, blocksIn}

@@ -11,10 +11,10 @@ use lib.Dec.{leb}
 use Rattle.bounded.specs.Search.{pick}
 use Rattle.bounded.proofs.CaseLaws.{each-else}
 use Rattle.layout.specs.Inode.{kindOf, linksOf, sizeOf, putInode, putLinks, freeKind, directoryKind, isDirectory, zeroInode}
-use Rattle.layout.specs.Block.{blocksUsed, kthBlock}
+use Rattle.blocks.specs.Block.{blocksUsed, kthBlock}
 use Rattle.layout.specs.Header.{moreFree}
-use Rattle.layout.proofs.FrameLaws.{length-inode}
-use Rattle.layout.proofs.ViewLaws.{inode-fits}
+use Rattle.blocks.proofs.FrameLaws.{length-inode}
+use Rattle.blocks.proofs.ViewLaws.{inode-fits}
 use Rattle.layout.specs.Fits.{InodeFits}
 use Rattle.directory.specs.Slot.{slots, slotEmpty, clearEntry, inodeAt}
 use Rattle.directory.proofs.SlotLaws.{find-below}

@@ -9,8 +9,8 @@ use Rattle.octets.proofs.PartLaws.{zeroed-all}
 use Rattle.layout.specs.Sizes.{mostStoreBlocks, rootInode}
 use Rattle.layout.specs.Header.{putHeader}
 use Rattle.layout.specs.Inode.{putInode}
-use Rattle.layout.specs.Block.{storeLength, allowed}
-use Rattle.layout.proofs.AllowedLaws.{allowed-is}
+use Rattle.blocks.specs.Block.{storeLength, allowed}
+use Rattle.blocks.proofs.AllowedLaws.{allowed-is}
 use Rattle.desk.specs.Sizes.{deskLength, idle, deskAllowed}
 use Rattle.desk.specs.Desk.{putDesk}
 use Rattle.desk.proofs.DeskLaws.{desk-allowed}

@@ -23,10 +23,10 @@ use Rattle.layout.specs.Sizes.{mostInodes, mostStoreBlocks, rootInode}
 use Rattle.layout.specs.declared.header.Header.{Header}
 use Rattle.layout.specs.Header.{headerOf, putHeader, putFree, putComplete, headerRestZero}
 use Rattle.layout.specs.Inode.{attributesAt, addressAt, addressIndex, kindOf, spareOf, linksOf, sizeOf, parentOf, addressOf, attributeEntry, putAttributes, putAddresses, putInode, freeKind, directoryKind}
-use Rattle.layout.specs.Block.{storeLength, blocksUsed, allowed}
-use Rattle.layout.specs.Free.{blockNamed, inodeFree, blockFree}
-use Rattle.layout.proofs.FrameLaws.{length-header, length-inode, header-past}
-use Rattle.layout.proofs.ViewLaws.{header-put}
+use Rattle.blocks.specs.Block.{storeLength, blocksUsed, allowed}
+use Rattle.blocks.specs.Free.{blockNamed, inodeFree, blockFree}
+use Rattle.blocks.proofs.FrameLaws.{length-header, length-inode, header-past}
+use Rattle.blocks.proofs.ViewLaws.{header-put}
 use Rattle.directory.specs.Slot.{mostSlots, slots}
 use Rattle.sound.specs.Place.{dirOf, slotOf, isSlot, filled, naming}
 use Rattle.sound.specs.Inode.{InodeSound}
@@ -41,7 +41,7 @@ use Rattle.answers.specs.declared.Refusal.the-variants.{BadBuffer}
 use Rattle.answers.specs.Told.{Told, told}
 use Rattle.answers.specs.declared.Answer.the-variants.{Done, Refused}
 use Rattle.format.specs.Format.{laidOut, freshHeader, emptyRoot, freshStore, freshDesk, layOutStore}
-use Rattle.layout.proofs.AllowedLaws.{allowed-is}
+use Rattle.blocks.proofs.AllowedLaws.{allowed-is}
 
 -- beside the header's fields, a header changes nothing
 beside : (s : List ℕ) (h : Header) (k o : ℕ) → Apart o k 0 9 → Apart o k 10 2 → numAt k (putHeader s h) o ≡ numAt k s o

@@ -6,7 +6,7 @@ use Rattle.bounded.specs.Search.{pick}
 use Rattle.layout.specs.Sizes.{mostStoreBlocks, rootInode, isComplete}
 use Rattle.layout.specs.Header.{putHeader}
 use Rattle.layout.specs.Inode.{putInode, directoryKind, emptyInode}
-use Rattle.layout.specs.Block.{storeLength, allowed}
+use Rattle.blocks.specs.Block.{storeLength, allowed}
 use Rattle.layout.specs.declared.header.Header.{Header}
 use Rattle.layout.specs.declared.inode.Inode.{Inode}
 use Rattle.desk.specs.Sizes.{deskLength, idle, deskAllowed}
@@ -45,4 +45,4 @@ unfoldable pub freshDesk : ℕ → List ℕ
 freshDesk n = putDesk (replicate (deskLength n) 0) (record { inodes = n; blocks = 0; state = idle; locked = 0; transferred = 0; steps = 0 })
 
 unfoldable pub layOutDesk : List ℕ → ℕ → LaidOut
-layOutDesk d n = pick (deskAllowed n (length d)) (laidOut (Done 0) (freshDesk n)) (laidOut (Refused BadBuffer) d)
+layOutDesk desk n = pick (deskAllowed n (length desk)) (laidOut (Done 0) (freshDesk n)) (laidOut (Refused BadBuffer) desk)

@@ -13,7 +13,7 @@ use Rattle.bounded.proofs.ReflectLaws.{r-eq, r-le, r-and, r-fails}
 use Rattle.layout.specs.Sizes.{mostInodes, mostImageBlocks, rootInode, notComplete, mostBlocks}
 use Rattle.layout.specs.declared.header.Header.{Header}
 use Rattle.layout.specs.Header.{headerOf}
-use Rattle.layout.specs.Block.{storeLength, allowed}
+use Rattle.blocks.specs.Block.{storeLength, allowed}
 use Rattle.desk.specs.Sizes.{deskHeaderBytes, deskLength, idle, running, stopped, stepsAnInode, deskAllowed}
 use Rattle.desk.specs.declared.Desk.{Desk}
 use Rattle.desk.specs.Desk.{deskOf, deskRestZero}

@@ -40,36 +40,27 @@ module _ (s m d : List ℕ) where
     after-pass b r q = let k = sym notes ∙ q in rw (h, k, p, r)
 
   -- 1, of a call on all three buffers and of a start
-  pub three-unframed : framedB Store s ≡ false → Stop BadBuffer ≡ threeGuards s m d
+  pub three-unframed : bothFramed s d ≡ false → Stop BadBuffer ≡ threeGuards s m d
   unfolding threeGuards
   three-unframed f = rw f
 
-  pub start-unframed : framedB Store s ≡ false → Stop BadBuffer ≡ startGuards s m d
+  pub start-unframed : bothFramed s d ≡ false → Stop BadBuffer ≡ startGuards s m d
   unfolding startGuards
   start-unframed f = rw f
 
-  module _ (f : framedB Store s ≡ true) where
-    pub three-no-desk : deskFramed d ≡ false → Stop BadBuffer ≡ threeGuards s m d
+  module _ (f : bothFramed s d ≡ true) where
+    pub three-framed : (x : Guard) → x ≡ guardBy s (guardRows true s m d) → x ≡ threeGuards s m d
     unfolding threeGuards
-    three-no-desk g = rw (f, g)
+    three-framed x q = rw f q
 
-    pub start-no-desk : deskFramed d ≡ false → Stop BadBuffer ≡ startGuards s m d
-    unfolding startGuards
-    start-no-desk g = rw (f, g)
+    module _ {n : ℕ} (p : n ≡ inodesIn s) where
+      pub start-no-image : imageAllowed n (length m) ≡ false → Stop BadBuffer ≡ startGuards s m d
+      unfolding startGuards
+      start-no-image h = let k : imageAllowed (inodesIn s) (length m) ≡ false = rw (← p) h in rw (f, k)
 
-    module _ (g : deskFramed d ≡ true) where
-      pub three-framed : (x : Guard) → x ≡ guardBy s (guardRows true s m d) → x ≡ threeGuards s m d
-      unfolding threeGuards
-      three-framed x q = rw (f, g) q
-
-      module _ {n : ℕ} (p : n ≡ inodesIn s) where
-        pub start-no-image : imageAllowed n (length m) ≡ false → Stop BadBuffer ≡ startGuards s m d
-        unfolding startGuards
-        start-no-image h = let k : imageAllowed (inodesIn s) (length m) ≡ false = rw (← p) h in rw (f, g, k)
-
-        pub start-framed : imageAllowed n (length m) ≡ true → (x : Guard) → x ≡ guardBy s (guardRows true s m d) → x ≡ startGuards s m d
-        unfolding startGuards
-        start-framed h x q = let k : imageAllowed (inodesIn s) (length m) ≡ true = rw (← p) h in rw (f, g, k) q
+      pub start-framed : imageAllowed n (length m) ≡ true → (x : Guard) → x ≡ guardBy s (guardRows true s m d) → x ≡ startGuards s m d
+      unfolding startGuards
+      start-framed h x q = let k : imageAllowed (inodesIn s) (length m) ≡ true = rw (← p) h in rw (f, k) q
 
 -- ---- what they let through
 pub record Passed (framed : Bool) (s m d : List ℕ) (n b : ℕ) : Type 0 where

@@ -7,14 +7,14 @@ ghost use Rattle.layout.specs.Sizes.{headerBytes, inodeBytes, mostInodes};
 ghost use Rattle.desk.specs.Sizes.{deskHeaderBytes};
 ghost use Rattle.checkpoint.specs.Fit.{deskFramed, deskFits, imageBlocks, imageAllowed, imageFits};
 ghost use Rattle.guards.specs.Fit.{blocksRight, copiedRight, countsRight, addressesRight, notesRight};
-use desk::DESK_HEADER_BYTES;
+use blocks::allowed;
+use blocks::store_length;
 use desk::Desk;
+use desk::DESK_HEADER_BYTES;
 use desk::IDLE;
 use desk::RUNNING;
 use desk::STEPS_AN_INODE;
 use desk::STOPPED;
-use layout::block::allowed;
-use layout::block::store_length;
 use layout::header::Header;
 use layout::inode;
 use layout::sizes::ADDRESS_COUNT;
@@ -107,7 +107,7 @@ fn counts_fit(h: Desk) -> bool
 }
 
 // A desk whose length is right is laid out as it must be.
-pub fn desk_fits(d: &[u8]) -> bool
+fn desk_fits(d: &[u8]) -> bool
     requires { ⌜ deskFramed (now d) ≡ true ⌝ }
     ensures { λ r. ⌜ r ≡ deskFits (now (d .entry)) ⌝ }
 {

@@ -1,10 +1,8 @@
 // Refusals 1, 2 and 3, which come before all others of a call over the three buffers.
 ghost use mathlib.Core.Path.{_≡_};
 ghost use mathlib.Core.Bool.{true};
-ghost use Rattle.sound.specs.Test.{framedB};
-ghost use Rattle.sound.specs.declared.Form.the-variants.{Store};
-ghost use Rattle.checkpoint.specs.Fit.{deskFramed};
 ghost use Rattle.files.specs.Guard.{guardBy};
+ghost use Rattle.checkpoint.specs.Fit.{bothFramed};
 ghost use Rattle.checkpoint.specs.Live.{guardRows, threeGuards, startGuards};
 use crate::fit;
 use answers::Refusal;
@@ -13,9 +11,19 @@ use files::Guard;
 use layout::header::Header;
 use sound::Form;
 
+// What 1 asks of every call on the three buffers.
+fn both_framed(store: &[u8], desk: &[u8]) -> bool
+    ensures { λ r. ⌜ r ≡ bothFramed (now (store .entry)) (now (desk .entry)) ⌝ }
+{
+    if !check::framed(Form::Store, store) {
+        return false;
+    }
+    fit::desk_framed(desk)
+}
+
 // 2 and 3, where 1 does not come: one check of the store, then the desk and the image of a running copy.
 fn after_lengths(store: &[u8], image: &[u8], desk: &[u8]) -> Guard
-    requires { ⌜ (framedB Store (now store) ≡ true) × (deskFramed (now desk) ≡ true) ⌝ }
+    requires { ⌜ bothFramed (now store) (now desk) ≡ true ⌝ }
     ensures { λ r. ⌜ r ≡ guardBy (now (store .entry)) (guardRows true (now (store .entry)) (now (image .entry)) (now (desk .entry))) ⌝ }
 {
     let h = Header::read(store);
@@ -33,10 +41,7 @@ fn after_lengths(store: &[u8], image: &[u8], desk: &[u8]) -> Guard
 pub fn three_guards(store: &[u8], image: &[u8], desk: &[u8]) -> Guard
     ensures { λ r. ⌜ r ≡ threeGuards (now (store .entry)) (now (image .entry)) (now (desk .entry)) ⌝ }
 {
-    if !check::framed(Form::Store, store) {
-        return Guard::Stop(Refusal::BadBuffer);
-    }
-    if !fit::desk_framed(desk) {
+    if !both_framed(store, desk) {
         return Guard::Stop(Refusal::BadBuffer);
     }
     after_lengths(store, image, desk)
@@ -46,10 +51,7 @@ pub fn three_guards(store: &[u8], image: &[u8], desk: &[u8]) -> Guard
 pub fn start_guards(store: &[u8], image: &[u8], desk: &[u8]) -> Guard
     ensures { λ r. ⌜ r ≡ startGuards (now (store .entry)) (now (image .entry)) (now (desk .entry)) ⌝ }
 {
-    if !check::framed(Form::Store, store) {
-        return Guard::Stop(Refusal::BadBuffer);
-    }
-    if !fit::desk_framed(desk) {
+    if !both_framed(store, desk) {
         return Guard::Stop(Refusal::BadBuffer);
     }
     let h = Header::read(store);

@@ -4,12 +4,11 @@ use mathlib.Core.Path.{_≡_, refl, sym, ap, ap₂, _∙_}
 use mathlib.Core.Bool.{Bool, true, false, not, _&&_, _||_, and-true as and-unit}
 use mathlib.Core.List.{List}
 use native.Mathlib.Omega.{arith}
-use borrow.Author.Tests.{eq-eqb, ne-eqb, eqb-true, le-leb, lt-leb}
+use borrow.Author.Tests.{eq-eqb, ne-eqb, eqb-true, eqb-false, le-leb, lt-leb}
 use lib.Dec.{eqb, leb}
-use lib.ListN.{getD, set}
+use lib.ListN.{getD}
 use Rattle.bounded.specs.Below.{allBelow, allTo}
 use Rattle.bounded.specs.Count.{newAt, differB}
-use Rattle.bounded.specs.Seen.{Seen}
 use Rattle.bounded.specs.Reflect.{Reflects}
 use Rattle.bounded.proofs.BoolLaws.{clash, fails, same-test, chain-stop, chain-on, chain-off, and-true, and-left, and-right, and-false-l, and-false-r, or-l, or-r}
 use Rattle.bounded.proofs.BelowLaws.{all-at, all-of, all-ext, all-chunk, all-and, all-from}
@@ -19,8 +18,9 @@ use Rattle.bounded.proofs.ReflectLaws.{r-eq, r-le, r-lt, r-and, r-imp, r-fails,
 use Rattle.octets.proofs.PartLaws.{getD-part}
 use Rattle.layout.specs.Sizes.{addressCount, blockBytes, mostFileBytes, mostImageBlocks}
 use Rattle.layout.specs.Inode.{kindOf, spareOf, linksOf, sizeOf, parentOf, addressOf, addressIndex, freeKind, fileKind, directoryKind, attributesZero, addressesZero}
-use Rattle.layout.specs.Block.{blockAt, blockOf, blocksUsed, kthBlock}
-use Rattle.layout.specs.Free.{blockNamed, blockFree}
+use Rattle.blocks.specs.Block.{blockAt, blockOf, blocksUsed, kthBlock}
+use Rattle.blocks.specs.Free.{blockNamed, blockFree}
+use Rattle.blocks.specs.Map.{noted, lacks, Maps}
 use Rattle.layout.proofs.InodeLaws.{attributes-none, addresses-none}
 use Rattle.sound.specs.Inode.{tailByte}
 use Rattle.sound.proofs.SoundLaws.{attributes}
@@ -102,21 +102,20 @@ module _ (s : List ℕ) (n b i k u a : ℕ) (eu : u ≡ blocksUsed (sizeOf s i))
       (λ t. eq-eqb a 0 (address-is .to (and-left (usedB s n b i k && restB s n i k) (newBlockB s n i k) t) .1 l))
 
   -- the blocks named before it are noted in m
-  module _ (m : List ℕ) (h : Seen (addressOf s n) 4097 (addressIndex i k) m) (l : a < 4097) where
-    pub address-again : 1 ≤ a → (getD m a 0 ≡ 0 → ⊥) → false ≡ addressB s n b i k
+  module _ (m : List ℕ) (h : Maps s n (addressIndex i k) m) (l : a < 4097) where
+    pub address-again : 1 ≤ a → lacks m a ≡ false → false ≡ addressB s n b i k
     unfolding addressB kthBlock
     address-again p z =
-        sym (and-false-r (usedB s n b i k && restB s n i k) (newBlockB s n i k) (again-noted (addressOf s n) 4097 (addressIndex i k) a m ea l h z (omega arith)))
+        sym (and-false-r (usedB s n b i k && restB s n i k) (newBlockB s n i k) (again-noted (addressOf s n) 4097 (addressIndex i k) a m ea l h (eqb-false _ 0 z) (omega arith)))
 
-    pub address-new : k < u → 1 ≤ a → a ≤ b → getD m a 0 ≡ 0 → true ≡ addressB s n b i k
+    pub address-new : k < u → 1 ≤ a → a ≤ b → lacks m a ≡ true → true ≡ addressB s n b i k
     unfolding addressB kthBlock
     address-new j p q z =
         sym
         (and-true (usedB s n b i k && restB s n i k) (newBlockB s n i k) (address-is .from ((λ x. (p, q)), λ x. absurd (omega arith)))
-        (new-noted (addressOf s n) 4097 (addressIndex i k) a m ea l h z))
+        (new-noted (addressOf s n) 4097 (addressIndex i k) a m ea l h (eqb-true _ 0 z)))
 
-pub address-noted : (s : List ℕ) (n i k a : ℕ) (m : List ℕ) → a ≡ kthBlock s n i k → a < 4097 → Seen (addressOf s n) 4097 (addressIndex i k) m →
-    Seen (addressOf s n) 4097 (addressIndex i k + 1) (set m a 1)
+pub address-noted : (s : List ℕ) (n i k a : ℕ) (m : List ℕ) → a ≡ kthBlock s n i k → a < 4097 → Maps s n (addressIndex i k) m → Maps s n (addressIndex i k + 1) (noted m a)
 unfolding kthBlock
 address-noted s n i k a m e l h = seen-more (addressOf s n) 4097 (addressIndex i k) a m e l h
 
@@ -227,17 +226,17 @@ module _ (s : List ℕ) (n i z : ℕ) (ez : z ≡ sizeOf s i) (h : z % blockByte
       ∙ rw eo rw ec rw ez (tail-bytes s n i))
 
 -- ---- the blocks that the map does not have
-module _ (s : List ℕ) (n k : ℕ) (map : List ℕ) (h : Seen (addressOf s n) 4097 (addressCount * n) map) (l : k < mostImageBlocks) where
-  pub blank-named : (getD map (k + 1) 0 ≡ 0 → ⊥) → not (blockFree s n (k + 1)) || blankBlockB s n (k + 1) ≡ true
+module _ (s : List ℕ) (n k : ℕ) (map : List ℕ) (h : Maps s n (addressCount * n) map) (l : k < mostImageBlocks) where
+  pub blank-named : lacks map (k + 1) ≡ false → not (blockFree s n (k + 1)) || blankBlockB s n (k + 1) ≡ true
   unfolding blockNamed
-  blank-named z = or-l _ (blankBlockB s n (k + 1)) (ap (λ (x : Bool). not (not x)) (seen-some (addressOf s n) 4097 (addressCount * n) (k + 1) map h (omega arith) z))
+  blank-named z = or-l _ (blankBlockB s n (k + 1)) (ap (λ (x : Bool). not (not x)) (seen-some (addressOf s n) 4097 (addressCount * n) (k + 1) map h (omega arith) (eqb-false _ 0 z)))
 
-  pub blank-tested : (a : ℕ) → getD map (k + 1) 0 ≡ 0 → a ≡ blockAt n (k + 1) →
+  pub blank-tested : (a : ℕ) → lacks map (k + 1) ≡ true → a ≡ blockAt n (k + 1) →
       allBelow (λ j. eqb (getD s (a + j) 0) 0) blockBytes ≡ not (blockFree s n (k + 1)) || blankBlockB s n (k + 1)
   unfolding blockNamed
   blank-tested a z e =
       zero-block-is s n k a e
-      ∙ sym (ap (λ (x : Bool). not (not x) || blankBlockB s n (k + 1)) (seen-not (addressOf s n) 4097 (addressCount * n) (k + 1) map h (omega arith) z))
+      ∙ sym (ap (λ (x : Bool). not (not x) || blankBlockB s n (k + 1)) (seen-not (addressOf s n) 4097 (addressCount * n) (k + 1) map h (omega arith) (eqb-true _ 0 z)))
 
 -- ---- an inode that is all zero
 module _ (s : List ℕ) (n b i : ℕ) (h : attributesZero s i && addressesZero s n i ≡ true) where
@@ -254,17 +253,17 @@ module _ (s : List ℕ) (n b i : ℕ) (h : attributesZero s i && addressesZero s
   unfolding blocksUsed
   none-used = let z = no-size in omega arith
 
-  blank-address : (k : ℕ) → k < addressCount → addressB s n b i k ≡ true
+  zero-address : (k : ℕ) → k < addressCount → addressB s n b i k ≡ true
   unfolding kthBlock
-  blank-address k l =
+  zero-address k l =
       let e : addressIndex i 0 + k ≡ addressIndex i k = omega arith in
       sym (address-rest s n b i k 0 0 none-used (sym (addresses-none s n i d k l) ∙ ap (addressOf s n) e) (omega arith))
 
-  pub blank-right : true ≡ inodeB s n b i && newBlocksB s n i
+  pub zero-right : true ≡ inodeB s n b i && newBlocksB s n i
   unfolding inodeB
-  blank-right =
+  zero-right =
       let f = attributes-none s i a in
-      let x : addressesB s n b i && newBlocksB s n i ≡ true = sym (addresses-are s n b i) ∙ all-of (addressB s n b i) addressCount blank-address in
+      let x : addressesB s n b i && newBlocksB s n i ≡ true = sym (addresses-are s n b i) ∙ all-of (addressB s n b i) addressCount zero-address in
       let t : attributesB s i ≡ true = sym (attr-free s i 0 (f .0) (f .1 .0) (f .1 .1 .0) (f .1 .1 .1 .0) (sym (f .1 .1 .1 .1))) in
       let y : zeroTailB s n i ≡ true = sym (tail-none s n i (λ z. omega (arith, f .0, z))) in
       sym
@@ -273,5 +272,5 @@ module _ (s : List ℕ) (n b i : ℕ) (h : attributesZero s i && addressesZero s
       (and-true (addressesB s n b i) (zeroTailB s n i) (and-left (addressesB s n b i) (newBlocksB s n i) x) y))
       (and-right (addressesB s n b i) (newBlocksB s n i) x))
 
-  pub blank-noted : (map : List ℕ) → 1 ≤ i → Seen (addressOf s n) 4097 (addressIndex i 0) map → Seen (addressOf s n) 4097 (addressCount * i) (set map 0 1)
-  blank-noted map l g = seen-as (addressOf s n) 4097 (set map 0 1) (omega arith) (seen-run (addressOf s n) 4097 (addressIndex i 0) 12 0 map (omega arith) (addresses-none s n i d) (omega arith) g)
+  pub zero-noted : (map : List ℕ) → 1 ≤ i → Maps s n (addressIndex i 0) map → Maps s n (addressCount * i) (noted map 0)
+  zero-noted map l g = seen-as (addressOf s n) 4097 (noted map 0) (omega arith) (seen-run (addressOf s n) 4097 (addressIndex i 0) 12 0 map (omega arith) (addresses-none s n i d) (omega arith) g)

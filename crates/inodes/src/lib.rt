@@ -2,19 +2,19 @@
 ghost use mathlib.Core.Path.{_≡_};
 ghost use mathlib.Core.Bool.{true, not, _&&_, _||_};
 ghost use Prim.Native.Nat.{_+_, _*_, _<_, _≤_};
-ghost use lib.Dec.{eqb};
-ghost use lib.ListN.{length, getD, replicate};
+ghost use lib.ListN.{replicate};
 ghost use Rattle.bounded.specs.Below.{allTo};
-ghost use Rattle.bounded.specs.Count.{differB, countTo};
-ghost use Rattle.bounded.specs.Seen.{Seen};
-ghost use Rattle.layout.specs.Sizes.{headerBytes, mostInodes, mostImageBlocks, addressCount, inodeBytes};
+ghost use Rattle.bounded.specs.Count.{differB};
+ghost use Rattle.layout.specs.Sizes.{mostImageBlocks, addressCount};
 ghost use Rattle.layout.specs.Inode.{sizeOf, addressOf, addressIndex, attributesZero, addressesZero};
-ghost use Rattle.layout.specs.Block.{blocksUsed};
-ghost use Rattle.layout.specs.Free.{inodeFree, blockFree};
-ghost use Rattle.layout.specs.Fits.{InodeFits, Sized};
+ghost use Rattle.layout.specs.Fits.{InodeFits};
+ghost use Rattle.blocks.specs.Block.{blocksUsed};
+ghost use Rattle.blocks.specs.Free.{blockFree};
+ghost use Rattle.blocks.specs.Fits.{Sized};
+ghost use Rattle.blocks.specs.Map.{Maps};
 ghost use Rattle.sound.specs.Test.{attributesB, addressesB, zeroTailB, inodeB, blankBlockB};
 ghost use Rattle.inodes.specs.Pass.{addressB, newBlocksB};
-use layout::block;
+use blocks::map;
 use layout::inode;
 use layout::sizes::ADDRESS_COUNT;
 use layout::sizes::BLOCK_BYTES;
@@ -66,12 +66,12 @@ fn address_right(
     map: &mut [u8],
 ) -> bool
     requires { ⌜ InodeFits (now s) n i × (k < addressCount) × (used ≡ blocksUsed (sizeOf (now s) i)) × (b ≤ mostImageBlocks) ⌝ }
-    requires { ⌜ Seen (addressOf (now s) n) (mostImageBlocks + 1) (addressIndex i k) (now map) ⌝ }
-    ensures { λ r. ⌜ (r ≡ addressB (now (s .entry)) n b i k) × (r ≡ true → Seen (addressOf (now (s .entry)) n) (mostImageBlocks + 1) (addressIndex i k + 1) (now (map .exit))) ⌝ }
+    requires { ⌜ Maps (now s) n (addressIndex i k) (now map) ⌝ }
+    ensures { λ r. ⌜ (r ≡ addressB (now (s .entry)) n b i k) × (r ≡ true → Maps (now (s .entry)) n (addressIndex i k + 1) (now (map .exit))) ⌝ }
 {
-    let a = block::kth_block(s, n, i, k) as usize;
+    let a = blocks::kth_block(s, n, i, k) as usize;
     if used <= k {
-        map[0] = 1;
+        map::note(&mut *map, 0);
         return a == 0;
     }
     if a < 1 {
@@ -80,19 +80,19 @@ fn address_right(
     if b < a {
         return false;
     }
-    if map[a] != 0 {
+    if map::has(&*map, a) {
         return false;
     }
-    map[a] = 1;
+    map::note(&mut *map, a);
     true
 }
 
 // The twelve addresses of inode i.
 fn addresses_right(s: &[u8], n: usize, b: usize, i: usize, map: &mut [u8]) -> bool
-    requires { ⌜ InodeFits (now s) n i × (b ≤ mostImageBlocks) × Seen (addressOf (now s) n) (mostImageBlocks + 1) (addressIndex i 0) (now map) ⌝ }
-    ensures { λ r. ⌜ (r ≡ addressesB (now (s .entry)) n b i && newBlocksB (now (s .entry)) n i) × (r ≡ true → Seen (addressOf (now (s .entry)) n) (mostImageBlocks + 1) (addressCount * i) (now (map .exit))) ⌝ }
+    requires { ⌜ InodeFits (now s) n i × (b ≤ mostImageBlocks) × Maps (now s) n (addressIndex i 0) (now map) ⌝ }
+    ensures { λ r. ⌜ (r ≡ addressesB (now (s .entry)) n b i && newBlocksB (now (s .entry)) n i) × (r ≡ true → Maps (now (s .entry)) n (addressCount * i) (now (map .exit))) ⌝ }
 {
-    let used = block::blocks_used(inode::size(s, n, i) as usize);
+    let used = blocks::blocks_used(inode::size(s, n, i) as usize);
     for k in 0..ADDRESS_COUNT {
         if !address_right(s, n, b, i, k, used, &mut *map) {
             return false;
@@ -114,12 +114,12 @@ fn zero_tail(s: &[u8], n: usize, b: usize, i: usize) -> bool
     if past == 0 {
         return true;
     }
-    let last = block::kth_block(s, n, i, size / BLOCK_BYTES) as usize;
-    all_zero(s, block::block_at(n, last) + past, BLOCK_BYTES - past)
+    let last = blocks::kth_block(s, n, i, size / BLOCK_BYTES) as usize;
+    all_zero(s, blocks::block_at(n, last) + past, BLOCK_BYTES - past)
 }
 
 // Attributes and addresses are all zero, as a free inode's must be: four words.
-fn is_blank(s: &[u8], n: usize, i: usize) -> bool
+fn inode_zero(s: &[u8], n: usize, i: usize) -> bool
     requires { ⌜ InodeFits (now s) n i ⌝ }
     ensures { λ r. ⌜ r ≡ attributesZero (now (s .entry)) i && addressesZero (now (s .entry)) n i ⌝ }
 {
@@ -130,11 +130,11 @@ fn is_blank(s: &[u8], n: usize, i: usize) -> bool
 }
 
 fn inode_right(s: &[u8], n: usize, b: usize, i: usize, map: &mut [u8]) -> bool
-    requires { ⌜ Sized (now s) n b × InodeFits (now s) n i × Seen (addressOf (now s) n) (mostImageBlocks + 1) (addressIndex i 0) (now map) ⌝ }
-    ensures { λ r. ⌜ (r ≡ inodeB (now (s .entry)) n b i && newBlocksB (now (s .entry)) n i) × (r ≡ true → Seen (addressOf (now (s .entry)) n) (mostImageBlocks + 1) (addressCount * i) (now (map .exit))) ⌝ }
+    requires { ⌜ Sized (now s) n b × InodeFits (now s) n i × Maps (now s) n (addressIndex i 0) (now map) ⌝ }
+    ensures { λ r. ⌜ (r ≡ inodeB (now (s .entry)) n b i && newBlocksB (now (s .entry)) n i) × (r ≡ true → Maps (now (s .entry)) n (addressCount * i) (now (map .exit))) ⌝ }
 {
-    if is_blank(s, n, i) {
-        map[0] = 1;
+    if inode_zero(s, n, i) {
+        map::note(&mut *map, 0);
         return true;
     }
     if !attributes_right(s, n, i) {
@@ -149,7 +149,7 @@ fn inode_right(s: &[u8], n: usize, b: usize, i: usize, map: &mut [u8]) -> bool
 // Every inode is right, and no block is named twice; the map, which comes in zero, then has the blocks that are named.
 pub fn inodes_right(s: &[u8], n: usize, b: usize, map: &mut [u8]) -> bool
     requires { ⌜ Sized (now s) n b × (now map ≡ replicate (mostImageBlocks + 1) 0) ⌝ }
-    ensures { λ r. ⌜ (r ≡ allTo (inodeB (now (s .entry)) n b) n && differB (addressOf (now (s .entry)) n) (addressCount * n)) × (r ≡ true → Seen (addressOf (now (s .entry)) n) (mostImageBlocks + 1) (addressCount * n) (now (map .exit))) ⌝ }
+    ensures { λ r. ⌜ (r ≡ allTo (inodeB (now (s .entry)) n b) n && differB (addressOf (now (s .entry)) n) (addressCount * n)) × (r ≡ true → Maps (now (s .entry)) n (addressCount * n) (now (map .exit))) ⌝ }
 {
     for k in 0..n {
         if !inode_right(s, n, b, k + 1, &mut *map) {
@@ -159,42 +159,14 @@ pub fn inodes_right(s: &[u8], n: usize, b: usize, map: &mut [u8]) -> bool
     true
 }
 
-// How many inodes are free. A count of 16 bits, since a vector has more of them.
-pub fn free_inodes(s: &[u8], n: usize) -> usize
-    requires { ⌜ (n ≤ mostInodes) × (headerBytes + inodeBytes * n ≤ length (now s)) ⌝ }
-    ensures { λ r. ⌜ r ≡ countTo (inodeFree (now (s .entry))) n ⌝ }
-{
-    let mut free = 0u16;
-    for k in 0..n {
-        if inode::kind(s, n, k + 1) == FREE {
-            free += 1;
-        }
-    }
-    free as usize
-}
-
-// How many of the b blocks the map does not have.
-pub fn free_blocks(map: &[u8], b: usize) -> usize
-    requires { ⌜ (length (now map) ≡ mostImageBlocks + 1) × (b ≤ mostImageBlocks) ⌝ }
-    ensures { λ r. ⌜ r ≡ countTo (λ c. eqb (getD (now (map .entry)) c 0) 0) b ⌝ }
-{
-    let mut free = 0u16;
-    for k in 0..b {
-        if map[k + 1] == 0 {
-            free += 1;
-        }
-    }
-    free as usize
-}
-
 // The blocks that the map does not have are zero.
 pub fn blanks_right(s: &[u8], n: usize, b: usize, map: &[u8]) -> bool
-    requires { ⌜ Sized (now s) n b × Seen (addressOf (now s) n) (mostImageBlocks + 1) (addressCount * n) (now map) ⌝ }
+    requires { ⌜ Sized (now s) n b × Maps (now s) n (addressCount * n) (now map) ⌝ }
     ensures { λ r. ⌜ r ≡ allTo (λ c. not (blockFree (now (s .entry)) n c) || blankBlockB (now (s .entry)) n c) b ⌝ }
 {
     for k in 0..b {
-        if map[k + 1] == 0 {
-            if !all_zero(s, block::block_at(n, k + 1), BLOCK_BYTES) {
+        if !map::has(map, k + 1) {
+            if !all_zero(s, blocks::block_at(n, k + 1), BLOCK_BYTES) {
                 return false;
             }
         }

@@ -1,5 +1,1 @@
-pub mod AllowedLaws
 pub mod InodeLaws
-pub mod View
-pub mod FrameLaws
-pub mod ViewLaws

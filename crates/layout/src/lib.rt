@@ -1,6 +1,4 @@
-// The bytes of a store or an image: header, inodes and blocks.
-pub mod block;
-pub mod free;
+// The bytes of a store or an image before its blocks: header and inodes.
 pub mod header;
 pub mod inode;
 pub mod sizes;

@@ -1,4 +1,4 @@
--- What a line of a script prints: its answer, and the listing of a finished copy. m is the image, d the desk, n the inode count, p a place of all slots in a row.
+-- What a line of a script prints: its answer, and the listing of a finished copy. m is the image, n the inode count, p a place of all slots in a row.
 use Prim.Native.Nat.{ℕ, zero, suc, _+_, _*_, _-_, _<_, _≤_}
 use mathlib.Core.Path.{_≡_}
 use mathlib.Core.Bool.{Bool, true, false}
@@ -30,7 +30,7 @@ countsText m =
     pairText (letters "image ") (headerOf m .inodes) (headerOf m .blocks) ++ pairText (letters " ") (headerOf m .«free_inodes») (headerOf m .«free_blocks»)
 
 unfoldable pub headText : List ℕ → List ℕ → List ℕ
-headText m d = (countsText m ++ (letters " " ++ decimalText (deskOf d .steps))) ++ letters "\n"
+headText m desk = (countsText m ++ (letters " " ++ decimalText (deskOf desk .steps))) ++ letters "\n"
 
 -- "directory, slot, inode, kind, size, links, name"
 unfoldable pub placeText : ℕ → ℕ → ℕ → List ℕ
@@ -56,20 +56,20 @@ entriesFrom m n p zero = []
 entriesFrom m n p (suc k) = pick (filled m n p) (entryText m n p) [] ++ entriesFrom m n (suc p) k
 
 unfoldable pub listing : List ℕ → List ℕ → List ℕ
-listing m d = headText m d ++ entriesFrom m (inodesIn m) 0 (mostSlots * inodesIn m)
+listing m desk = headText m desk ++ entriesFrom m (inodesIn m) 0 (mostSlots * inodesIn m)
 
 -- "The `st` line in which a copy finishes .. is followed by its listing": the answer o and v and, if f, the listing
 unfoldable pub printedText : Bool → ℕ → Bool → List ℕ → List ℕ → List ℕ
-printedText o v f m d = replyText o v ++ pick f (listing m d) []
+printedText o v f m desk = replyText o v ++ pick f (listing m desk) []
 
 -- ---- printed part by part: what is left at k is all at 0, the listing at 1, and from 2 on the entries from place k - 2 on
 unfoldable pub entriesLeft : List ℕ → ℕ → List ℕ
 entriesLeft m k = entriesFrom m (inodesIn m) (k - 2) (mostSlots * inodesIn m - (k - 2))
 
 unfoldable pub leftText : Bool → ℕ → Bool → List ℕ → List ℕ → ℕ → List ℕ
-leftText o v f m d zero = printedText o v f m d
-leftText o v f m d (suc zero) = pick f (listing m d) []
-leftText o v f m d (suc (suc p)) = pick f (entriesLeft m (suc (suc p))) []
+leftText o v f m desk zero = printedText o v f m desk
+leftText o v f m desk (suc zero) = pick f (listing m desk) []
+leftText o v f m desk (suc (suc p)) = pick f (entriesLeft m (suc (suc p))) []
 
 -- a part was put at the start of s: it is what comes next, and what is left after it is what is left at another k; or nothing is left, and nothing was put
 pub record Printed (left : ℕ → List ℕ) (k : ℕ) (s : List ℕ) (r : Part) (t : List ℕ) : Type 0 where

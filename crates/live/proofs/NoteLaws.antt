@@ -12,7 +12,7 @@ use Rattle.bounded.proofs.BoolLaws.{and-false-l, chain-end}
 use Rattle.octets.specs.Octets.{zeroed}
 use Rattle.octets.proofs.PartLaws.{cut}
 use Rattle.layout.specs.Inode.{kindOf, directoryKind}
-use Rattle.layout.specs.Block.{kthBlock}
+use Rattle.blocks.specs.Block.{kthBlock}
 use Rattle.names.specs.Entry.{entryInode, entryBytes}
 use Rattle.directory.specs.Slot.{slotsInBlock, slotAt, entryOf, clearEntry}
 use Rattle.desk.specs.declared.Desk.{Desk}

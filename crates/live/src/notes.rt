@@ -3,7 +3,7 @@ ghost use mathlib.Core.Path.{_≡_};
 ghost use mathlib.Core.List.{[], _∷_};
 ghost use Prim.Native.Nat.{_+_, _/_, _<_, _≤_};
 ghost use lib.ListN.{length};
-ghost use Rattle.layout.specs.Block.{kthBlock};
+ghost use Rattle.blocks.specs.Block.{kthBlock};
 ghost use Rattle.names.specs.Entry.{entryBytes};
 ghost use Rattle.directory.specs.Slot.{slotsInBlock, mostSlots, slotAt};
 ghost use Rattle.desk.specs.Sizes.{deskHeaderBytes, deskLength};
@@ -15,7 +15,6 @@ ghost use Rattle.tallies.specs.Addressed.{Addressed};
 ghost use Rattle.live.specs.Fits.{Readable};
 use desk::Desk;
 use directory::SLOTS_IN_BLOCK;
-use layout::block;
 use layout::inode;
 use layout::sizes::DIRECTORY;
 use names::ENTRY_BYTES;
@@ -88,8 +87,8 @@ fn image_slot(m: &[u8], n: usize, e: usize, t: usize) -> usize
     requires { ⌜ Addressed (now m) n × (1 ≤ e) × (e ≤ n) × (t < mostSlots) × (1 ≤ kthBlock (now m) n e (t / slotsInBlock)) ⌝ }
     ensures { λ r. ⌜ (r ≡ slotAt (now (m .entry)) n e t) × (r + entryBytes ≤ length (now (m .entry))) ⌝ }
 {
-    let c = block::kth_block(m, n, e, t / SLOTS_IN_BLOCK) as usize;
-    block::block_at(n, c) + ENTRY_BYTES * (t % SLOTS_IN_BLOCK)
+    let c = blocks::kth_block(m, n, e, t / SLOTS_IN_BLOCK) as usize;
+    blocks::block_at(n, c) + ENTRY_BYTES * (t % SLOTS_IN_BLOCK)
 }
 
 // The inode that slot t of e names in the image, 0 for none.
@@ -100,7 +99,7 @@ fn slot_names(m: &[u8], n: usize, e: usize, t: usize) -> usize
     if inode::kind(m, n, e) != DIRECTORY {
         return 0;
     }
-    if block::kth_block(m, n, e, t / SLOTS_IN_BLOCK) == 0 {
+    if blocks::kth_block(m, n, e, t / SLOTS_IN_BLOCK) == 0 {
         return 0;
     }
     let o = image_slot(m, n, e, t);

@@ -16,6 +16,10 @@ marked w s = eqb (digit w s) 1
 unfoldable pub withMark : ℕ → ℕ → ℕ
 withMark w s = bitOr w (2 ^ s)
 
--- w, a word of 64 bits, with bit s clear
+-- the bits of a mark word
+abbrev pub wordBits : ℕ
+wordBits = 64
+
+-- w with bit s clear
 unfoldable pub withoutMark : ℕ → ℕ → ℕ
-withoutMark w s = bitAnd w (2 ^ 64 - 1 - 2 ^ s)
+withoutMark w s = bitAnd w (2 ^ wordBits - 1 - 2 ^ s)

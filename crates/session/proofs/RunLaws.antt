@@ -14,6 +14,7 @@ use Rattle.answers.specs.Told.{told}
 use Rattle.answers.proofs.RefusalLaws.{not-none}
 use Rattle.bounded.specs.declared.Found.{Found}
 use Rattle.bounded.specs.declared.Found.the-variants.{At, Absent}
+use Rattle.bounded.proofs.CaseLaws.{NoneBelow, above}
 use Rattle.bounded.proofs.SearchLaws.{found-lowest}
 use Rattle.bounded.specs.Search.{pick, first}
 use Rattle.bounded.specs.Count.{count}
@@ -27,7 +28,6 @@ use Rattle.files.specs.Effect.{Call}
 use Rattle.checkpoint.specs.Live.{World, left, live, step}
 use Rattle.checkpoint.specs.Shown.{world, Shown, shown}
 use Rattle.checkpoint.specs.List.{Event, advances, outcome, next, refusalOf, accepted, completes}
-use Rattle.commands.proofs.CommandLaws.{NoneBelow, above}
 use Rattle.lines.specs.Ask.{Ask, event, stepping, none, forms, asked, askOf, formIn, formOf, num}
 use Rattle.session.specs.Reply.{Ran, reply, ran, replyTo, stepped, answered, lineRuns, eventOf, eventIn, Turned}
 use Rattle.session.specs.declared.Reply.{Reply}

@@ -65,8 +65,8 @@ eventOf none = asks
 unfoldable pub eventIn : ℕ → List ℕ → Event
 eventIn j l = eventOf (asked j l)
 
--- one step from w on left the image m and the desk d
-pub record Turned (t : Turn) (w : World) (m d : List ℕ) : Type 0 where
+-- one step from w on left the image m and the desk
+pub record Turned (t : Turn) (w : World) (m desk : List ℕ) : Type 0 where
   pub number : t .number ≡ refusalOf advances w
   pub finished : t .finished ≡ completes advances w
-  pub after : next advances w ≡ world (w .store) m d
+  pub after : next advances w ≡ world (w .store) m desk

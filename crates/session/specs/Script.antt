@@ -4,7 +4,7 @@ use mathlib.Core.Path.{_≡_}
 use mathlib.Core.Bool.{true}
 use mathlib.Core.List.{List, [], _∷_, _++_}
 use lib.ListN.{replicate}
-use Rattle.layout.specs.Block.{storeLength}
+use Rattle.blocks.specs.Block.{storeLength}
 use Rattle.desk.specs.Sizes.{deskLength}
 use Rattle.sound.specs.Sound.{Sound}
 use Rattle.sound.specs.declared.Form.the-variants.{Image}

@@ -10,9 +10,10 @@ use Rattle.bounded.proofs.CountLaws.{met-once}
 use Rattle.bounded.proofs.ReflectLaws.{r-eq, r-some, r-no}
 use Rattle.layout.specs.Sizes.{addressCount, mostImageBlocks, rootInode}
 use Rattle.layout.specs.Inode.{kindOf, sizeOf, addressOf, addressIndex, directoryKind}
-use Rattle.layout.specs.Block.{blocksUsed, kthBlock}
-use Rattle.layout.specs.Free.{blockNamed}
-use Rattle.layout.specs.Fits.{InodeFits, Sized}
+use Rattle.blocks.specs.Block.{blocksUsed, kthBlock}
+use Rattle.blocks.specs.Free.{blockNamed}
+use Rattle.layout.specs.Fits.{InodeFits}
+use Rattle.blocks.specs.Fits.{Sized}
 use Rattle.directory.specs.Slot.{mostSlots}
 use Rattle.directory.specs.Fits.{DirFits}
 use Rattle.sound.specs.Sound.{inodesIn, blocksIn, Sound, limitOf}

@@ -13,9 +13,9 @@ use Rattle.bounded.proofs.ReflectLaws.{r-eq, r-le, r-lt, r-true, r-false, r-and
 use Rattle.layout.specs.Sizes.{mostFileBytes, addressCount, blockBytes, rootInode}
 use Rattle.layout.specs.Header.{headerOf, headerRestZero}
 use Rattle.layout.specs.Inode.{kindOf, spareOf, linksOf, sizeOf, parentOf, addressOf, addressIndex, freeKind, fileKind, directoryKind}
-use Rattle.layout.specs.Block.{blockOf, blocksUsed, kthBlock}
-use Rattle.layout.proofs.AllowedLaws.{allowed-is}
-use Rattle.layout.specs.Free.{inodeFree, blockFree}
+use Rattle.blocks.specs.Block.{blockOf, blocksUsed, kthBlock}
+use Rattle.blocks.proofs.AllowedLaws.{allowed-is}
+use Rattle.blocks.specs.Free.{inodeFree, blockFree}
 use Rattle.names.specs.Entry.{legalEntry}
 use Rattle.directory.specs.Slot.{mostSlots}
 use Rattle.sound.specs.Place.{IsDir, dirOf, slotOf, isSlot, entryAt, filled, naming}

@@ -5,7 +5,7 @@ use mathlib.Core.List.{List}
 use lib.ListN.{getD}
 use Rattle.layout.specs.Sizes.{addressCount, blockBytes, mostFileBytes}
 use Rattle.layout.specs.Inode.{kindOf, spareOf, linksOf, sizeOf, parentOf, addressOf, addressIndex, freeKind, fileKind, directoryKind}
-use Rattle.layout.specs.Block.{blockOf, blocksUsed, kthBlock}
+use Rattle.blocks.specs.Block.{blockOf, blocksUsed, kthBlock}
 
 -- byte o of the block that the size ends in
 abbrev pub tailByte : List ℕ → ℕ → ℕ → ℕ → ℕ

@@ -23,8 +23,8 @@ use Rattle.octets.proofs.NumLaws.{length-num}
 use Rattle.layout.specs.Sizes.{mostInodes, mostImageBlocks, addressCount, isComplete}
 use Rattle.layout.specs.Header.{putFree, putComplete}
 use Rattle.layout.specs.Inode.{kindOf, directoryKind, addressOf, addressIndex, putLinks}
-use Rattle.layout.specs.Block.{blockAt, kthBlock}
-use Rattle.layout.specs.Free.{inodeFree}
+use Rattle.blocks.specs.Block.{blockAt, kthBlock}
+use Rattle.blocks.specs.Free.{inodeFree}
 use Rattle.names.specs.Entry.{entryInode}
 use Rattle.directory.specs.Slot.{mostSlots, slotAt, entryOf}
 use Rattle.desk.specs.Desk.{copiedOf}

@@ -17,10 +17,10 @@ ghost use Rattle.checkpoint.specs.Image.{imageNaming};
 ghost use Rattle.checkpoint.specs.Notes.{isCopied};
 ghost use Rattle.checkpoint.specs.Copier.{nextInode, putCounts, finishImage};
 ghost use Rattle.tallies.specs.Addressed.{Addressed};
+use blocks::free;
+use blocks::map;
 use bounded::Found;
 use directory::SLOTS_IN_BLOCK;
-use layout::block;
-use layout::free;
 use layout::header;
 use layout::inode;
 use layout::sizes::ADDRESS_COUNT;
@@ -50,11 +50,11 @@ fn count_block(m: &[u8], n: usize, e: usize, k: usize, counts: &mut [u16])
     requires { ⌜ Addressed (now m) n × (1 ≤ e) × (e ≤ n) × (k < addressCount) × (kindOf (now m) e ≡ directoryKind) × Tallied (imageNaming (now m) n) 1 (mostInodes + 1) (placeOf e (slotsInBlock * k)) (now counts) ⌝ }
     ensures { λ _. ⌜ Tallied (imageNaming (now (m .entry)) n) 1 (mostInodes + 1) (placeOf e (slotsInBlock * (k + 1))) (now (counts .exit)) ⌝ }
 {
-    let a = block::kth_block(m, n, e, k) as usize;
+    let a = blocks::kth_block(m, n, e, k) as usize;
     if a < 1 {
         return;
     }
-    let o = block::block_at(n, a);
+    let o = blocks::block_at(n, a);
     for j in 0..SLOTS_IN_BLOCK {
         count_entry(m, o + ENTRY_BYTES * j, &mut *counts);
     }
@@ -139,8 +139,8 @@ pub fn finish_image(m: &mut [u8], n: usize, b: usize)
 {
     let counts = count_names(&*m, n);
     let map = free::named_blocks(&*m, n);
-    let inodes = inodes::free_inodes(&*m, n);
-    let blocks = inodes::free_blocks(&map, b);
+    let inodes = free::free_inodes(&*m, n);
+    let blocks = map::free_blocks(&map, b);
     put_counts(&mut *m, n, &counts);
     header::put_free(&mut *m, inodes as u16, blocks as u16);
     header::put_complete(&mut *m, COMPLETE);

@@ -21,8 +21,8 @@ use Rattle.octets.specs.Octets.{part, splice, zeroed, pasted}
 use Rattle.octets.proofs.PartLaws.{length-splice, length-inside, part-all, part-same, cut, lent}
 use Rattle.layout.specs.Sizes.{addressCount}
 use Rattle.layout.specs.Inode.{kindOf, directoryKind, addressOf, sizeOf, addressIndex, putAddress}
-use Rattle.layout.specs.Block.{blockAt, blockOf, putInBlock, kthBlock, blocksUsed}
-use Rattle.layout.specs.Free.{blockNamed, freeBlock}
+use Rattle.blocks.specs.Block.{blockAt, blockOf, putInBlock, kthBlock, blocksUsed}
+use Rattle.blocks.specs.Free.{blockNamed, freeBlock}
 use Rattle.names.specs.Entry.{entryInode}
 use Rattle.desk.specs.Desk.{markOf}
 use Rattle.checkpoint.specs.Notes.{isCopied}

@@ -7,17 +7,16 @@ ghost use lib.ListN.{length};
 ghost use Rattle.bounded.specs.Count.{tally};
 ghost use Rattle.layout.specs.Sizes.{mostImageBlocks, addressCount, blockBytes};
 ghost use Rattle.layout.specs.Inode.{sizeOf, addressOf};
-ghost use Rattle.layout.specs.Block.{blocksUsed};
-ghost use Rattle.layout.specs.Free.{blockNamed};
+ghost use Rattle.blocks.specs.Block.{blocksUsed};
+ghost use Rattle.blocks.specs.Free.{blockNamed};
 ghost use Rattle.directory.specs.Slot.{slotsInBlock};
 ghost use Rattle.directory.specs.Fits.{DirFits};
 ghost use Rattle.desk.specs.Sizes.{deskLength};
 ghost use Rattle.checkpoint.specs.Copier.{targetBlock, copiedEntry, copiedEntries, copiedBlock};
 ghost use Rattle.tallies.specs.Addressed.{Addressed};
+use blocks::free;
 use bounded::Found;
 use directory::SLOTS_IN_BLOCK;
-use layout::block;
-use layout::free;
 use layout::inode;
 use layout::sizes::ADDRESS_COUNT;
 use layout::sizes::BLOCK_BYTES;
@@ -94,8 +93,8 @@ pub fn copy_block(x: &mut [u8], s: &[u8], d: &[u8], n: usize, i: usize, k: usize
     requires { ⌜ (length (now x) ≡ blockBytes) × DirFits (now s) n i × (k < blocksUsed (sizeOf (now s) i)) × (deskLength n ≤ length (now d)) ⌝ }
     ensures { λ _. ⌜ now (x .exit) ≡ copiedBlock (now (s .entry)) (now (d .entry)) n i k ⌝ }
 {
-    let a = block::kth_block(s, n, i, k) as usize;
-    octets::copy_range(&mut *x, 0, s, block::block_at(n, a), BLOCK_BYTES);
+    let a = blocks::kth_block(s, n, i, k) as usize;
+    octets::copy_range(&mut *x, 0, s, blocks::block_at(n, a), BLOCK_BYTES);
     if inode::kind(s, n, i) != DIRECTORY {
         return;
     }

@@ -2,19 +2,19 @@
 ghost use Prim.Native.Nat.{_+_, _*_, _≤_};
 ghost use mathlib.Core.Path.{_≡_};
 ghost use Rattle.chance.specs.Small.{Small};
-use crate::copy::Copy;
-use crate::copy::Next;
-use crate::copy::follow;
-use crate::tried::EVENTS;
-use crate::tried::INODES;
-use crate::tried::LISTS;
-use crate::tried::MOVES;
-use crate::tried::tally;
 use beside::both::do_both;
 use beside::calls::Got;
 use chance::event;
 use chance::event::Event;
 use chance::event::Shape;
+use follow::copy::Copy;
+use follow::copy::follow;
+use follow::copy::Next;
+use follow::tried::EVENTS;
+use follow::tried::INODES;
+use follow::tried::LISTS;
+use follow::tried::MOVES;
+use follow::tried::tally;
 use judge::copy::moment;
 use judge::fields::kind;
 

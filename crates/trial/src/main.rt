@@ -1,9 +1,7 @@
 // Random lists of calls on the library, beside a plain store and a record of which entries were taken out: at the first difference it prints the list that shows it.
 // Words: a seed, and how many lists.
-mod copy;
 mod list;
 mod print;
-mod tried;
 
 use text::Number;
 use text::numbers::number;

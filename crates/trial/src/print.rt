@@ -1,14 +1,14 @@
 // What was tried, or the list that shows a difference.
-use crate::tried::BLOCKS;
-use crate::tried::ENTRIES;
-use crate::tried::EVENTS;
-use crate::tried::FINISHES;
-use crate::tried::INODES;
-use crate::tried::LISTS;
-use crate::tried::MOVES;
 use chance::print::list;
 use chance::print::number;
 use chance::print::word;
+use follow::tried::BLOCKS;
+use follow::tried::ENTRIES;
+use follow::tried::EVENTS;
+use follow::tried::FINISHES;
+use follow::tried::INODES;
+use follow::tried::LISTS;
+use follow::tried::MOVES;
 
 // The list up to the event, after a line that `replay` has no answer to.
 pub fn difference(seed: u64, l: u64, event: u64) {

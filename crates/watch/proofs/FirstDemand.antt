@@ -4,7 +4,7 @@ use mathlib.Core.Path.{_≡_, refl, ap}
 use mathlib.Core.Bool.{Bool, true, false, not}
 use mathlib.Core.List.{List, [], _∷_}
 use lib.ListN.{length}
-use Rattle.layout.specs.Block.{allowed}
+use Rattle.blocks.specs.Block.{allowed}
 use Rattle.layout.specs.Sizes.{mostStoreBlocks}
 use Rattle.desk.specs.Sizes.{deskAllowed}
 use Rattle.bounded.specs.Search.{pick}

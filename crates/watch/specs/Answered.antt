@@ -6,8 +6,8 @@ use mathlib.Core.Bool.{Bool, true, false, not}
 use mathlib.Core.List.{List, [], _∷_}
 use lib.ListN.{length}
 use Rattle.layout.specs.Inode.{sizeOf}
-use Rattle.layout.specs.Free.{freeInode}
-use Rattle.layout.specs.Block.{allowed}
+use Rattle.blocks.specs.Free.{freeInode}
+use Rattle.blocks.specs.Block.{allowed}
 use Rattle.layout.specs.Sizes.{mostStoreBlocks}
 use Rattle.desk.specs.Desk.{deskOf}
 use Rattle.desk.specs.Sizes.{deskAllowed}
@@ -92,7 +92,7 @@ abbrev pub storeLayTable : List ℕ → ℕ → ℕ → List Row
 storeLayTable s n b = row (not (allowed mostStoreBlocks n b (length s))) BadBuffer ∷ []
 
 abbrev pub deskLayTable : List ℕ → ℕ → List Row
-deskLayTable d n = row (not (deskAllowed n (length d))) BadBuffer ∷ []
+deskLayTable desk n = row (not (deskAllowed n (length desk))) BadBuffer ∷ []
 
 -- a layout call with the table rs, on the buffer s: it answered r and left t
 pub record LayAnswers (rs : List Row) (s : List ℕ) (r : Answer) (t : List ℕ) : Type 0 where
@@ -105,5 +105,5 @@ pub record FirstDemand : Type 0 where
   pub lowest-first : (f : Refusal) → rank f ≡ refusalNumber f
   pub calls : {e : Event} {w v : World} {a : Received} → Did e w a v → Answers e w a v
   pub lays-store : {s t : List ℕ} (r : Answer) (inodes blocks : ℕ) → laidOut r t ≡ layOutStore s inodes blocks → LayAnswers (storeLayTable s inodes blocks) s r t
-  pub lays-desk : {d t : List ℕ} (r : Answer) (inodes : ℕ) → laidOut r t ≡ layOutDesk d inodes → LayAnswers (deskLayTable d inodes) d r t
+  pub lays-desk : {desk t : List ℕ} (r : Answer) (inodes : ℕ) → laidOut r t ≡ layOutDesk desk inodes → LayAnswers (deskLayTable desk inodes) desk r t
   pub checks : (f : Form) (s : List ℕ) (r : Bool) → r ≡ isSound f s → Reflects r (Sound f s)

@@ -13,7 +13,7 @@ use Rattle.bounded.specs.Search.{pick}
 use Rattle.bounded.proofs.EachLaws.{All, all-map}
 use Rattle.layout.specs.Sizes.{addressCount}
 use Rattle.layout.specs.Inode.{kindOf, sizeOf, freeKind, directoryKind}
-use Rattle.layout.specs.Block.{blockOf, blocksUsed, kthBlock}
+use Rattle.blocks.specs.Block.{blockOf, blocksUsed, kthBlock}
 use Rattle.directory.specs.Slot.{mostSlots, slotsInBlock}
 use Rattle.desk.specs.Sizes.{deskLength, running}
 use Rattle.desk.specs.declared.Desk.{Desk}

@@ -15,7 +15,7 @@ use Rattle.bounded.proofs.CaseLaws.{in-range, is-below}
 use Rattle.bounded.proofs.RangeLaws.{within-in, within-out, within-ext, below-in, below-out}
 use Rattle.layout.specs.Sizes.{blockBytes}
 use Rattle.layout.specs.Inode.{kindOf, sizeOf, parentOf, freeKind, fileKind}
-use Rattle.layout.specs.Block.{blockOf, blocksUsed}
+use Rattle.blocks.specs.Block.{blockOf, blocksUsed}
 use Rattle.directory.specs.Slot.{mostSlots}
 use Rattle.desk.specs.declared.Desk.{Desk}
 use Rattle.desk.specs.Desk.{deskOf, markOf}

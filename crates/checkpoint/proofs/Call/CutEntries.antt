@@ -14,7 +14,7 @@ use Rattle.bounded.proofs.BoolLaws.{clash, holds, and-left, and-right}
 use Rattle.bounded.proofs.EachLaws.{All}
 use Rattle.layout.specs.Sizes.{addressCount}
 use Rattle.layout.specs.Inode.{kindOf, sizeOf, fileKind}
-use Rattle.layout.specs.Block.{blocksUsed, kthBlock}
+use Rattle.blocks.specs.Block.{blocksUsed, kthBlock}
 use Rattle.directory.specs.Slot.{mostSlots, clearEntry}
 use Rattle.sound.specs.Place.{entryAt, naming}
 use Rattle.sound.specs.Sound.{Sound, inodesIn}

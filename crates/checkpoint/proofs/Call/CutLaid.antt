@@ -12,8 +12,8 @@ use Rattle.bounded.specs.Search.{pick}
 use Rattle.bounded.proofs.SumLaws.{sum-ext}
 use Rattle.layout.specs.Sizes.{addressCount, blockBytes}
 use Rattle.layout.specs.Inode.{sizeOf, addressIndex}
-use Rattle.layout.specs.Block.{blockOf, blocksUsed, kthBlock}
-use Rattle.layout.specs.Free.{blockNamed, blockFree}
+use Rattle.blocks.specs.Block.{blockOf, blocksUsed, kthBlock}
+use Rattle.blocks.specs.Free.{blockNamed, blockFree}
 use Rattle.names.specs.Entry.{isEmpty}
 use Rattle.directory.specs.Slot.{mostSlots, clearEntry}
 use Rattle.desk.specs.Desk.{deskOf}

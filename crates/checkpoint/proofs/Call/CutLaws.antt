@@ -11,7 +11,7 @@ use Rattle.bounded.specs.Count.{Differ}
 use Rattle.octets.specs.Octets.{Apart}
 use Rattle.layout.specs.Sizes.{addressCount}
 use Rattle.layout.specs.Inode.{kindOf, sizeOf, addressOf, addressIndex, freeKind, fileKind, directoryKind}
-use Rattle.layout.specs.Block.{blocksUsed, kthBlock}
+use Rattle.blocks.specs.Block.{blocksUsed, kthBlock}
 use Rattle.names.specs.Entry.{isEmpty}
 use Rattle.names.proofs.EntryLaws.{empty-inode, empty-zeros}
 use Rattle.directory.specs.Slot.{mostSlots, slots, slotAt, clearEntry}

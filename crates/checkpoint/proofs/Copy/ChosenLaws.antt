@@ -18,8 +18,8 @@ use Rattle.bounded.proofs.CaseLaws.{is-below}
 use Rattle.bounded.proofs.RangeLaws.{below-out}
 use Rattle.layout.specs.Sizes.{addressCount, rootInode}
 use Rattle.layout.specs.Inode.{sizeOf}
-use Rattle.layout.specs.Block.{blocksUsed, kthBlock}
-use Rattle.layout.specs.Free.{blockNamed}
+use Rattle.blocks.specs.Block.{blocksUsed, kthBlock}
+use Rattle.blocks.specs.Free.{blockNamed}
 use Rattle.directory.specs.Slot.{mostSlots}
 use Rattle.desk.specs.Desk.{deskOf}
 use Rattle.sound.specs.Place.{naming}

@@ -15,7 +15,7 @@ use Rattle.bounded.proofs.ReflectLaws.{r-eq, r-le, r-true, r-and, r-or, r-all, 
 use Rattle.layout.specs.Sizes.{mostInodes, mostImageBlocks, addressCount, rootInode, notComplete, mostBlocks}
 use Rattle.layout.specs.Header.{headerOf}
 use Rattle.layout.specs.Inode.{sizeOf, addressOf}
-use Rattle.layout.specs.Block.{storeLength, blocksUsed, kthBlock}
+use Rattle.blocks.specs.Block.{storeLength, blocksUsed, kthBlock}
 use Rattle.desk.specs.Sizes.{deskLength, stopped, stepsAnInode}
 use Rattle.desk.specs.Desk.{deskOf, copiedOf, deskRestZero}
 use Rattle.sound.specs.Sound.{Sound, inodesIn}

@@ -12,8 +12,8 @@ use Rattle.bounded.specs.Sum.{sum}
 use Rattle.layout.specs.Sizes.{mostInodes, mostImageBlocks, addressCount, blockBytes, rootInode, notComplete}
 use Rattle.layout.specs.Header.{headerOf, headerRestZero}
 use Rattle.layout.specs.Inode.{kindOf, spareOf, linksOf, sizeOf, parentOf, addressOf, addressIndex, freeKind}
-use Rattle.layout.specs.Block.{storeLength, blockOf, blocksUsed, kthBlock}
-use Rattle.layout.specs.Free.{blockFree}
+use Rattle.blocks.specs.Block.{storeLength, blockOf, blocksUsed, kthBlock}
+use Rattle.blocks.specs.Free.{blockFree}
 use Rattle.names.specs.Entry.{isEmpty, entryInode, legalEntry}
 use Rattle.directory.specs.Slot.{mostSlots}
 use Rattle.desk.specs.Sizes.{deskLength, running}

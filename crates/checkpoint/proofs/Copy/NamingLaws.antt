@@ -10,7 +10,7 @@ use Rattle.bounded.proofs.BoolLaws.{same-test}
 use Rattle.bounded.proofs.ReflectLaws.{r-eq, r-not, r-and}
 use Rattle.layout.specs.Sizes.{addressCount}
 use Rattle.layout.specs.Inode.{kindOf, sizeOf, freeKind, directoryKind}
-use Rattle.layout.specs.Block.{blocksUsed, kthBlock}
+use Rattle.blocks.specs.Block.{blocksUsed, kthBlock}
 use Rattle.directory.specs.Slot.{mostSlots, slotsInBlock, slots}
 use Rattle.desk.specs.Desk.{deskOf}
 use Rattle.sound.specs.Place.{dirOf, slotOf, isSlot, entryAt, naming}

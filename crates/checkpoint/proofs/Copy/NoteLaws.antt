@@ -13,7 +13,7 @@ use Rattle.bounded.proofs.ReflectLaws.{r-eq, r-le, r-and}
 use Rattle.octets.specs.Octets.{part, splice}
 use Rattle.octets.proofs.PartLaws.{length-splice}
 use Rattle.layout.specs.Inode.{kindOf, sizeOf, directoryKind}
-use Rattle.layout.specs.Block.{blockOf, blocksUsed, kthBlock}
+use Rattle.blocks.specs.Block.{blockOf, blocksUsed, kthBlock}
 use Rattle.names.specs.Entry.{entryBytes, entryInode}
 use Rattle.directory.specs.Slot.{slotsInBlock}
 use Rattle.desk.specs.declared.Desk.{Desk}

@@ -14,7 +14,7 @@ use Rattle.bounded.proofs.CaseLaws.{in-range}
 use Rattle.bounded.proofs.RangeLaws.{within-in, within-out, below-in, below-out, within-some, below-some}
 use Rattle.layout.specs.Sizes.{blockBytes}
 use Rattle.layout.specs.Inode.{kindOf, sizeOf, parentOf}
-use Rattle.layout.specs.Block.{blockOf, blocksUsed, kthBlock}
+use Rattle.blocks.specs.Block.{blockOf, blocksUsed, kthBlock}
 use Rattle.directory.specs.Slot.{mostSlots}
 use Rattle.desk.specs.Desk.{copiedOf, markOf}
 use Rattle.sound.specs.Inode.{InodeSound}

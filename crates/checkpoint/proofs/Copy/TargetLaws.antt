@@ -10,7 +10,7 @@ use Rattle.bounded.specs.Search.{pick}
 use Rattle.bounded.specs.declared.Found.the-variants.{At, Absent}
 use Rattle.bounded.proofs.BoolLaws.{and-left, and-right}
 use Rattle.bounded.proofs.SearchLaws.{none-below}
-use Rattle.layout.specs.Free.{blockNamed, freeBlock}
+use Rattle.blocks.specs.Free.{blockNamed, freeBlock}
 use Rattle.changes.proofs.FreeLaws.{FreeBlock, free-block}
 use Rattle.checkpoint.specs.Copier.{targetBlock}
 

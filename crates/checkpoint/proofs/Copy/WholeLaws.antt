@@ -13,7 +13,7 @@ use Rattle.bounded.proofs.CaseLaws.{in-range, is-below}
 use Rattle.bounded.proofs.RangeLaws.{within, within-in, within-out, below-in, below-out}
 use Rattle.layout.specs.Sizes.{mostFileBytes}
 use Rattle.layout.specs.Inode.{kindOf, sizeOf, parentOf, fileKind}
-use Rattle.layout.specs.Block.{blockOf, blocksUsed, kthBlock}
+use Rattle.blocks.specs.Block.{blockOf, blocksUsed, kthBlock}
 use Rattle.names.specs.Entry.{entryInode}
 use Rattle.directory.specs.Slot.{mostSlots, slots}
 use Rattle.sound.specs.Place.{dirOf, slotOf, isSlot, entryAt, naming}

@@ -5,7 +5,7 @@ use mathlib.Core.Bool.{true, false}
 use native.Mathlib.Omega.{arith}
 use lib.ListN.{length}
 use Rattle.layout.specs.Sizes.{mostImageBlocks}
-use Rattle.layout.specs.Block.{storeLength, Allowed}
+use Rattle.blocks.specs.Block.{storeLength, Allowed}
 use Rattle.sound.specs.Sound.{Sound, inodesIn, blocksIn}
 use Rattle.sound.specs.declared.Form.the-variants.{Store}
 use Rattle.answers.specs.declared.Refusal.the-variants.{WrongState}

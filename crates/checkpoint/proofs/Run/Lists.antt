@@ -5,7 +5,7 @@ use mathlib.Core.Bool.{true, false}
 use mathlib.Core.List.{List, [], _∷_}
 use lib.Dec.{eqb}
 use lib.ListN.{length}
-use Rattle.layout.specs.Block.{Allowed}
+use Rattle.blocks.specs.Block.{Allowed}
 use Rattle.layout.specs.Sizes.{mostImageBlocks}
 use Rattle.sound.specs.Sound.{inodesIn}
 use Rattle.sound.proofs.SoundLaws.{framed}

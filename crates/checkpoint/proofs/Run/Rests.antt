@@ -12,7 +12,7 @@ use Rattle.bounded.specs.Search.{pick}
 use Rattle.bounded.proofs.BoolLaws.{and-left}
 use Rattle.layout.specs.Sizes.{mostImageBlocks, isComplete, notComplete}
 use Rattle.layout.specs.Header.{headerOf}
-use Rattle.layout.specs.Block.{storeLength}
+use Rattle.blocks.specs.Block.{storeLength}
 use Rattle.desk.specs.Sizes.{running, finished, stopped}
 use Rattle.desk.specs.Desk.{deskOf}
 use Rattle.sound.specs.Sound.{Sound, inodesIn, blocksIn}

@@ -13,7 +13,7 @@ use Rattle.answers.specs.declared.Answer.{Answer}
 use Rattle.answers.specs.declared.Answer.the-variants.{Done, Refused}
 use Rattle.answers.specs.Told.{Told, told}
 use Rattle.checkpoint.specs.declared.Status.the-variants.{Is}
-use Rattle.layout.specs.Free.{blockNamed}
+use Rattle.blocks.specs.Free.{blockNamed}
 use Rattle.files.specs.Effect.{Call}
 use Rattle.checkpoint.proofs.DecisionLaws.{asStatus, status-is}
 use Rattle.checkpoint.specs.Live.{World, Outcome, refuse, live}

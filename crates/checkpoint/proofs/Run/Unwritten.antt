@@ -9,7 +9,7 @@ use borrow.Author.Tests.{eq-eqb}
 use lib.Dec.{eqb}
 use Rattle.bounded.proofs.BoolLaws.{clash, holds-or-fails, or-l, or-false-r}
 use Rattle.layout.specs.Inode.{kindOf, sizeOf, freeKind, fileKind}
-use Rattle.layout.specs.Block.{blockOf}
+use Rattle.blocks.specs.Block.{blockOf}
 use Rattle.directory.specs.Slot.{mostSlots}
 use Rattle.sound.specs.Place.{naming}
 use Rattle.sound.proofs.PlaceLaws.{naming-filled}

@@ -14,8 +14,8 @@ use Rattle.layout.specs.Sizes.{addressCount, blockBytes}
 use Rattle.layout.specs.declared.header.Header.{Header}
 use Rattle.layout.specs.Header.{headerOf, headerRestZero}
 use Rattle.layout.specs.Inode.{attributesAt, addressAt, kindOf, spareOf, linksOf, sizeOf, parentOf, addressOf, putAddress}
-use Rattle.layout.specs.Block.{storeLength, blockAt, blockOf, putInBlock}
-use Rattle.layout.proofs.FrameLaws.{length-address, length-in-block, header-past}
+use Rattle.blocks.specs.Block.{storeLength, blockAt, blockOf, putInBlock}
+use Rattle.blocks.proofs.FrameLaws.{length-address, length-in-block, header-past}
 use Rattle.changes.proofs.SameLaws.{InBlock, put-in-block}
 use Rattle.changes.proofs.AddressLaws.{same-addresses}
 use Rattle.checkpoint.proofs.Copy.Laid.{Frame, frame-kept}

@@ -12,7 +12,7 @@ use Rattle.bounded.specs.Sum.{sum}
 use Rattle.bounded.proofs.BoolLaws.{clash}
 use Rattle.bounded.proofs.UpdateLaws.{changed-here, changed-there}
 use Rattle.layout.specs.Inode.{kindOf, sizeOf, freeKind}
-use Rattle.layout.specs.Block.{blocksUsed}
+use Rattle.blocks.specs.Block.{blocksUsed}
 use Rattle.names.specs.Entry.{isEmpty}
 use Rattle.names.proofs.EntryLaws.{empty-zeros}
 use Rattle.directory.specs.Slot.{mostSlots, slots}

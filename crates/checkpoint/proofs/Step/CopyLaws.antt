@@ -15,8 +15,8 @@ use Rattle.bounded.proofs.DifferLaws.{differ-new}
 use Rattle.octets.proofs.PartLaws.{length-inside}
 use Rattle.layout.specs.Sizes.{addressCount, blockBytes}
 use Rattle.layout.specs.Inode.{kindOf, sizeOf, addressOf, addressIndex}
-use Rattle.layout.specs.Block.{blockAt, blockOf, blocksUsed, kthBlock}
-use Rattle.layout.specs.Free.{blockNamed, blockFree}
+use Rattle.blocks.specs.Block.{blockAt, blockOf, blocksUsed, kthBlock}
+use Rattle.blocks.specs.Free.{blockNamed, blockFree}
 use Rattle.directory.specs.Slot.{slots, slotsInBlock}
 use Rattle.desk.specs.declared.Desk.{Desk}
 use Rattle.desk.specs.Desk.{deskOf}

@@ -15,11 +15,11 @@ use Rattle.layout.specs.Sizes.{mostInodes, isComplete}
 use Rattle.layout.specs.declared.header.Header.{Header}
 use Rattle.layout.specs.Header.{headerOf, headerRestZero, putFree, putComplete}
 use Rattle.layout.specs.Inode.{addressIndex, linksOf, parentOf, putLinks}
-use Rattle.layout.specs.Block.{blockAt, blockOf, kthBlock}
-use Rattle.layout.proofs.View.{completion}
-use Rattle.layout.proofs.FrameLaws.{length-complete, kind-apart, spare-apart, size-apart, links-apart, parent-apart, address-apart}
-use Rattle.layout.proofs.ViewLaws.{header-complete}
-use Rattle.layout.specs.Free.{inodeFree, blockFree}
+use Rattle.blocks.specs.Block.{blockAt, blockOf, kthBlock}
+use Rattle.blocks.proofs.View.{completion}
+use Rattle.blocks.proofs.FrameLaws.{length-complete, kind-apart, spare-apart, size-apart, links-apart, parent-apart, address-apart}
+use Rattle.blocks.proofs.ViewLaws.{header-complete}
+use Rattle.blocks.specs.Free.{inodeFree, blockFree}
 use Rattle.layout.specs.Fits.{InodeFits}
 use Rattle.directory.specs.Slot.{mostSlots}
 use Rattle.changes.proofs.SameLaws.{SameFrame, SameInode, SameBody, SameBlock, same-body, body-then, frame-then, frame-stays, inode-stays, put-links, links-new, links-body, links-parent, put-free}

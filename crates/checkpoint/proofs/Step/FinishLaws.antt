@@ -14,8 +14,8 @@ use Rattle.bounded.proofs.ClimbLaws.{leads-kept}
 use Rattle.bounded.proofs.TallyLaws.{tally-same, met-one}
 use Rattle.layout.specs.Sizes.{addressCount, blockBytes, rootInode}
 use Rattle.layout.specs.Inode.{kindOf, linksOf, parentOf, freeKind, directoryKind}
-use Rattle.layout.specs.Block.{blockOf, kthBlock}
-use Rattle.layout.specs.Free.{blockFree}
+use Rattle.blocks.specs.Block.{blockOf, kthBlock}
+use Rattle.blocks.specs.Free.{blockFree}
 use Rattle.names.specs.Entry.{isEmpty, legalEntry}
 use Rattle.directory.specs.Slot.{mostSlots}
 use Rattle.desk.specs.Desk.{deskOf}

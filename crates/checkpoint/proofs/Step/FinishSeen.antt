@@ -9,8 +9,8 @@ use lib.ListN.{length, getD}
 use Rattle.bounded.proofs.CaseLaws.{is-below}
 use Rattle.layout.specs.Sizes.{mostInodes, mostImageBlocks, blockBytes, rootInode, isComplete}
 use Rattle.layout.specs.Header.{headerOf, headerRestZero}
-use Rattle.layout.specs.Block.{storeLength, blockOf}
-use Rattle.layout.specs.Free.{blockFree}
+use Rattle.blocks.specs.Block.{storeLength, blockOf}
+use Rattle.blocks.specs.Free.{blockFree}
 use Rattle.directory.specs.Slot.{mostSlots}
 use Rattle.desk.specs.declared.Desk.{Desk}
 use Rattle.desk.specs.Desk.{deskOf}

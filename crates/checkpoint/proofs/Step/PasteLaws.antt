@@ -14,7 +14,7 @@ use Rattle.octets.specs.Octets.{part, splice}
 use Rattle.octets.proofs.PartLaws.{part-apart, part-same}
 use Rattle.layout.specs.Sizes.{blockBytes}
 use Rattle.layout.specs.Inode.{kindOf, directoryKind}
-use Rattle.layout.specs.Block.{blockOf, kthBlock}
+use Rattle.blocks.specs.Block.{blockOf, kthBlock}
 use Rattle.names.specs.Entry.{entryBytes, entryInode}
 use Rattle.directory.specs.Slot.{slotsInBlock, entryOf}
 use Rattle.desk.specs.Desk.{markOf}

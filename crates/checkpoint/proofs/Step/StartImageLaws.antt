@@ -14,10 +14,10 @@ use Rattle.layout.specs.Sizes.{addressCount, blockBytes, rootInode, notComplete
 use Rattle.layout.specs.declared.header.Header.{Header}
 use Rattle.layout.specs.Header.{headerOf, putHeader, headerRestZero}
 use Rattle.layout.specs.Inode.{kindOf, spareOf, linksOf, sizeOf, parentOf, addressOf, addressIndex}
-use Rattle.layout.specs.Block.{blockAt, blockOf, blocksUsed}
-use Rattle.layout.proofs.View.{View, viewOf, contentOf}
-use Rattle.layout.proofs.FrameLaws.{length-header}
-use Rattle.layout.proofs.ViewLaws.{view-header, header-put}
+use Rattle.blocks.specs.Block.{blockAt, blockOf, blocksUsed}
+use Rattle.blocks.proofs.View.{View, viewOf, contentOf}
+use Rattle.blocks.proofs.FrameLaws.{length-header}
+use Rattle.blocks.proofs.ViewLaws.{view-header, header-put}
 use Rattle.directory.specs.Slot.{mostSlots}
 use Rattle.sound.specs.Place.{dirOf, isSlot, naming}
 use Rattle.sound.specs.Inode.{InodeSound}

@@ -13,8 +13,8 @@ use Rattle.bounded.proofs.ReflectLaws.{r-fails}
 use Rattle.layout.specs.Sizes.{mostImageBlocks}
 use Rattle.layout.specs.declared.header.Header.{Header}
 use Rattle.layout.specs.Inode.{kindOf}
-use Rattle.layout.specs.Block.{Allowed}
-use Rattle.layout.proofs.AllowedLaws.{allowed-is}
+use Rattle.blocks.specs.Block.{Allowed}
+use Rattle.blocks.proofs.AllowedLaws.{allowed-is}
 use Rattle.directory.specs.Slot.{mostSlots}
 use Rattle.desk.specs.Sizes.{deskLength}
 use Rattle.desk.specs.declared.Desk.{Desk}

@@ -1,4 +1,4 @@
-use Rattle.layout.specs.Block.{blocksUsed}
+use Rattle.blocks.specs.Block.{blocksUsed}
 use Rattle.checkpoint.specs.Copier.{close, copy, lockedStep}
 use Rattle.transfer.proofs.BlockLaws.{block-few}
 use Rattle.copier.proofs.StepLaws.{locked-close, locked-copy, locked-full, does-same, does-full, target-inside}

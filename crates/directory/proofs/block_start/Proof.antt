@@ -2,7 +2,7 @@ use native.Mathlib.Omega.{arith}
 use mathlib.Core.Path.{ap, _∙_}
 use denote.Ref.{now}
 use borrow.Author.Needs.{needs}
-use Rattle.layout.specs.Block.{blockAt}
+use Rattle.blocks.specs.Block.{blockAt}
 use Rattle.directory.proofs.SlotLaws.{few-blocks, block-fits}
 use Rattle.directory.proofs.block_start.Statement.{statement}
 use Rattle.directory.proofs.block_start.Tie as tie

@@ -3,7 +3,7 @@ use mathlib.Core.Path.{_≡_, ap, _∙_}
 use denote.Ref.{now}
 use borrow.Author.Needs.{needs}
 use Rattle.layout.specs.Inode.{sizeOf}
-use Rattle.layout.specs.Block.{blocksUsed}
+use Rattle.blocks.specs.Block.{blocksUsed}
 use Rattle.directory.specs.Slot.{slots}
 use Rattle.directory.proofs.slot_count.Statement.{statement}
 use Rattle.directory.proofs.slot_count.Tie as tie

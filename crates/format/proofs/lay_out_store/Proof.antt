@@ -6,8 +6,8 @@ use Rattle.layout.specs.declared.inode.Inode.{Inode}
 use Rattle.layout.specs.Header.{putHeader}
 use Rattle.layout.specs.Sizes.{mostStoreBlocks}
 use Rattle.layout.specs.Inode.{putInode}
-use Rattle.layout.specs.Block.{allowed}
-use Rattle.layout.proofs.AllowedLaws.{allowed-is}
+use Rattle.blocks.specs.Block.{allowed}
+use Rattle.blocks.proofs.AllowedLaws.{allowed-is}
 use Rattle.format.specs.Format.{laidOut, emptyRoot}
 use Rattle.answers.specs.declared.Answer.the-variants.{Done}
 use Prim.Native.Nat.{ℕ}

@@ -1,6 +1,6 @@
 use mathlib.Core.Path.{sym, _∙_}
 use native.Mathlib.Omega.{arith}
-use borrow.Author.Tests.{eqb-true}
+use borrow.Author.Tests.{eqb-true, not-true, not-false}
 use borrow.Author.Needs.{needs}
 use Rattle.bounded.proofs.BoolLaws.{never}
 use Rattle.inodes.proofs.InodeLaws.{address-none, address-past, address-rest, address-again, address-new, address-noted}
@@ -13,18 +13,18 @@ kth-block-requires c κs = search needs
 cast-a : tie.Need-cast-a
 cast-a c = search needs
 
-slice-write-map : tie.Need-slice-write-map
-slice-write-map c = omega (arith, c .before .before .before .before .pre .1 .long)
+note-requires : tie.Need-note-requires
+note-requires c κs = search needs
 
 same-length : tie.Need-same-length
 same-length c = search needs
 
 returns : tie.Need-returns
 returns c =
-    let p = c .before .before .before .before .pre in
-    let e = c .before .kth-block .ensures in (
+    let p = c .before .before .before .before .before .before .before .before .pre in
+    let e = c .before .before .before .before .before .kth-block .ensures in (
       address-rest _ _ _ _ _ _ _ (p .0 .2) e (omega arith),
-      λ q. address-noted _ _ _ _ 0 _ (sym (eqb-true _ 0 q) ∙ e) (omega arith) (p .1),
+      λ q. rw (c .before .before .note .ensures) (address-noted _ _ _ _ 0 _ (sym (eqb-true _ 0 q) ∙ e) (omega arith) (p .1)),
     )
 
 returns-2 : tie.Need-returns-2
@@ -35,28 +35,31 @@ returns-3 : tie.Need-returns-3
 returns-3 c =
     (address-past _ _ _ _ _ _ _ (c .before .before .before .before .before .before .pre .0 .2) (c .before .before .before .kth-block .ensures) (omega arith) (omega arith), never)
 
-slice-read-if4 : tie.Need-slice-read-if4
-slice-read-if4 c = omega (arith, c .before .before .before .before .before .before .before .pre .1 .long)
-
-returns-4 : tie.Need-returns-4
-returns-4 c =
-    let p = c .before .before .before .before .before .before .before .before .pre in (
-      address-again _ _ _ _ _ _ _ (p .0 .2) (c .before .before .before .before .before .kth-block .ensures) _ (p .1) (omega arith) (omega arith) (λ z. omega (arith, z, c .if4 .taken)),
-      never,
-    )
-
-slice-write-map-2 : tie.Need-slice-write-map-2
-slice-write-map-2 c = omega (arith, c .before .before .before .before .before .before .before .before .pre .1 .long)
+has-requires : tie.Need-has-requires
+has-requires c κs = search needs
 
 same-length-2 : tie.Need-same-length-2
 same-length-2 c = search needs
 
+returns-4 : tie.Need-returns-4
+returns-4 c =
+    let p = c .before .before .before .before .before .before .before .before .before .pre in (
+      address-again _ _ _ _ _ _ _ (p .0 .2) (c .before .before .before .before .before .before .kth-block .ensures) _ (p .1) (omega arith) (omega arith) (not-true _ (sym (c .before .has .ensures) ∙ c .if4 .taken)),
+      never,
+    )
+
+note-requires-2 : tie.Need-note-requires-2
+note-requires-2 c κs = search needs
+
+same-length-3 : tie.Need-same-length-3
+same-length-3 c = search needs
+
 returns-5 : tie.Need-returns-5
 returns-5 c =
-    let p = c .before .before .before .before .before .before .before .before .pre in
-    let e = c .before .before .before .before .before .kth-block .ensures in (
-      address-new _ _ _ _ _ _ _ (p .0 .2) e _ (p .1) (omega arith) (omega arith) (omega arith) (omega arith) (omega (arith, c .if4 .left)),
-      λ q. address-noted _ _ _ _ _ _ e (omega arith) (p .1),
+    let p = c .before .before .before .before .before .before .before .before .before .before .before .before .before .pre in
+    let e = c .before .before .before .before .before .before .before .before .before .before .kth-block .ensures in (
+      address-new _ _ _ _ _ _ _ (p .0 .2) e _ (p .1) (omega arith) (omega arith) (omega arith) (omega arith) (not-false _ (sym (c .before .before .before .before .before .has .ensures) ∙ c .before .before .before .before .if4 .left)),
+      λ q. rw (c .before .before .note2 .ensures) (address-noted _ _ _ _ _ _ e (omega arith) (p .1)),
     )
 
 pub address-right-spec : {M : Type 1} → statement M
@@ -65,13 +68,14 @@ address-right-spec =
     (tie.spec
     kth-block-requires
     cast-a
-    slice-write-map
+    note-requires
     same-length
     returns
     returns-2
     returns-3
-    slice-read-if4
-    returns-4
-    slice-write-map-2
+    has-requires
     same-length-2
+    returns-4
+    note-requires-2
+    same-length-3
     returns-5)

@@ -9,7 +9,7 @@ use Rattle.bounded.specs.Seen.{Seen}
 use Rattle.bounded.proofs.BelowLaws.{all-stopped, all-done, all-none, all-more}
 use Rattle.bounded.proofs.BoolLaws.{chain-on, chain-off, never}
 use Rattle.bounded.proofs.SeenLaws.{seen-as}
-use Rattle.layout.specs.Block.{blocksUsed}
+use Rattle.blocks.specs.Block.{blocksUsed}
 use Rattle.layout.specs.Inode.{sizeOf, addressOf, addressIndex}
 use Rattle.inodes.specs.Pass.{addressB}
 use Rattle.inodes.proofs.InodeLaws.{addresses-are}

@@ -1,10 +1,11 @@
 use Prim.Native.Nat.{_-_, _≤_}
-use mathlib.Core.Path.{_≡_, _∙_}
+use mathlib.Core.Path.{_≡_, sym, _∙_}
 use mathlib.Core.Bool.{true, not, _||_}
 use mathlib.Core.Logic.{⊎-elim}
 use native.Mathlib.Omega.{arith}
 use borrow.Author.Needs.{needs}
-use Rattle.layout.specs.Free.{blockFree}
+use borrow.Author.Tests.{not-true, not-false}
+use Rattle.blocks.specs.Free.{blockFree}
 use Rattle.sound.specs.Test.{blankBlockB}
 use Rattle.bounded.specs.Below.{allTo}
 use Rattle.bounded.proofs.BoolLaws.{chain-on, chain-off}
@@ -22,11 +23,11 @@ abbrev μ-loop : tie.MeasureT-loop
 loop-holds : tie.Need-loop-holds Inv-loop μ-loop
 loop-holds c = (omega arith, all-none _)
 
-add-if1 : tie.Need-add-if1 Inv-loop μ-loop
-add-if1 c = search needs
+add-has : tie.Need-add-has Inv-loop μ-loop
+add-has c = search needs
 
-shared-slice-read-if1 : tie.Need-shared-slice-read-if1 Inv-loop μ-loop
-shared-slice-read-if1 c = omega (arith, c .before .before .before .before .before .pre .1 .long, c .before .before .before .before .before .pre .0 .blocks)
+has-requires : tie.Need-has-requires Inv-loop μ-loop
+has-requires c κs = search needs
 
 add-block-at : tie.Need-add-block-at Inv-loop μ-loop
 add-block-at c = search needs
@@ -44,7 +45,7 @@ returns c =
     all-stopped _ _ k (omega arith)
     (chain-off _ _
     (c .before .all-zero .ensures
-    ∙ blank-tested _ _ k _ (p .1) (omega (arith, p .0 .blocks)) _ (c .before .before .before .if1 .taken) (c .before .before .block-at .ensures))
+    ∙ blank-tested _ _ k _ (p .1) (omega (arith, p .0 .blocks)) _ (not-false _ (sym (c .before .before .before .before .has .ensures) ∙ not-true _ (c .before .before .before .if1 .taken))) (c .before .before .block-at .ensures))
     (c .if2 .taken))
 
 add-k : tie.Need-add-k Inv-loop μ-loop
@@ -56,14 +57,15 @@ loop-less c = search needs
 loop-again : tie.Need-loop-again Inv-loop μ-loop
 loop-again c =
     let i = c .before .before .before .loop in
-    let p = c .before .before .before .before .before .before .pre in (
+    let p = c .before .before .before .before .before .before .pre in
+    let e = sym (c .before .has .ensures) in (
       omega arith,
       all-more _ _ (i .inv .1)
           (⊎-elim
           (λ w.
-          chain-on _ _ (w .2 .ensures ∙ blank-tested _ _ (i .k) _ (p .1) (omega (arith, p .0 .blocks)) _ (w .0 .taken) (w .1 .ensures))
+          chain-on _ _ (w .2 .ensures ∙ blank-tested _ _ (i .k) _ (p .1) (omega (arith, p .0 .blocks)) _ (not-false _ (e ∙ not-true _ (w .0 .taken))) (w .1 .ensures))
           (w .3 .left))
-          (λ w. blank-named _ _ (i .k) _ (p .1) (omega (arith, p .0 .blocks)) (w .left)) (c .if1 .came)),
+          (λ w. blank-named _ _ (i .k) _ (p .1) (omega (arith, p .0 .blocks)) (not-true _ (e ∙ not-false _ (w .left)))) (c .if1 .came)),
     )
 
 returns-2 : tie.Need-returns-2 Inv-loop μ-loop
@@ -76,8 +78,8 @@ blanks-right-spec =
     Inv-loop
     μ-loop
     loop-holds
-    add-if1
-    shared-slice-read-if1
+    add-has
+    has-requires
     add-block-at
     block-at-requires
     all-zero-requires

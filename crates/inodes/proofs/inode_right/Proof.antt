@@ -1,25 +1,25 @@
 use mathlib.Core.Path.{sym, _∙_}
 use borrow.Author.Tests.{not-false}
 use Rattle.bounded.proofs.BoolLaws.{chain-on, never}
-use Rattle.inodes.proofs.InodeLaws.{inode-stop, inode-named, inode-addresses, inode-end, blank-right, blank-noted}
+use Rattle.inodes.proofs.InodeLaws.{inode-stop, inode-named, inode-addresses, inode-end, zero-right, zero-noted}
 use borrow.Author.Needs.{needs}
 use Rattle.inodes.proofs.inode_right.Statement.{statement}
 use Rattle.inodes.proofs.inode_right.Tie as tie
 
-is-blank-requires : tie.Need-is-blank-requires
-is-blank-requires c κs = search needs
+inode-zero-requires : tie.Need-inode-zero-requires
+inode-zero-requires c κs = search needs
 
-slice-write-map : tie.Need-slice-write-map
-slice-write-map c = search needs
+note-requires : tie.Need-note-requires
+note-requires c κs = search needs
 
 same-length : tie.Need-same-length
 same-length c = search needs
 
 returns : tie.Need-returns
 returns c =
-    let p = c .before .before .before .before .pre in
-    let e = sym (c .before .is-blank .ensures) ∙ c .if1 .taken in
-    (blank-right _ _ _ _ e, λ q. blank-noted _ _ 0 _ e _ (p .1 .low) (p .2))
+    let p = c .before .before .before .before .before .before .before .before .pre in
+    let e = sym (c .before .before .before .before .before .inode-zero .ensures) ∙ c .before .before .before .before .if1 .taken in
+    (zero-right _ _ _ _ e, λ q. rw (c .before .before .note .ensures) (zero-noted _ _ 0 _ e _ (p .1 .low) (p .2)))
 
 attributes-right-requires : tie.Need-attributes-right-requires
 attributes-right-requires c κs = search needs
@@ -56,8 +56,8 @@ pub inode-right-spec : {M : Type 1} → statement M
 inode-right-spec =
     tie.close
     (tie.spec
-    is-blank-requires
-    slice-write-map
+    inode-zero-requires
+    note-requires
     same-length
     returns
     attributes-right-requires

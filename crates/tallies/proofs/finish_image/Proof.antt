@@ -6,7 +6,7 @@ use Rattle.tallies.proofs.NameLaws.{finish-read}
 use denote.Ref.{now}
 use native.Mathlib.Omega.{arith}
 use borrow.Author.Needs.{needs}
-use Rattle.layout.specs.Free.{inodeFree}
+use Rattle.blocks.specs.Free.{inodeFree}
 use Rattle.tallies.proofs.finish_image.Statement.{statement}
 use Rattle.tallies.proofs.finish_image.Tie as tie
 

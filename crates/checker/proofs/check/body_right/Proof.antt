@@ -6,7 +6,7 @@ use native.Mathlib.Omega.{arith}
 use borrow.Author.Needs.{needs}
 use borrow.Author.Tests.{not-false}
 use denote.Ref.{now}
-use Rattle.layout.specs.Fits.{Sized}
+use Rattle.blocks.specs.Fits.{Sized}
 use Rattle.sound.specs.Test.{bodyB}
 use Rattle.sound.specs.declared.Form.{Form}
 use Rattle.sound.specs.Sound.{blankOf}

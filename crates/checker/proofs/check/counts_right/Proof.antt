@@ -6,7 +6,7 @@ use Rattle.bounded.specs.Count.{countTo}
 use Rattle.bounded.specs.Seen.{Seen}
 use Rattle.layout.specs.Sizes.{addressCount}
 use Rattle.layout.specs.Inode.{addressOf}
-use Rattle.layout.specs.Free.{inodeFree}
+use Rattle.blocks.specs.Free.{inodeFree}
 use Rattle.checker.proofs.CheckLaws.{counts-1, counts-2}
 use borrow.Author.Needs.{needs}
 use Rattle.checker.proofs.check.counts_right.Statement.{statement}

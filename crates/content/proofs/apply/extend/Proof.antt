@@ -2,7 +2,7 @@ use Prim.Native.Nat.{_-_}
 use mathlib.Core.Path.{_≡_, sym, _∙_}
 use native.Mathlib.Omega.{arith}
 use denote.Ref.{now}
-use Rattle.layout.specs.Block.{blocksUsed}
+use Rattle.blocks.specs.Block.{blocksUsed}
 use Rattle.layout.specs.Inode.{sizeOf}
 use Rattle.changes.proofs.StoreLaws.{kind-fits}
 use Rattle.changes.proofs.RecordLaws.{used-is}

@@ -4,9 +4,10 @@ use native.Mathlib.Omega.{arith}
 use denote.Ref.{now}
 use Rattle.bounded.specs.declared.Found.the-variants.{At}
 use Rattle.layout.specs.Header.{headerOf}
-use Rattle.layout.specs.Free.{freeBlock}
-use Rattle.layout.proofs.ViewLaws.{inode-fits}
-use Rattle.layout.specs.Fits.{InodeFits, Sized}
+use Rattle.blocks.specs.Free.{freeBlock}
+use Rattle.blocks.proofs.ViewLaws.{inode-fits}
+use Rattle.layout.specs.Fits.{InodeFits}
+use Rattle.blocks.specs.Fits.{Sized}
 use Rattle.changes.proofs.StoreLaws.{sized-at, kind-fits, addresses-most}
 use Rattle.changes.proofs.RecordLaws.{header-inode, used-is}
 use Rattle.changes.proofs.FreeLaws.{free-block}
@@ -33,10 +34,10 @@ few : (c : tie.After-blocks-used Inv-loop μ-loop) → c .blocks-used .result + 
 few c = let e = used-is _ _ _ _ (c .before .before .before .pre .0 .4) _ (c .blocks-used .ensures) in let p = c .before .before .before .pre .1 .1 in omega arith
 
 -- the block that a turn takes
-takes : (c : tie.After-next-unnamed Inv-loop μ-loop) → let a = c .before .before .before .before .before .before .before .before .before .before .args in freeBlock (c .before .before .before .loop .inv .store) (a .n) (a .b) ≡ At (c .next-unnamed .result)
-takes c = sym (turn-search _ _ _ _ _ _ _ _ _ _ _ (c .before .before .before .loop .inv) _ (c .before .before .before .before .before .named-blocks .ensures) (sizes (c .before .before .before .before .before .before .before .before .before .before) .blocks)) ∙ c .next-unnamed .ensures
+takes : (c : tie.After-next Inv-loop μ-loop) → let a = c .before .before .before .before .before .before .before .before .before .before .args in freeBlock (c .before .before .before .loop .inv .store) (a .n) (a .b) ≡ At (c .next .result)
+takes c = sym (turn-search _ _ _ _ _ _ _ _ _ _ _ (c .before .before .before .loop .inv) _ (c .before .before .before .before .before .named-blocks .ensures) (sizes (c .before .before .before .before .before .before .before .before .before .before) .blocks)) ∙ c .next .ensures
 
-bound : (c : tie.After-next-unnamed Inv-loop μ-loop) → (1 ≤ c .next-unnamed .result) × (c .next-unnamed .result ≤ c .before .before .before .before .before .before .before .before .before .before .args .b)
+bound : (c : tie.After-next Inv-loop μ-loop) → (1 ≤ c .next .result) × (c .next .result ≤ c .before .before .before .before .before .before .before .before .before .before .args .b)
 bound c = let r = free-block _ _ _ _ (takes c) in (r .low, r .high)
 
 cast-blocks-used : tie.Need-cast-blocks-used Inv-loop μ-loop
@@ -51,14 +52,18 @@ named-blocks-requires c κs = let p = c .before .before .before .before .pre .0 
 loop-holds : tie.Need-loop-holds Inv-loop μ-loop
 loop-holds c = turn-begin _ _ _ _ _ _ _ (c .before .before .before .before .before .before .pre .0 .4) (c .before .before .before .blocks-used .ensures) (let p = c .before .before .before .before .before .before .pre in spare-of _ _ _ _ _ (p .0 .0) (p .0 .1) (p .0 .2) (p .0 .3) (p .1 .2) (p .1 .1))
 
-add-next-unnamed : tie.Need-add-next-unnamed Inv-loop μ-loop
-add-next-unnamed c = let l = c .before .before .loop .inv .last in search needs
+slice-aggregate-next : tie.Need-slice-aggregate-next Inv-loop μ-loop
+slice-aggregate-next c = sym (c .before .before .before .before .named-blocks .ensures .long)
 
-next-unnamed-requires : tie.Need-next-unnamed-requires Inv-loop μ-loop
-next-unnamed-requires c κs =
+add-next : tie.Need-add-next Inv-loop μ-loop
+add-next c = let l = c .before .before .loop .inv .last in search needs
+
+next-requires : tie.Need-next-requires Inv-loop μ-loop
+next-requires c κs =
     let g = sizes (c .before .before .before .before .before .before .before .before .before) .blocks in
     let h = c .before .before .loop .inv in
-    (g, λ e. turn-some _ _ _ _ _ _ _ _ _ _ _ h (omega arith) (sym (turn-search _ _ _ _ _ _ _ _ _ _ _ h _ (c .before .before .before .before .named-blocks .ensures) g) ∙ e))
+    let m = c .before .before .before .before .named-blocks .ensures in
+    (omega (arith, g, m .long), λ e. turn-some _ _ _ _ _ _ _ _ _ _ _ h (omega arith) (sym (turn-search _ _ _ _ _ _ _ _ _ _ _ h _ m g) ∙ e))
 
 zero-block-requires : tie.Need-zero-block-requires Inv-loop μ-loop
 zero-block-requires c κs = let r = bound (c .before) in (sized-same _ _ _ _ (c .before .before .before .before .loop .inv .same) (sizes (c .before .before .before .before .before .before .before .before .before .before .before)), r .0, r .1)
@@ -117,8 +122,9 @@ grow-spec =
     blocks-used-requires
     named-blocks-requires
     loop-holds
-    add-next-unnamed
-    next-unnamed-requires
+    slice-aggregate-next
+    add-next
+    next-requires
     zero-block-requires
     cast-a
     add-a

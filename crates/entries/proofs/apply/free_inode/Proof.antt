@@ -3,7 +3,7 @@ use mathlib.Core.List.{List}
 use mathlib.Core.Path.{ap, ap₂, _∙_}
 use native.Mathlib.Omega.{arith}
 use denote.Ref.{now}
-use Rattle.layout.specs.Block.{blocksUsed}
+use Rattle.blocks.specs.Block.{blocksUsed}
 use Rattle.layout.specs.Inode.{putInode, zeroInode}
 use Rattle.layout.specs.Header.{moreFree}
 use Rattle.entries.proofs.EnterLaws.{freed-counts, used-bound}

@@ -1,6 +1,6 @@
 use mathlib.Core.Path.{ap}
 use native.Mathlib.Omega.{arith}
-use Rattle.bounded.proofs.BoolLaws.{chain-on, chain-off}
+use Rattle.bounded.proofs.BoolLaws.{chain-on, chain-off, and-left}
 use Rattle.layout.specs.declared.header.Header.{Header}
 use Rattle.sound.specs.declared.Form.the-variants.{Store}
 use Rattle.checker.proofs.CheckLaws.{framed-on, sound-on}
@@ -10,7 +10,7 @@ use Rattle.guards.proofs.three.after_lengths.Statement.{statement}
 use Rattle.guards.proofs.three.after_lengths.Tie as tie
 
 read-requires : tie.Need-read-requires
-read-requires c κs = let f = framed-on Store _ (c .before .before .before .pre .0) in let l = f .long in omega arith
+read-requires c κs = let f = framed-on Store _ (and-left _ _ (c .before .before .before .pre)) in let l = f .long in omega arith
 
 cast-n : tie.Need-cast-n
 cast-n c = search needs
@@ -19,22 +19,22 @@ cast-b : tie.Need-cast-b
 cast-b c = search needs
 
 body-right-requires : tie.Need-body-right-requires
-body-right-requires c κs = (framed-on Store _ (c .before .before .before .before .before .before .pre .0), ap (λ (h : Header). h .inodes) (c .before .before .read .ensures), ap (λ (h : Header). h .blocks) (c .before .before .read .ensures))
+body-right-requires c κs = (framed-on Store _ (and-left _ _ (c .before .before .before .before .before .before .pre)), ap (λ (h : Header). h .inodes) (c .before .before .read .ensures), ap (λ (h : Header). h .blocks) (c .before .before .read .ensures))
 
 returns : tie.Need-returns
-returns c = after-unsound _ _ _ (chain-off _ _ (sound-on _ _ _ (c .before .before .before .before .before .before .before .before .pre .0) (c .before .body-right .ensures)) (c .if1 .taken))
+returns c = after-unsound _ _ _ (chain-off _ _ (sound-on _ _ _ (and-left _ _ (c .before .before .before .before .before .before .before .before .pre)) (c .before .body-right .ensures)) (c .if1 .taken))
 
 notes-fit-requires : tie.Need-notes-fit-requires
 notes-fit-requires c κs = search needs
 
 returns-2 : tie.Need-returns-2
 returns-2 c =
-    after-misfit _ _ _ (chain-on _ _ (sound-on _ _ _ (c .before .before .before .before .before .before .before .before .before .before .pre .0) (c .before .before .before .body-right .ensures)) (c .before .before .if1 .left)) (ap (λ (h : Header). h .inodes) (c .before .before .before .before .before .before .read .ensures))
+    after-misfit _ _ _ (chain-on _ _ (sound-on _ _ _ (and-left _ _ (c .before .before .before .before .before .before .before .before .before .before .pre)) (c .before .before .before .body-right .ensures)) (c .before .before .if1 .left)) (ap (λ (h : Header). h .inodes) (c .before .before .before .before .before .before .read .ensures))
     (chain-off _ _ (c .before .notes-fit .ensures) (c .if2 .taken))
 
 returns-3 : tie.Need-returns-3
 returns-3 c =
-    after-pass _ _ _ (chain-on _ _ (sound-on _ _ _ (c .before .before .before .before .before .before .before .before .before .before .pre .0) (c .before .before .before .body-right .ensures)) (c .before .before .if1 .left)) (ap (λ (h : Header). h .inodes) (c .before .before .before .before .before .before .read .ensures)) _ (ap (λ (h : Header). h .blocks) (c .before .before .before .before .before .before .read .ensures))
+    after-pass _ _ _ (chain-on _ _ (sound-on _ _ _ (and-left _ _ (c .before .before .before .before .before .before .before .before .before .before .pre)) (c .before .before .before .body-right .ensures)) (c .before .before .if1 .left)) (ap (λ (h : Header). h .inodes) (c .before .before .before .before .before .before .read .ensures)) _ (ap (λ (h : Header). h .blocks) (c .before .before .before .before .before .before .read .ensures))
     (chain-on _ _ (c .before .notes-fit .ensures) (c .if2 .left))
 
 pub after-lengths-spec : {M : Type 1} → statement M

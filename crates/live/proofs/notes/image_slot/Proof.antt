@@ -1,6 +1,6 @@
 use Prim.Native.Nat.{_/_}
 use native.Mathlib.Omega.{arith}
-use Rattle.layout.specs.Block.{kthBlock}
+use Rattle.blocks.specs.Block.{kthBlock}
 use Rattle.layout.specs.Inode.{addressIndex}
 use Rattle.directory.specs.Slot.{slotAt}
 use borrow.Author.Needs.{needs}

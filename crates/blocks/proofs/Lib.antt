@@ -1,0 +1,4 @@
+pub mod AllowedLaws
+pub mod View
+pub mod FrameLaws
+pub mod ViewLaws

@@ -1,0 +1,13 @@
+-- What the code asks for before it reads or writes in a block.
+use Prim.Native.Nat.{ℕ, _≤_}
+use mathlib.Core.Path.{_≡_}
+use mathlib.Core.List.{List}
+use lib.ListN.{length}
+use Rattle.layout.specs.Sizes.{mostInodes, mostImageBlocks}
+use Rattle.blocks.specs.Block.{storeLength}
+
+-- s is as long as n inodes and b blocks are
+pub record Sized (s : List ℕ) (n b : ℕ) : Type 0 where
+  pub inodes : n ≤ mostInodes
+  pub blocks : b ≤ mostImageBlocks
+  pub long : length s ≡ storeLength n b

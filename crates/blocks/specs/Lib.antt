@@ -1,0 +1,4 @@
+pub mod Block
+pub mod Free
+pub mod Fits
+pub mod Map

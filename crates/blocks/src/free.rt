@@ -1,0 +1,82 @@
+// The lowest free inode, how many there are, and the lowest block that no address names.
+ghost use mathlib.Core.Path.{_≡_};
+ghost use Prim.Native.Nat.{ℕ, _+_, _*_, _<_, _≤_};
+ghost use lib.ListN.{length};
+ghost use Rattle.bounded.specs.Count.{countTo};
+ghost use Rattle.layout.specs.Sizes.{headerBytes, inodeBytes, addressCount, mostInodes, mostImageBlocks};
+ghost use Rattle.layout.specs.Inode.{addressOf, addressIndex};
+ghost use Rattle.layout.specs.Fits.{InodeFits};
+ghost use Rattle.blocks.specs.Free.{inodeFree, freeInode, freeBlock};
+ghost use Rattle.blocks.specs.Map.{Maps};
+use crate::map;
+use bounded::Found;
+use layout::inode::address;
+use layout::inode::addresses_zero;
+use layout::inode::kind;
+use layout::sizes::ADDRESS_COUNT;
+use layout::sizes::BLOCK_PLACES;
+use layout::sizes::FREE;
+
+pub fn free_inode(s: &[u8], n: usize) -> Found
+    requires { ⌜ (n ≤ mostInodes) × (headerBytes + inodeBytes * n ≤ length (now s)) ⌝ }
+    ensures { λ r. ⌜ r ≡ freeInode (now (s .entry)) n ⌝ }
+{
+    for i in 1..n + 1 {
+        if kind(s, n, i) == FREE {
+            return Found::At(i);
+        }
+    }
+    Found::Absent
+}
+
+// How many inodes are free. A count of 16 bits, since a vector has more of them.
+pub fn free_inodes(s: &[u8], n: usize) -> usize
+    requires { ⌜ (n ≤ mostInodes) × (headerBytes + inodeBytes * n ≤ length (now s)) ⌝ }
+    ensures { λ r. ⌜ r ≡ countTo (inodeFree (now (s .entry))) n ⌝ }
+{
+    let mut free = 0u16;
+    for k in 0..n {
+        if kind(s, n, k + 1) == FREE {
+            free += 1;
+        }
+    }
+    free as usize
+}
+
+// The addresses of inode i are noted in the map. Most inodes have none.
+fn note_blocks(s: &[u8], n: usize, i: usize, map: &mut [u8])
+    requires { ⌜ InodeFits (now s) n i × Maps (now s) n (addressIndex i 0) (now map) ⌝ }
+    requires { ⌜ ((x : ℕ) → x < addressCount * n → addressOf (now s) n x ≤ mostImageBlocks) ⌝ }
+    ensures { λ _. ⌜ Maps (now (s .entry)) n (addressCount * i) (now (map .exit)) ⌝ }
+{
+    if addresses_zero(s, n, i) {
+        map::note(&mut *map, 0);
+        return;
+    }
+    let x = ADDRESS_COUNT * (i - 1);
+    for k in 0..ADDRESS_COUNT {
+        map::note(&mut *map, address(s, n, x + k) as usize);
+    }
+}
+
+// A byte for each block, 1 where an address names the block: one pass over the addresses. Place 0 stands for no block.
+pub fn named_blocks(s: &[u8], n: usize) -> [u8; BLOCK_PLACES]
+    requires { ⌜ (n ≤ mostInodes) × (headerBytes + inodeBytes * n ≤ length (now s)) ⌝ }
+    requires { ⌜ ((x : ℕ) → x < addressCount * n → addressOf (now s) n x ≤ mostImageBlocks) ⌝ }
+    ensures { λ r. ⌜ Maps (now (s .entry)) n (addressCount * n) r ⌝ }
+{
+    let mut map = [0u8; BLOCK_PLACES];
+    for k in 0..n {
+        note_blocks(s, n, k + 1, &mut map);
+    }
+    map
+}
+
+pub fn free_block(s: &[u8], n: usize, count: usize) -> Found
+    requires { ⌜ (n ≤ mostInodes) × (headerBytes + inodeBytes * n ≤ length (now s)) × (count ≤ mostImageBlocks) ⌝ }
+    requires { ⌜ ((x : ℕ) → x < addressCount * n → addressOf (now s) n x ≤ mostImageBlocks) ⌝ }
+    ensures { λ r. ⌜ r ≡ freeBlock (now (s .entry)) n count ⌝ }
+{
+    let map = named_blocks(s, n);
+    map::lowest(&map, count)
+}

@@ -1,0 +1,72 @@
+// Blocks: where they stand, how many a size uses, and which an inode uses.
+pub mod free;
+pub mod map;
+ghost use mathlib.Core.Path.{_≡_};
+ghost use Prim.Native.Nat.{_<_, _≤_};
+ghost use Rattle.layout.specs.Sizes.{addressCount, mostInodes, mostImageBlocks};
+ghost use Rattle.blocks.specs.Block.{storeLength, allowed, blockAt, zeroBlock, blocksUsed, kthBlock};
+ghost use Rattle.layout.specs.Fits.{InodeFits};
+ghost use Rattle.blocks.specs.Fits.{Sized};
+use layout::inode::address;
+use layout::sizes::ADDRESS_COUNT;
+use layout::sizes::BLOCK_BYTES;
+use layout::sizes::HEADER_BYTES;
+use layout::sizes::INODE_BYTES;
+use layout::sizes::MOST_INODES;
+
+pub fn store_length(n: usize, b: usize) -> usize
+    requires { ⌜ (n ≤ mostInodes) × (b ≤ mostImageBlocks) ⌝ }
+    ensures { λ r. ⌜ r ≡ storeLength n b ⌝ }
+{
+    HEADER_BYTES + INODE_BYTES * n + BLOCK_BYTES * b
+}
+
+// Counts and length of a store or an image are allowed, with at most `limit` blocks.
+pub fn allowed(limit: usize, n: usize, b: usize, length: usize) -> bool
+    requires { ⌜ limit ≤ mostImageBlocks ⌝ }
+    ensures { λ r. ⌜ r ≡ allowed limit n b length ⌝ }
+{
+    if n < 1 {
+        return false;
+    }
+    if MOST_INODES < n {
+        return false;
+    }
+    if b < 1 {
+        return false;
+    }
+    if limit < b {
+        return false;
+    }
+    length == store_length(n, b)
+}
+
+pub fn block_at(n: usize, b: usize) -> usize
+    requires { ⌜ (n ≤ mostInodes) × (1 ≤ b) × (b < 65536) ⌝ }
+    ensures { λ r. ⌜ r ≡ blockAt n b ⌝ }
+{
+    HEADER_BYTES + INODE_BYTES * n + BLOCK_BYTES * (b - 1)
+}
+
+pub fn zero_block(s: &mut [u8], n: usize, count: usize, b: usize)
+    requires { ⌜ Sized (now s) n count × (1 ≤ b) × (b ≤ count) ⌝ }
+    ensures { λ _. ⌜ now (s .exit) ≡ zeroBlock (now (s .entry)) n b ⌝ }
+{
+    octets::zero_range(&mut *s, block_at(n, b), BLOCK_BYTES);
+}
+
+// How many blocks a size uses.
+pub fn blocks_used(size: usize) -> usize
+    requires { ⌜ size < 65536 ⌝ }
+    ensures { λ r. ⌜ r ≡ blocksUsed size ⌝ }
+{
+    (size + (BLOCK_BYTES - 1)) / BLOCK_BYTES
+}
+
+// The k-th block of an inode.
+pub fn kth_block(s: &[u8], n: usize, i: usize, k: usize) -> u16
+    requires { ⌜ InodeFits (now s) n i × (k < addressCount) ⌝ }
+    ensures { λ r. ⌜ r ≡ kthBlock (now (s .entry)) n i k ⌝ }
+{
+    address(s, n, ADDRESS_COUNT * (i - 1) + k)
+}
