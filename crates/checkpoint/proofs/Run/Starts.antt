@@ -69,7 +69,7 @@ opens v a =
 
     tests : (f g i k n r : Bool) → Outcome
     tests f g i k n r =
-        pick (not (f && (g && i))) (refuse BadBuffer s m d)
+        pick (not ((f && g) && i)) (refuse BadBuffer s m d)
         (pick (not k) (refuse UnsoundStore s m d)
         (pick (not n) (refuse BadDesk s m d)
         (pick r (refuse WrongState s m d) o)))

@@ -1,7 +1,8 @@
 use mathlib.Core.Path.{ap}
 use native.Mathlib.Omega.{arith}
-use Rattle.bounded.proofs.BoolLaws.{chain-on, chain-off, and-left}
+use Rattle.bounded.proofs.BoolLaws.{chain-on, chain-off, and-left, and-right}
 use Rattle.layout.specs.declared.header.Header.{Header}
+use Rattle.sound.specs.Test.{framedB}
 use Rattle.sound.specs.declared.Form.the-variants.{Store}
 use Rattle.checker.proofs.CheckLaws.{framed-on, sound-on}
 use Rattle.guards.proofs.GuardLaws.{after-unsound, after-misfit, after-pass}
@@ -25,7 +26,7 @@ returns : tie.Need-returns
 returns c = after-unsound _ _ _ (chain-off _ _ (sound-on _ _ _ (and-left _ _ (c .before .before .before .before .before .before .before .before .pre)) (c .before .body-right .ensures)) (c .if1 .taken))
 
 notes-fit-requires : tie.Need-notes-fit-requires
-notes-fit-requires c κs = search needs
+notes-fit-requires c κs = let b = c .before .before .before .before .before .before .before .before in and-right (framedB Store (b .args .store .now)) _ (b .pre)
 
 returns-2 : tie.Need-returns-2
 returns-2 c =
