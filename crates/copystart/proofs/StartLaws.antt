@@ -22,7 +22,7 @@ use Rattle.answers.specs.declared.Refusal.the-variants.{WrongState}
 use Rattle.answers.specs.declared.Answer.the-variants.{Done}
 use Rattle.files.specs.declared.Guard.{Guard}
 use Rattle.files.specs.declared.Guard.the-variants.{Pass, Stop}
-use Rattle.checkpoint.specs.Fit.{deskFramed, imageBlocks, imageAllowed, isRunning}
+use Rattle.checkpoint.specs.Fit.{bothFramed, imageBlocks, imageAllowed, isRunning}
 use Rattle.checkpoint.specs.Copier.{startImage, startDesk}
 use Rattle.checkpoint.specs.Live.{Outcome, left, refuse, started, start, startGuards}
 use Rattle.checkpoint.specs.Shown.{shown}
@@ -68,10 +68,10 @@ start-room s m d n b q =
     let x = passed-start s m d n b q in
     let a = x .sound .framed .most-inodes in
     let c = x .inodes in
-    let y = and-right (framedB Store s) _ (x .allowed) in
-    let l = framed d (and-left (deskFramed d) _ y) .long in
+    let y = and-left (bothFramed s d) _ (x .allowed) in
+    let l = framed d (and-right (framedB Store s) _ y) .long in
     let e = notes-fit-is s m d .to (x .notes) .1 .0 in
-    record { few = omega arith; count = c; image = rw c (and-right (deskFramed d) _ y); desk = omega arith }
+    record { few = omega arith; count = c; image = rw c (and-right (bothFramed s d) _ (x .allowed)); desk = omega arith }
 
 -- ---- the call: w is what the guards have answered
 module _ (s m d : List ℕ) (w : Guard) (e : w ≡ startGuards s m d) where
