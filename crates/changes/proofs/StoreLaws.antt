@@ -52,6 +52,10 @@ module _ (s : List ℕ) (n k i : ℕ) where
 pub sound-store : {s : List ℕ} {n : ℕ} → Sound Store s → n ≡ inodesIn s → SoundStore s n (blocksIn s)
 sound-store h e = record { sound = h; inodes = e; blocks = refl }
 
+-- for what takes no count of blocks
+pub uncounted : {s : List ℕ} {n b : ℕ} → SoundStore s n b → SoundStore s n (blocksIn s)
+uncounted h = sound-store (h .sound) (h .inodes)
+
 -- another with its frame has its counts
 pub same-counts : {s t : List ℕ} {n b : ℕ} → SoundStore s n b → SameFrame s t → Sound Store t → SoundStore t n b
 same-counts h f k = record { sound = k; inodes = h .inodes ∙ sym (f .inodes); blocks = h .blocks ∙ sym (f .blocks) }

@@ -1,6 +1,5 @@
 -- The laws of every call's effect. n and b are the counts of inodes and blocks.
 use Prim.Native.Nat.{ℕ}
-use mathlib.Core.Path.{_≡_}
 use mathlib.Core.List.{List}
 use Rattle.sound.specs.Counted.{SoundStore}
 use Rattle.files.specs.Effect.{Call, lookUp, read, create, write, shorten, link, unlink, rename, planned}

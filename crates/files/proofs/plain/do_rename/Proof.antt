@@ -6,7 +6,7 @@ use denote.Ref.{now}
 use Rattle.names.proofs.NameLaws.{legal-bounds}
 use Rattle.directory.proofs.SlotLaws.{find-below}
 use Rattle.answers.specs.declared.Answer.the-variants.{Done}
-use Rattle.changes.proofs.StoreLaws.{sound-store}
+use Rattle.changes.proofs.StoreLaws.{uncounted}
 use Rattle.changes.proofs.SlotPlaceLaws.{found-here}
 use Rattle.entries.proofs.PlanFacts.{renames, moves}
 use Rattle.files.specs.Effect.{doRename}
@@ -31,7 +31,7 @@ rename-requires c κs =
     let f = g .entry in
     let e = f .inode in
     let m = found-here p _ _ _ (f .directory) (f .legal) (f .found) .high in
-    (sound-store (p .sound) (p .inodes), f .directory, find-below _ _ _ _ _ (f .found), omega arith, legal-bounds _ (g .new .legal) .1)
+    (uncounted p, f .directory, find-below _ _ _ _ _ (f .found), omega arith, legal-bounds _ (g .new .legal) .1)
 
 enum-known-t-2 : tie.Need-enum-known-t-2
 enum-known-t-2 c = search needs
