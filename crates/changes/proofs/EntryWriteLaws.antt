@@ -19,9 +19,8 @@ use Rattle.directory.specs.Slot.{mostSlots, slots, slotAt, entryOf, putEntry, c
 use Rattle.directory.proofs.SlotLaws.{few-slots, slot-fits, apart-blocks, apart-slots, entry-put, entry-put-other, entry-clear, entry-clear-other}
 use Rattle.directory.specs.Fits.{DirFits}
 use Rattle.sound.specs.Place.{dirOf, slotOf, isSlot, entryAt, filled, placeOf}
-use Rattle.sound.specs.Sound.{Sound, inodesIn}
+use Rattle.sound.specs.Counted.{SoundStore}
 use Rattle.sound.proofs.PlaceLaws.{slot-is, filled-is, naming-entry, entry-place, slot-place}
-use Rattle.sound.specs.declared.Form.the-variants.{Store}
 use Rattle.changes.proofs.SameLaws.{SameFrame, SameInode, SameBlock, InBlock, frame-stays, frame-then, inode-then, inode-stays, put-entry, clear-entry}
 use Rattle.changes.proofs.KeepLaws.{place-slot, slot-kept, same-slots}
 use Rattle.changes.proofs.StoreLaws.{one-at, dir-of, kind-some, kind-most, kind-is}
@@ -55,18 +54,18 @@ pub record SlotIn (s : List ℕ) (n d t : ℕ) : Type 0 where
   pub inside : t < slots s d
   pub small : t < mostSlots
 
-pub slot-in : (s : List ℕ) (n d t : ℕ) → Sound Store s → n ≡ inodesIn s → isDirectory s n d ≡ true → t < slots s d → SlotIn s n d t
-slot-in s n d t h x e l =
+pub slot-in : {s : List ℕ} {n b : ℕ} → SoundStore s n b → (d t : ℕ) → isDirectory s n d ≡ true → t < slots s d → SlotIn s n d t
+slot-in {s} {n} h d t e l =
     let a = kind-some s n directoryKind d e in
-    let b = kind-most s n directoryKind d e in
-    let f = few-slots s n d (dir-of s n h x d a b) in
-    record { low = a; high = b; dir = kind-is s n directoryKind d e; inside = l; small = omega arith }
+    let c = kind-most s n directoryKind d e in
+    let f = few-slots s n d (dir-of h d a c) in
+    record { low = a; high = c; dir = kind-is s n directoryKind d e; inside = l; small = omega arith }
 
 pub place-below : {s : List ℕ} {n d t : ℕ} → SlotIn s n d t → placeOf d t < mostSlots * n
 place-below k = let a = k .low in let b = k .high in let l = k .small in omega arith
 
 -- a slot of the sound store s, in a store m that has its inodes
-module _ (s m : List ℕ) (n d t : ℕ) (h : Sound Store s) (x : n ≡ inodesIn s) (a : EntriesAlone s m n) (slot : SlotIn s n d t) where
+module _ {s m : List ℕ} {n b d t : ℕ} (h : SoundStore s n b) (a : EntriesAlone s m n) (slot : SlotIn s n d t) where
   low : 1 ≤ d
   low = slot .low
 
@@ -80,17 +79,17 @@ module _ (s m : List ℕ) (n d t : ℕ) (h : Sound Store s) (x : n ≡ inodesIn 
   used = slot-block s d t (slot .inside)
 
   few : blocksUsed (sizeOf s d) ≤ 12
-  few = dir-of s n h x d low high .few
+  few = dir-of h d low high .few
 
   same-block : here ≡ kthBlock s n d (t / 4)
   same-block = let f = few in let u = used in a .inodes d low high .blocks (t / 4) (omega arith)
 
   block-low : 1 ≤ here
-  block-low = let e = same-block in let f = dir-of s n h x d low high .blocks (t / 4) used .low in omega arith
+  block-low = let e = same-block in let f = dir-of h d low high .blocks (t / 4) used .low in omega arith
 
   pub dir-there : DirFits m n d
   dir-there =
-      let f = dir-of s n h x d low high in
+      let f = dir-of h d low high in
       let e = a .inodes d low high in
       let z = e .size in
       let g = a .frame .long in
@@ -128,11 +127,11 @@ module _ (s m : List ℕ) (n d t : ℕ) (h : Sound Store s) (x : n ≡ inodesIn 
 
       go : Dec (kthBlock m n (dirOf q) (slotOf q / 4) ≡ here) → Apart (slotAt m n (dirOf q) (slotOf q)) 16 (slotAt m n d t) 16
       go (yes e) =
-          let r = one-at s n h x (dirOf q) (slotOf q / 4) d (t / 4) (omega arith) (omega arith) low high taken used (sym block ∙ e ∙ same-block) in
+          let r = one-at h (dirOf q) (slotOf q / 4) d (t / 4) (omega arith) (omega arith) low high taken used (sym block ∙ e ∙ same-block) in
           let f : dirOf q ≡ d = r .0 in
           apart-slots m n (dirOf q) (slotOf q) d t f (r .1) (λ g. z (omega arith))
       go (no e) =
-          let r = dir-of s n h x (dirOf q) (omega arith) (omega arith) .blocks (slotOf q / 4) taken .low in
+          let r = dir-of h (dirOf q) (omega arith) (omega arith) .blocks (slotOf q / 4) taken .low in
           apart-blocks m n (dirOf q) (slotOf q) d t e (let b = block in omega arith) block-low
 
   -- a write in the block of the slot
@@ -143,9 +142,9 @@ module _ (s m : List ℕ) (n d t : ℕ) (h : Sound Store s) (x : n ≡ inodesIn 
       header = i .header ∙ a .header;
       inodes = λ j l o. inode-then (a .inodes j l o) (i .inodes j l o);
       files = λ j k l o e u.
-          let g = dir-of s n h x j l o .blocks k u .low in
+          let g = dir-of h j l o .blocks k u .low in
           i .others (kthBlock s n j k) g
-          (λ z. let r = one-at s n h x j k d (t / 4) l o low high u used (z ∙ same-block) .0 in let y = sym (ap (kindOf s) r) ∙ e in omega arith)
+          (λ z. let r = one-at h j k d (t / 4) l o low high u used (z ∙ same-block) .0 in let y = sym (ap (kindOf s) r) ∙ e in omega arith)
           ∙ a .files j k l o e u;
     }
 

@@ -28,6 +28,7 @@ use Rattle.sound.specs.Inode.{InodeSound, tailByte}
 use Rattle.sound.specs.Entry.{EntrySound, sameNames, sibling}
 use Rattle.sound.specs.Link.{LinkSound}
 use Rattle.sound.specs.Sound.{Framed, Sound, inodesIn, blocksIn}
+use Rattle.sound.specs.Counted.{SoundStore}
 use Rattle.sound.specs.Place.{dirOf, slotOf, isSlot, entryAt, filled, naming, IsDir}
 use Rattle.sound.proofs.PlaceLaws.{slot-is, filled-is}
 use Rattle.sound.proofs.SoundLaws.{climbs}
@@ -226,8 +227,9 @@ pub record Body (t : List ℕ) (n b : ℕ) : Type 0 where
   pub free-inodes : headerOf t .«free_inodes» ≡ countTo (inodeFree t) n
   pub free-blocks : headerOf t .«free_blocks» ≡ countTo (blockFree t n) b
 
-pub body-of : (s : List ℕ) (n b : ℕ) → Sound Store s → n ≡ inodesIn s → b ≡ blocksIn s → Body s n b
-body-of s n b h x y =
+pub body-of : {s : List ℕ} {n b : ℕ} → SoundStore s n b → Body s n b
+body-of {s} {n} {b} c =
+    let h = c .sound in
     let r : Body s (inodesIn s) (blocksIn s) = record {
       inodes = h .inodes;
       once = h .once;
@@ -238,12 +240,12 @@ body-of s n b h x y =
       free-inodes = h .free-inodes;
       free-blocks = h .free-blocks;
     } in
-    subst (λ (z : ℕ). Body s z b) (sym x) (subst (Body s (inodesIn s)) (sym y) r)
+    subst (λ (z : ℕ). Body s z b) (sym (c .inodes)) (subst (Body s (inodesIn s)) (sym (c .blocks)) r)
 
-module _ (s t : List ℕ) (h : Sound Store s) (f : SameFrame s t) where
+module _ {s t : List ℕ} {n b : ℕ} (h : SoundStore s n b) (f : SameFrame s t) where
   framed-kept : Framed Store t
   framed-kept =
-      let g = h .framed in
+      let g = h .sound .framed in
       let a = f .inodes in
       let b = f .blocks in
       let c = f .long in
@@ -258,9 +260,9 @@ module _ (s t : List ℕ) (h : Sound Store s) (f : SameFrame s t) where
   body-sound : Body t (inodesIn t) (blocksIn t) → Sound Store t
   body-sound r = record {
     framed = framed-kept;
-    complete = f .complete ∙ h .complete;
-    root-number = f .root ∙ h .root-number;
-    reserved = f .reserved ∙ h .reserved;
+    complete = f .complete ∙ h .sound .complete;
+    root-number = f .root ∙ h .sound .root-number;
+    reserved = f .reserved ∙ h .sound .reserved;
     inodes = r .inodes;
     once = r .once;
     root = r .root;
@@ -273,24 +275,23 @@ module _ (s t : List ℕ) (h : Sound Store s) (f : SameFrame s t) where
   }
 
   -- for n and b as the sound store tells them
-  pub sound-of : (n b : ℕ) → n ≡ inodesIn s → b ≡ blocksIn s → Body t n b → Sound Store t
-  sound-of n b x y r =
-      body-sound (subst (λ (z : ℕ). Body t z (blocksIn t)) (x ∙ sym (f .inodes)) (subst (Body t n) (y ∙ sym (f .blocks)) r))
+  pub sound-of : Body t n b → Sound Store t
+  sound-of r = body-sound (subst (λ (z : ℕ). Body t z (blocksIn t)) (h .inodes ∙ sym (f .inodes)) (subst (Body t n) (h .blocks ∙ sym (f .blocks)) r))
 
   -- the tree stays, and so do the free inodes
-  module _ (n b : ℕ) (x : n ≡ inodesIn s) (y : b ≡ blocksIn s) (e : SameTree s t n) where
-    pub sound-kept : ((i : ℕ) → 1 ≤ i → i ≤ n → InodeSound t n b i) → Differ (addressOf t n) (addressCount * n)
-        → headerOf t .«free_inodes» ≡ headerOf s .«free_inodes» → headerOf t .«free_blocks» ≡ countTo (blockFree t n) b → Sound Store t
-    sound-kept inodes once free-inodes free-blocks =
-        let g = h .framed .some-inodes in
-        let r = body-of s n b h x y in
-        sound-of n b x y (record {
-          inodes = inodes;
-          once = once;
-          root = e .kinds rootInode (omega arith) (omega arith) ∙ r .root;
-          root-parent = e .parents rootInode (omega arith) (omega arith) ∙ r .root-parent;
-          entries = λ p l q. let q′ = sym (e .places p l .stands) ∙ q in entry-sound-kept s t n p e l (r .entries p l q′) q′;
-          links = λ i l m. link-sound-kept s t n e (climbs s n (r .entries) (λ j k o. let c = r .links j k o in record { counted = c .counted; named = c .named; one = c .one })) i l m (r .links i l m);
-          free-inodes = free-inodes ∙ r .free-inodes ∙ sym (same-free s t n (e .kinds));
-          free-blocks = free-blocks;
-        })
+  pub sound-kept : SameTree s t n → ((i : ℕ) → 1 ≤ i → i ≤ n → InodeSound t n b i) → Differ (addressOf t n) (addressCount * n)
+      → headerOf t .«free_inodes» ≡ headerOf s .«free_inodes» → headerOf t .«free_blocks» ≡ countTo (blockFree t n) b → Sound Store t
+  sound-kept e inodes once free-inodes free-blocks =
+      let x = h .inodes in
+      let g = h .sound .framed .some-inodes in
+      let r = body-of h in
+      sound-of (record {
+        inodes = inodes;
+        once = once;
+        root = e .kinds rootInode (omega arith) (omega arith) ∙ r .root;
+        root-parent = e .parents rootInode (omega arith) (omega arith) ∙ r .root-parent;
+        entries = λ p l q. let q′ = sym (e .places p l .stands) ∙ q in entry-sound-kept s t n p e l (r .entries p l q′) q′;
+        links = λ i l m. link-sound-kept s t n e (climbs s n (r .entries) (λ j k o. let c = r .links j k o in record { counted = c .counted; named = c .named; one = c .one })) i l m (r .links i l m);
+        free-inodes = free-inodes ∙ r .free-inodes ∙ sym (same-free s t n (e .kinds));
+        free-blocks = free-blocks;
+      })

@@ -13,12 +13,11 @@ use Rattle.names.proofs.EntryLaws.{empty-inode, empty-not-named}
 use Rattle.directory.specs.Slot.{mostSlots, slots, entryOf, slotHasName, findSlot, slotEmpty, inodeAt}
 use Rattle.directory.proofs.SlotLaws.{find-below, find-absent, find-named}
 use Rattle.sound.specs.Place.{dirOf, slotOf, isSlot, entryAt, filled, naming, placeOf}
-use Rattle.sound.specs.Sound.{Sound, inodesIn}
+use Rattle.sound.specs.Counted.{SoundStore}
 use Rattle.sound.proofs.PlaceLaws.{slot-is, filled-is, naming-entry, place-dir, entry-place, slot-place}
-use Rattle.sound.specs.declared.Form.the-variants.{Store}
+use Rattle.changes.proofs.KeepLaws.{body-of}
 use Rattle.changes.proofs.ChangeLaws.{NewName}
 use Rattle.changes.proofs.EntryWriteLaws.{SlotIn, slot-in, place-below}
-use Rattle.changes.proofs.SoundTreeLaws.{body-at}
 
 module _ (s : List ℕ) (n d : ℕ) (name : List ℕ) where
   -- a name that is found stands in a slot that is not empty
@@ -61,11 +60,11 @@ pub record EntryHere (s : List ℕ) (n d t i : ℕ) : Type 0 where
   pub used : kindOf s i ≡ freeKind → ⊥
   pub not-root : i ≡ rootInode → ⊥
 
-pub entry-here : (s : List ℕ) (n d t i : ℕ) → Sound Store s → n ≡ inodesIn s → isDirectory s n d ≡ true → t < slots s d → slotEmpty s n d t ≡ false → i ≡ inodeAt s n d t → EntryHere s n d t i
-entry-here s n d t i h x dir inside full is =
-    let k = slot-in s n d t h x dir inside in
+pub entry-here : {s : List ℕ} {n b : ℕ} → SoundStore s n b → (d t i : ℕ) → isDirectory s n d ≡ true → t < slots s d → slotEmpty s n d t ≡ false → i ≡ inodeAt s n d t → EntryHere s n d t i
+entry-here {s} {n} h d t i dir inside full is =
+    let k = slot-in h d t dir inside in
     let e : naming s n (placeOf d t) ≡ i = place-naming s n d t k ∙ sym is in
-    let r = body-at s n h x .entries (placeOf d t) (place-below k) (place-filled s n d t k full) in
+    let r = body-of h .entries (placeOf d t) (place-below k) (place-filled s n d t k full) in
     record {
       slot = k;
       names = e;
@@ -76,5 +75,5 @@ entry-here s n d t i h x dir inside full is =
     }
 
 -- the one that a search for a legal name found
-pub found-here : (s : List ℕ) (n : ℕ) → Sound Store s → n ≡ inodesIn s → (d t : ℕ) (name : List ℕ) → isDirectory s n d ≡ true → legalName name ≡ true → findSlot s n d name ≡ At t → EntryHere s n d t (inodeAt s n d t)
-found-here s n h x d t name k l f = entry-here s n d t (inodeAt s n d t) h x k (find-below s n d name t f) (found-full s n d name t l f) refl
+pub found-here : {s : List ℕ} {n b : ℕ} → SoundStore s n b → (d t : ℕ) (name : List ℕ) → isDirectory s n d ≡ true → legalName name ≡ true → findSlot s n d name ≡ At t → EntryHere s n d t (inodeAt s n d t)
+found-here {s} {n} h d t name k l f = entry-here h d t (inodeAt s n d t) k (find-below s n d name t f) (found-full s n d name t l f) refl

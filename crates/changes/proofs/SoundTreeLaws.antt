@@ -1,6 +1,6 @@
 -- A sound store as a tree with sound names, and back. n and b are the counts of inodes and blocks.
 use Prim.Native.Nat.{ℕ, _*_, _≤_, _<_}
-use mathlib.Core.Path.{_≡_, refl}
+use mathlib.Core.Path.{_≡_}
 use mathlib.Core.Bool.{true}
 use mathlib.Core.List.{List}
 use native.Mathlib.Omega.{arith}
@@ -9,10 +9,9 @@ use Rattle.directory.specs.Slot.{mostSlots}
 use Rattle.sound.specs.Place.{filled, naming}
 use Rattle.sound.specs.Entry.{EntrySound, sibling}
 use Rattle.sound.specs.Link.{LinkSound}
-use Rattle.sound.specs.Sound.{Sound, inodesIn, blocksIn}
+use Rattle.sound.specs.Counted.{SoundStore}
 use Rattle.sound.proofs.PlaceLaws.{slot-is, naming-slot, naming-filled}
-use Rattle.sound.specs.declared.Form.the-variants.{Store}
-use Rattle.changes.proofs.KeepLaws.{Body, body-of}
+use Rattle.changes.proofs.KeepLaws.{body-of}
 use Rattle.changes.proofs.SameLaws.{OtherInodes}
 use Rattle.changes.proofs.ChangeLaws.{NamesSound, names-of}
 use Rattle.changes.proofs.TreeLaws.{Nodes, ElseNodes, Tree, Above}
@@ -24,24 +23,21 @@ pub nodes-else : {s t : List ℕ} {n i : ℕ} → OtherInodes s t n i → ElseNo
 nodes-else o = record { kinds = λ j l m z. o j l m z .kind; links = λ j l m z. o j l m z .links; parents = λ j l m z. o j l m z .parent }
 
 -- ---- a sound store
-module _ (s : List ℕ) (n : ℕ) (h : Sound Store s) (x : n ≡ inodesIn s) where
-  pub body-at : Body s n (blocksIn s)
-  body-at = body-of s n (blocksIn s) h x refl
-
+module _ {s : List ℕ} {n b : ℕ} (h : SoundStore s n b) where
   pub names-at : NamesSound s n
-  names-at = names-of s n (body-at .entries)
+  names-at = names-of s n (body-of h .entries)
 
   pub above-at : Above n (nodesOf s n)
   above-at p l o = slot-is s p .to (naming-slot s n p o) .0
 
   pub tree-at : Tree n (nodesOf s n)
   tree-at =
-      let b = body-at in
+      let c = body-of h in
       record {
-        root = b .root;
-        root-parent = b .root-parent;
-        names = λ p l o. let r = b .entries p l (naming-filled s n p o) in record { high = r .high; used = r .used; not-root = r .not-root; parent = r .parent };
-        linked = λ i l m. let r = b .links i l m in record { counted = r .counted; named = r .named; one = r .one; leads = r .leads };
+        root = c .root;
+        root-parent = c .root-parent;
+        names = λ p l o. let r = c .entries p l (naming-filled s n p o) in record { high = r .high; used = r .used; not-root = r .not-root; parent = r .parent };
+        linked = λ i l m. let r = c .links i l m in record { counted = r .counted; named = r .named; one = r .one; leads = r .leads };
       }
 
 -- ---- and back

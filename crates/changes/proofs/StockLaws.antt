@@ -1,6 +1,6 @@
 -- The inodes, blocks and free counts of a store, and what the changes of entries and of one inode keep of them. n and b are the counts of inodes and blocks.
 use Prim.Native.Nat.{ℕ, _*_, _/_, _%_, _≤_, _<_}
-use mathlib.Core.Path.{_≡_, refl, sym, ap, _∙_}
+use mathlib.Core.Path.{_≡_, sym, ap, _∙_}
 use mathlib.Core.List.{List}
 use native.Mathlib.Omega.{arith}
 use Rattle.bounded.specs.Count.{Differ, countTo}
@@ -12,7 +12,8 @@ use Rattle.layout.specs.Inode.{kindOf, sizeOf, parentOf, addressOf, freeKind, f
 use Rattle.blocks.specs.Block.{blocksUsed, kthBlock}
 use Rattle.blocks.specs.Free.{inodeFree, blockFree}
 use Rattle.sound.specs.Inode.{InodeSound}
-use Rattle.sound.specs.Sound.{Sound, inodesIn, blocksIn}
+use Rattle.sound.specs.Sound.{Sound}
+use Rattle.sound.specs.Counted.{SoundStore}
 use Rattle.sound.specs.declared.Form.the-variants.{Store}
 use Rattle.changes.proofs.SameLaws.{SameFrame, SameBody, SameBlock}
 use Rattle.changes.proofs.KeepLaws.{Body, sound-of, inode-like, tail-kept, inode-kept}
@@ -46,9 +47,9 @@ entries-stock s t n b h a = record {
 }
 
 -- ---- a store with the frame of a sound one that has its stock, sound names and a tree is sound
-pub stock-sound : (s t : List ℕ) (n : ℕ) → Sound Store s → n ≡ inodesIn s → SameFrame s t → Stock t n (blocksIn s) → NamesSound t n → Tree n (nodesOf t n) → Sound Store t
-stock-sound s t n h x f k a r =
-    sound-of s t h f n (blocksIn s) x refl
+pub stock-sound : {s t : List ℕ} {n b : ℕ} → SoundStore s n b → SameFrame s t → Stock t n b → NamesSound t n → Tree n (nodesOf t n) → Sound Store t
+stock-sound {t = t} {n} h f k a r =
+    sound-of h f
     (record {
       inodes = k .inodes;
       once = k .once;

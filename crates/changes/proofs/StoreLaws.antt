@@ -14,8 +14,10 @@ use Rattle.blocks.specs.Block.{blocksUsed, kthBlock}
 use Rattle.layout.specs.Fits.{InodeFits}
 use Rattle.blocks.specs.Fits.{Sized}
 use Rattle.sound.specs.Sound.{Sound, inodesIn, blocksIn}
+use Rattle.sound.specs.Counted.{SoundStore}
 use Rattle.sound.proofs.FactLaws.{sized, one-block, inode-fits, dir-fits, address-bound}
 use Rattle.sound.specs.declared.Form.the-variants.{Store}
+use Rattle.changes.proofs.SameLaws.{SameFrame}
 
 -- ---- the kind of a number
 module _ (s : List ℕ) (n k i : ℕ) where
@@ -48,33 +50,47 @@ module _ (s : List ℕ) (n k i : ℕ) where
     kind-is = eqb-true (kindOf s i) k (and-right (leb i n) (eqb (kindOf s i) k) (and-right (leb 1 i) (leb i n && eqb (kindOf s i) k) t))
 
 -- ---- a sound store
-pub sized-at : (s : List ℕ) (n b : ℕ) → Sound Store s → n ≡ inodesIn s → b ≡ blocksIn s → Sized s n b
-sized-at s n b h x y = subst (λ (j : ℕ). Sized s j b) (sym x) (subst (Sized s (inodesIn s)) (sym y) (sized h))
+pub sound-store : {s : List ℕ} {n : ℕ} → Sound Store s → n ≡ inodesIn s → SoundStore s n (blocksIn s)
+sound-store h e = record { sound = h; inodes = e; blocks = refl }
 
-module _ (s : List ℕ) (n : ℕ) (h : Sound Store s) (e : n ≡ inodesIn s) where
+-- for what takes no count of blocks
+pub uncounted : {s : List ℕ} {n b : ℕ} → SoundStore s n b → SoundStore s n (blocksIn s)
+uncounted h = sound-store (h .sound) (h .inodes)
+
+-- another with its frame has its counts
+pub same-counts : {s t : List ℕ} {n b : ℕ} → SoundStore s n b → SameFrame s t → Sound Store t → SoundStore t n b
+same-counts h f k = record { sound = k; inodes = h .inodes ∙ sym (f .inodes); blocks = h .blocks ∙ sym (f .blocks) }
+
+module _ {s : List ℕ} {n b : ℕ} (h : SoundStore s n b) where
+  pub sized-at : Sized s n b
+  sized-at = subst (λ (j : ℕ). Sized s j b) (sym (h .inodes)) (subst (Sized s (inodesIn s)) (sym (h .blocks)) (sized (h .sound)))
+
   pub fits : (i : ℕ) → 1 ≤ i → i ≤ n → InodeFits s n i
-  fits i l m = subst (λ (x : ℕ). InodeFits s x i) (sym e) (inode-fits h i l (omega arith))
+  fits i l m = let e = h .inodes in subst (λ (x : ℕ). InodeFits s x i) (sym e) (inode-fits (h .sound) i l (omega arith))
 
   pub dir-of : (i : ℕ) → 1 ≤ i → i ≤ n → DirFits s n i
-  dir-of i l m = subst (λ (x : ℕ). DirFits s x i) (sym e) (dir-fits h i l (omega arith))
+  dir-of i l m = let e = h .inodes in subst (λ (x : ℕ). DirFits s x i) (sym e) (dir-fits (h .sound) i l (omega arith))
 
   pub addresses-most : (x : ℕ) → x < addressCount * n → addressOf s n x ≤ mostImageBlocks
   addresses-most x l =
-      let m = h .framed .most-blocks in
-      let q = address-bound h x (omega arith) in
+      let e = h .inodes in
+      let m = h .sound .framed .most-blocks in
+      let q = address-bound (h .sound) x (omega arith) in
       subst (λ (y : ℕ). addressOf s y x ≤ mostImageBlocks) (sym e) (omega arith)
 
   -- no block is two inodes' or twice one's
   pub one-at : (i k j a : ℕ) → 1 ≤ i → i ≤ n → 1 ≤ j → j ≤ n → k < blocksUsed (sizeOf s i) → a < blocksUsed (sizeOf s j) → kthBlock s n i k ≡ kthBlock s n j a → (i ≡ j) × (k ≡ a)
-  one-at i k j a l m p q u w f = one-block h i k j a l (omega arith) p (omega arith) u w (subst (λ (z : ℕ). kthBlock s z i k ≡ kthBlock s z j a) e f)
+  one-at i k j a l m p q u w f =
+      let e = h .inodes in
+      one-block (h .sound) i k j a l (omega arith) p (omega arith) u w (subst (λ (z : ℕ). kthBlock s z i k ≡ kthBlock s z j a) e f)
 
--- ---- an inode of a kind on a sound store
-module _ (s : List ℕ) (n : ℕ) (h : Sound Store s) (e : n ≡ inodesIn s) (k i : ℕ) (t : isKind s n k i ≡ true) where
-  pub kind-fits : InodeFits s n i
-  kind-fits = fits s n h e i (kind-some s n k i t) (kind-most s n k i t)
+  -- an inode of a kind
+  module _ (k i : ℕ) (t : isKind s n k i ≡ true) where
+    pub kind-fits : InodeFits s n i
+    kind-fits = fits i (kind-some s n k i t) (kind-most s n k i t)
 
-  pub kind-dir : DirFits s n i
-  kind-dir = dir-of s n h e i (kind-some s n k i t) (kind-most s n k i t)
+    pub kind-dir : DirFits s n i
+    kind-dir = dir-of i (kind-some s n k i t) (kind-most s n k i t)
 
-  pub kind-size : sizeOf s i ≤ mostFileBytes
-  kind-size = let m = kind-most s n k i t in h .inodes i (kind-some s n k i t) (omega arith) .size
+    pub kind-size : sizeOf s i ≤ mostFileBytes
+    kind-size = let e = h .inodes in let m = kind-most s n k i t in h .sound .inodes i (kind-some s n k i t) (omega arith) .size

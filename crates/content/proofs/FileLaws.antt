@@ -15,7 +15,8 @@ use Rattle.layout.specs.Header.{headerOf}
 use Rattle.layout.specs.Inode.{kindOf, spareOf, linksOf, sizeOf, parentOf, addressOf, fileKind, directoryKind}
 use Rattle.blocks.specs.Block.{blockOf, blocksUsed, kthBlock}
 use Rattle.sound.specs.Inode.{InodeSound}
-use Rattle.sound.specs.Sound.{Sound, inodesIn, blocksIn}
+use Rattle.sound.specs.Sound.{Sound}
+use Rattle.sound.specs.Counted.{SoundStore}
 use Rattle.sound.specs.declared.Form.the-variants.{Store}
 use Rattle.changes.proofs.StoreLaws.{one-at, dir-of}
 use Rattle.changes.proofs.SameLaws.{OtherInodes, same-body, SameFrame, SameBlock, InBlock}
@@ -25,16 +26,14 @@ use Rattle.content.specs.Content.{fileByte}
 
 -- ---- a sound store with a file i of o bytes or more
 pub record Holds (s : List ℕ) (n b i o : ℕ) : Type 0 where
-  pub sound : Sound Store s
-  pub inodes : n ≡ inodesIn s
-  pub blocks : b ≡ blocksIn s
+  pub sound : SoundStore s n b
   pub low : 1 ≤ i
   pub high : i ≤ n
   pub kind : kindOf s i ≡ fileKind
   pub size : o ≤ sizeOf s i
 
 pub holds-less : {s : List ℕ} {n b i o : ℕ} (a : ℕ) → a ≤ o → Holds s n b i o → Holds s n b i a
-holds-less a l h = record { sound = h .sound; inodes = h .inodes; blocks = h .blocks; low = h .low; high = h .high; kind = h .kind; size = let z = h .size in omega arith }
+holds-less a l h = record { sound = h .sound; low = h .low; high = h .high; kind = h .kind; size = let z = h .size in omega arith }
 
 -- ---- the bytes past a size
 -- from z on, up to the end of the blocks in use
@@ -57,13 +56,13 @@ module _ (s : List ℕ) (n i : ℕ) where
       ap₂ (λ (j r : ℕ). getD (blockOf s n (kthBlock s n i j)) r 0) a c ∙ h x (omega arith) (omega arith)
 
 -- ---- bytes of the k-th block of a file
-module _ (s t : List ℕ) (n b i k : ℕ) (h : Sound Store s) (x : n ≡ inodesIn s) (y : b ≡ blocksIn s)
+module _ (s t : List ℕ) (n b i k : ℕ) (h : SoundStore s n b)
     (l : 1 ≤ i) (m : i ≤ n) (v : kindOf s i ≡ fileKind) (u : k < blocksUsed (sizeOf s i)) (g : InBlock s t n (kthBlock s n i k)) where
   -- the other blocks in use stay
   pub other-block : (j a : ℕ) → 1 ≤ j → j ≤ n → a < blocksUsed (sizeOf s j) → (j ≡ i → a ≡ k → ⊥) → SameBlock s t n (kthBlock s n j a)
   other-block j a p q w e =
-      g .others (kthBlock s n j a) (dir-of s n h x j p q .blocks a w .low)
-      (λ z. e (one-at s n h x j a i k p q l m w u z .0) (one-at s n h x j a i k p q l m w u z .1))
+      g .others (kthBlock s n j a) (dir-of h j p q .blocks a w .low)
+      (λ z. e (one-at h j a i k p q l m w u z .0) (one-at h j a i k p q l m w u z .1))
 
   -- and so do the bytes of the file in them
   pub other-byte : (o : ℕ) → o < blockBytes * blocksUsed (sizeOf s i) → o / blockBytes ≢ k → o / blockBytes < addressCount → fileByte t n i o ≡ fileByte s n i o
@@ -74,10 +73,10 @@ module _ (s t : List ℕ) (n b i k : ℕ) (h : Sound Store s) (x : n ≡ inodesI
 
   pub content-sound : ZeroPast t n i (sizeOf s i) → Sound Store t
   content-sound w =
-      let r = body-of s n b h x y in
+      let r = body-of h in
       let e : (j : ℕ) → 1 ≤ j → j ≤ n → (a : ℕ) → a < addressCount → kthBlock t n j a ≡ kthBlock s n j a = λ j p q. g .inodes j p q .blocks in
       let o = g .inodes i l m in
-      sound-kept s t h (g .frame) n b x y
+      sound-kept h (g .frame)
       (file-tree s t n i (λ j p q _. g .inodes j p q) (o .kind) (o .links) (o .parent) (λ z. omega arith)
       (λ d a p q z f. other-block d a p q f (λ a′ _. let c : directoryKind ≡ fileKind = sym z ∙ ap (kindOf s) a′ ∙ v in omega arith)))
       (λ j p q.
@@ -102,13 +101,13 @@ pub record Resized (s t : List ℕ) (n i z : ℕ) : Type 0 where
   pub free-inodes : headerOf t .«free_inodes» ≡ headerOf s .«free_inodes»
   pub free-blocks : headerOf t .«free_blocks» ≡ headerOf s .«free_blocks» + (blocksUsed (sizeOf s i) - blocksUsed z)
 
-module _ (s t : List ℕ) (n b i z : ℕ) (h : Sound Store s) (x : n ≡ inodesIn s) (y : b ≡ blocksIn s)
+module _ (s t : List ℕ) (n b i z : ℕ) (h : SoundStore s n b)
     (l : 1 ≤ i) (m : i ≤ n) (v : kindOf s i ≡ fileKind) (g : Resized s t n i z) (u : blocksUsed z ≤ blocksUsed (sizeOf s i)) (w : ZeroPast s n i z) where
   body : Body s n b
-  body = body-of s n b h x y
+  body = body-of h
 
   few : blocksUsed (sizeOf s i) ≤ addressCount
-  few = dir-of s n h x i l m .few
+  few = dir-of h i l m .few
 
   -- the bytes that are left are the same
   pub resized-byte : (o : ℕ) → o < blockBytes * blocksUsed z → fileByte t n i o ≡ fileByte s n i o
@@ -164,6 +163,6 @@ module _ (s t : List ℕ) (n b i z : ℕ) (h : Sound Store s) (x : n ≡ inodesI
       let e : blocksUsed (sizeOf t i) ≡ blocksUsed z = ap blocksUsed (g .size) in
       let p = body .free-blocks in
       let q = g .free-blocks in
-      sound-kept s t h (g .frame) n b x y
+      sound-kept h (g .frame)
       (file-tree s t n i (g .others) (g .kind) (g .links) (g .parent) (λ a. omega arith) (λ d k _ _ _ _. g .bytes _))
       resized-inodes resized-differ (g .free-inodes) (omega arith)

@@ -192,7 +192,7 @@ module _ (s₀ : List ℕ) (n b i m : ℕ) (v : Inode) (u : ℕ) (s a : List ℕ
     few = room-left (h .store) n b i (m - (j + 1)) spare
 
     empty : addressOf (h .store) n (addressIndex i (blocksUsed (sizeOf (h .store) i))) ≡ 0
-    empty = let w = spare in body-of (h .store) n b (w .sound) (w .inodes) (w .blocks) .inodes i (w .low) (w .high) .rest (blocksUsed (sizeOf (h .store) i)) few (omega arith)
+    empty = let w = spare in body-of (w .sound) .inodes i (w .low) (w .high) .rest (blocksUsed (sizeOf (h .store) i)) few (omega arith)
 
     old : (x : ℕ) → 1 ≤ x → x ≢ d → blockNamed (addBlock (h .store) n i d) n x ≡ blockNamed (h .store) n x
     old x p q = named-old (h .store) (addBlock (h .store) n i d) n i d grows (spare .low) (spare .high) few x empty p q

@@ -29,7 +29,8 @@ use Rattle.names.proofs.EntryLaws.{empty}
 use Rattle.directory.specs.Slot.{slots, entryOf}
 use Rattle.sound.specs.Place.{dirOf, slotOf, entryAt}
 use Rattle.sound.specs.Inode.{InodeSound}
-use Rattle.sound.specs.Sound.{Sound, inodesIn, blocksIn}
+use Rattle.sound.specs.Sound.{Sound}
+use Rattle.sound.specs.Counted.{SoundStore}
 use Rattle.sound.proofs.FactLaws.{unnamed, named-is}
 use Rattle.sound.proofs.PlaceLaws.{slot-is}
 use Rattle.sound.specs.declared.Form.the-variants.{Store}
@@ -175,11 +176,11 @@ module _ (s t : List ℕ) (n i c : ℕ) (g : Grown s t n i c) where
         goes x o e (no z) = named-is t n d .from (x, o, grown-address x o z ∙ e)
 
 -- ---- on a sound store, with a block that no address names
-module _ (s t : List ℕ) (n b i c : ℕ) (h : Sound Store s) (x : n ≡ inodesIn s) (y : b ≡ blocksIn s)
+module _ (s t : List ℕ) (n b i c : ℕ) (h : SoundStore s n b)
     (g : Grown s t n i c) (l : 1 ≤ i) (m : i ≤ n) (v : kindOf s i ≢ freeKind) (u : blocksUsed (sizeOf s i) < addressCount)
     (lc : 1 ≤ c) (mc : c ≤ b) (free : blockNamed s n c ≡ false) where
   body : Body s n b
-  body = body-of s n b h x y
+  body = body-of h
 
   -- a block in use is not c, and stays
   not-new : (j k : ℕ) → 1 ≤ j → j ≤ n → k < addressCount → kthBlock s n j k ≢ c
@@ -291,17 +292,19 @@ module _ (s t : List ℕ) (n b i c : ℕ) (h : Sound Store s) (x : n ≡ inodesI
       let z = grown-used s t n i c g in
       let p = body .free-blocks in
       let q = g .free-blocks in
-      sound-kept s t h (g .frame) n b x y grown-tree grown-inodes grown-differ (g .free-inodes) (omega arith)
+      sound-kept h (g .frame) grown-tree grown-inodes grown-differ (g .free-inodes) (omega arith)
 
 -- ---- a block more for an inode in use
-module _ (s : List ℕ) (n b i c : ℕ) (h : Sound Store s) (x : n ≡ inodesIn s) (y : b ≡ blocksIn s)
+module _ (s : List ℕ) (n b i c : ℕ) (h : SoundStore s n b)
     (l : 1 ≤ i) (m : i ≤ n) (u : blocksUsed (sizeOf s i) < addressCount) (w : FreeBlock s n b c) where
   pub block-added : Grown s (addBlock s n i c) n i c
   block-added =
-      let z = h .framed .long in
+      let x = h .inodes in
+      let y = h .blocks in
+      let z = h .sound .framed .long in
       let a = w .low in
       let d = w .high in
-      add-block s n i c (fits s n h x i l m) a (omega arith) u
+      add-block s n i c (fits h i l m) a (omega arith) u
 
   pub add-block-sound : kindOf s i ≢ freeKind → Sound Store (addBlock s n i c)
-  add-block-sound v = grown-sound s (addBlock s n i c) n b i c h x y block-added l m v u (w .low) (w .high) (w .free)
+  add-block-sound v = grown-sound s (addBlock s n i c) n b i c h block-added l m v u (w .low) (w .high) (w .free)

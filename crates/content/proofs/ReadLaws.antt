@@ -13,8 +13,7 @@ use Rattle.octets.specs.Octets.{part, splice, pasted}
 use Rattle.octets.proofs.PartLaws.{length-inside, getD-part, splice-append}
 use Rattle.layout.specs.Inode.{sizeOf, fileKind, isKind}
 use Rattle.blocks.specs.Block.{blockAt, blockOf, blocksUsed, kthBlock}
-use Rattle.sound.specs.Sound.{Sound, inodesIn}
-use Rattle.sound.specs.declared.Form.the-variants.{Store}
+use Rattle.sound.specs.Counted.{SoundStore}
 use Rattle.changes.proofs.StoreLaws.{kind-of, kind-dir, kind-size}
 use Rattle.content.specs.Fits.{byteAt, FileFits}
 use Rattle.content.specs.Content.{fileByte, fileBytes}
@@ -22,15 +21,15 @@ use Rattle.content.proofs.FileLaws.{Holds}
 
 -- ---- files that fit
 -- the first z bytes of an inode of a sound store
-pub file-fits : (s : List ℕ) (n : ℕ) → Sound Store s → n ≡ inodesIn s → (k i : ℕ) → isKind s n k i ≡ true → (z : ℕ) → z ≤ sizeOf s i → FileFits s n i z
+pub file-fits : {s : List ℕ} {n b : ℕ} → SoundStore s n b → (k i : ℕ) → isKind s n k i ≡ true → (z : ℕ) → z ≤ sizeOf s i → FileFits s n i z
 unfolding blocksUsed
-file-fits s n h e k i t z l =
-    let d = kind-dir s n h e k i t in
-    let m = kind-size s n h e k i t in
+file-fits h k i t z l =
+    let d = kind-dir h k i t in
+    let m = kind-size h k i t in
     record { inode = d .inode; most = omega arith; blocks = λ j b. d .blocks j (omega arith) }
 
 pub holds-fits : (s : List ℕ) (n b i z : ℕ) → Holds s n b i z → FileFits s n i z
-holds-fits s n b i z h = file-fits s n (h .sound) (h .inodes) fileKind i (kind-of s n fileKind i (h .low) (h .high) (h .kind)) z (h .size)
+holds-fits s n b i z h = file-fits (h .sound) fileKind i (kind-of s n fileKind i (h .low) (h .high) (h .kind)) z (h .size)
 
 module _ (s : List ℕ) (n i z : ℕ) (f : FileFits s n i z) where
   -- byte x below z: its block, and the bytes from it on in the block

@@ -19,9 +19,10 @@ use Rattle.layout.specs.Header.{headerOf}
 use Rattle.layout.specs.Inode.{sizeOf, addressOf, addressesOf, inodeOf, addressIndex, putInode, fileKind, withBlocks}
 use Rattle.blocks.specs.Block.{blockAt, blockOf, blocksUsed, kthBlock, putInBlock}
 use Rattle.blocks.proofs.ViewLaws.{inode-fits}
-use Rattle.sound.specs.Sound.{Sound, inodesIn, blocksIn}
+use Rattle.sound.specs.Sound.{Sound}
+use Rattle.sound.specs.Counted.{SoundStore}
 use Rattle.sound.specs.declared.Form.the-variants.{Store}
-use Rattle.changes.proofs.StoreLaws.{fits, dir-of, kind-some, kind-most, kind-is}
+use Rattle.changes.proofs.StoreLaws.{same-counts, fits, dir-of, kind-some, kind-most, kind-is}
 use Rattle.changes.proofs.SameLaws.{SameFrame, SameInode, InBlock, frame-stays, frame-then, inode-stays, inode-then, put-in-block, in-block-out, in-block-in, put-inode, inode-new, inode-blocks, more-free}
 use Rattle.changes.proofs.KeepLaws.{Body, body-of}
 use Rattle.content.specs.declared.NumberPlan.the-variants.{To}
@@ -43,10 +44,10 @@ pub record Trimmed (s r : List ℕ) (n i z : ℕ) : Type 0 where
 
 module _ (s : List ℕ) (n b i z : ℕ) (h : Holds s n b i z) where
   body : Body s n b
-  body = body-of s n b (h .sound) (h .inodes) (h .blocks)
+  body = body-of (h .sound)
 
   dir : DirFits s n i
-  dir = dir-of s n (h .sound) (h .inodes) i (h .low) (h .high)
+  dir = dir-of (h .sound) i (h .low) (h .high)
 
   few : blocksUsed (sizeOf s i) ≤ addressCount
   few = dir .few
@@ -99,7 +100,7 @@ module _ (s : List ℕ) (n b i z : ℕ) (h : Holds s n b i z) where
     rest-other : (o : ℕ) → o < blockBytes * blocksUsed (sizeOf s i) → o / blockBytes ≢ z / blockBytes → fileByte rest n i o ≡ fileByte s n i o
     rest-other o l q =
         let f = few in
-        other-byte s rest n b i (z / 64) (h .sound) (h .inodes) (h .blocks) (h .low) (h .high) (h .kind) used in-rest o l q (omega arith)
+        other-byte s rest n b i (z / 64) (h .sound) (h .low) (h .high) (h .kind) used in-rest o l q (omega arith)
 
     rest-below : (o : ℕ) → o < z → Dec (o / blockBytes ≡ z / blockBytes) → fileByte rest n i o ≡ fileByte s n i o
     unfolding fileByte
@@ -119,7 +120,7 @@ module _ (s : List ℕ) (n b i z : ℕ) (h : Holds s n b i z) where
     trimmed-rest : Trimmed s rest n i z
     unfolding blocksUsed
     trimmed-rest = record {
-      sound = content-sound s rest n b i (z / 64) (h .sound) (h .inodes) (h .blocks) (h .low) (h .high) (h .kind) used in-rest rest-past;
+      sound = content-sound s rest n b i (z / 64) (h .sound) (h .low) (h .high) (h .kind) used in-rest rest-past;
       frame = in-rest .frame;
       header = in-rest .header;
       inodes = in-rest .inodes;
@@ -130,7 +131,7 @@ module _ (s : List ℕ) (n b i z : ℕ) (h : Holds s n b i z) where
   trimmed-none : z % blockBytes ≡ 0 → Trimmed s s n i z
   unfolding blocksUsed
   trimmed-none e = record {
-    sound = h .sound;
+    sound = h .sound .sound;
     frame = frame-stays s;
     header = refl;
     inodes = λ j _ _. inode-stays s n j;
@@ -174,7 +175,7 @@ module _ (s : List ℕ) (n b i z : ℕ) (h : Holds s n b i z) where
   unfolding cutTo inodeOf
   cut-to =
       let a = zero-rest s n b i z h in
-      let f = inode-fits s trimmed n i (a .frame .long) (fits s n (h .sound) (h .inodes) i (h .low) (h .high)) in
+      let f = inode-fits s trimmed n i (a .frame .long) (fits (h .sound) i (h .low) (h .high)) in
       let e = length-keep (addressesOf s n i) (blocksUsed z) in
       let g = put-inode trimmed n i f new e in
       let v = inode-new trimmed n i f new e in
@@ -202,20 +203,18 @@ module _ (s : List ℕ) (n b i z : ℕ) (h : Holds s n b i z) where
   cut-sound =
       let a = zero-rest s n b i z h in
       let o = a .inodes i (h .low) (h .high) in
-      resized-sound trimmed (cutTo s n i z) n b i z (a .sound) (h .inodes ∙ sym (a .frame .inodes)) (h .blocks ∙ sym (a .frame .blocks)) (h .low) (h .high) (o .kind ∙ h .kind)
+      resized-sound trimmed (cutTo s n i z) n b i z (same-counts (h .sound) (a .frame) (a .sound)) (h .low) (h .high) (o .kind ∙ h .kind)
       cut-to (subst (λ (x : ℕ). blocksUsed z ≤ blocksUsed x) (sym (o .size)) (used-down s n b i z h)) (a .past)
 
 -- ---- the call
-pub shorten-sound : (s : List ℕ) (n b i z y : ℕ) → Sound Store s → n ≡ inodesIn s → b ≡ blocksIn s
+pub shorten-sound : (s : List ℕ) (n b i z y : ℕ) → SoundStore s n b
     → shortenPlan s n i z ≡ To y → Sound Store (shortened s n i y)
-shorten-sound s n b i z y h p q e =
+shorten-sound s n b i z y h e =
     let w = shortens s n i z y e in
     let m = w .inside in
     let o = w .size in
     cut-sound s n b i y (record {
       sound = h;
-      inodes = p;
-      blocks = q;
       low = kind-some s n fileKind i (w .file);
       high = kind-most s n fileKind i (w .file);
       kind = kind-is s n fileKind i (w .file);

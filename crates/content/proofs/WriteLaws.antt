@@ -16,9 +16,10 @@ use Rattle.layout.specs.Header.{headerOf}
 use Rattle.layout.specs.Inode.{kindOf, linksOf, sizeOf, parentOf, inodeOf, freeKind, fileKind, isFile, withSize}
 use Rattle.blocks.specs.Block.{blockOf, blocksUsed, kthBlock, putInBlock}
 use Rattle.blocks.specs.Free.{freeBlock}
-use Rattle.sound.specs.Sound.{Sound, inodesIn, blocksIn}
+use Rattle.sound.specs.Sound.{Sound}
+use Rattle.sound.specs.Counted.{SoundStore}
 use Rattle.sound.specs.declared.Form.the-variants.{Store}
-use Rattle.changes.proofs.StoreLaws.{fits, dir-of, kind-some, kind-most, kind-is, kind-size}
+use Rattle.changes.proofs.StoreLaws.{same-counts, fits, dir-of, kind-some, kind-most, kind-is, kind-size}
 use Rattle.changes.proofs.SameLaws.{OtherInodes, SameFrame, SameBlock, InBlock, frame-stays, frame-then, inode-stays, inode-then, put-in-block, in-block-out, put-attributes, attributes-new, attributes-blocks}
 use Rattle.changes.proofs.KeepLaws.{body-of}
 use Rattle.changes.proofs.FreeLaws.{FreeBlock, free-block, block-found}
@@ -70,7 +71,7 @@ widened-none s n i h = record {
 }
 
 -- one block, and then m
-module _ (s r t : List ℕ) (n b i c m : ℕ) (h : Sound Store s) (x : n ≡ inodesIn s) (y : b ≡ blocksIn s)
+module _ (s r t : List ℕ) (n b i c m : ℕ) (h : SoundStore s n b)
     (l : 1 ≤ i) (q : i ≤ n) (v : kindOf s i ≢ freeKind) (u : blocksUsed (sizeOf s i) < addressCount) (w : FreeBlock s n b c) (g : Grown s r n i c) (e : Widened r t n i m) where
   used-more : blocksUsed (sizeOf r i) ≡ blocksUsed (sizeOf s i) + 1
   used-more = grown-used s r n i c g
@@ -82,7 +83,7 @@ module _ (s r t : List ℕ) (n b i c m : ℕ) (h : Sound Store s) (x : n ≡ ino
   ]
 
   kth : (j k : ℕ) → 1 ≤ j → j ≤ n → k < blocksUsed (sizeOf s j) → k < addressCount → kthBlock r n j k ≡ kthBlock s n j k
-  kth = grown-kth s r n b i c h x y g l q v u (w .low) (w .high) (w .free)
+  kth = grown-kth s r n b i c h g l q v u (w .low) (w .high) (w .free)
 
   fresh-block : (o : ℕ) → blockBytes * blocksUsed (sizeOf s i) ≤ o → o < blockBytes * (blocksUsed (sizeOf s i) + 1) → fileByte r n i o ≡ 0
   unfolding fileByte
@@ -116,36 +117,34 @@ module _ (s r t : List ℕ) (n b i c m : ℕ) (h : Sound Store s) (x : n ≡ ino
     bytes = λ j k p o a z.
         let d = used-other j p o in
         let f : SameBlock r t n (kthBlock s n j k) = subst (SameBlock r t n) (kth j k p o z a) (e .bytes j k p o a (omega arith)) in
-        f ∙ grown-bytes s r n b i c h x y g l q v u (w .low) (w .high) (w .free) j k p o z;
+        f ∙ grown-bytes s r n b i c h g l q v u (w .low) (w .high) (w .free) j k p o z;
     fresh = λ o p a. fresh-then o p a (decLt o (blockBytes * (blocksUsed (sizeOf s i) + 1)));
   }
 
 -- a sound store with m free blocks, and room for them in inode i
 pub record Spare (s : List ℕ) (n b i m : ℕ) : Type 0 where
-  pub sound : Sound Store s
-  pub inodes : n ≡ inodesIn s
-  pub blocks : b ≡ blocksIn s
+  pub sound : SoundStore s n b
   pub low : 1 ≤ i
   pub high : i ≤ n
   pub in-use : kindOf s i ≢ freeKind
   pub free : m ≤ headerOf s .«free_blocks»
   pub few : blocksUsed (sizeOf s i) + m ≤ addressCount
 
-pub spare-of : (s : List ℕ) (n b i m : ℕ) → Sound Store s → n ≡ inodesIn s → b ≡ blocksIn s → isFile s n i ≡ true → m ≤ headerOf s .«free_blocks» → blocksUsed (sizeOf s i) + m ≤ addressCount → Spare s n b i m
-spare-of s n b i m h x y f l u =
+pub spare-of : (s : List ℕ) (n b i m : ℕ) → SoundStore s n b → isFile s n i ≡ true → m ≤ headerOf s .«free_blocks» → blocksUsed (sizeOf s i) + m ≤ addressCount → Spare s n b i m
+spare-of s n b i m h f l u =
     let k = kind-is s n fileKind i f in
-    record { sound = h; inodes = x; blocks = y; low = kind-some s n fileKind i f; high = kind-most s n fileKind i f; in-use = λ e. omega arith; free = l; few = u }
+    record { sound = h; low = kind-some s n fileKind i f; high = kind-most s n fileKind i f; in-use = λ e. omega arith; free = l; few = u }
 
 module _ (s : List ℕ) (n b i m : ℕ) (h : Spare s n b i (suc m)) where
   pub room-left : blocksUsed (sizeOf s i) < addressCount
   room-left = let d = h .few in omega arith
 
   pub some-left : (c : ℕ) × (freeBlock s n b ≡ At c)
-  some-left = let a = h .free in let e = body-of s n b (h .sound) (h .inodes) (h .blocks) .free-blocks in block-found s n b (omega arith)
+  some-left = let a = h .free in let e = body-of (h .sound) .free-blocks in block-found s n b (omega arith)
 
   module _ (c : ℕ) (w : FreeBlock s n b c) where
     pub spare-grown : Grown s (addBlock s n i c) n i c
-    spare-grown = block-added s n b i c (h .sound) (h .inodes) (h .blocks) (h .low) (h .high) room-left w
+    spare-grown = block-added s n b i c (h .sound) (h .low) (h .high) room-left w
 
     pub spare-next : Spare (addBlock s n i c) n b i m
     spare-next =
@@ -155,9 +154,7 @@ module _ (s : List ℕ) (n b i m : ℕ) (h : Spare s n b i (suc m)) where
         let a = h .free in
         let d = h .few in
         record {
-          sound = add-block-sound s n b i c (h .sound) (h .inodes) (h .blocks) (h .low) (h .high) room-left w (h .in-use);
-          inodes = h .inodes ∙ sym (g .frame .inodes);
-          blocks = h .blocks ∙ sym (g .frame .blocks);
+          sound = same-counts (h .sound) (g .frame) (add-block-sound s n b i c (h .sound) (h .low) (h .high) room-left w (h .in-use));
           low = h .low;
           high = h .high;
           in-use = λ o. h .in-use (sym (g .kind) ∙ o);
@@ -173,23 +170,23 @@ module _ (s : List ℕ) (n b i m : ℕ) (h : Spare s n b i (suc m)) where
       let w = free-block s n b c e in
       let r = addBlock s n i c in
       subst (λ (z : Found). Widened s (onFound z (λ a. addBlocks (addBlock s n i a) n b i m) s) n i (suc m)) (sym e)
-      (widened-more s r (addBlocks r n b i m) n b i c m (h .sound) (h .inodes) (h .blocks) (h .low) (h .high) (h .in-use) room-left w (spare-grown c w) (f r (spare-next c w)))
+      (widened-more s r (addBlocks r n b i m) n b i c m (h .sound) (h .low) (h .high) (h .in-use) room-left w (spare-grown c w) (f r (spare-next c w)))
 
 pub add-blocks : (m : ℕ) (s : List ℕ) (n b i : ℕ) → Spare s n b i m → Widened s (addBlocks s n b i m) n i m
-add-blocks zero s n b i h = unfold addBlocks in widened-none s n i (h .sound)
+add-blocks zero s n b i h = unfold addBlocks in widened-none s n i (h .sound .sound)
 add-blocks (suc m) s n b i h = widened-step s n b i m h (λ r. add-blocks m r n b i)
 
 -- ---- another size on the same blocks
-module _ (s : List ℕ) (n b i z : ℕ) (h : Sound Store s) (x : n ≡ inodesIn s) (y : b ≡ blocksIn s)
+module _ (s : List ℕ) (n b i z : ℕ) (h : SoundStore s n b)
     (l : 1 ≤ i) (q : i ≤ n) (u : blocksUsed z ≡ blocksUsed (sizeOf s i)) where
   pub put-size : Resized s (putSize s n i z) n i z
   unfolding putSize inodeOf kthBlock
   put-size =
-      let f = fits s n h x i l q in
+      let f = fits h i l q in
       let v = withSize (inodeOf s n i) z in
       let g = put-attributes s n i f v in
       let a = attributes-new s n i f v in
-      let r = body-of s n b h x y .inodes i l q in
+      let r = body-of h .inodes i l q in
       record {
         frame = g .frame;
         others = g .others;
@@ -206,7 +203,7 @@ module _ (s : List ℕ) (n b i z : ℕ) (h : Sound Store s) (x : n ≡ inodesIn 
       }
 
   pub put-size-sound : kindOf s i ≡ fileKind → ZeroPast s n i z → Sound Store (putSize s n i z)
-  put-size-sound v w = resized-sound s (putSize s n i z) n b i z h x y l q v put-size (omega arith) w
+  put-size-sound v w = resized-sound s (putSize s n i z) n b i z h l q v put-size (omega arith) w
 
 -- ---- one byte of a file
 abbrev oneByte : List ℕ → ℕ → ℕ → ℕ → ℕ → List ℕ
@@ -224,10 +221,10 @@ module _ (s : List ℕ) (n b i o v : ℕ) (h : Holds s n b i (suc o)) where
   used = let z = h .size in omega arith
 
   few : blocksUsed (sizeOf s i) ≤ addressCount
-  few = dir-of s n (h .sound) (h .inodes) i (h .low) (h .high) .few
+  few = dir-of (h .sound) i (h .low) (h .high) .few
 
   pub put-byte : InBlock s after n (kthBlock s n i k)
-  put-byte = put-in-block s n (kthBlock s n i k) (dir-of s n (h .sound) (h .inodes) i (h .low) (h .high) .blocks k used .low) (o % blockBytes) (v ∷ []) (omega arith)
+  put-byte = put-in-block s n (kthBlock s n i k) (dir-of (h .sound) i (h .low) (h .high) .blocks k used .low) (o % blockBytes) (v ∷ []) (omega arith)
 
   -- the others stay
   pub put-byte-other : (a : ℕ) → a < blockBytes * blocksUsed (sizeOf s i) → a ≢ o → fileByte after n i a ≡ fileByte s n i a
@@ -235,7 +232,7 @@ module _ (s : List ℕ) (n b i o v : ℕ) (h : Holds s n b i (suc o)) where
   put-byte-other a p e = go (ℕ-discrete (a / 64) k)
     where
       go : Dec (a / 64 ≡ k) → fileByte after n i a ≡ fileByte s n i a
-      go (no z) = let f = few in other-byte s after n b i k (h .sound) (h .inodes) (h .blocks) (h .low) (h .high) (h .kind) used put-byte a p z (omega arith)
+      go (no z) = let f = few in other-byte s after n b i k (h .sound) (h .low) (h .high) (h .kind) used put-byte a p z (omega arith)
       go (yes z) =
           let f = few in
           let c = put-byte .inodes i (h .low) (h .high) .blocks (a / 64) (omega arith) ∙ ap (kthBlock s n i) z in
@@ -245,17 +242,15 @@ module _ (s : List ℕ) (n b i o v : ℕ) (h : Holds s n b i (suc o)) where
 
   pub put-byte-sound : Sound Store after
   put-byte-sound =
-      content-sound s after n b i k (h .sound) (h .inodes) (h .blocks) (h .low) (h .high) (h .kind) used put-byte
-      (λ a p q. let z = h .size in put-byte-other a q (λ e. omega arith) ∙ tail-past s n i (body-of s n b (h .sound) (h .inodes) (h .blocks) .inodes i (h .low) (h .high) .tail) (h .kind) a p q)
+      content-sound s after n b i k (h .sound) (h .low) (h .high) (h .kind) used put-byte
+      (λ a p q. let z = h .size in put-byte-other a q (λ e. omega arith) ∙ tail-past s n i (body-of (h .sound) .inodes i (h .low) (h .high) .tail) (h .kind) a p q)
 
   put-byte-holds : (m : ℕ) → m ≤ sizeOf s i → Holds after n b i m
   put-byte-holds m p =
       let g = put-byte in
       let e = g .inodes i (h .low) (h .high) in
       record {
-        sound = put-byte-sound;
-        inodes = h .inodes ∙ sym (g .frame .inodes);
-        blocks = h .blocks ∙ sym (g .frame .blocks);
+        sound = same-counts (h .sound) (g .frame) put-byte-sound;
         low = h .low;
         high = h .high;
         kind = e .kind ∙ h .kind;
@@ -270,11 +265,11 @@ put-file-next v xs s n b i o h =
 
 pub put-file-sound : (xs : List ℕ) (s : List ℕ) (n b i o : ℕ) → Holds s n b i (o + length xs) → Sound Store (putFile s n i o xs)
 unfolding putFile
-put-file-sound [] s n b i o h = h .sound
+put-file-sound [] s n b i o h = h .sound .sound
 put-file-sound (v ∷ xs) s n b i o h = put-file-sound xs (oneByte s n i o v) n b i (o + 1) (put-file-next v xs s n b i o h)
 
 -- ---- the call
-module _ (s : List ℕ) (n b i o : ℕ) (xs : List ℕ) (z : ℕ) (h : Sound Store s) (x : n ≡ inodesIn s) (y : b ≡ blocksIn s) (w : Writes s n i o (length xs) z) where
+module _ (s : List ℕ) (n b i o : ℕ) (xs : List ℕ) (z : ℕ) (h : SoundStore s n b) (w : Writes s n i o (length xs) z) where
   low : 1 ≤ i
   low = kind-some s n fileKind i (w .file)
 
@@ -293,7 +288,7 @@ module _ (s : List ℕ) (n b i o : ℕ) (xs : List ℕ) (z : ℕ) (h : Sound Sto
 
   used-few : blocksUsed z ≤ addressCount
   unfolding blocksUsed
-  used-few = let e = w .size in let a = w .most in let c = kind-size s n h x fileKind i (w .file) in omega arith
+  used-few = let e = w .size in let a = w .most in let c = kind-size h fileKind i (w .file) in omega arith
 
   -- with the blocks
   abbrev wide : List ℕ
@@ -303,7 +298,7 @@ module _ (s : List ℕ) (n b i o : ℕ) (xs : List ℕ) (z : ℕ) (h : Sound Sto
   widened =
       let a = used-up in
       let c = used-few in
-      add-blocks more s n b i (spare-of s n b i more h x y (w .file) (w .blocks) (omega arith))
+      add-blocks more s n b i (spare-of s n b i more h (w .file) (w .blocks) (omega arith))
 
   -- past the new size stand zeros: old ones, and those of new blocks
   wide-past : ZeroPast wide n i z
@@ -313,24 +308,21 @@ module _ (s : List ℕ) (n b i o : ℕ) (xs : List ℕ) (z : ℕ) (h : Sound Sto
       go (yes c) =
           let e = w .size in
           let f = used-few in
-          widened-byte s wide n i more widened low high a (omega arith) c ∙ tail-past s n i (body-of s n b h x y .inodes i low high .tail) is-file a (omega arith) c
+          widened-byte s wide n i more widened low high a (omega arith) c ∙ tail-past s n i (body-of h .inodes i low high .tail) is-file a (omega arith) c
       go (no c) = let f = used-up in widened .fresh a (omega arith) (omega arith)
 
   -- with the size
   abbrev sized : List ℕ
   sized = putSize wide n i z
 
-  wide-inodes : n ≡ inodesIn wide
-  wide-inodes = x ∙ sym (widened .frame .inodes)
-
-  wide-blocks : b ≡ blocksIn wide
-  wide-blocks = y ∙ sym (widened .frame .blocks)
+  wide-sound : SoundStore wide n b
+  wide-sound = same-counts h (widened .frame) (widened .sound)
 
   wide-used : blocksUsed z ≡ blocksUsed (sizeOf wide i)
   wide-used = let a = used-up in let e = widened .used in omega arith
 
   sized-is : Resized wide sized n i z
-  sized-is = put-size wide n b i z (widened .sound) wide-inodes wide-blocks low high wide-used
+  sized-is = put-size wide n b i z wide-sound low high wide-used
 
   pub sized-holds : Holds sized n b i (o + length xs)
   sized-holds =
@@ -338,9 +330,7 @@ module _ (s : List ℕ) (n b i o : ℕ) (xs : List ℕ) (z : ℕ) (h : Sound Sto
       let e = g .size in
       let f = w .size in
       record {
-        sound = put-size-sound wide n b i z (widened .sound) wide-inodes wide-blocks low high wide-used (widened .kind ∙ is-file) wide-past;
-        inodes = wide-inodes ∙ sym (g .frame .inodes);
-        blocks = wide-blocks ∙ sym (g .frame .blocks);
+        sound = same-counts wide-sound (g .frame) (put-size-sound wide n b i z wide-sound low high wide-used (widened .kind ∙ is-file) wide-past);
         low = low;
         high = high;
         kind = g .kind ∙ widened .kind ∙ is-file;
@@ -352,6 +342,6 @@ module _ (s : List ℕ) (n b i o : ℕ) (xs : List ℕ) (z : ℕ) (h : Sound Sto
   unfolding written
   written-sound = put-file-sound xs sized n b i o sized-holds
 
-pub write-sound : (s : List ℕ) (n b i o : ℕ) (xs : List ℕ) (z : ℕ) → Sound Store s → n ≡ inodesIn s → b ≡ blocksIn s
+pub write-sound : (s : List ℕ) (n b i o : ℕ) (xs : List ℕ) (z : ℕ) → SoundStore s n b
     → writePlan s n i o (length xs) ≡ To z → Sound Store (written s n b i o xs z)
-write-sound s n b i o xs z h x y e = written-sound s n b i o xs z h x y (writes s n i o (length xs) z e)
+write-sound s n b i o xs z h e = written-sound s n b i o xs z h (writes s n i o (length xs) z e)

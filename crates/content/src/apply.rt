@@ -10,8 +10,8 @@ ghost use Rattle.layout.specs.Inode.{sizeOf, inodeOf, isFile};
 ghost use Rattle.layout.specs.Fits.{InodeFits};
 ghost use Rattle.blocks.specs.Block.{blocksUsed, kthBlock};
 ghost use Rattle.blocks.specs.Fits.{Sized};
-ghost use Rattle.sound.specs.Sound.{Sound, inodesIn, blocksIn};
-ghost use Rattle.sound.specs.declared.Form.the-variants.{Store};
+ghost use Rattle.sound.specs.Sound.{blocksIn};
+ghost use Rattle.sound.specs.Counted.{SoundStore};
 ghost use Rattle.content.specs.declared.NumberPlan.the-variants.{To};
 ghost use Rattle.content.specs.Fits.{byteAt, FileFits};
 ghost use Rattle.content.specs.Content.{fileBytes, putFile, addBlock, addBlocks, putSize, zeroRest, keepFirst};
@@ -47,7 +47,7 @@ fn run(x: usize, k: usize) -> usize
 
 // The k bytes of file i from o on, to the start of out.
 pub fn read_file(s: &[u8], n: usize, i: usize, o: usize, k: usize, out: &mut [u8])
-    requires { ⌜ Sound Store (now s) × (n ≡ inodesIn (now s)) × (isFile (now s) n i ≡ true) × (o + k ≤ sizeOf (now s) i) × (k ≤ length (now out)) ⌝ }
+    requires { ⌜ SoundStore (now s) n (blocksIn (now s)) × (isFile (now s) n i ≡ true) × (o + k ≤ sizeOf (now s) i) × (k ≤ length (now out)) ⌝ }
     ensures { λ _. ⌜ now (out .exit) ≡ splice (now (out .entry)) 0 (fileBytes (now (s .entry)) n i o k) ⌝ }
 {
     let mut j = 0;
@@ -116,7 +116,7 @@ fn keep_first(a: [u16; ADDRESS_COUNT], k: usize) -> [u16; ADDRESS_COUNT]
 
 // Leaves the first z bytes of inode i: the blocks past them are free again.
 pub fn shorten_file(s: &mut [u8], n: usize, i: usize, z: usize)
-    requires { ⌜ Sound Store (now s) × (n ≡ inodesIn (now s)) × (isFile (now s) n i ≡ true) × (z ≤ sizeOf (now s) i) ⌝ }
+    requires { ⌜ SoundStore (now s) n (blocksIn (now s)) × (isFile (now s) n i ≡ true) × (z ≤ sizeOf (now s) i) ⌝ }
     ensures { λ _. ⌜ now (s .exit) ≡ shortened (now (s .entry)) n i z ⌝ }
 {
     let old = Inode::read(s, n, i);
@@ -145,7 +145,7 @@ pub fn add_block(s: &mut [u8], n: usize, b: usize, i: usize, c: usize)
 
 // The m lowest free blocks, each zeroed first, are the next of inode i, whose record is old; z is its size. One map tells them all, for a block that was taken is below those that are left.
 fn grow(s: &mut [u8], n: usize, b: usize, i: usize, old: Inode, m: usize, z: usize)
-    requires { ⌜ Sound Store (now s) × (n ≡ inodesIn (now s)) × (b ≡ blocksIn (now s)) × (isFile (now s) n i ≡ true) × (old ≡ inodeOf (now s) n i) ⌝ }
+    requires { ⌜ SoundStore (now s) n b × (isFile (now s) n i ≡ true) × (old ≡ inodeOf (now s) n i) ⌝ }
     requires { ⌜ (1 ≤ m) × (blocksUsed (sizeOf (now s) i) + m ≤ addressCount) × (m ≤ headerOf (now s) .«free_blocks») × (z ≤ mostFileBytes) ⌝ }
     ensures { λ _. ⌜ now (s .exit) ≡ putSize (addBlocks (now (s .entry)) n b i m) n i z ⌝ }
 {
@@ -172,7 +172,7 @@ fn put_size(s: &mut [u8], n: usize, i: usize, old: Inode, z: usize)
 
 // The size z with the blocks that it needs. The record is read here alone, changed by value and written once.
 fn extend(s: &mut [u8], n: usize, b: usize, i: usize, z: usize)
-    requires { ⌜ Sound Store (now s) × (n ≡ inodesIn (now s)) × (b ≡ blocksIn (now s)) × (isFile (now s) n i ≡ true) ⌝ }
+    requires { ⌜ SoundStore (now s) n b × (isFile (now s) n i ≡ true) ⌝ }
     requires { ⌜ (sizeOf (now s) i ≤ z) × (z ≤ mostFileBytes) × (blocksUsed z - blocksUsed (sizeOf (now s) i) ≤ headerOf (now s) .«free_blocks») ⌝ }
     ensures { λ _. ⌜ now (s .exit) ≡ putSize (addBlocks (now (s .entry)) n b i (blocksUsed z - blocksUsed (sizeOf (now (s .entry)) i))) n i z ⌝ }
 {
@@ -187,7 +187,7 @@ fn extend(s: &mut [u8], n: usize, b: usize, i: usize, z: usize)
 
 // The bytes xs from o on, as planned: z is the new size.
 pub fn write_file(s: &mut [u8], n: usize, b: usize, i: usize, o: usize, xs: &[u8], z: usize)
-    requires { ⌜ Sound Store (now s) × (n ≡ inodesIn (now s)) × (b ≡ blocksIn (now s)) × (writePlan (now s) n i o (length (now xs)) ≡ To z) ⌝ }
+    requires { ⌜ SoundStore (now s) n b × (writePlan (now s) n i o (length (now xs)) ≡ To z) ⌝ }
     ensures { λ _. ⌜ now (s .exit) ≡ written (now (s .entry)) n b i o (now (xs .entry)) z ⌝ }
 {
     extend(&mut *s, n, b, i, z);

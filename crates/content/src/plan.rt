@@ -2,8 +2,8 @@
 ghost use mathlib.Core.Path.{_≡_};
 ghost use Prim.Native.Nat.{min, max};
 ghost use Rattle.layout.specs.Inode.{isKind};
-ghost use Rattle.sound.specs.Sound.{Sound, inodesIn};
-ghost use Rattle.sound.specs.declared.Form.the-variants.{Store};
+ghost use Rattle.sound.specs.Sound.{blocksIn};
+ghost use Rattle.sound.specs.Counted.{SoundStore};
 ghost use Rattle.content.specs.Plan.{readPlan, writePlan, shortenPlan};
 use crate::NumberPlan;
 use answers::Refusal;
@@ -15,7 +15,7 @@ use layout::sizes::MOST_FILE_BYTES;
 
 // The number i is an inode of the kind.
 pub fn is_kind(s: &[u8], n: usize, kind: u8, i: usize) -> bool
-    requires { ⌜ Sound Store (now s) × (n ≡ inodesIn (now s)) ⌝ }
+    requires { ⌜ SoundStore (now s) n (blocksIn (now s)) ⌝ }
     ensures { λ r. ⌜ r ≡ isKind (now (s .entry)) n kind i ⌝ }
 {
     if i < 1 {
@@ -41,7 +41,7 @@ fn greater(a: usize, b: usize) -> usize
 
 // A read at o into a buffer of k bytes.
 pub fn read_plan(s: &[u8], n: usize, i: usize, o: usize, k: usize) -> NumberPlan
-    requires { ⌜ Sound Store (now s) × (n ≡ inodesIn (now s)) ⌝ }
+    requires { ⌜ SoundStore (now s) n (blocksIn (now s)) ⌝ }
     ensures { λ r. ⌜ r ≡ readPlan (now (s .entry)) n i o k ⌝ }
 {
     if !is_kind(s, n, FILE, i) {
@@ -55,7 +55,7 @@ pub fn read_plan(s: &[u8], n: usize, i: usize, o: usize, k: usize) -> NumberPlan
 }
 
 pub fn shorten_plan(s: &[u8], n: usize, i: usize, z: usize) -> NumberPlan
-    requires { ⌜ Sound Store (now s) × (n ≡ inodesIn (now s)) ⌝ }
+    requires { ⌜ SoundStore (now s) n (blocksIn (now s)) ⌝ }
     ensures { λ r. ⌜ r ≡ shortenPlan (now (s .entry)) n i z ⌝ }
 {
     if !is_kind(s, n, FILE, i) {
@@ -69,7 +69,7 @@ pub fn shorten_plan(s: &[u8], n: usize, i: usize, z: usize) -> NumberPlan
 
 // A write of k bytes at o.
 pub fn write_plan(s: &[u8], n: usize, i: usize, o: usize, k: usize) -> NumberPlan
-    requires { ⌜ Sound Store (now s) × (n ≡ inodesIn (now s)) ⌝ }
+    requires { ⌜ SoundStore (now s) n (blocksIn (now s)) ⌝ }
     ensures { λ r. ⌜ r ≡ writePlan (now (s .entry)) n i o k ⌝ }
 {
     if !is_kind(s, n, FILE, i) {

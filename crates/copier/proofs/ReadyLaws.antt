@@ -16,7 +16,7 @@ use Rattle.desk.specs.Sizes.{deskLength, stepsAnInode}
 use Rattle.desk.specs.Desk.{deskOf}
 use Rattle.desk.specs.declared.Desk.{Desk}
 use Rattle.sound.specs.Sound.{inodesIn}
-use Rattle.changes.proofs.StoreLaws.{dir-of}
+use Rattle.changes.proofs.StoreLaws.{sound-store, dir-of}
 use Rattle.checkpoint.specs.Fit.{isRunning, mostSteps, blocksFit, deskFits, imageFits}
 use Rattle.checkpoint.specs.Shown.{world}
 use Rattle.checkpoint.specs.List.{Ready}
@@ -79,7 +79,7 @@ module _ (s m d : List ℕ) (n : ℕ) (z : Ready (world s m d)) (e : n ≡ inode
         let q = ap (λ (v : Desk). v .locked) r in
         let i = inodes in
         let l = desk-fits-is d .to fits .1 .1 .1 .1 .0 in
-        dir-of s n (ready-sound (world s m d) z) e (h .locked) (omega arith) (omega arith)
+        dir-of (sound-store (ready-sound (world s m d) z) e) (h .locked) (omega arith) (omega arith)
 
   pub ready-image : Addressed m n
   ready-image =

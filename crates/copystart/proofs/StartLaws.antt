@@ -66,8 +66,8 @@ pub record Room (s m d : List ℕ) (n : ℕ) : Type 0 where
 pub start-room : (s m d : List ℕ) (n b : ℕ) → startGuards s m d ≡ Pass n b → Room s m d n
 start-room s m d n b q =
     let x = passed-start s m d n b q in
-    let a = x .sound .framed .most-inodes in
-    let c = x .inodes in
+    let a = x .sound .sound .framed .most-inodes in
+    let c = x .sound .inodes in
     let y = and-left (bothFramed s d) _ (x .allowed) in
     let l = framed d (and-right (framedB Store s) _ y) .long in
     let e = notes-fit-is s m d .to (x .notes) .1 .0 in

@@ -57,15 +57,15 @@ module _ (s m d : List ℕ) where
     step-through n b o q r =
         let z = sym e ∙ q in
         let p = passed s m d n b z in
-        rw z (ap shown (r ∙ ap goesOn (p .inodes)))
+        rw z (ap shown (r ∙ ap goesOn (p .sound .inodes)))
 
   -- the guards let it through
   pub step-ready : (n b : ℕ) → threeGuards s m d ≡ Pass n b → Ready (world s m d) × (n ≡ inodesIn s)
   unfolding isSound
   step-ready n b q =
       let p = passed s m d n b q in
-      let k = is-sound Store s .from (p .sound) in
-      (record { framed = and-left (framedB Store s) _ k; sound = k; desk = desk-passed p; notes = p .notes }, p .inodes)
+      let k = is-sound Store s .from (p .sound .sound) in
+      (record { framed = and-left (framedB Store s) _ k; sound = k; desk = desk-passed p; notes = p .notes }, p .sound .inodes)
 
   pub ready-long : Ready (world s m d) → deskHeaderBytes ≤ length d
   ready-long r = let e = desk-framed-is d .to (r .desk) .1 .1 in omega arith

@@ -20,16 +20,18 @@ use Rattle.layout.specs.Fits.{InodeFits}
 use Rattle.names.specs.Name.{legalName}
 use Rattle.directory.specs.Slot.{mostSlots, slots, findSlot, slotEmpty, putEntry}
 use Rattle.sound.specs.Place.{dirOf, filled, placeOf}
-use Rattle.sound.specs.Sound.{Sound, inodesIn, blocksIn}
+use Rattle.sound.specs.Sound.{Sound}
+use Rattle.sound.specs.Counted.{SoundStore}
 use Rattle.sound.proofs.PlaceLaws.{slot-is, filled-is, place-dir}
 use Rattle.sound.specs.declared.Form.the-variants.{Store}
 use Rattle.changes.proofs.SameLaws.{OtherInodes, NewInode, frame-then, inode-then, InCounts, less-free}
+use Rattle.changes.proofs.KeepLaws.{body-of}
 use Rattle.changes.proofs.StoreLaws.{fits}
 use Rattle.changes.proofs.FreeLaws.{free-inode}
 use Rattle.changes.proofs.RecordLaws.{header-inode}
 use Rattle.changes.proofs.ChangeLaws.{Filled, filled-then, names-filled}
 use Rattle.changes.proofs.TreeLaws.{Tree, tree-create}
-use Rattle.changes.proofs.SoundTreeLaws.{nodesOf, nodes-else, body-at, names-at, above-at, tree-at}
+use Rattle.changes.proofs.SoundTreeLaws.{nodesOf, nodes-else, names-at, above-at, tree-at}
 use Rattle.changes.proofs.EntryWriteLaws.{EntriesAlone, entries-stay, SlotIn, slot-in, place-below, put-alone, put-filled}
 use Rattle.changes.proofs.SlotPlaceLaws.{absent-new, place-bare}
 use Rattle.changes.proofs.StockLaws.{Stock, entries-stock, stock-sound}
@@ -68,7 +70,7 @@ pub new-parent : (k : Kind) (d : ℕ) → newInode k d .kind ≡ directoryKind �
 new-parent File d e = absurd (omega arith)
 new-parent Directory d e = refl
 
-module _ (s : List ℕ) (n d t i : ℕ) (k : Kind) (name : List ℕ) (h : Sound Store s) (x : n ≡ inodesIn s)
+module _ (s : List ℕ) (n d t i : ℕ) (k : Kind) (name : List ℕ) {b : ℕ} (h : SoundStore s n b)
     (dir : isDirectory s n d ≡ true) (new : freeInode s n ≡ At i) (inside : t < slots s d) (empty : slotEmpty s n d t ≡ true)
     (legal : legalName name ≡ true) (absent : findSlot s n d name ≡ Absent) where
   low : 1 ≤ i
@@ -78,7 +80,7 @@ module _ (s : List ℕ) (n d t i : ℕ) (k : Kind) (name : List ℕ) (h : Sound 
   high = free-inode s n i new .high
 
   slot : SlotIn s n d t
-  slot = slot-in s n d t h x dir inside
+  slot = slot-in h d t dir inside
 
   abbrev p : ℕ
   p = placeOf d t
@@ -88,13 +90,13 @@ module _ (s : List ℕ) (n d t i : ℕ) (k : Kind) (name : List ℕ) (h : Sound 
   m = putEntry s n d t i name
 
   alone : EntriesAlone s m n
-  alone = put-alone s s n d t h x (entries-stay s n) slot i name low
+  alone = put-alone h (entries-stay s n) slot i name low
 
-  stock : Stock m n (blocksIn s)
-  stock = entries-stock s m n (blocksIn s) (body-at s n h x) alone
+  stock : Stock m n b
+  stock = entries-stock s m n b (body-of h) alone
 
   there : InodeFits m n i
-  there = inode-fits s m n i (alone .frame .long) (fits s n h x i low high)
+  there = inode-fits s m n i (alone .frame .long) (fits h i low high)
 
   free : kindOf m i ≡ freeKind
   free = alone .inodes i low high .kind ∙ free-inode s n i new .kind
@@ -127,7 +129,7 @@ module _ (s : List ℕ) (n d t i : ℕ) (k : Kind) (name : List ℕ) (h : Sound 
 
   -- what it changes: the entry in slot t, and inode i, which is new
   pub create-filled : Filled s w n p i name
-  create-filled = filled-then (place-below slot) (bared-places m w n i v bared (new-size k d) bare) (put-filled s s n d t h x (entries-stay s n) slot i name low)
+  create-filled = filled-then (place-below slot) (bared-places m w n i v bared (new-size k d) bare) (put-filled h (entries-stay s n) slot i name low)
 
   pub create-others : OtherInodes s w n i
   create-others j l r z = inode-then (alone .inodes j l r) (bared .others j l r z)
@@ -135,18 +137,18 @@ module _ (s : List ℕ) (n d t i : ℕ) (k : Kind) (name : List ℕ) (h : Sound 
   pub create-new : NewInode w i (newInode k d)
   create-new = bared .new
 
-  after : Stock w n (blocksIn s)
+  after : Stock w n b
   after =
-      let f = bared-free m w n i v bared (new-size k d) (blocksIn s) low high stock (new-most k d) (λ e. absurd (used e)) (new-file k d) in
-      let g = bared-unnamed m w n i v bared (new-size k d) (blocksIn s) low high stock (new-most k d) (λ e. absurd (used e)) (new-file k d) in
+      let f = bared-free m w n i v bared (new-size k d) b low high stock (new-most k d) (λ e. absurd (used e)) (new-file k d) in
+      let g = bared-unnamed m w n i v bared (new-size k d) b low high stock (new-most k d) (λ e. absurd (used e)) (new-file k d) in
       let a = one-same (kindOf m i) freeKind free in
-      let b = one-other (v .kind) freeKind used in
+      let o = one-other (v .kind) freeKind used in
       let y = no-blocks (sizeOf m i) (stock .inodes i low high .free free .1 .0) in
       let c = ap (λ (o : Header). o .«free_inodes») header in
       let e = ap (λ (o : Header). o .«free_blocks») header in
       let p = stock .free-inodes in
       let q = stock .free-blocks in
-      bared-stock m w n i v bared (new-size k d) (blocksIn s) low high stock (new-most k d) (λ e. absurd (used e)) (new-file k d)
+      bared-stock m w n i v bared (new-size k d) b low high stock (new-most k d) (λ e. absurd (used e)) (new-file k d)
       (counts .free-inodes ∙ omega arith) (counts .free-blocks ∙ omega arith)
 
   tree : Tree n (nodesOf w n)
@@ -154,13 +156,13 @@ module _ (s : List ℕ) (n d t i : ℕ) (k : Kind) (name : List ℕ) (h : Sound 
       let o = create-others in
       let r = create-new in
       let f = free-inode s n i new .kind in
-      tree-create n i (nodesOf s n) (nodesOf w n) (tree-at s n h x) (above-at s n h x) low high
+      tree-create n i (nodesOf s n) (nodesOf w n) (tree-at h) (above-at h) low high
       (nodes-else o)
       p d (place-below slot) (place-dir d t (slot .low) (slot .small)) (place-bare s n d t slot empty) (create-filled .names) (λ q l z. create-filled .others q l z .names)
-      (slot .dir) f (body-at s n h x .inodes i low high .free f .0)
+      (slot .dir) f (body-of h .inodes i low high .free f .0)
       (λ e. used (sym (r .kind) ∙ e)) (λ e. r .parent ∙ new-parent k d (sym (r .kind) ∙ e)) (r .links ∙ new-links k d)
 
   pub create-sound : Sound Store (lessFree (putInode (putEntry s n d t i name) n i (newInode k d)) 1 0)
   create-sound =
-      stock-sound s w n h x (frame-then (alone .frame) (bared .frame)) after
-      (names-filled s w n (names-at s n h x) p i name create-filled low legal (absent-new s n d name t (slot .low) (slot .small) absent)) tree
+      stock-sound h (frame-then (alone .frame) (bared .frame)) after
+      (names-filled s w n (names-at h) p i name create-filled low legal (absent-new s n d name t (slot .low) (slot .small) absent)) tree

@@ -24,10 +24,11 @@ use Rattle.blocks.specs.Fits.{Sized}
 use Rattle.directory.specs.Slot.{slots, putEntry, clearEntry}
 use Rattle.directory.proofs.SlotLaws.{block-fits, length-put, fits-clear, slots-clear, length-clear}
 use Rattle.directory.specs.Fits.{DirFits}
-use Rattle.sound.specs.Sound.{Sound, inodesIn, blocksIn}
+use Rattle.sound.specs.Sound.{Sound, inodesIn}
+use Rattle.sound.specs.Counted.{SoundStore}
 use Rattle.sound.specs.Place.{naming}
 use Rattle.sound.specs.declared.Form.the-variants.{Store}
-use Rattle.changes.proofs.StoreLaws.{sized-at, fits, dir-of, kind-some, kind-most, kind-dir, kind-fits}
+use Rattle.changes.proofs.StoreLaws.{same-counts, sized-at, fits, dir-of, kind-some, kind-most, kind-dir, kind-fits}
 use Rattle.changes.proofs.SameLaws.{SameInode, put-entry, clear-entry}
 use Rattle.changes.proofs.KeepLaws.{same-slots, body-of}
 use Rattle.changes.proofs.FreeLaws.{free-inode, inode-counted, free-block, block-counted, few-free-inodes, few-free-blocks}
@@ -49,7 +50,7 @@ few-links s h i l m =
     omega arith
 
 -- ---- the room in d
-module _ (s : List ℕ) (n b d : ℕ) (r : Room) (h : Sound Store s) (x : n ≡ inodesIn s) (y : b ≡ blocksIn s) (k : isDirectory s n d ≡ true) (e : roomIn s n b d ≡ Has r) where
+module _ (s : List ℕ) (n b d : ℕ) (r : Room) (h : SoundStore s n b) (k : isDirectory s n d ≡ true) (e : roomIn s n b d ≡ Has r) where
   pub room-none : r .block ≡ 0 → s ≡ makeRoom s n d r
   unfolding makeRoom
   room-none q = rw (eq-eqb (r .block) 0 q)
@@ -75,20 +76,17 @@ module _ (s : List ℕ) (n b d : ℕ) (r : Room) (h : Sound Store s) (x : n ≡ 
       go (block c u f z) =
           let w = free-block s n b c f in
           subst Takes (sym (ap (λ (v : Room). v .block) z))
-          (record { inode = kind-fits s n h x directoryKind d k; sized = sized-at s n b h x y; low = w .low; high = w .high; few = u; free = let f = body-of s n b h x y .free-blocks in let o = block-counted s n b c w in omega arith })
+          (record { inode = kind-fits h directoryKind d k; sized = sized-at h; low = w .low; high = w .high; few = u; free = let f = body-of h .free-blocks in let o = block-counted s n b c w in omega arith })
 
   -- t is the store with the room
   module _ (t : List ℕ) (q : t ≡ makeRoom s n d r) where
     pub roomed : Roomed s t n d (r .slot)
-    roomed = subst (λ (z : List ℕ). Roomed s z n d (r .slot)) (sym q) (make-room s n b d h x y k r e)
-
-    inodes : n ≡ inodesIn t
-    inodes = x ∙ sym (roomed .frame .inodes)
+    roomed = subst (λ (z : List ℕ). Roomed s z n d (r .slot)) (sym q) (make-room s n b d h k r e)
 
     -- a directory of s
     module _ (f : ℕ) (j : isDirectory s n f ≡ true) where
       pub roomed-dir : DirFits t n f
-      roomed-dir = dir-of t n (roomed .sound) inodes f (kind-some s n directoryKind f j) (kind-most s n directoryKind f j)
+      roomed-dir = dir-of (same-counts h (roomed .frame) (roomed .sound)) f (kind-some s n directoryKind f j) (kind-most s n directoryKind f j)
 
       pub roomed-slot : (v : ℕ) → v < slots s f → v < slots t f
       roomed-slot v l = go (ℕ-discrete f d)
@@ -112,23 +110,23 @@ module _ (s : List ℕ) (n d v : ℕ) (f : DirFits s n d) (l : v < slots s d) wh
   clear-header = clear-entry s n d v in-block .header
 
 -- ---- t is the sound store s with the entry in its room
-module _ (s : List ℕ) (n b d : ℕ) (r : Room) (h : Sound Store s) (x : n ≡ inodesIn s) (y : b ≡ blocksIn s) (k : isDirectory s n d ≡ true) (e : roomIn s n b d ≡ Has r) (i : ℕ) (name : List ℕ) (t : List ℕ) (q : t ≡ enter s n d r i name) where
+module _ (s : List ℕ) (n b d : ℕ) (r : Room) (h : SoundStore s n b) (k : isDirectory s n d ≡ true) (e : roomIn s n b d ≡ Has r) (i : ℕ) (name : List ℕ) (t : List ℕ) (q : t ≡ enter s n d r i name) where
   abbrev grown : List ℕ
   grown = makeRoom s n d r
 
   grown-is : Roomed s grown n d (r .slot)
-  grown-is = make-room s n b d h x y k r e
+  grown-is = make-room s n b d h k r e
 
   entered-header : headerOf t ≡ headerOf grown
   unfolding enter
-  entered-header = ap headerOf q ∙ put-header grown n d (r .slot) (roomed-dir s n b d r h x y k e grown refl d k) (grown-is .slot) i name
+  entered-header = ap headerOf q ∙ put-header grown n d (r .slot) (roomed-dir s n b d r h k e grown refl d k) (grown-is .slot) i name
 
   entered-length : length t ≡ length s
   unfolding enter
   entered-length = ap (length {A = ℕ}) q ∙ length-put grown n d (r .slot) i name ∙ grown-is .frame .long
 
   pub entered-fits : (j : ℕ) → 1 ≤ j → j ≤ n → InodeFits t n j
-  entered-fits j l m = inode-fits s t n j entered-length (fits s n h x j l m)
+  entered-fits j l m = inode-fits s t n j entered-length (fits h j l m)
 
   pub entered-free : headerOf t .«free_inodes» ≡ headerOf s .«free_inodes»
   entered-free = ap (λ (v : Header). v .«free_inodes») entered-header ∙ grown-is .free-inodes
@@ -137,7 +135,7 @@ module _ (s : List ℕ) (n b d : ℕ) (r : Room) (h : Sound Store s) (x : n ≡ 
   unfolding enter
   entered-links j l m =
       ap (λ (z : List ℕ). linksOf z j) q
-      ∙ put-inodes grown n d (r .slot) (roomed-dir s n b d r h x y k e grown refl d k) (grown-is .slot) i name j l m .links
+      ∙ put-inodes grown n d (r .slot) (roomed-dir s n b d r h k e grown refl d k) (grown-is .slot) i name j l m .links
       ∙ grown-is .tree .links j l m
 
 -- ---- one link less
@@ -165,30 +163,30 @@ module _ (s : List ℕ) (n i e : ℕ) (v : Inode) (q : v ≡ inodeOf s n i) wher
   parent-directory h w r ew er = rw (eq-eqb (kindOf s i) directoryKind (sym kind-is ∙ h), er, ew, q)
 
 -- the new inode written: one that is free is there to be counted off
-pub create-counts : (s : List ℕ) (n b d : ℕ) (r : Room) (h : Sound Store s) → n ≡ inodesIn s → b ≡ blocksIn s → isDirectory s n d ≡ true → roomIn s n b d ≡ Has r → (i : ℕ) (name t : List ℕ) → t ≡ enter s n d r i name
+pub create-counts : (s : List ℕ) (n b d : ℕ) (r : Room) → SoundStore s n b → isDirectory s n d ≡ true → roomIn s n b d ≡ Has r → (i : ℕ) (name t : List ℕ) → t ≡ enter s n d r i name
     → freeInode s n ≡ At i → (k : Kind) (u : List ℕ) → u ≡ putInode t n i (newInode k d) → (headerBytes ≤ length u) × (1 ≤ headerOf u .«free_inodes»)
-create-counts s n b d r h x y g e i name t q f k u w =
+create-counts s n b d r h g e i name t q f k u w =
     let o = free-inode s n i f in
-    let fit = entered-fits s n b d r h x y g e i name t q i (o .low) (o .high) in
+    let fit = entered-fits s n b d r h g e i name t q i (o .low) (o .high) in
     let a = ap (λ (z : List ℕ). headerOf z .«free_inodes») w ∙ ap (λ (v : Header). v .«free_inodes») (header-inode t n i (o .low) (o .high) (newInode k d)) in
-    let c = entered-free s n b d r h x y g e i name t q in
-    let j = body-of s n b h x y .free-inodes in
+    let c = entered-free s n b d r h g e i name t q in
+    let j = body-of h .free-inodes in
     let v = inode-counted s n i f in
     let l : length u ≡ length t = ap (length {A = ℕ}) w ∙ length-inode t n i (newInode k d) in
     let m = fit .area in
     (omega arith, omega arith)
 
 -- ---- a move: t has the room in e, u has slot v of d empty too, w has the entry
-module _ (s : List ℕ) (n b e : ℕ) (r : Room) (h : Sound Store s) (x : n ≡ inodesIn s) (y : b ≡ blocksIn s) (k : isDirectory s n e ≡ true) (g : roomIn s n b e ≡ Has r) (t : List ℕ) (q : t ≡ makeRoom s n e r) (d v : ℕ) (u : List ℕ) (p : u ≡ clearEntry t n d v) where
+module _ (s : List ℕ) (n b e : ℕ) (r : Room) (h : SoundStore s n b) (k : isDirectory s n e ≡ true) (g : roomIn s n b e ≡ Has r) (t : List ℕ) (q : t ≡ makeRoom s n e r) (d v : ℕ) (u : List ℕ) (p : u ≡ clearEntry t n d v) where
   to-dir : DirFits t n e
-  to-dir = roomed-dir s n b e r h x y k g t q e k
+  to-dir = roomed-dir s n b e r h k g t q e k
 
   pub moving-dir : DirFits u n e
   moving-dir = subst (λ (z : List ℕ). DirFits z n e) (sym p) (fits-clear t n d v e to-dir)
 
   pub moving-slot : r .slot < slots u e
   moving-slot =
-      let a = roomed s n b e r h x y k g t q .slot in
+      let a = roomed s n b e r h k g t q .slot in
       let c = ap (λ (z : List ℕ). slots z e) p ∙ slots-clear t n d v e (to-dir .inode .low) (to-dir .inode .high) in
       omega arith
 
@@ -196,11 +194,11 @@ module _ (s : List ℕ) (n b e : ℕ) (r : Room) (h : Sound Store s) (x : n ≡ 
   moving-fits i other w z j l m =
       let a = ap (length {A = ℕ}) z ∙ length-put u n e (r .slot) i other in
       let c = ap (length {A = ℕ}) p ∙ length-clear t n d v in
-      let f = roomed s n b e r h x y k g t q .frame .long in
-      inode-fits s w n j (a ∙ c ∙ f) (fits s n h x j l m)
+      let f = roomed s n b e r h k g t q .frame .long in
+      inode-fits s w n j (a ∙ c ∙ f) (fits h j l m)
 
 -- ---- an unlink: t has slot v of d empty
-module _ (s : List ℕ) (n : ℕ) (h : Sound Store s) (x : n ≡ inodesIn s) (d v : ℕ) (k : isDirectory s n d ≡ true) (l : v < slots s d) (t : List ℕ) (q : t ≡ clearEntry s n d v) where
+module _ {s : List ℕ} {n b : ℕ} (h : SoundStore s n b) (d v : ℕ) (k : isDirectory s n d ≡ true) (l : v < slots s d) (t : List ℕ) (q : t ≡ clearEntry s n d v) where
   pub record Cleared (i : ℕ) : Type 0 where
     pub inode : InodeFits t n i
     pub inodes : headerOf t .«free_inodes» ≤ mostInodes
@@ -208,13 +206,13 @@ module _ (s : List ℕ) (n : ℕ) (h : Sound Store s) (x : n ≡ inodesIn s) (d 
 
   pub cleared : (i : ℕ) → 1 ≤ i → i ≤ n → Cleared i
   cleared i a b =
-      let c = ap headerOf q ∙ clear-header s n d v (kind-dir s n h x directoryKind d k) l in
+      let c = ap headerOf q ∙ clear-header s n d v (kind-dir h directoryKind d k) l in
       let e = ap (λ (z : Header). z .«free_inodes») c in
       let f = ap (λ (z : Header). z .«free_blocks») c in
-      let g = few-free-inodes s h in
-      let j = few-free-blocks s h in
+      let g = few-free-inodes s (h .sound) in
+      let j = few-free-blocks s (h .sound) in
       record {
-        inode = inode-fits s t n i (ap (length {A = ℕ}) q ∙ length-clear s n d v) (fits s n h x i a b);
+        inode = inode-fits s t n i (ap (length {A = ℕ}) q ∙ length-clear s n d v) (fits h i a b);
         inodes = omega arith;
         blocks = omega arith;
       }

@@ -11,19 +11,21 @@ use Rattle.layout.specs.Fits.{InodeFits}
 use Rattle.names.specs.Name.{legalName}
 use Rattle.directory.specs.Slot.{slots, findSlot, slotEmpty, putEntry}
 use Rattle.sound.specs.Place.{placeOf}
-use Rattle.sound.specs.Sound.{Sound, inodesIn, blocksIn}
+use Rattle.sound.specs.Sound.{Sound}
+use Rattle.sound.specs.Counted.{SoundStore}
 use Rattle.sound.specs.declared.Form.the-variants.{Store}
 use Rattle.changes.proofs.SameLaws.{OtherInodes, SameBody, same-body, body-then, links-new, links-parent, frame-then, inode-then}
+use Rattle.changes.proofs.KeepLaws.{body-of}
 use Rattle.changes.proofs.StoreLaws.{kind-some, kind-most, kind-is, kind-fits}
 use Rattle.changes.proofs.ChangeLaws.{Filled, filled-then, names-filled}
 use Rattle.changes.proofs.TreeLaws.{Tree, tree-link}
-use Rattle.changes.proofs.SoundTreeLaws.{nodesOf, nodes-else, body-at, names-at, above-at, tree-at}
+use Rattle.changes.proofs.SoundTreeLaws.{nodesOf, nodes-else, names-at, above-at, tree-at}
 use Rattle.changes.proofs.EntryWriteLaws.{EntriesAlone, entries-stay, SlotIn, slot-in, place-below, put-alone, put-filled}
 use Rattle.changes.proofs.InodeWriteLaws.{Relinked, relinked-places, links-relinked}
 use Rattle.changes.proofs.SlotPlaceLaws.{absent-new, place-bare}
 use Rattle.changes.proofs.StockLaws.{entries-stock, relinked-stock, stock-sound}
 
-module _ (s : List ℕ) (n d t i : ℕ) (name : List ℕ) (h : Sound Store s) (x : n ≡ inodesIn s)
+module _ (s : List ℕ) (n d t i : ℕ) (name : List ℕ) {b : ℕ} (h : SoundStore s n b)
     (dir : isDirectory s n d ≡ true) (file : isFile s n i ≡ true) (inside : t < slots s d) (empty : slotEmpty s n d t ≡ true)
     (legal : legalName name ≡ true) (absent : findSlot s n d name ≡ Absent) where
   low : 1 ≤ i
@@ -33,7 +35,7 @@ module _ (s : List ℕ) (n d t i : ℕ) (name : List ℕ) (h : Sound Store s) (x
   high = kind-most s n fileKind i file
 
   slot : SlotIn s n d t
-  slot = slot-in s n d t h x dir inside
+  slot = slot-in h d t dir inside
 
   abbrev p : ℕ
   p = placeOf d t
@@ -43,10 +45,10 @@ module _ (s : List ℕ) (n d t i : ℕ) (name : List ℕ) (h : Sound Store s) (x
   m = putEntry s n d t i name
 
   alone : EntriesAlone s m n
-  alone = put-alone s s n d t h x (entries-stay s n) slot i name low
+  alone = put-alone h (entries-stay s n) slot i name low
 
   fits : InodeFits m n i
-  fits = inode-fits s m n i (alone .frame .long) (kind-fits s n h x fileKind i file)
+  fits = inode-fits s m n i (alone .frame .long) (kind-fits h fileKind i file)
 
   -- and with the link
   abbrev w : List ℕ
@@ -57,7 +59,7 @@ module _ (s : List ℕ) (n d t i : ℕ) (name : List ℕ) (h : Sound Store s) (x
 
   -- what it changes: the entry in slot t, and of inode i the links
   pub link-filled : Filled s w n p i name
-  link-filled = filled-then (place-below slot) (relinked-places relinked) (put-filled s s n d t h x (entries-stay s n) slot i name low)
+  link-filled = filled-then (place-below slot) (relinked-places relinked) (put-filled h (entries-stay s n) slot i name low)
 
   pub link-others : OtherInodes s w n i
   link-others j l r z = inode-then (alone .inodes j l r) (relinked .inode .others j l r z)
@@ -77,13 +79,13 @@ module _ (s : List ℕ) (n d t i : ℕ) (name : List ℕ) (h : Sound Store s) (x
   tree : Tree n (nodesOf w n)
   tree =
       let o = link-others in
-      tree-link n i (nodesOf s n) (nodesOf w n) (tree-at s n h x) (above-at s n h x) low high
+      tree-link n i (nodesOf s n) (nodesOf w n) (tree-at h) (above-at h) low high
       (nodes-else o) (link-body .kind) (parent ∙ alone .inodes i low high .parent)
       p (place-below slot) (place-bare s n d t slot empty) (link-filled .names) (λ q l z. link-filled .others q l z .names)
       (kind-is s n fileKind i file) link-links
 
   pub link-sound : Sound Store (putLinks (putEntry s n d t i name) i (linksOf (putEntry s n d t i name) i + 1))
   link-sound =
-      stock-sound s w n h x (frame-then (alone .frame) (relinked .inode .frame))
-      (relinked-stock m w n (blocksIn s) i relinked (λ z. let k = kind in omega arith) (λ _. parent) low high (entries-stock s m n (blocksIn s) (body-at s n h x) alone))
-      (names-filled s w n (names-at s n h x) p i name link-filled low legal (absent-new s n d name t (slot .low) (slot .small) absent)) tree
+      stock-sound h (frame-then (alone .frame) (relinked .inode .frame))
+      (relinked-stock m w n b i relinked (λ z. let k = kind in omega arith) (λ _. parent) low high (entries-stock s m n b (body-of h) alone))
+      (names-filled s w n (names-at h) p i name link-filled low legal (absent-new s n d name t (slot .low) (slot .small) absent)) tree

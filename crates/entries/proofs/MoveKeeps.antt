@@ -18,15 +18,16 @@ use Rattle.blocks.proofs.ViewLaws.{inode-fits}
 use Rattle.names.specs.Name.{legalName}
 use Rattle.directory.specs.Slot.{mostSlots, slots, findSlot, slotEmpty, putEntry, clearEntry, inodeAt}
 use Rattle.sound.specs.Place.{naming, placeOf}
-use Rattle.sound.specs.Sound.{Sound, inodesIn, blocksIn}
+use Rattle.sound.specs.Sound.{Sound}
+use Rattle.sound.specs.Counted.{SoundStore}
 use Rattle.sound.proofs.PlaceLaws.{place-dir}
 use Rattle.sound.specs.declared.Form.the-variants.{Store}
 use Rattle.changes.proofs.SameLaws.{OtherInodes, SameBody, same-body, body-then, SameFrame, frame-stays, frame-then, inode-stays, inode-then}
-use Rattle.changes.proofs.KeepLaws.{SamePlace, SameTree, tree-stays}
+use Rattle.changes.proofs.KeepLaws.{SamePlace, SameTree, tree-stays, body-of}
 use Rattle.changes.proofs.StoreLaws.{fits, kind-some, kind-most, kind-is}
 use Rattle.changes.proofs.ChangeLaws.{Emptied, Filled, filled-then, names-emptied, names-filled, new-emptied}
 use Rattle.changes.proofs.TreeLaws.{Nodes, Tree, Dir, Above, parent-dir, tree-move}
-use Rattle.changes.proofs.SoundTreeLaws.{nodesOf, nodes-else, body-at, names-at, above-at, tree-at}
+use Rattle.changes.proofs.SoundTreeLaws.{nodesOf, nodes-else, names-at, above-at, tree-at}
 use Rattle.changes.proofs.EntryWriteLaws.{EntriesAlone, entries-stay, SlotIn, slot-in, place-below, clear-alone, clear-emptied, put-alone, put-filled}
 use Rattle.changes.proofs.InodeWriteLaws.{relinked-places, parent-relinked, parent-links, parent-put}
 use Rattle.changes.proofs.SlotPlaceLaws.{EntryHere, entry-here, absent-new, place-bare}
@@ -58,17 +59,17 @@ module _ (n : ℕ) (v : Nodes) (t : Tree n v) (a : Above n v) (none : v .parent 
   leads-other up h d l = leads-kept Under (v .parent) up i n under (λ x k. h x (k .0)) (l .0) e (d, l) (l .1)
 
 -- ---- refusal 10 and what it says on a sound store
-module _ (s : List ℕ) (n i e : ℕ) (h : Sound Store s) (x : n ≡ inodesIn s) (low : 1 ≤ i) (not-root : i ≢ rootInode) (dir : isDirectory s n e ≡ true) where
+module _ (s : List ℕ) (n i e : ℕ) {b : ℕ} (h : SoundStore s n b) (low : 1 ≤ i) (not-root : i ≢ rootInode) (dir : isDirectory s n e ≡ true) where
   above : Dir n (nodesOf s n) e
   above = record { low = kind-some s n directoryKind e dir; high = kind-most s n directoryKind e dir; kind = kind-is s n directoryKind e dir }
 
   none : parentOf s 0 ≡ 0
-  none = zero-parent s (h .root-parent)
+  none = zero-parent s (h .sound .root-parent)
 
   pub not-below : isBelow s n i e ≡ false → kindOf s i ≡ directoryKind → Leads (parentOf s) i e → ⊥
   unfolding isBelow
   not-below f k =
-      leads-not n (nodesOf s n) (tree-at s n h x) (above-at s n h x) none i e low not-root above
+      leads-not n (nodesOf s n) (tree-at h) (above-at h) none i e low not-root above
       (sym (ap (λ (b : Bool). b && leadsB (parentOf s) i n e) (eq-eqb (kindOf s i) directoryKind k)) ∙ f)
 
   -- it is refused in no store with the tree of one in which it is not
@@ -80,14 +81,14 @@ module _ (s : List ℕ) (n i e : ℕ) (h : Sound Store s) (x : n ≡ inodesIn s)
       let k = eqb-true (kindOf s i) directoryKind (and-left (eqb (kindOf s i) directoryKind) (leadsB (parentOf s) i n e) z) in
       let c = leads-prop (parentOf s) i n e (and-right (eqb (kindOf s i) directoryKind) (leadsB (parentOf s) i n e) z) in
       f (sym (t .kinds i low m) ∙ k)
-      (leads-other n (nodesOf s n) (tree-at s n h x) (above-at s n h x) none i e low not-root (parentOf r) (λ y d. sym (t .parents y (d .low) (d .high))) above c))
+      (leads-other n (nodesOf s n) (tree-at h) (above-at h) none i e low not-root (parentOf r) (λ y d. sym (t .parents y (d .low) (d .high))) above c))
 
-module _ (s : List ℕ) (n d t i e u : ℕ) (other : List ℕ) (h : Sound Store s) (x : n ≡ inodesIn s)
+module _ (s : List ℕ) (n d t i e u : ℕ) (other : List ℕ) {b : ℕ} (h : SoundStore s n b)
     (from : isDirectory s n d ≡ true) (inside : t < slots s d) (full : slotEmpty s n d t ≡ false) (is : i ≡ inodeAt s n d t)
     (into : isDirectory s n e ≡ true) (room : u < slots s e) (empty : slotEmpty s n e u ≡ true)
     (legal : legalName other ≡ true) (absent : findSlot s n e other ≡ Absent) (apart : isBelow s n i e ≡ false) where
   old : EntryHere s n d t i
-  old = entry-here s n d t i h x from inside full is
+  old = entry-here h d t i from inside full is
 
   low : 1 ≤ i
   low = old .low
@@ -96,7 +97,7 @@ module _ (s : List ℕ) (n d t i e u : ℕ) (other : List ℕ) (h : Sound Store 
   high = old .high
 
   target : SlotIn s n e u
-  target = slot-in s n e u h x into room
+  target = slot-in h e u into room
 
   abbrev p : ℕ
   p = placeOf d t
@@ -115,23 +116,23 @@ module _ (s : List ℕ) (n d t i e u : ℕ) (other : List ℕ) (h : Sound Store 
   m = clearEntry s n d t
 
   alone : EntriesAlone s m n
-  alone = clear-alone s s n d t h x (entries-stay s n) (old .slot)
+  alone = clear-alone h (entries-stay s n) (old .slot)
 
   emptied : Emptied s m n p
-  emptied = clear-emptied s s n d t h x (entries-stay s n) (old .slot)
+  emptied = clear-emptied h (entries-stay s n) (old .slot)
 
   -- and the new one filled
   abbrev g : List ℕ
   g = putEntry m n e u i other
 
   both : EntriesAlone s g n
-  both = put-alone s m n e u h x alone target i other low
+  both = put-alone h alone target i other low
 
   entered : Filled m g n q i other
-  entered = put-filled s m n e u h x alone target i other low
+  entered = put-filled h alone target i other low
 
-  stock : Stock g n (blocksIn s)
-  stock = entries-stock s g n (blocksIn s) (body-at s n h x) both
+  stock : Stock g n b
+  stock = entries-stock s g n b (body-of h) both
 
   -- then at most the parent of i changes
   record Rehomed (w : List ℕ) : Type 0 where
@@ -141,7 +142,7 @@ module _ (s : List ℕ) (n d t i e u : ℕ) (other : List ℕ) (h : Sound Store 
     body : SameBody g w n i
     links : linksOf w i ≡ linksOf g i
     up : kindOf s i ≡ directoryKind → parentOf w i ≡ e
-    stock : Stock w n (blocksIn s)
+    stock : Stock w n b
 
   abbrev w : List ℕ
   w = setParent g n i e
@@ -152,7 +153,7 @@ module _ (s : List ℕ) (n d t i e u : ℕ) (other : List ℕ) (h : Sound Store 
     where
       go : (b : Bool) → eqb (kindOf g i) directoryKind ≡ b → Rehomed (pick b (putAttributes g i (withParent (inodeOf g n i) e)) g)
       go true k =
-          let there = inode-fits s g n i (both .frame .long) (fits s n h x i low high) in
+          let there = inode-fits s g n i (both .frame .long) (fits h i low high) in
           let y = stock .inodes i low high .spare in
           let a = eqb-true (kindOf g i) directoryKind k in
           let r = parent-relinked g n i there e y in
@@ -163,7 +164,7 @@ module _ (s : List ℕ) (n d t i e u : ℕ) (other : List ℕ) (h : Sound Store 
             body = r .body;
             links = parent-links g n i there e y;
             up = λ _. parent-put g n i there e y;
-            stock = relinked-stock g (putAttributes g i (withParent (inodeOf g n i) e)) n (blocksIn s) i r (λ z. omega arith) (λ z. absurd (omega arith)) low high stock;
+            stock = relinked-stock g (putAttributes g i (withParent (inodeOf g n i) e)) n b i r (λ z. omega arith) (λ z. absurd (omega arith)) low high stock;
           }
       go false k =
           record {
@@ -200,15 +201,15 @@ module _ (s : List ℕ) (n d t i e u : ℕ) (other : List ℕ) (h : Sound Store 
       let o = move-others in
       let f = move-filled in
       let l = place-below (old .slot) in
-      tree-move n i (nodesOf s n) (nodesOf w n) (tree-at s n h x) (above-at s n h x) low high
+      tree-move n i (nodesOf s n) (nodesOf w n) (tree-at h) (above-at h) low high
       (nodes-else o)
       p q e l (place-below target) (place-dir e u (target .low) (target .small))
       (old .names) (f .others p l other-place .names ∙ emptied .names) free (f .names) (λ r l y z. f .others r l z .names ∙ emptied .others r l y .names)
-      (target .dir) (not-below s n i e h x low (old .not-root) into apart) (move-body .kind) move-links move-parent
+      (target .dir) (not-below s n i e h low (old .not-root) into apart) (move-body .kind) move-links move-parent
 
   pub move-sound : Sound Store (setParent (putEntry (clearEntry s n d t) n e u i other) n i e)
   move-sound =
-      stock-sound s w n h x (frame-then (both .frame) (rehomed .frame)) (rehomed .stock)
-      (names-filled m w n (names-emptied s m n (names-at s n h x) p emptied) q i other move-filled low legal
+      stock-sound h (frame-then (both .frame) (rehomed .frame)) (rehomed .stock)
+      (names-filled m w n (names-emptied s m n (names-at h) p emptied) q i other move-filled low legal
       (new-emptied s m n p q other emptied (absent-new s n e other u (target .low) (target .small) absent)))
       tree

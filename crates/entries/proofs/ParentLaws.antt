@@ -10,10 +10,10 @@ use Rattle.bounded.proofs.BoolLaws.{fails}
 use Rattle.bounded.proofs.ClimbLaws.{leads-prop, leads-here, leads-turn, leads-end, leads-top}
 use Rattle.layout.specs.Sizes.{rootInode}
 use Rattle.layout.specs.Inode.{parentOf, directoryKind, isDirectory}
-use Rattle.sound.specs.Sound.{Sound, inodesIn}
+use Rattle.sound.specs.Sound.{inodesIn}
+use Rattle.sound.specs.Counted.{SoundStore}
 use Rattle.sound.specs.Place.{IsDir}
 use Rattle.sound.proofs.FactLaws.{naming-dir}
-use Rattle.sound.specs.declared.Form.the-variants.{Store}
 use Rattle.changes.proofs.StoreLaws.{kind-some, kind-most, kind-is}
 
 -- ---- above the root there is nothing
@@ -28,7 +28,7 @@ pub record Climbing (s : List ℕ) (n i e k x : ℕ) : Type 0 where
   pub dir : IsDir s n x
   pub left : leadsB (parentOf s) i n e ≡ leadsB (parentOf s) i (n - k) x
 
-module _ (s : List ℕ) (n i e : ℕ) (h : Sound Store s) (q : n ≡ inodesIn s) where
+module _ (s : List ℕ) (n i e : ℕ) {b : ℕ} (h : SoundStore s n b) where
   pub climbing-start : isDirectory s n e ≡ true → Climbing s n i e 0 e
   climbing-start d =
       let z : n ≡ n - 0 = omega arith in
@@ -44,15 +44,16 @@ module _ (s : List ℕ) (n i e : ℕ) (h : Sound Store s) (q : n ≡ inodesIn s)
 
     pub climbing-root : 1 ≤ i → (x ≡ i → ⊥) → x ≡ rootInode → false ≡ leadsB (parentOf s) i n e
     climbing-root l f r =
-        sym (c .left ∙ ap (leadsB (parentOf s) i (n - k)) r ∙ fails (leadsB (parentOf s) i (n - k) rootInode) (λ z. leads-top (parentOf s) i (zero-parent s (h .root-parent)) rootInode (h .root-parent) l (λ y. f (r ∙ y)) (leads-prop (parentOf s) i (n - k) rootInode z)))
+        sym (c .left ∙ ap (leadsB (parentOf s) i (n - k)) r ∙ fails (leadsB (parentOf s) i (n - k) rootInode) (λ z. leads-top (parentOf s) i (zero-parent s (h .sound .root-parent)) rootInode (h .sound .root-parent) l (λ y. f (r ∙ y)) (leads-prop (parentOf s) i (n - k) rootInode z)))
 
     pub climbing-turn : k < n → (x ≡ i → ⊥) → (x ≡ rootInode → ⊥) → (y : ℕ) → y ≡ parentOf s x → Climbing s n i e (k + 1) y
     climbing-turn l f r y p =
         let m : n - k ≡ n - (k + 1) + 1 = omega arith in
+        let q = h .inodes in
         let d : IsDir s (inodesIn s) x = subst (λ (z : ℕ). IsDir s z x) q (c .dir) in
         record {
           few = omega arith;
-          dir = subst (λ (z : ℕ). IsDir s z y) (sym q) (subst (IsDir s (inodesIn s)) (sym p) (naming-dir h x d r .1 .above));
+          dir = subst (λ (z : ℕ). IsDir s z y) (sym q) (subst (IsDir s (inodesIn s)) (sym p) (naming-dir (h .sound) x d r .1 .above));
           left = c .left ∙ ap (λ (j : ℕ). leadsB (parentOf s) i j x) m ∙ leads-turn (parentOf s) i (n - (k + 1)) x f ∙ ap (leadsB (parentOf s) i (n - (k + 1))) (sym p);
         }
 

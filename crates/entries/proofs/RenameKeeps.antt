@@ -9,21 +9,23 @@ use Rattle.names.specs.Name.{legalName}
 use Rattle.layout.specs.Inode.{isDirectory}
 use Rattle.directory.specs.Slot.{slots, findSlot, slotEmpty, putEntry, inodeAt}
 use Rattle.sound.specs.Place.{naming, placeOf}
-use Rattle.sound.specs.Sound.{Sound, inodesIn, blocksIn}
+use Rattle.sound.specs.Sound.{Sound}
+use Rattle.sound.specs.Counted.{SoundStore}
 use Rattle.sound.specs.declared.Form.the-variants.{Store}
+use Rattle.changes.proofs.KeepLaws.{body-of}
 use Rattle.changes.proofs.ChangeLaws.{Filled, names-filled}
 use Rattle.changes.proofs.TreeLaws.{Tree, tree-rename}
-use Rattle.changes.proofs.SoundTreeLaws.{nodesOf, nodes-else, body-at, names-at, above-at, tree-at}
+use Rattle.changes.proofs.SoundTreeLaws.{nodesOf, nodes-else, names-at, above-at, tree-at}
 use Rattle.changes.proofs.EntryWriteLaws.{EntriesAlone, entries-stay, put-alone, put-filled}
 use Rattle.changes.proofs.SlotPlaceLaws.{EntryHere, entry-here, absent-new}
 use Rattle.changes.proofs.StockLaws.{entries-stock, stock-sound}
 use Rattle.entries.specs.Apply.{renamed}
 
-module _ (s : List ℕ) (n d t i : ℕ) (other : List ℕ) (h : Sound Store s) (x : n ≡ inodesIn s)
+module _ (s : List ℕ) (n d t i : ℕ) (other : List ℕ) {b : ℕ} (h : SoundStore s n b)
     (dir : isDirectory s n d ≡ true) (inside : t < slots s d) (full : slotEmpty s n d t ≡ false) (is : i ≡ inodeAt s n d t)
     (legal : legalName other ≡ true) (absent : findSlot s n d other ≡ Absent) where
   old : EntryHere s n d t i
-  old = entry-here s n d t i h x dir inside full is
+  old = entry-here h d t i dir inside full is
 
   abbrev p : ℕ
   p = placeOf d t
@@ -33,16 +35,16 @@ module _ (s : List ℕ) (n d t i : ℕ) (other : List ℕ) (h : Sound Store s) (
 
   -- what it changes: entries alone, and of them the one in slot t
   pub rename-alone : EntriesAlone s w n
-  rename-alone = put-alone s s n d t h x (entries-stay s n) (old .slot) i other (old .low)
+  rename-alone = put-alone h (entries-stay s n) (old .slot) i other (old .low)
 
   pub rename-filled : Filled s w n p i other
-  rename-filled = put-filled s s n d t h x (entries-stay s n) (old .slot) i other (old .low)
+  rename-filled = put-filled h (entries-stay s n) (old .slot) i other (old .low)
 
   tree : Tree n (nodesOf w n)
   tree =
       let a = rename-alone .inodes in
       let o = a i (old .low) (old .high) in
-      tree-rename n i (nodesOf s n) (nodesOf w n) (tree-at s n h x) (above-at s n h x) (old .low) (old .high)
+      tree-rename n i (nodesOf s n) (nodesOf w n) (tree-at h) (above-at h) (old .low) (old .high)
       (nodes-else (λ j l m _. a j l m)) (o .kind) (o .parent)
       (λ q l. elim (ℕ-discrete q p) as (λ _. naming w n q ≡ naming s n q) [
         | yes e ↦ ap (naming w n) e ∙ rename-filled .names ∙ sym (old .names) ∙ ap (naming s n) (sym e)
@@ -52,5 +54,5 @@ module _ (s : List ℕ) (n d t i : ℕ) (other : List ℕ) (h : Sound Store s) (
 
   pub rename-sound : Sound Store (renamed s n d other t i)
   rename-sound =
-      stock-sound s w n h x (rename-alone .frame) (entries-stock s w n (blocksIn s) (body-at s n h x) rename-alone)
-      (names-filled s w n (names-at s n h x) p i other rename-filled (old .low) legal (absent-new s n d other t (old .slot .low) (old .slot .small) absent)) tree
+      stock-sound h (rename-alone .frame) (entries-stock s w n b (body-of h) rename-alone)
+      (names-filled s w n (names-at h) p i other rename-filled (old .low) legal (absent-new s n d other t (old .slot .low) (old .slot .small) absent)) tree

@@ -22,7 +22,8 @@ use Rattle.names.specs.Entry.{sameName}
 use Rattle.names.proofs.EntryLaws.{empty-not-named}
 use Rattle.directory.specs.Slot.{slots, entryOf, slotHasName, findSlot, slotEmpty, emptySlot}
 use Rattle.directory.proofs.SlotLaws.{empty-below, empty-at}
-use Rattle.sound.specs.Sound.{Sound, inodesIn, blocksIn}
+use Rattle.sound.specs.Sound.{Sound}
+use Rattle.sound.specs.Counted.{SoundStore}
 use Rattle.sound.specs.declared.Form.the-variants.{Store}
 use Rattle.answers.specs.declared.Refusal.the-variants.{NoBlocks, NoSlot}
 use Rattle.changes.proofs.StoreLaws.{kind-read, kind-low, kind-high, kind-some, kind-most, kind-is}
@@ -66,7 +67,7 @@ pub record Roomed (s t : List ℕ) (n d u : ℕ) : Type 0 where
   pub slot : u < slots t d
   pub empty : slotEmpty t n d u ≡ true
 
-module _ (s : List ℕ) (n b d : ℕ) (h : Sound Store s) (x : n ≡ inodesIn s) (y : b ≡ blocksIn s) (k : isDirectory s n d ≡ true) where
+module _ (s : List ℕ) (n b d : ℕ) (h : SoundStore s n b) (k : isDirectory s n d ≡ true) where
   low : 1 ≤ d
   low = kind-some s n directoryKind d k
 
@@ -78,7 +79,7 @@ module _ (s : List ℕ) (n b d : ℕ) (h : Sound Store s) (x : n ≡ inodesIn s)
 
   room-slot : (t : ℕ) → emptySlot s n d ≡ At t → Roomed s s n d t
   room-slot t e = record {
-    sound = h;
+    sound = h .sound;
     frame = frame-stays s;
     tree = tree-stays s n;
     others = λ j _ _ _. inode-stays s n j;
@@ -93,17 +94,17 @@ module _ (s : List ℕ) (n b d : ℕ) (h : Sound Store s) (x : n ≡ inodesIn s)
   room-block : (c : ℕ) → blocksUsed (sizeOf s d) < mostDirectoryBlocks → FreeBlock s n b c → Roomed s (addBlock s n d c) n d (slots s d)
   room-block c u w =
       let t = addBlock s n d c in
-      let g = block-added s n b d c h x y low high u w in
+      let g = block-added s n b d c h low high u w in
       let z = grown-slots s t n d c g in
       let e = grown-empty s t n d c g in
       record {
-        sound = add-block-sound s n b d c h x y low high u w in-use;
+        sound = add-block-sound s n b d c h low high u w in-use;
         frame = g .frame;
-        tree = grown-tree s t n b d c h x y g low high in-use u (w .low) (w .high) (w .free);
+        tree = grown-tree s t n b d c h g low high in-use u (w .low) (w .high) (w .free);
         others = g .others;
         free-inodes = g .free-inodes;
         more = omega arith;
-        entries = grown-entry s t n b d c h x y g low high in-use u (w .low) (w .high) (w .free);
+        entries = grown-entry s t n b d c h g low high in-use u (w .low) (w .high) (w .free);
         new = unfold slotEmpty in e;
         slot = omega arith;
         empty = unfold slotEmpty in e (slots s d) (omega arith) (omega arith);

@@ -21,15 +21,17 @@ use Rattle.layout.specs.Fits.{InodeFits}
 use Rattle.names.specs.Entry.{isEmpty}
 use Rattle.directory.specs.Slot.{mostSlots, slots, entryOf, slotEmpty, clearEntry, inodeAt}
 use Rattle.sound.specs.Place.{dirOf, slotOf, entryAt, filled, placeOf}
-use Rattle.sound.specs.Sound.{Sound, inodesIn, blocksIn}
+use Rattle.sound.specs.Sound.{Sound}
+use Rattle.sound.specs.Counted.{SoundStore}
 use Rattle.sound.proofs.PlaceLaws.{slot-is, filled-is}
 use Rattle.sound.specs.declared.Form.the-variants.{Store}
 use Rattle.changes.proofs.SameLaws.{OtherInodes, SameBody, same-body, body-then, links-new, links-parent, NewInode, frame-then, inode-then, InCounts, more-free}
+use Rattle.changes.proofs.KeepLaws.{body-of}
 use Rattle.changes.proofs.StoreLaws.{fits}
 use Rattle.changes.proofs.RecordLaws.{header-inode}
 use Rattle.changes.proofs.ChangeLaws.{Emptied, emptied-then, names-emptied}
 use Rattle.changes.proofs.TreeLaws.{Tree, tree-less, tree-last, counted-some}
-use Rattle.changes.proofs.SoundTreeLaws.{nodesOf, nodes-else, body-at, names-at, above-at, tree-at}
+use Rattle.changes.proofs.SoundTreeLaws.{nodesOf, nodes-else, names-at, above-at, tree-at}
 use Rattle.changes.proofs.EntryWriteLaws.{EntriesAlone, entries-stay, place-below, clear-alone, clear-emptied}
 use Rattle.changes.proofs.InodeWriteLaws.{Relinked, relinked-places, links-relinked}
 use Rattle.changes.proofs.SlotPlaceLaws.{EntryHere, entry-here}
@@ -49,11 +51,11 @@ unfilled s n i e q d =
     clash (isEmpty (entryOf s n i (slotOf q))) (all-at (λ u. isEmpty (entryOf s n i u)) (slots s i) e (slotOf q) l)
     (ap (λ (y : ℕ). isEmpty (entryOf s n y (slotOf q))) (sym d) ∙ r .1))
 
-module _ (s : List ℕ) (n d t i : ℕ) (h : Sound Store s) (x : n ≡ inodesIn s)
+module _ (s : List ℕ) (n d t i : ℕ) {b : ℕ} (h : SoundStore s n b)
     (dir : isDirectory s n d ≡ true) (inside : t < slots s d) (full : slotEmpty s n d t ≡ false) (is : i ≡ inodeAt s n d t)
     (holds : kindOf s i ≡ directoryKind → holdsNone s n i ≡ true) where
   old : EntryHere s n d t i
-  old = entry-here s n d t i h x dir inside full is
+  old = entry-here h d t i dir inside full is
 
   low : 1 ≤ i
   low = old .low
@@ -72,16 +74,16 @@ module _ (s : List ℕ) (n d t i : ℕ) (h : Sound Store s) (x : n ≡ inodesIn 
   m = clearEntry s n d t
 
   alone : EntriesAlone s m n
-  alone = clear-alone s s n d t h x (entries-stay s n) (old .slot)
+  alone = clear-alone h (entries-stay s n) (old .slot)
 
   emptied : Emptied s m n p
-  emptied = clear-emptied s s n d t h x (entries-stay s n) (old .slot)
+  emptied = clear-emptied h (entries-stay s n) (old .slot)
 
-  stock : Stock m n (blocksIn s)
-  stock = entries-stock s m n (blocksIn s) (body-at s n h x) alone
+  stock : Stock m n b
+  stock = entries-stock s m n b (body-of h) alone
 
   there : InodeFits m n i
-  there = inode-fits s m n i (alone .frame .long) (fits s n h x i low high)
+  there = inode-fits s m n i (alone .frame .long) (fits h i low high)
 
   used : kindOf m i ≡ freeKind → ⊥
   used e = old .used (sym (alone .inodes i low high .kind) ∙ e)
@@ -114,16 +116,16 @@ module _ (s : List ℕ) (n d t i : ℕ) (h : Sound Store s) (x : n ≡ inodesIn 
         let a = alone .inodes i low high in
         let o = less-others in
         let e = links in
-        tree-less n i (nodesOf s n) (nodesOf w n) (tree-at s n h x) (above-at s n h x) low high
+        tree-less n i (nodesOf s n) (nodesOf w n) (tree-at h) (above-at h) low high
         (nodes-else o) (relinked .body .kind ∙ a .kind) (parent ∙ a .parent)
         p below (old .names) (less-emptied .names) (λ q l z. less-emptied .others q l z .names) (omega arith)
         less-links
 
     less-sound : Sound Store w
     less-sound =
-        stock-sound s w n h x (frame-then (alone .frame) (relinked .inode .frame))
-        (relinked-stock m w n (blocksIn s) i relinked used (λ _. parent) low high stock)
-        (names-emptied s w n (names-at s n h x) p less-emptied) tree
+        stock-sound h (frame-then (alone .frame) (relinked .inode .frame))
+        (relinked-stock m w n b i relinked used (λ _. parent) low high stock)
+        (names-emptied s w n (names-at h) p less-emptied) tree
 
   -- ---- the last link
   module _ (last : linksOf m i ≤ 1) where
@@ -161,32 +163,32 @@ module _ (s : List ℕ) (n d t i : ℕ) (h : Sound Store s) (x : n ≡ inodesIn 
     unfolding zeroInode
     last-emptied = emptied-then below (bared-places m z n i zeroInode bared refl bare) emptied
 
-    after : Stock z n (blocksIn s)
+    after : Stock z n b
     unfolding zeroInode
     after =
-        let f = bared-free m z n i zeroInode bared refl (blocksIn s) low high stock (omega arith) (λ _. (refl, refl)) (λ _. refl) in
-        let g = bared-unnamed m z n i zeroInode bared refl (blocksIn s) low high stock (omega arith) (λ _. (refl, refl)) (λ _. refl) in
+        let f = bared-free m z n i zeroInode bared refl b low high stock (omega arith) (λ _. (refl, refl)) (λ _. refl) in
+        let g = bared-unnamed m z n i zeroInode bared refl b low high stock (omega arith) (λ _. (refl, refl)) (λ _. refl) in
         let a = one-other (kindOf m i) freeKind used in
         let c = ap (λ (o : Header). o .«free_inodes») header in
         let e = ap (λ (o : Header). o .«free_blocks») header in
         let k = stock .free-inodes in
         let q = stock .free-blocks in
-        bared-stock m z n i zeroInode bared refl (blocksIn s) low high stock (omega arith) (λ _. (refl, refl)) (λ _. refl)
+        bared-stock m z n i zeroInode bared refl b low high stock (omega arith) (λ _. (refl, refl)) (λ _. refl)
         (counts .free-inodes ∙ omega arith) (counts .free-blocks ∙ omega arith)
 
     cut : Tree n (nodesOf z n)
     unfolding zeroInode
     cut =
         let o = last-others in
-        let c = counted-some n (nodesOf s n) (tree-at s n h x) p i below low (old .names) in
+        let c = counted-some n (nodesOf s n) (tree-at h) p i below low (old .names) in
         let e = links in
-        tree-last n i (nodesOf s n) (nodesOf z n) (tree-at s n h x) (above-at s n h x) low high
+        tree-last n i (nodesOf s n) (nodesOf z n) (tree-at h) (above-at h) low high
         (nodes-else o)
         p below (old .names) (last-emptied .names) (λ q l y. last-emptied .others q l y .names) (omega arith)
         (λ k q l e. naming-none s n q (unfilled s n i (holds k) q e)) (bared .new .kind) (bared .new .links)
 
     last-sound : Sound Store z
-    last-sound = stock-sound s z n h x (frame-then (alone .frame) (bared .frame)) after (names-emptied s z n (names-at s n h x) p last-emptied) cut
+    last-sound = stock-sound h (frame-then (alone .frame) (bared .frame)) after (names-emptied s z n (names-at h) p last-emptied) cut
 
   -- ---- both
   by-links : (P : List ℕ → Type 0) → (2 ≤ linksOf m i → P (putLinks m i (linksOf m i - 1))) → (linksOf m i ≤ 1 → P (moreFree (putInode m n i zeroInode) 1 (blocksUsed (sizeOf m i)))) → P (unlinked s n d t i)

@@ -12,8 +12,8 @@ ghost use Rattle.blocks.specs.Free.{freeInode};
 ghost use Rattle.layout.specs.Fits.{InodeFits};
 ghost use Rattle.names.specs.Name.{nameBytes};
 ghost use Rattle.directory.specs.Slot.{slots};
-ghost use Rattle.sound.specs.Sound.{Sound, inodesIn, blocksIn};
-ghost use Rattle.sound.specs.declared.Form.the-variants.{Store};
+ghost use Rattle.sound.specs.Sound.{blocksIn};
+ghost use Rattle.sound.specs.Counted.{SoundStore};
 ghost use Rattle.entries.specs.declared.RoomPlan.the-variants.{Has};
 ghost use Rattle.entries.specs.Room.{roomIn, makeRoom};
 ghost use Rattle.entries.specs.Apply.{newInode, enter, created, linked, dropLink, unlinked, renamed, setParent, moved};
@@ -31,7 +31,7 @@ use layout::sizes::FREE;
 
 // The directory takes its block first, where the room has one.
 fn make_room(s: &mut [u8], n: usize, b: usize, d: usize, room: Room)
-    requires { ⌜ Sound Store (now s) × (n ≡ inodesIn (now s)) × (b ≡ blocksIn (now s)) × (isDirectory (now s) n d ≡ true) × (roomIn (now s) n b d ≡ Has room) ⌝ }
+    requires { ⌜ SoundStore (now s) n b × (isDirectory (now s) n d ≡ true) × (roomIn (now s) n b d ≡ Has room) ⌝ }
     ensures { λ _. ⌜ now (s .exit) ≡ makeRoom (now (s .entry)) n d room ⌝ }
 {
     let c = room.block;
@@ -43,7 +43,7 @@ fn make_room(s: &mut [u8], n: usize, b: usize, d: usize, room: Room)
 
 // An entry in the room, which names i.
 fn enter(s: &mut [u8], n: usize, b: usize, d: usize, room: Room, i: usize, name: &[u8])
-    requires { ⌜ Sound Store (now s) × (n ≡ inodesIn (now s)) × (b ≡ blocksIn (now s)) × (isDirectory (now s) n d ≡ true) × (roomIn (now s) n b d ≡ Has room) ⌝ }
+    requires { ⌜ SoundStore (now s) n b × (isDirectory (now s) n d ≡ true) × (roomIn (now s) n b d ≡ Has room) ⌝ }
     requires { ⌜ (i ≤ n) × (length (now name) ≤ nameBytes) ⌝ }
     ensures { λ _. ⌜ now (s .exit) ≡ enter (now (s .entry)) n d room i (now (name .entry)) ⌝ }
 {
@@ -74,7 +74,7 @@ pub fn create(
     i: usize,
     room: Room,
 )
-    requires { ⌜ Sound Store (now s) × (n ≡ inodesIn (now s)) × (b ≡ blocksIn (now s)) × (isDirectory (now s) n d ≡ true) × (roomIn (now s) n b d ≡ Has room) ⌝ }
+    requires { ⌜ SoundStore (now s) n b × (isDirectory (now s) n d ≡ true) × (roomIn (now s) n b d ≡ Has room) ⌝ }
     requires { ⌜ (freeInode (now s) n ≡ At i) × (length (now name) ≤ nameBytes) ⌝ }
     ensures { λ _. ⌜ now (s .exit) ≡ created (now (s .entry)) n d (now (name .entry)) kind i room ⌝ }
 {
@@ -85,7 +85,7 @@ pub fn create(
 
 // File i has an entry more, in the room.
 pub fn link(s: &mut [u8], n: usize, b: usize, d: usize, name: &[u8], i: usize, room: Room)
-    requires { ⌜ Sound Store (now s) × (n ≡ inodesIn (now s)) × (b ≡ blocksIn (now s)) × (isDirectory (now s) n d ≡ true) × (roomIn (now s) n b d ≡ Has room) ⌝ }
+    requires { ⌜ SoundStore (now s) n b × (isDirectory (now s) n d ≡ true) × (roomIn (now s) n b d ≡ Has room) ⌝ }
     requires { ⌜ (isFile (now s) n i ≡ true) × (length (now name) ≤ nameBytes) ⌝ }
     ensures { λ _. ⌜ now (s .exit) ≡ linked (now (s .entry)) n d (now (name .entry)) i room ⌝ }
 {
@@ -119,7 +119,7 @@ fn drop_link(s: &mut [u8], n: usize, i: usize)
 
 // The entry in slot t of d, which names i, is taken out.
 pub fn unlink(s: &mut [u8], n: usize, d: usize, t: usize, i: usize)
-    requires { ⌜ Sound Store (now s) × (n ≡ inodesIn (now s)) × (isDirectory (now s) n d ≡ true) × (t < slots (now s) d) × (1 ≤ i) × (i ≤ n) ⌝ }
+    requires { ⌜ SoundStore (now s) n (blocksIn (now s)) × (isDirectory (now s) n d ≡ true) × (t < slots (now s) d) × (1 ≤ i) × (i ≤ n) ⌝ }
     ensures { λ _. ⌜ now (s .exit) ≡ unlinked (now (s .entry)) n d t i ⌝ }
 {
     directory::clear_entry(&mut *s, n, d, t);
@@ -128,7 +128,7 @@ pub fn unlink(s: &mut [u8], n: usize, d: usize, t: usize, i: usize)
 
 // The entry in slot t of d, which names i, has another name.
 pub fn rename(s: &mut [u8], n: usize, d: usize, other: &[u8], t: usize, i: usize)
-    requires { ⌜ Sound Store (now s) × (n ≡ inodesIn (now s)) × (isDirectory (now s) n d ≡ true) × (t < slots (now s) d) × (i ≤ n) × (length (now other) ≤ nameBytes) ⌝ }
+    requires { ⌜ SoundStore (now s) n (blocksIn (now s)) × (isDirectory (now s) n d ≡ true) × (t < slots (now s) d) × (i ≤ n) × (length (now other) ≤ nameBytes) ⌝ }
     ensures { λ _. ⌜ now (s .exit) ≡ renamed (now (s .entry)) n d (now (other .entry)) t i ⌝ }
 {
     directory::put_entry(&mut *s, n, d, t, i as u16, other);
@@ -158,7 +158,7 @@ pub fn move_entry(
     i: usize,
     room: Room,
 )
-    requires { ⌜ Sound Store (now s) × (n ≡ inodesIn (now s)) × (b ≡ blocksIn (now s)) × (isDirectory (now s) n e ≡ true) × (roomIn (now s) n b e ≡ Has room) ⌝ }
+    requires { ⌜ SoundStore (now s) n b × (isDirectory (now s) n e ≡ true) × (roomIn (now s) n b e ≡ Has room) ⌝ }
     requires { ⌜ (isDirectory (now s) n d ≡ true) × (t < slots (now s) d) × (1 ≤ i) × (i ≤ n) × (length (now other) ≤ nameBytes) ⌝ }
     ensures { λ _. ⌜ now (s .exit) ≡ moved (now (s .entry)) n d e (now (other .entry)) t i room ⌝ }
 {

@@ -7,8 +7,8 @@ ghost use Rattle.directory.specs.Fits.{DirFits};
 ghost use Rattle.bounded.specs.Climb.{leadsB};
 ghost use Rattle.layout.specs.Inode.{parentOf, isDirectory};
 ghost use Rattle.names.specs.Name.{nameBytes};
-ghost use Rattle.sound.specs.Sound.{Sound, inodesIn, blocksIn};
-ghost use Rattle.sound.specs.declared.Form.the-variants.{Store};
+ghost use Rattle.sound.specs.Sound.{blocksIn};
+ghost use Rattle.sound.specs.Counted.{SoundStore};
 ghost use Rattle.entries.specs.Room.{roomIn};
 ghost use Rattle.entries.specs.Plan.{lookUpPlan, createPlan, linkPlan, holdsNone, unlinkPlan, isBelow, renameWithin, moveTo, renamePlan};
 use crate::CreatePlan;
@@ -29,7 +29,7 @@ use layout::sizes::ROOT;
 use names::ENTRY_BYTES;
 
 pub fn look_up_plan(s: &[u8], n: usize, d: usize, name: &[u8]) -> NumberPlan
-    requires { ⌜ Sound Store (now s) × (n ≡ inodesIn (now s)) ⌝ }
+    requires { ⌜ SoundStore (now s) n (blocksIn (now s)) ⌝ }
     ensures { λ r. ⌜ r ≡ lookUpPlan (now (s .entry)) n d (now (name .entry)) ⌝ }
 {
     if !names::legal_name(name) {
@@ -46,7 +46,7 @@ pub fn look_up_plan(s: &[u8], n: usize, d: usize, name: &[u8]) -> NumberPlan
 
 // Where an entry more in directory d goes.
 fn room_in(s: &[u8], n: usize, b: usize, d: usize) -> RoomPlan
-    requires { ⌜ Sound Store (now s) × (n ≡ inodesIn (now s)) × (b ≡ blocksIn (now s)) × (isDirectory (now s) n d ≡ true) ⌝ }
+    requires { ⌜ SoundStore (now s) n b × (isDirectory (now s) n d ≡ true) ⌝ }
     ensures { λ r. ⌜ r ≡ roomIn (now (s .entry)) n b d ⌝ }
 {
     if let Found::At(t) = directory::empty_slot(s, n, d) {
@@ -66,7 +66,7 @@ fn room_in(s: &[u8], n: usize, b: usize, d: usize) -> RoomPlan
 }
 
 pub fn create_plan(s: &[u8], n: usize, b: usize, d: usize, name: &[u8]) -> CreatePlan
-    requires { ⌜ Sound Store (now s) × (n ≡ inodesIn (now s)) × (b ≡ blocksIn (now s)) ⌝ }
+    requires { ⌜ SoundStore (now s) n b ⌝ }
     ensures { λ r. ⌜ r ≡ createPlan (now (s .entry)) n b d (now (name .entry)) ⌝ }
 {
     if !names::legal_name(name) {
@@ -88,7 +88,7 @@ pub fn create_plan(s: &[u8], n: usize, b: usize, d: usize, name: &[u8]) -> Creat
 }
 
 pub fn link_plan(s: &[u8], n: usize, b: usize, d: usize, name: &[u8], i: usize) -> LinkPlan
-    requires { ⌜ Sound Store (now s) × (n ≡ inodesIn (now s)) × (b ≡ blocksIn (now s)) ⌝ }
+    requires { ⌜ SoundStore (now s) n b ⌝ }
     ensures { λ r. ⌜ r ≡ linkPlan (now (s .entry)) n b d (now (name .entry)) i ⌝ }
 {
     if !names::legal_name(name) {
@@ -124,7 +124,7 @@ fn holds_none(s: &[u8], n: usize, d: usize) -> bool
 }
 
 pub fn unlink_plan(s: &[u8], n: usize, d: usize, name: &[u8]) -> UnlinkPlan
-    requires { ⌜ Sound Store (now s) × (n ≡ inodesIn (now s)) ⌝ }
+    requires { ⌜ SoundStore (now s) n (blocksIn (now s)) ⌝ }
     ensures { λ r. ⌜ r ≡ unlinkPlan (now (s .entry)) n d (now (name .entry)) ⌝ }
 {
     if !names::legal_name(name) {
@@ -147,7 +147,7 @@ pub fn unlink_plan(s: &[u8], n: usize, d: usize, name: &[u8]) -> UnlinkPlan
 
 // Directory e is i or below it: up from e, no further than the root.
 fn leads_to(s: &[u8], n: usize, i: usize, e: usize) -> bool
-    requires { ⌜ Sound Store (now s) × (n ≡ inodesIn (now s)) × (isDirectory (now s) n e ≡ true) × (1 ≤ i) ⌝ }
+    requires { ⌜ SoundStore (now s) n (blocksIn (now s)) × (isDirectory (now s) n e ≡ true) × (1 ≤ i) ⌝ }
     ensures { λ r. ⌜ r ≡ leadsB (parentOf (now (s .entry))) i n e ⌝ }
 {
     let mut x = e;
@@ -164,7 +164,7 @@ fn leads_to(s: &[u8], n: usize, i: usize, e: usize) -> bool
 }
 
 fn is_below(s: &[u8], n: usize, i: usize, e: usize) -> bool
-    requires { ⌜ Sound Store (now s) × (n ≡ inodesIn (now s)) × (isDirectory (now s) n e ≡ true) × (1 ≤ i) × (i ≤ n) ⌝ }
+    requires { ⌜ SoundStore (now s) n (blocksIn (now s)) × (isDirectory (now s) n e ≡ true) × (1 ≤ i) × (i ≤ n) ⌝ }
     ensures { λ r. ⌜ r ≡ isBelow (now (s .entry)) n i e ⌝ }
 {
     if inode::kind(s, n, i) != DIRECTORY {
@@ -189,7 +189,7 @@ fn rename_within(s: &[u8], n: usize, t: usize, i: usize, e: usize, other: &[u8])
 
 // It is to go to another directory e.
 fn move_to(s: &[u8], n: usize, b: usize, t: usize, i: usize, e: usize, other: &[u8]) -> RenamePlan
-    requires { ⌜ Sound Store (now s) × (n ≡ inodesIn (now s)) × (b ≡ blocksIn (now s)) × (isDirectory (now s) n e ≡ true) × (length (now other) ≤ nameBytes) × (1 ≤ i) × (i ≤ n) ⌝ }
+    requires { ⌜ SoundStore (now s) n b × (isDirectory (now s) n e ≡ true) × (length (now other) ≤ nameBytes) × (1 ≤ i) × (i ≤ n) ⌝ }
     ensures { λ r. ⌜ r ≡ moveTo (now (s .entry)) n b t i e (now (other .entry)) ⌝ }
 {
     let Found::Absent = directory::find_slot(s, n, e, other) else {
@@ -217,7 +217,7 @@ pub fn rename_plan(
     e: usize,
     other: &[u8],
 ) -> RenamePlan
-    requires { ⌜ Sound Store (now s) × (n ≡ inodesIn (now s)) × (b ≡ blocksIn (now s)) ⌝ }
+    requires { ⌜ SoundStore (now s) n b ⌝ }
     ensures { λ r. ⌜ r ≡ renamePlan (now (s .entry)) n b d (now (name .entry)) e (now (other .entry)) ⌝ }
 {
     if !names::legal_name(name) {

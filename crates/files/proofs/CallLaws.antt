@@ -5,7 +5,8 @@ use mathlib.Core.Bool.{true, false}
 use mathlib.Core.List.{List}
 use native.Mathlib.Omega.{arith}
 use Rattle.bounded.proofs.SearchLaws.{pick-not}
-use Rattle.sound.specs.Sound.{Sound, inodesIn, blocksIn}
+use Rattle.sound.specs.Sound.{inodesIn, blocksIn}
+use Rattle.sound.specs.Counted.{SoundStore}
 use Rattle.sound.specs.declared.Form.the-variants.{Store}
 use Rattle.sound.proofs.SoundLaws.{is-sound}
 use Rattle.sound.specs.Test.{framedB, isSound}
@@ -37,13 +38,8 @@ module _ (s : List ℕ) where
 pub no-pass : (w : Refusal) (n b : ℕ) → Stop w ≡ Pass n b → ⊥
 no-pass w n b h = let z : _≡_ {A = ℕ} 0 1 = cc in absurd (omega arith)
 
-pub record Passed (s : List ℕ) (n b : ℕ) : Type 0 where
-  pub sound : Sound Store s
-  pub inodes : n ≡ inodesIn s
-  pub blocks : b ≡ blocksIn s
-
 module _ (s : List ℕ) where
-  pub passed : (n b : ℕ) → guardOf s ≡ Pass n b → Passed s n b
+  pub passed : (n b : ℕ) → guardOf s ≡ Pass n b → SoundStore s n b
   unfolding guardOf
   passed n b e =
       let z = Pass n b in

@@ -17,8 +17,8 @@ use Rattle.sound.specs.Sound.{Sound, inodesIn, blocksIn}
 use Rattle.sound.proofs.PlaceLaws.{slot-is, filled-is, naming-filled}
 use Rattle.sound.specs.declared.Form.the-variants.{Store}
 use Rattle.changes.proofs.SameLaws.{same-body}
-use Rattle.changes.proofs.KeepLaws.{SamePlace, place-kept, Body}
-use Rattle.changes.proofs.SoundTreeLaws.{body-at}
+use Rattle.changes.proofs.KeepLaws.{SamePlace, place-kept, Body, body-of}
+use Rattle.changes.proofs.StoreLaws.{sound-store}
 use Rattle.files.specs.Effect.{Entry, placeIn, Effect}
 use Rattle.files.proofs.Lawful.{Apart, Away, Stands, Lawful}
 
@@ -63,10 +63,10 @@ module _ (s : List ℕ) (n : ℕ) (x : Effect) (h : Sound Store s) (e : n ≡ in
   same-count = e ∙ sym (k .frame .inodes)
 
   before : Body s n (blocksIn s)
-  before = body-at s n h e
+  before = body-of (sound-store h e)
 
   after : Body (x .store) n (blocksIn (x .store))
-  after = body-at (x .store) n (k .sound) same-count
+  after = body-of (sound-store (k .sound) same-count)
 
   -- a place that names j before and is not taken from names j after; one that names j after and was not filled named j before
   still-names : (q j : ℕ) → q < mostSlots * n → 1 ≤ j → naming s n q ≡ j → Away q (x .taken) → naming (x .store) n q ≡ j

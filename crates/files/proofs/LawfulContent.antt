@@ -12,10 +12,11 @@ use Rattle.bounded.specs.Search.{pick}
 use Rattle.layout.specs.Sizes.{blockBytes, addressCount}
 use Rattle.layout.specs.Inode.{kindOf, linksOf, sizeOf, parentOf, fileKind}
 use Rattle.blocks.specs.Block.{blocksUsed, blockOf, putInBlock, kthBlock}
-use Rattle.sound.specs.Sound.{Sound, inodesIn, blocksIn}
+use Rattle.sound.specs.Sound.{Sound}
+use Rattle.sound.specs.Counted.{SoundStore}
 use Rattle.sound.specs.declared.Form.the-variants.{Store}
 use Rattle.changes.proofs.SameLaws.{OtherInodes, SameFrame, SameBlock, InBlock, frame-then, frame-stays, inode-then, inode-stays, same-body, put-in-block}
-use Rattle.changes.proofs.StoreLaws.{kind-some, kind-most, kind-is, kind-size}
+use Rattle.changes.proofs.StoreLaws.{same-counts, kind-some, kind-most, kind-is, kind-size}
 use Rattle.changes.proofs.KeepLaws.{SameTree, file-tree}
 use Rattle.content.specs.declared.NumberPlan.the-variants.{To, NoNumber}
 use Rattle.content.specs.Content.{putFile, addBlocks, putSize, zeroRest, cutTo}
@@ -89,14 +90,12 @@ within-put (v ∷ xs) s n b i o h =
     let z = h .size in
     let one = holds-less (suc o) (omega arith) h in
     let g = put-byte s n b i o v one in
-    let c = blocks-of s n (h .sound) (h .inodes) in
+    let c = blocks-of (h .sound) in
     let e = g .inodes i (h .low) (h .high) in
     let size = e .size in
     within-then c (within-block s _ n i (o / blockBytes) c (h .low) (h .high) (unfold blocksUsed in omega arith) g)
     (within-put xs _ n b i (o + 1) (record {
-      sound = put-byte-sound s n b i o v one;
-      inodes = h .inodes ∙ sym (g .frame .inodes);
-      blocks = h .blocks ∙ sym (g .frame .blocks);
+      sound = same-counts (h .sound) (g .frame) (put-byte-sound s n b i o v one);
       low = h .low;
       high = h .high;
       kind = e .kind ∙ h .kind;
@@ -126,36 +125,36 @@ within-lawful s t n i a h f p q g =
     }
 
 -- ---- write
-within-written : (s : List ℕ) (n b i o : ℕ) (xs : List ℕ) (z : ℕ) → Sound Store s → n ≡ inodesIn s → b ≡ blocksIn s → Writes s n i o (length xs) z → Within s (written s n b i o xs z) n i
+within-written : (s : List ℕ) (n b i o : ℕ) (xs : List ℕ) (z : ℕ) → SoundStore s n b → Writes s n i o (length xs) z → Within s (written s n b i o xs z) n i
 unfolding written
-within-written s n b i o xs z h x y w =
+within-written s n b i o xs z h w =
     let low = kind-some s n fileKind i (w .file) in
     let high = kind-most s n fileKind i (w .file) in
     let e = w .size in
     let a = w .most in
-    let k = kind-size s n h x fileKind i (w .file) in
+    let k = kind-size h fileKind i (w .file) in
     let up : blocksUsed (sizeOf s i) ≤ blocksUsed z = unfold blocksUsed in omega arith in
     let few : blocksUsed z ≤ addressCount = unfold blocksUsed in omega arith in
     let m = blocksUsed z - blocksUsed (sizeOf s i) in
-    let g = add-blocks m s n b i (spare-of s n b i m h x y (w .file) (w .blocks) (omega arith)) in
+    let g = add-blocks m s n b i (spare-of s n b i m h (w .file) (w .blocks) (omega arith)) in
     let wide = addBlocks s n b i m in
-    let count = x ∙ sym (g .frame .inodes) in
+    let v = same-counts h (g .frame) (g .sound) in
     let used = g .used in
-    let r = put-size wide n b i z (g .sound) count (y ∙ sym (g .frame .blocks)) low high (omega arith) in
-    let c = blocks-of s n h x in
+    let r = put-size wide n b i z v low high (omega arith) in
+    let c = blocks-of h in
     within-then c (within-wide s wide n i m c g)
-    (within-then (blocks-of wide n (g .sound) count) (within-sized wide (putSize wide n i z) n i z r)
-    (within-put xs (putSize wide n i z) n b i o (sized-holds s n b i o xs z h x y w)))
+    (within-then (blocks-of v) (within-sized wide (putSize wide n i z) n i z r)
+    (within-put xs (putSize wide n i z) n b i o (sized-holds s n b i o xs z h w)))
 
-pub lawful-write : (s : List ℕ) (n b i o : ℕ) (xs : List ℕ) → Sound Store s → n ≡ inodesIn s → b ≡ blocksIn s → Each (Lawful s n) (planned (write i o xs) s n b)
-lawful-write s n b i o xs h x y = go (writePlan s n i o (length xs)) refl
+pub lawful-write : (s : List ℕ) (n b i o : ℕ) (xs : List ℕ) → SoundStore s n b → Each (Lawful s n) (planned (write i o xs) s n b)
+lawful-write s n b i o xs h = go (writePlan s n i o (length xs)) refl
   where
     go : (p : NumberPlan) → writePlan s n i o (length xs) ≡ p → Each (Lawful s n) (doWrite s n b i o xs p)
     go (NoNumber w) e = tt
     go (To z) e =
         let w = writes s n i o (length xs) z e in
         let f = w .file in
-        within-lawful s (written s n b i o xs z) n i z (write-sound s n b i o xs z h x y e) (kind-is s n fileKind i f) (kind-some s n fileKind i f) (kind-most s n fileKind i f) (within-written s n b i o xs z h x y w)
+        within-lawful s (written s n b i o xs z) n i z (write-sound s n b i o xs z h e) (kind-is s n fileKind i f) (kind-some s n fileKind i f) (kind-most s n fileKind i f) (within-written s n b i o xs z h w)
 
 -- ---- shorten
 within-rest : (s : List ℕ) (n b i z : ℕ) → Holds s n b i z → Within s (zeroRest s n i z) n i
@@ -167,14 +166,14 @@ within-rest s n b i z h = go (eqb (z % blockBytes) 0) refl
     go false e =
         let k = h .size in
         let d = eqb-false (z % blockBytes) 0 e in
-        let c = blocks-of s n (h .sound) (h .inodes) in
+        let c = blocks-of (h .sound) in
         let u : z / blockBytes < blocksUsed (sizeOf s i) = unfold blocksUsed in omega arith in
         let l : length (replicate {A = ℕ} (blockBytes - z % blockBytes) 0) ≡ blockBytes - z % blockBytes = length-replicate {A = ℕ} (blockBytes - z % blockBytes) 0 in
         within-block s _ n i (z / blockBytes) c (h .low) (h .high) u
         (put-in-block s n (kthBlock s n i (z / blockBytes)) (c .low i (z / blockBytes) (h .low) (h .high) u) (z % blockBytes) (replicate (blockBytes - z % blockBytes) 0) (omega arith))
 
-pub lawful-shorten : (s : List ℕ) (n b i z : ℕ) → Sound Store s → n ≡ inodesIn s → b ≡ blocksIn s → Each (Lawful s n) (planned (shorten i z) s n b)
-lawful-shorten s n b i z h x y = go (shortenPlan s n i z) refl
+pub lawful-shorten : (s : List ℕ) (n b i z : ℕ) → SoundStore s n b → Each (Lawful s n) (planned (shorten i z) s n b)
+lawful-shorten s n b i z h = go (shortenPlan s n i z) refl
   where
     go : (p : NumberPlan) → shortenPlan s n i z ≡ p → Each (Lawful s n) (doShorten s n i p)
     go (NoNumber w) e = tt
@@ -186,7 +185,7 @@ lawful-shorten s n b i z h x y = go (shortenPlan s n i z) refl
         let k = kind-is s n fileKind i f in
         let low = kind-some s n fileKind i f in
         let high = kind-most s n fileKind i f in
-        let g : Holds s n b i v = record { sound = h; inodes = x; blocks = y; low = low; high = high; kind = k; size = omega arith } in
+        let g : Holds s n b i v = record { sound = h; low = low; high = high; kind = k; size = omega arith } in
         let a = within-rest s n b i v g in
-        within-lawful s (cutTo s n i v) n i v (shorten-sound s n b i z v h x y e) k low high
-        (within-then (blocks-of s n h x) a (within-sized (zeroRest s n i v) (cutTo s n i v) n i v (cut-to s n b i v g)))
+        within-lawful s (cutTo s n i v) n i v (shorten-sound s n b i z v h e) k low high
+        (within-then (blocks-of h) a (within-sized (zeroRest s n i v) (cutTo s n i v) n i v (cut-to s n b i v g)))

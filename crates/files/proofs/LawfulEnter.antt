@@ -13,7 +13,8 @@ use Rattle.bounded.proofs.BoolLaws.{clash, fails}
 use Rattle.blocks.specs.Free.{freeInode}
 use Rattle.names.specs.Entry.{isEmpty}
 use Rattle.sound.specs.Place.{entryAt, filled, placeOf}
-use Rattle.sound.specs.Sound.{Sound, inodesIn, blocksIn}
+use Rattle.sound.specs.Sound.{Sound}
+use Rattle.sound.specs.Counted.{SoundStore}
 use Rattle.sound.proofs.PlaceLaws.{filled-is, entry-place}
 use Rattle.sound.specs.declared.Form.the-variants.{Store}
 use Rattle.changes.proofs.SameLaws.{put-entry}
@@ -38,7 +39,7 @@ use Rattle.entries.proofs.CreateKeeps.{create-filled, new-addresses}
 use Rattle.entries.proofs.PlanKeeps.{linked-sound, created-sound}
 use Rattle.files.specs.Effect.{entry, changes, doCreate, doLink, planned, create, link}
 use Rattle.files.proofs.Lawful.{Stands, SameNaming, Lawful, Each}
-use Rattle.files.proofs.LawfulSteady.{blocks-of, slot-low, Steady, steady-then, put-steady, links-steady, new-steady, roomed, room-steady, room-count, room-dir, room-slot}
+use Rattle.files.proofs.LawfulSteady.{blocks-of, slot-low, Steady, steady-then, put-steady, links-steady, new-steady, roomed, room-steady, room-sound, room-dir, room-slot}
 
 -- ---- an entry made in the room: link and create. m is the store with room, w the store after
 pub made-stands : (m w : List ℕ) (n d t i : ℕ) (name : List ℕ) → SlotIn m n d t → Filled m w n (placeOf d t) i name → Stands w n (entry d t i)
@@ -50,19 +51,19 @@ bare-slot s n d t y e =
     fails (filled s n (placeOf d t))
     (λ f. clash (isEmpty (entryAt s n (placeOf d t))) (ap isEmpty (entry-place s n d t (y .low) (y .small)) ∙ e) (filled-is s n (placeOf d t) .to f .1))
 
-module _ (s : List ℕ) (n b d : ℕ) (name : List ℕ) (r : Room) (h : Sound Store s) (x : n ≡ inodesIn s) (y : b ≡ blocksIn s)
+module _ (s : List ℕ) (n b d : ℕ) (name : List ℕ) (r : Room) (h : SoundStore s n b)
     (new : NewIn s n d name) (e : roomIn s n b d ≡ Has r) where
   abbrev m : List ℕ
   m = makeRoom s n d r
 
   room : Roomed s m n d (r .slot)
-  room = roomed s n b d r h x y (new .directory) e
+  room = roomed s n b d r h (new .directory) e
 
   there : SlotIn m n d (r .slot)
-  there = room-slot s n b d r h x y (new .directory) e
+  there = room-slot s n b d r h (new .directory) e
 
-  count : n ≡ inodesIn m
-  count = room-count s n b d r h x y (new .directory) e
+  grown : SoundStore m n b
+  grown = room-sound s n b d r h (new .directory) e
 
   pub still : findSlot m n d name ≡ Absent
   still = same-find s m n d (r .slot) room name (new .legal) d (there .low) (there .high) ∙ new .absent
@@ -79,7 +80,7 @@ module _ (s : List ℕ) (n b d : ℕ) (name : List ℕ) (r : Room) (h : Sound St
 
   entered-steady : (i : ℕ) → Steady s (enter s n d r i name) n (d ∷ [])
   unfolding enter
-  entered-steady i = steady-then (blocks-of s n h x) (room-steady s n b d r h x y (new .directory) e) (put-steady m n d (r .slot) i name (blocks-of m n (room .sound) count) there) (λ j z. (z, z))
+  entered-steady i = steady-then (blocks-of h) (room-steady s n b d r h (new .directory) e) (put-steady m n d (r .slot) i name (blocks-of grown) there) (λ j z. (z, z))
 
   -- the entry made, and nothing else of the store that a law speaks of. v is the answer, ks what else may change
   made-lawful : (w : List ℕ) (v i : ℕ) (ks : List ℕ) → Filled m w n (placeOf d (r .slot)) i name → Steady s w n (d ∷ ks) → Sound Store w
@@ -106,33 +107,33 @@ module _ (s : List ℕ) (n b d : ℕ) (name : List ℕ) (r : Room) (h : Sound St
   unfolding linked enter
   link-lawful i file sound =
       let here = same-kind s m n fileKind i (room .tree .kinds) ∙ file in
-      let o = link-filled m n d (r .slot) i name (room .sound) count (room-dir s n b d r h x y (new .directory) e) here (room .slot) (room .empty) (new .legal) still in
+      let o = link-filled m n d (r .slot) i name grown (room-dir s n b d r h (new .directory) e) here (room .slot) (room .empty) (new .legal) still in
       let g = entered-steady i in
-      let f = inode-fits s (enter s n d r i name) n i (g .frame .long) (kind-fits s n h x fileKind i file) in
-      let a = steady-then {ks = d ∷ i ∷ []} (blocks-of s n h x) g (links-steady (enter s n d r i name) n i (linksOf (enter s n d r i name) i + 1) f) (λ j z. ((z .0, tt), (z .1 .0, tt))) in
+      let f = inode-fits s (enter s n d r i name) n i (g .frame .long) (kind-fits h fileKind i file) in
+      let a = steady-then {ks = d ∷ i ∷ []} (blocks-of h) g (links-steady (enter s n d r i name) n i (linksOf (enter s n d r i name) i + 1) f) (λ j z. ((z .0, tt), (z .1 .0, tt))) in
       made-lawful _ _ i _ o a sound
 
   create-lawful : (k : Kind) (i : ℕ) → freeInode s n ≡ At i → Sound Store (created s n d name k i r) → Lawful s n (changes i (created s n d name k i r) (d ∷ []) [] (entry d (r .slot) i ∷ []))
   unfolding created enter
   create-lawful k i free sound =
-      let o = create-filled m n d (r .slot) i k name (room .sound) count (room-dir s n b d r h x y (new .directory) e) (same-free-inode s m n (room .tree .kinds) ∙ free) (room .slot) (room .empty) (new .legal) still in
+      let o = create-filled m n d (r .slot) i k name grown (room-dir s n b d r h (new .directory) e) (same-free-inode s m n (room .tree .kinds) ∙ free) (room .slot) (room .empty) (new .legal) still in
       let g = entered-steady i in
       let z = free-inode s n i free in
-      let f = inode-fits s (enter s n d r i name) n i (g .frame .long) (fits s n h x i (z .low) (z .high)) in
-      let c = put-entry m n d (r .slot) (slot-low m m n d (r .slot) (blocks-of m n (room .sound) count) there) i name .inodes i (z .low) (z .high) .kind ∙ room .tree .kinds i (z .low) (z .high) ∙ z .kind in
-      let a = steady-then {ks = d ∷ []} (blocks-of s n h x) g (new-steady (enter s n d r i name) n i (newInode k d) f c (new-addresses k d)) (λ j u. (u, tt)) in
+      let f = inode-fits s (enter s n d r i name) n i (g .frame .long) (fits h i (z .low) (z .high)) in
+      let c = put-entry m n d (r .slot) (slot-low m m n d (r .slot) (blocks-of grown) there) i name .inodes i (z .low) (z .high) .kind ∙ room .tree .kinds i (z .low) (z .high) ∙ z .kind in
+      let a = steady-then {ks = d ∷ []} (blocks-of h) g (new-steady (enter s n d r i name) n i (newInode k d) f c (new-addresses k d)) (λ j u. (u, tt)) in
       made-lawful _ _ i _ o a sound
 
-pub lawful-link : (s : List ℕ) (n b d : ℕ) (name : List ℕ) (i : ℕ) → Sound Store s → n ≡ inodesIn s → b ≡ blocksIn s → Each (Lawful s n) (planned (link d name i) s n b)
-lawful-link s n b d name i h x y = go (linkPlan s n b d name i) refl
+pub lawful-link : (s : List ℕ) (n b d : ℕ) (name : List ℕ) (i : ℕ) → SoundStore s n b → Each (Lawful s n) (planned (link d name i) s n b)
+lawful-link s n b d name i h = go (linkPlan s n b d name i) refl
   where
     go : (p : LinkPlan) → linkPlan s n b d name i ≡ p → Each (Lawful s n) (doLink s n d name i p)
     go (NoLink w) e = tt
-    go (Add r) e = let c = links s n b d name i r e in link-lawful s n b d name r h x y (c .new) (c .room) i (c .file) (linked-sound s n b h x y d name i r e)
+    go (Add r) e = let c = links s n b d name i r e in link-lawful s n b d name r h (c .new) (c .room) i (c .file) (linked-sound s n b h d name i r e)
 
-pub lawful-create : (s : List ℕ) (n b d : ℕ) (name : List ℕ) (k : Kind) → Sound Store s → n ≡ inodesIn s → b ≡ blocksIn s → Each (Lawful s n) (planned (create d name k) s n b)
-lawful-create s n b d name k h x y = go (createPlan s n b d name) refl
+pub lawful-create : (s : List ℕ) (n b d : ℕ) (name : List ℕ) (k : Kind) → SoundStore s n b → Each (Lawful s n) (planned (create d name k) s n b)
+lawful-create s n b d name k h = go (createPlan s n b d name) refl
   where
     go : (p : CreatePlan) → createPlan s n b d name ≡ p → Each (Lawful s n) (doCreate s n d name k p)
     go (NoCreate w) e = tt
-    go (Make i r) e = let c = creates s n b d name i r e in create-lawful s n b d name r h x y (c .new) (c .room) k i (c .inode) (created-sound s n b h x y d name k i r e)
+    go (Make i r) e = let c = creates s n b d name i r e in create-lawful s n b d name r h (c .new) (c .room) k i (c .inode) (created-sound s n b h d name k i r e)

@@ -18,15 +18,13 @@ use Rattle.bounded.proofs.CaseLaws.{each-else}
 use Rattle.names.specs.Name.{legalName}
 use Rattle.names.specs.Entry.{isEmpty, entryInode}
 use Rattle.sound.specs.Place.{placeOf}
-use Rattle.sound.specs.Sound.{Sound, inodesIn, blocksIn}
-use Rattle.sound.specs.declared.Form.the-variants.{Store}
+use Rattle.sound.specs.Counted.{SoundStore}
 use Rattle.changes.proofs.SameLaws.{SameInode, frame-stays, inode-stays, same-body, put-entry, clear-entry}
 use Rattle.changes.proofs.StoreLaws.{fits}
 use Rattle.changes.proofs.EntryWriteLaws.{SlotIn, slot-in, place-below}
 use Rattle.changes.proofs.InodeWriteLaws.{parent-relinked, body-all}
 use Rattle.changes.proofs.SlotPlaceLaws.{entry-here, found-full, place-filled}
-use Rattle.changes.proofs.SoundTreeLaws.{body-at}
-use Rattle.changes.proofs.KeepLaws.{same-slots}
+use Rattle.changes.proofs.KeepLaws.{same-slots, body-of}
 use Rattle.entries.specs.declared.Room.{Room}
 use Rattle.entries.specs.Room.{makeRoom}
 use Rattle.entries.specs.Plan.{renamePlan}
@@ -40,22 +38,22 @@ use Rattle.entries.proofs.MoveKeeps.{not-below, below-kept, move-emptied, move-
 use Rattle.entries.proofs.RenameKeeps.{rename-filled, rename-sound}
 use Rattle.files.specs.Effect.{entry, changes, doRename, planned, rename}
 use Rattle.files.proofs.Lawful.{SameNaming, Lawful, Each}
-use Rattle.files.proofs.LawfulSteady.{blocks-of, blocks-same, slot-low, Steady, steady-then, put-steady, clear-steady, roomed, room-steady, room-count, room-slot}
+use Rattle.files.proofs.LawfulSteady.{blocks-of, blocks-same, slot-low, Steady, steady-then, put-steady, clear-steady, roomed, room-steady, room-sound, room-slot}
 use Rattle.files.proofs.LawfulEnter.{still, was-bare}
 use Rattle.files.proofs.LawfulStays.{same-store}
 
 -- ---- rename within a directory
-module _ (s : List ℕ) (n d t i : ℕ) (other : List ℕ) (h : Sound Store s) (x : n ≡ inodesIn s)
+module _ (s : List ℕ) (n d t i : ℕ) (other : List ℕ) {b : ℕ} (h : SoundStore s n b)
     (dir : isDirectory s n d ≡ true) (inside : t < slots s d) (full : slotEmpty s n d t ≡ false) (is : i ≡ inodeAt s n d t)
     (legal : legalName other ≡ true) (absent : findSlot s n d other ≡ Absent) where
   rename-lawful : Lawful s n (changes 0 (renamed s n d other t i) (d ∷ []) [] [])
   rename-lawful =
-      let o = rename-filled s n d t i other h x dir inside full is legal absent in
-      let y = entry-here s n d t i h x dir inside full is in
-      let a = put-steady s n d t i other (blocks-of s n h x) (y .slot) in
+      let o = rename-filled s n d t i other h dir inside full is legal absent in
+      let y = entry-here h d t i dir inside full is in
+      let a = put-steady s n d t i other (blocks-of h) (y .slot) in
       let f = place-filled s n d t (y .slot) full in
       record {
-        sound = rename-sound s n d t i other h x dir inside full is legal absent;
+        sound = rename-sound s n d t i other h dir inside full is legal absent;
         frame = a .frame;
         stood = tt;
         gone = tt;
@@ -97,7 +95,7 @@ parent-steady s n i e f z = go (eqb (kindOf s i) directoryKind)
 slot-same : (s t : List ℕ) (n d u : ℕ) → SameInode s t n d → SlotIn s n d u → SlotIn t n d u
 slot-same s t n d u a y = record { low = y .low; high = y .high; dir = a .kind ∙ y .dir; inside = subst (λ (z : ℕ). u < z) (sym (same-slots a)) (y .inside); small = y .small }
 
-module _ (s : List ℕ) (n b d : ℕ) (name : List ℕ) (e : ℕ) (other : List ℕ) (t i : ℕ) (r : Room) (h : Sound Store s) (x : n ≡ inodesIn s) (y : b ≡ blocksIn s)
+module _ (s : List ℕ) (n b d : ℕ) (name : List ℕ) (e : ℕ) (other : List ℕ) (t i : ℕ) (r : Room) (h : SoundStore s n b)
     (q : renamePlan s n b d name e other ≡ Move t i r) where
   move-lawful : Lawful s n (changes 0 (moved s n d e other t i r) (d ∷ e ∷ i ∷ []) (entry d t i ∷ []) (entry e (r .slot) i ∷ []))
   unfolding moved slotEmpty
@@ -107,24 +105,24 @@ module _ (s : List ℕ) (n b d : ℕ) (name : List ℕ) (e : ℕ) (other : List 
       let v = c .0 .new in
       let o = c .1 in
       let g = makeRoom s n e r in
-      let room = roomed s n b e r h x y (v .directory) (o .room) in
-      let there = room-slot s n b e r h x y (v .directory) (o .room) in
-      let count = room-count s n b e r h x y (v .directory) (o .room) in
+      let room = roomed s n b e r h (v .directory) (o .room) in
+      let there = room-slot s n b e r h (v .directory) (o .room) in
+      let grown = room-sound s n b e r h (v .directory) (o .room) in
       let same : (k j : ℕ) → isKind g n k j ≡ isKind s n k j = λ k j. same-kind s g n k j (room .tree .kinds) in
       let inside = find-below s n d name t (w .found) in
       let full = found-full s n d name t (w .legal) (w .found) in
-      let old = entry-here s n d t i h x (w .directory) inside full (w .inode) in
+      let old = entry-here h d t i (w .directory) inside full (w .inode) in
       let bytes = room .entries d t (old .slot .low) (old .slot .high) inside in
       let from = same directoryKind d ∙ w .directory in
       let inside-g = subst (λ (z : ℕ). t < z) (sym (same-slots (room .others d (old .slot .low) (old .slot .high) (o .other)))) inside in
-      let below = below-kept g n i e (room .sound) count (old .low) (old .not-root) (same directoryKind e ∙ v .directory) s (room .tree) (old .high) (not-below s n i e h x (old .low) (old .not-root) (v .directory) (o .outside)) in
-      let free = still s n b e other r h x y v (o .room) in
-      let emptied = move-emptied g n d t i e (r .slot) other (room .sound) count from inside-g (ap isEmpty bytes ∙ full) (w .inode ∙ ap entryInode (sym bytes))
+      let below = below-kept g n i e grown (old .low) (old .not-root) (same directoryKind e ∙ v .directory) s (room .tree) (old .high) (not-below s n i e h (old .low) (old .not-root) (v .directory) (o .outside)) in
+      let free = still s n b e other r h v (o .room) in
+      let emptied = move-emptied g n d t i e (r .slot) other grown from inside-g (ap isEmpty bytes ∙ full) (w .inode ∙ ap entryInode (sym bytes))
       (same directoryKind e ∙ v .directory) (room .slot) (room .empty) (v .legal) free below in
-      let filling = move-filled g n d t i e (r .slot) other (room .sound) count from inside-g (ap isEmpty bytes ∙ full) (w .inode ∙ ap entryInode (sym bytes))
+      let filling = move-filled g n d t i e (r .slot) other grown from inside-g (ap isEmpty bytes ∙ full) (w .inode ∙ ap entryInode (sym bytes))
       (same directoryKind e ∙ v .directory) (room .slot) (room .empty) (v .legal) free below in
-      let here = slot-in g n d t (room .sound) count from inside-g in
-      let bg = blocks-of g n (room .sound) count in
+      let here = slot-in grown d t from inside-g in
+      let bg = blocks-of grown in
       let cleared = clear-entry g n d t (slot-low g g n d t bg here) in
       let cut = clearEntry g n d t in
       let into = slot-same g cut n e (r .slot) (cleared .inodes e (there .low) (there .high)) there in
@@ -132,19 +130,19 @@ module _ (s : List ℕ) (n b d : ℕ) (name : List ℕ) (e : ℕ) (other : List 
       let entered = putEntry cut n e (r .slot) i other in
       let put = put-entry cut n e (r .slot) (slot-low cut cut n e (r .slot) bc into) i other in
       let a : Steady s entered n (d ∷ e ∷ []) =
-      steady-then (blocks-of s n h x) (room-steady s n b e r h x y (v .directory) (o .room))
+      steady-then (blocks-of h) (room-steady s n b e r h (v .directory) (o .room))
       (steady-then {ks = d ∷ e ∷ []} bg (clear-steady g n d t bg here) (put-steady cut n e (r .slot) i other bc into) (λ j z. ((z .0, tt), (z .1 .0, tt))))
       (λ j z. ((z .1 .0, tt), z)) in
-      let f = inode-fits s entered n i (a .frame .long) (fits s n h x i (old .low) (old .high)) in
-      let spare : spareOf entered i ≡ 0 = put .inodes i (old .low) (old .high) .spare ∙ cleared .inodes i (old .low) (old .high) .spare ∙ body-at g n (room .sound) count .inodes i (old .low) (old .high) .spare in
-      let p : Steady s (setParent entered n i e) n (d ∷ e ∷ i ∷ []) = steady-then (blocks-of s n h x) a (parent-steady entered n i e f spare) (λ j z. ((z .0, (z .1 .0, tt)), (z .1 .1 .0, tt))) in
+      let f = inode-fits s entered n i (a .frame .long) (fits h i (old .low) (old .high)) in
+      let spare : spareOf entered i ≡ 0 = put .inodes i (old .low) (old .high) .spare ∙ cleared .inodes i (old .low) (old .high) .spare ∙ body-of grown .inodes i (old .low) (old .high) .spare in
+      let p : Steady s (setParent entered n i e) n (d ∷ e ∷ i ∷ []) = steady-then (blocks-of h) a (parent-steady entered n i e f spare) (λ j z. ((z .0, (z .1 .0, tt)), (z .1 .1 .0, tt))) in
       record {
-        sound = moved-sound s n b h x y d name e other t i r q;
+        sound = moved-sound s n b h d name e other t i r q;
         frame = p .frame;
         stood = (record { low = old .slot .low; high = old .slot .high; small = old .slot .small; stands = place-filled s n d t (old .slot) full; names = old .names }, tt);
         gone = (λ z. filling .others (placeOf d t) (place-below (old .slot)) (z .0) .stands ∙ emptied .stands, tt);
         stands = (record { low = there .low; high = there .high; small = there .small; stands = filling .stands; names = filling .names }, tt);
-        bare = (λ _. was-bare s n b e other r h x y v (o .room), tt);
+        bare = (λ _. was-bare s n b e other r h v (o .room), tt);
         one-taken = omega arith;
         one-made = omega arith;
         moves = ((refl, tt), tt);
@@ -159,16 +157,16 @@ module _ (s : List ℕ) (n b d : ℕ) (name : List ℕ) (e : ℕ) (other : List 
         apart = λ j z. (((z .0, z .1 .1 .0), tt), (z .1 .0, tt));
       }
 
-pub lawful-rename : (s : List ℕ) (n b d : ℕ) (name : List ℕ) (e : ℕ) (other : List ℕ) → Sound Store s → n ≡ inodesIn s → b ≡ blocksIn s → Each (Lawful s n) (planned (rename d name e other) s n b)
-lawful-rename s n b d name e other h x y = go (renamePlan s n b d name e other) refl
+pub lawful-rename : (s : List ℕ) (n b d : ℕ) (name : List ℕ) (e : ℕ) (other : List ℕ) → SoundStore s n b → Each (Lawful s n) (planned (rename d name e other) s n b)
+lawful-rename s n b d name e other h = go (renamePlan s n b d name e other) refl
   where
     go : (p : RenamePlan) → renamePlan s n b d name e other ≡ p → Each (Lawful s n) (doRename s n d e other p)
     go (NoRename w) q = tt
-    go Same q = same-store s n 0 [] (d ∷ []) h
+    go Same q = same-store s n 0 [] (d ∷ []) (h .sound)
     go (Rename t i) q =
         let c = renames s n b d name e other t i q in
         let w = c .0 .entry in
         let o = c .0 .new in
-        rename-lawful s n d t i other h x (w .directory) (find-below s n d name t (w .found)) (found-full s n d name t (w .legal) (w .found)) (w .inode)
+        rename-lawful s n d t i other h (w .directory) (find-below s n d name t (w .found)) (found-full s n d name t (w .legal) (w .found)) (w .inode)
         (o .legal) (subst (λ (z : ℕ). findSlot s n z other ≡ Absent) (sym (c .1)) (o .absent))
-    go (Move t i r) q = move-lawful s n b d name e other t i r h x y q
+    go (Move t i r) q = move-lawful s n b d name e other t i r h q

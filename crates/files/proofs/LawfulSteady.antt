@@ -17,10 +17,9 @@ use Rattle.layout.specs.Header.{lessFree}
 use Rattle.blocks.proofs.FrameLaws.{length-inode}
 use Rattle.layout.specs.Fits.{InodeFits}
 use Rattle.directory.specs.Slot.{putEntry, clearEntry}
-use Rattle.sound.specs.Sound.{Sound, inodesIn, blocksIn}
-use Rattle.sound.specs.declared.Form.the-variants.{Store}
+use Rattle.sound.specs.Counted.{SoundStore}
 use Rattle.changes.proofs.SameLaws.{SameFrame, SameInode, SameBlock, InBlock, same-body, body-then, frame-then, inode-then, put-entry, clear-entry, less-free}
-use Rattle.changes.proofs.StoreLaws.{dir-of, one-at, kind-some, kind-most, kind-is}
+use Rattle.changes.proofs.StoreLaws.{same-counts, dir-of, one-at, kind-some, kind-most, kind-is}
 use Rattle.changes.proofs.FreeLaws.{free-block}
 use Rattle.changes.proofs.EntryWriteLaws.{SlotIn, slot-in, slot-block}
 use Rattle.changes.proofs.InodeWriteLaws.{links-relinked, body-all}
@@ -39,11 +38,11 @@ pub record Blocks (s : List ℕ) (n : ℕ) : Type 0 where
   pub low : (j k : ℕ) → 1 ≤ j → j ≤ n → k < blocksUsed (sizeOf s j) → 1 ≤ kthBlock s n j k
   pub once : (i k j a : ℕ) → 1 ≤ i → i ≤ n → 1 ≤ j → j ≤ n → k < blocksUsed (sizeOf s i) → a < blocksUsed (sizeOf s j) → kthBlock s n i k ≡ kthBlock s n j a → i ≡ j
 
-pub blocks-of : (s : List ℕ) (n : ℕ) → Sound Store s → n ≡ inodesIn s → Blocks s n
-blocks-of s n h x = record {
-  few = λ j l m. dir-of s n h x j l m .few;
-  low = λ j k l m u. dir-of s n h x j l m .blocks k u .low;
-  once = λ i k j a l m p q u w e. one-at s n h x i k j a l m p q u w e .0;
+pub blocks-of : {s : List ℕ} {n b : ℕ} → SoundStore s n b → Blocks s n
+blocks-of h = record {
+  few = λ j l m. dir-of h j l m .few;
+  low = λ j k l m u. dir-of h j l m .blocks k u .low;
+  once = λ i k j a l m p q u w e. one-at h i k j a l m p q u w e .0;
 }
 
 pub blocks-same : (s t : List ℕ) (n : ℕ) → ((j : ℕ) → 1 ≤ j → j ≤ n → SameInode s t n j) → Blocks s n → Blocks t n
@@ -146,10 +145,10 @@ new-steady s n i v f e a =
     }
 
 -- room in d
-module _ (s : List ℕ) (n b d : ℕ) (r : Room) (h : Sound Store s) (x : n ≡ inodesIn s) (y : b ≡ blocksIn s)
+module _ (s : List ℕ) (n b d : ℕ) (r : Room) (h : SoundStore s n b)
     (k : isDirectory s n d ≡ true) (e : roomIn s n b d ≡ Has r) where
   pub roomed : Roomed s (makeRoom s n d r) n d (r .slot)
-  roomed = make-room s n b d h x y k r e
+  roomed = make-room s n b d h k r e
 
   room-bytes : (j a : ℕ) → 1 ≤ j → j ≤ n → a < blocksUsed (sizeOf s j) → SameBlock s (makeRoom s n d r) n (kthBlock s n j a)
   unfolding makeRoom
@@ -164,7 +163,7 @@ module _ (s : List ℕ) (n b d : ℕ) (r : Room) (h : Sound Store s) (x : n ≡ 
           let high = kind-most s n directoryKind d k in
           let i = kind-is s n directoryKind d k in
           let used : kindOf s d ≢ freeKind = λ g. omega arith in
-          rw (q, z) (grown-bytes s (addBlock s n d c) n b d c h x y (block-added s n b d c h x y low high w o) low high used w (o .low) (o .high) (o .free) j a l m u)
+          rw (q, z) (grown-bytes s (addBlock s n d c) n b d c h (block-added s n b d c h low high w o) low high used w (o .low) (o .high) (o .free) j a l m u)
 
   pub room-steady : Steady s (makeRoom s n d r) n (d ∷ [])
   room-steady = record {
@@ -174,11 +173,11 @@ module _ (s : List ℕ) (n b d : ℕ) (r : Room) (h : Sound Store s) (x : n ≡ 
     files = λ j l m z. record { body = same-body (roomed .others j l m (no-directory s j d (kind-is s n directoryKind d k) z)); bytes = λ a u. room-bytes j a l m u };
   }
 
-  pub room-count : n ≡ inodesIn (makeRoom s n d r)
-  room-count = x ∙ sym (roomed .frame .inodes)
+  pub room-sound : SoundStore (makeRoom s n d r) n b
+  room-sound = same-counts h (roomed .frame) (roomed .sound)
 
   pub room-dir : isDirectory (makeRoom s n d r) n d ≡ true
   room-dir = same-kind s (makeRoom s n d r) n directoryKind d (roomed .tree .kinds) ∙ k
 
   pub room-slot : SlotIn (makeRoom s n d r) n d (r .slot)
-  room-slot = slot-in (makeRoom s n d r) n d (r .slot) (roomed .sound) room-count room-dir (roomed .slot)
+  room-slot = slot-in room-sound d (r .slot) room-dir (roomed .slot)

@@ -18,8 +18,7 @@ use Rattle.blocks.proofs.ViewLaws.{inode-fits}
 use Rattle.layout.specs.Fits.{InodeFits}
 use Rattle.directory.specs.Slot.{slots, slotEmpty, clearEntry, inodeAt}
 use Rattle.directory.proofs.SlotLaws.{find-below}
-use Rattle.sound.specs.Sound.{Sound, inodesIn}
-use Rattle.sound.specs.declared.Form.the-variants.{Store}
+use Rattle.sound.specs.Counted.{SoundStore}
 use Rattle.changes.proofs.SameLaws.{SameFrame, SameBody, SameBlock, same-body, frame-then, more-free}
 use Rattle.changes.proofs.StoreLaws.{fits}
 use Rattle.changes.proofs.EntryWriteLaws.{EntriesAlone, entries-stay, clear-alone}
@@ -54,28 +53,28 @@ module _ (m : List ℕ) (n i : ℕ) (there : InodeFits m n i) where
       go false = let r = links-relinked m n i there (linksOf m i - 1) .inode in (r .frame, r .bytes)
 
 -- ---- unlink
-module _ (s : List ℕ) (n d t i : ℕ) (h : Sound Store s) (x : n ≡ inodesIn s)
+module _ (s : List ℕ) (n d t i : ℕ) {b : ℕ} (h : SoundStore s n b)
     (dir : isDirectory s n d ≡ true) (inside : t < slots s d) (full : slotEmpty s n d t ≡ false) (is : i ≡ inodeAt s n d t) (holds : kindOf s i ≡ directoryKind → holdsNone s n i ≡ true) where
   here : EntryHere s n d t i
-  here = entry-here s n d t i h x dir inside full is
+  here = entry-here h d t i dir inside full is
 
   abbrev bared : List ℕ
   bared = clearEntry s n d t
 
   cleared : EntriesAlone s bared n
-  cleared = clear-alone s s n d t h x (entries-stay s n) (here .slot)
+  cleared = clear-alone h (entries-stay s n) (here .slot)
 
   drop : SameFrame bared (unlinked s n d t i) × ((c : ℕ) → SameBlock bared (unlinked s n d t i) n c)
   unfolding unlinked
-  drop = dropped bared n i (inode-fits s bared n i (cleared .frame .long) (fits s n h x i (here .low) (here .high)))
+  drop = dropped bared n i (inode-fits s bared n i (cleared .frame .long) (fits h i (here .low) (here .high)))
 
   kind-after : (kindOf (unlinked s n d t i) i ≡ kindOf s i) ⊎ (kindOf (unlinked s n d t i) i ≡ freeKind)
   unfolding zeroInode
   kind-after = go (leb (linksOf s i) 1) refl
     where
       go : (b : Bool) → leb (linksOf s i) 1 ≡ b → (kindOf (unlinked s n d t i) i ≡ kindOf s i) ⊎ (kindOf (unlinked s n d t i) i ≡ freeKind)
-      go true e = inr (unlink-last s n d t i h x dir inside full is holds (leb-true (linksOf s i) 1 e) .kind)
-      go false e = inl (unlink-less s n d t i h x dir inside full is holds (leb-false (linksOf s i) 1 e) .0 .kind)
+      go true e = inr (unlink-last s n d t i h dir inside full is holds (leb-true (linksOf s i) 1 e) .kind)
+      go false e = inl (unlink-less s n d t i h dir inside full is holds (leb-false (linksOf s i) 1 e) .0 .kind)
 
   -- an inode with links left keeps its body
   body-after : kindOf (unlinked s n d t i) i ≢ freeKind → SameBody s (unlinked s n d t i) n i
@@ -83,16 +82,16 @@ module _ (s : List ℕ) (n d t i : ℕ) (h : Sound Store s) (x : n ≡ inodesIn 
   body-after u = go (leb (linksOf s i) 1) refl
     where
       go : (b : Bool) → leb (linksOf s i) 1 ≡ b → SameBody s (unlinked s n d t i) n i
-      go true e = absurd (u (unlink-last s n d t i h x dir inside full is holds (leb-true (linksOf s i) 1 e) .kind))
-      go false e = unlink-less s n d t i h x dir inside full is holds (leb-false (linksOf s i) 1 e) .0
+      go true e = absurd (u (unlink-last s n d t i h dir inside full is holds (leb-true (linksOf s i) 1 e) .kind))
+      go false e = unlink-less s n d t i h dir inside full is holds (leb-false (linksOf s i) 1 e) .0
 
   unlink-lawful : Lawful s n (changes 0 (unlinked s n d t i) (d ∷ i ∷ []) (entry d t i ∷ []) [])
   unlink-lawful =
-      let o = unlink-emptied s n d t i h x dir inside full is holds in
-      let r = unlink-others s n d t i h x dir inside full is holds in
+      let o = unlink-emptied s n d t i h dir inside full is holds in
+      let r = unlink-others s n d t i h dir inside full is holds in
       let y = here .slot in
       record {
-        sound = unlink-sound s n d t i h x dir inside full is holds;
+        sound = unlink-sound s n d t i h dir inside full is holds;
         frame = frame-then (cleared .frame) (drop .0);
         stood = (record { low = y .low; high = y .high; small = y .small; stands = place-filled s n d t y full; names = here .names }, tt);
         gone = (λ _. o .stands, tt);
@@ -108,21 +107,21 @@ module _ (s : List ℕ) (n d t i : ℕ) (h : Sound Store s) (x : n ≡ inodesIn 
         ];
         untouched = λ j l k u z. record {
           inode = r j l k (z .1 .0);
-          bytes = λ a v. drop .1 (kthBlock s n j a) ∙ clear-steady s n d t (blocks-of s n h x) y .stays j l k u (z .0, tt) .bytes a v;
+          bytes = λ a v. drop .1 (kthBlock s n j a) ∙ clear-steady s n d t (blocks-of h) y .stays j l k u (z .0, tt) .bytes a v;
         };
         contents = λ j l k f u _. record {
           body = each-else (λ a. kindOf (unlinked s n d t i) a ≢ freeKind → SameBody s (unlinked s n d t i) n a) i j body-after (λ z _. same-body (r j l k z)) u;
-          bytes = λ a v. drop .1 (kthBlock s n j a) ∙ clear-steady s n d t (blocks-of s n h x) y .files j l k f .bytes a v;
+          bytes = λ a v. drop .1 (kthBlock s n j a) ∙ clear-steady s n d t (blocks-of h) y .files j l k f .bytes a v;
         };
         apart = λ j z. (((z .0, z .1 .0), tt), tt);
       }
 
-pub lawful-unlink : (s : List ℕ) (n b d : ℕ) (name : List ℕ) → Sound Store s → n ≡ inodesIn s → Each (Lawful s n) (planned (unlink d name) s n b)
-lawful-unlink s n b d name h x = go (unlinkPlan s n d name) refl
+pub lawful-unlink : (s : List ℕ) (n b d : ℕ) (name : List ℕ) → SoundStore s n b → Each (Lawful s n) (planned (unlink d name) s n b)
+lawful-unlink s n b d name h = go (unlinkPlan s n d name) refl
   where
     go : (p : UnlinkPlan) → unlinkPlan s n d name ≡ p → Each (Lawful s n) (doUnlink s n d p)
     go (NoUnlink w) e = tt
     go (Take t i) e =
         let c = unlinks s n d name t i e in
         let w = c .entry in
-        unlink-lawful s n d t i h x (w .directory) (find-below s n d name t (w .found)) (found-full s n d name t (w .legal) (w .found)) (w .inode) (c .empty)
+        unlink-lawful s n d t i h (w .directory) (find-below s n d name t (w .found)) (found-full s n d name t (w .legal) (w .found)) (w .inode) (c .empty)

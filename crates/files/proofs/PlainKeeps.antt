@@ -8,6 +8,7 @@ use Rattle.sound.specs.Sound.{Sound, inodesIn, blocksIn}
 use Rattle.sound.specs.declared.Form.the-variants.{Store}
 use Rattle.sound.specs.Test.{framedB, isSound}
 use Rattle.answers.specs.declared.Refusal.the-variants.{BadBuffer, UnsoundStore}
+use Rattle.changes.proofs.StoreLaws.{sound-store}
 use Rattle.files.specs.Effect.{Call, Effect, Planned, refused, does, planned, plainDecision, given}
 use Rattle.files.specs.Plain.{leaves, plain}
 use Rattle.files.proofs.PlainLaws.{on-guard}
@@ -27,7 +28,7 @@ each-plain Q c s h = rw (on-guard s (planned c s) refused) (go (framedB Store s)
 module _ (s : List ℕ) (h : Sound Store s) where
   -- the laws of what a plain call does
   pub plain-lawful : (c : Call) → Each (Lawful s (inodesIn s)) (plainDecision c s)
-  plain-lawful c = each-plain (Lawful s (inodesIn s)) c s (lawful c s (inodesIn s) (blocksIn s) h refl refl)
+  plain-lawful c = each-plain (Lawful s (inodesIn s)) c s (lawful c (sound-store h refl))
 
   leaves-sound : (out : List ℕ) (p : Planned) → Each (Lawful s (inodesIn s)) p → Sound Store (leaves s out p .store)
   leaves-sound out (does x) k = k .sound

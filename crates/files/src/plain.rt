@@ -2,8 +2,8 @@
 ghost use mathlib.Core.Path.{_≡_};
 ghost use mathlib.Core.List.{[]};
 ghost use lib.ListN.{length};
-ghost use Rattle.sound.specs.Sound.{Sound, inodesIn, blocksIn};
-ghost use Rattle.sound.specs.declared.Form.the-variants.{Store};
+ghost use Rattle.sound.specs.Sound.{blocksIn};
+ghost use Rattle.sound.specs.Counted.{SoundStore};
 ghost use Rattle.content.specs.Plan.{readPlan, writePlan, shortenPlan};
 ghost use Rattle.entries.specs.Plan.{lookUpPlan, createPlan, linkPlan, unlinkPlan, renamePlan};
 ghost use Rattle.files.specs.Guard.{guardOf};
@@ -40,7 +40,7 @@ pub fn guard(s: &[u8]) -> Guard
 
 // ---- look up
 fn do_look_up(s: &[u8], n: usize, d: usize, name: &[u8]) -> Answer
-    requires { ⌜ Sound Store (now s) × (n ≡ inodesIn (now s)) ⌝ }
+    requires { ⌜ SoundStore (now s) n (blocksIn (now s)) ⌝ }
     ensures { λ r. ⌜ plainLeft r (now (s .entry)) [] ≡ leaves (now (s .entry)) [] (doLookUp (now (s .entry)) (lookUpPlan (now (s .entry)) n d (now (name .entry)))) ⌝ }
 {
     match entries::plan::look_up_plan(s, n, d, name) {
@@ -60,7 +60,7 @@ pub fn look_up(store: &[u8], dir: usize, name: &[u8]) -> Answer
 
 // ---- read
 fn do_read(s: &[u8], n: usize, i: usize, o: usize, out: &mut [u8]) -> Answer
-    requires { ⌜ Sound Store (now s) × (n ≡ inodesIn (now s)) ⌝ }
+    requires { ⌜ SoundStore (now s) n (blocksIn (now s)) ⌝ }
     ensures { λ r. ⌜ plainLeft r (now (s .entry)) (now (out .exit)) ≡ leaves (now (s .entry)) (now (out .entry)) (doRead (now (s .entry)) n i o (now (out .entry)) (readPlan (now (s .entry)) n i o (length (now (out .entry))))) ⌝ }
 {
     match content::plan::read_plan(s, n, i, o, out.len()) {
@@ -83,7 +83,7 @@ pub fn read(store: &[u8], inode: usize, offset: usize, out: &mut [u8]) -> Answer
 
 // ---- create
 fn do_create(s: &mut [u8], n: usize, b: usize, d: usize, name: &[u8], kind: Kind) -> Answer
-    requires { ⌜ Sound Store (now s) × (n ≡ inodesIn (now s)) × (b ≡ blocksIn (now s)) ⌝ }
+    requires { ⌜ SoundStore (now s) n b ⌝ }
     ensures { λ r. ⌜ plainLeft r (now (s .exit)) [] ≡ leaves (now (s .entry)) [] (doCreate (now (s .entry)) n d (now (name .entry)) kind (createPlan (now (s .entry)) n b d (now (name .entry)))) ⌝ }
 {
     match entries::plan::create_plan(s, n, b, d, name) {
@@ -106,7 +106,7 @@ pub fn create(store: &mut [u8], dir: usize, name: &[u8], kind: Kind) -> Answer
 
 // ---- write
 fn do_write(s: &mut [u8], n: usize, b: usize, i: usize, o: usize, xs: &[u8]) -> Answer
-    requires { ⌜ Sound Store (now s) × (n ≡ inodesIn (now s)) × (b ≡ blocksIn (now s)) ⌝ }
+    requires { ⌜ SoundStore (now s) n b ⌝ }
     ensures { λ r. ⌜ plainLeft r (now (s .exit)) [] ≡ leaves (now (s .entry)) [] (doWrite (now (s .entry)) n b i o (now (xs .entry)) (writePlan (now (s .entry)) n i o (length (now (xs .entry))))) ⌝ }
 {
     match content::plan::write_plan(s, n, i, o, xs.len()) {
@@ -129,7 +129,7 @@ pub fn write(store: &mut [u8], inode: usize, offset: usize, bytes: &[u8]) -> Ans
 
 // ---- shorten
 fn do_shorten(s: &mut [u8], n: usize, i: usize, z: usize) -> Answer
-    requires { ⌜ Sound Store (now s) × (n ≡ inodesIn (now s)) ⌝ }
+    requires { ⌜ SoundStore (now s) n (blocksIn (now s)) ⌝ }
     ensures { λ r. ⌜ plainLeft r (now (s .exit)) [] ≡ leaves (now (s .entry)) [] (doShorten (now (s .entry)) n i (shortenPlan (now (s .entry)) n i z)) ⌝ }
 {
     match content::plan::shorten_plan(s, n, i, z) {
@@ -152,7 +152,7 @@ pub fn shorten(store: &mut [u8], inode: usize, size: usize) -> Answer
 
 // ---- link
 fn do_link(s: &mut [u8], n: usize, b: usize, d: usize, name: &[u8], i: usize) -> Answer
-    requires { ⌜ Sound Store (now s) × (n ≡ inodesIn (now s)) × (b ≡ blocksIn (now s)) ⌝ }
+    requires { ⌜ SoundStore (now s) n b ⌝ }
     ensures { λ r. ⌜ plainLeft r (now (s .exit)) [] ≡ leaves (now (s .entry)) [] (doLink (now (s .entry)) n d (now (name .entry)) i (linkPlan (now (s .entry)) n b d (now (name .entry)) i)) ⌝ }
 {
     match entries::plan::link_plan(s, n, b, d, name, i) {
@@ -175,7 +175,7 @@ pub fn link(store: &mut [u8], dir: usize, name: &[u8], inode: usize) -> Answer
 
 // ---- unlink
 fn do_unlink(s: &mut [u8], n: usize, d: usize, name: &[u8]) -> Answer
-    requires { ⌜ Sound Store (now s) × (n ≡ inodesIn (now s)) ⌝ }
+    requires { ⌜ SoundStore (now s) n (blocksIn (now s)) ⌝ }
     ensures { λ r. ⌜ plainLeft r (now (s .exit)) [] ≡ leaves (now (s .entry)) [] (doUnlink (now (s .entry)) n d (unlinkPlan (now (s .entry)) n d (now (name .entry)))) ⌝ }
 {
     match entries::plan::unlink_plan(s, n, d, name) {
@@ -206,7 +206,7 @@ fn do_rename(
     e: usize,
     other: &[u8],
 ) -> Answer
-    requires { ⌜ Sound Store (now s) × (n ≡ inodesIn (now s)) × (b ≡ blocksIn (now s)) ⌝ }
+    requires { ⌜ SoundStore (now s) n b ⌝ }
     ensures { λ r. ⌜ plainLeft r (now (s .exit)) [] ≡ leaves (now (s .entry)) [] (doRename (now (s .entry)) n d e (now (other .entry)) (renamePlan (now (s .entry)) n b d (now (name .entry)) e (now (other .entry)))) ⌝ }
 {
     match entries::plan::rename_plan(s, n, b, d, name, e, other) {

@@ -8,7 +8,8 @@ use Rattle.bounded.proofs.BoolLaws.{and-right}
 use Rattle.bounded.proofs.SearchLaws.{pick-not}
 use Rattle.desk.specs.declared.Desk.{Desk}
 use Rattle.desk.specs.Desk.{deskOf}
-use Rattle.sound.specs.Sound.{Sound, inodesIn, blocksIn}
+use Rattle.sound.specs.Sound.{inodesIn, blocksIn}
+use Rattle.sound.specs.Counted.{SoundStore}
 use Rattle.sound.specs.declared.Form.the-variants.{Store}
 use Rattle.sound.proofs.SoundLaws.{is-sound}
 use Rattle.sound.specs.Test.{framedB, isSound}
@@ -65,9 +66,7 @@ module _ (s m d : List ℕ) where
 -- ---- what they let through
 pub record Passed (framed : Bool) (s m d : List ℕ) (n b : ℕ) : Type 0 where
   pub allowed : framed ≡ true
-  pub sound : Sound Store s
-  pub inodes : n ≡ inodesIn s
-  pub blocks : b ≡ blocksIn s
+  pub sound : SoundStore s n b
   pub notes : notesFit s m d ≡ true
 
 passed-by : (framed : Bool) (s m d : List ℕ) (n b : ℕ) → guardBy s (guardRows framed s m d) ≡ Pass n b → Passed framed s m d n b
@@ -76,7 +75,7 @@ passed-by framed s m d n b e =
     let a = pick-not framed (Stop _) _ z e (no-pass _ n b) in
     let c = pick-not (isSound Store s) (Stop _) _ z (a .1) (no-pass _ n b) in
     let f = pick-not (notesFit s m d) (Stop _) _ z (c .1) (no-pass _ n b) in
-    record { allowed = a .0; sound = is-sound Store s .to (c .0); inodes = cc (f .1); blocks = cc (f .1); notes = f .0 }
+    record { allowed = a .0; sound = record { sound = is-sound Store s .to (c .0); inodes = cc (f .1); blocks = cc (f .1) }; notes = f .0 }
 
 pub passed : (s m d : List ℕ) (n b : ℕ) → threeGuards s m d ≡ Pass n b → Passed (bothFramed s d) s m d n b
 unfolding threeGuards

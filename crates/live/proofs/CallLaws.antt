@@ -11,6 +11,7 @@ use Rattle.sound.specs.Sound.{inodesIn, blocksIn}
 use Rattle.answers.specs.declared.Refusal.{Refusal}
 use Rattle.answers.specs.declared.Refusal.the-variants.{Busy}
 use Rattle.answers.specs.declared.Answer.the-variants.{Done}
+use Rattle.changes.proofs.StoreLaws.{uncounted}
 use Rattle.files.specs.declared.Guard.the-variants.{Pass}
 use Rattle.files.specs.Effect.{Call, Effect, Planned, refused, does, planned}
 use Rattle.files.proofs.Lawful.{Lawful, Each}
@@ -38,18 +39,21 @@ image-addressed m d l w f =
       inside = λ x h. let a = k .1 .1 .1 .1 .1 x h in omega arith;
     }
 
-pub let-through : (s m d : List ℕ) (n b : ℕ) → threeGuards s m d ≡ Pass n b → Fits s d n × (b ≡ blocksIn s) × Readable m d n
+pub let-through : (s m d : List ℕ) (n b : ℕ) → threeGuards s m d ≡ Pass n b → Fits s d n b × Readable m d n
 let-through s m d n b g =
     let p = passed s m d n b g in
     let f = desk-framed-is d .to (desk-passed p) in
     let l = f .1 .1 in
     let k = notes-fit-is s m d .to (p .notes) in
-    let e = p .inodes ∙ sym (k .1 .0) in
-    (record { sound = p .sound; inodes = p .inodes; long = omega arith }, p .blocks, λ r. subst (Addressed m) (sym e) (image-addressed m d (f .1 .0) (k .0) (k .1 .1 r)))
+    let e = p .sound .inodes ∙ sym (k .1 .0) in
+    (record { sound = p .sound; long = omega arith }, λ r. subst (Addressed m) (sym e) (image-addressed m d (f .1 .0) (k .0) (k .1 .1 r)))
+
+pub uncounted-fits : {s d : List ℕ} {n b : ℕ} → Fits s d n b → Fits s d n (blocksIn s)
+uncounted-fits f = record { sound = uncounted (f .sound); long = f .long }
 
 -- ---- the laws of what was planned
-pub effect-laws : (c : Call) (s d : List ℕ) (n b : ℕ) → Fits s d n → b ≡ blocksIn s → (x : Effect) → does x ≡ planned c s n b → Lawful s n x
-effect-laws c s d n b f y x q = subst (Each (Lawful s n)) (sym q) (lawful c s n b (f .sound) (f .inodes) y)
+pub effect-laws : (c : Call) {s d : List ℕ} {n b : ℕ} → Fits s d n b → (x : Effect) → does x ≡ planned c s n b → Lawful s n x
+effect-laws c {s} {n = n} f x q = subst (Each (Lawful s n)) (sym q) (lawful c (f .sound))
 
 -- ---- behind the guards: p is what was planned, w what was lent
 module _ (w : World) (p : Planned) where

@@ -1,19 +1,17 @@
--- What refusals 1, 2 and 3 leave to a call that they let through. s is the store, m the image, d the desk, n the inode count.
+-- What refusals 1, 2 and 3 leave to a call that they let through. s is the store, m the image, d the desk, n and b are the counts of inodes and blocks.
 use Prim.Native.Nat.{ℕ, _≤_}
 use mathlib.Core.Path.{_≡_}
 use mathlib.Core.Bool.{true}
 use mathlib.Core.List.{List}
 use lib.ListN.{length}
 use Rattle.desk.specs.Sizes.{deskLength}
-use Rattle.sound.specs.Sound.{Sound, inodesIn}
-use Rattle.sound.specs.declared.Form.the-variants.{Store}
+use Rattle.sound.specs.Counted.{SoundStore}
 use Rattle.checkpoint.specs.Fit.{isRunning}
 use Rattle.tallies.specs.Addressed.{Addressed}
 
 -- store and desk
-pub record Fits (s d : List ℕ) (n : ℕ) : Type 0 where
-  pub sound : Sound Store s
-  pub inodes : n ≡ inodesIn s
+pub record Fits (s d : List ℕ) (n b : ℕ) : Type 0 where
+  pub sound : SoundStore s n b
   pub long : deskLength n ≤ length d
 
 -- the image, which the calls read only while the copy runs: its addresses name blocks of it

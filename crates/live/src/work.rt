@@ -31,7 +31,7 @@ pub fn create(
     name: &[u8],
     kind: Kind,
 ) -> Answer
-    requires { ⌜ Fits (now s) (now d) n × (b ≡ blocksIn (now s)) ⌝ }
+    requires { ⌜ Fits (now s) (now d) n b ⌝ }
     ensures { λ r. ⌜ ((m : List ℕ) → left r (now (s .exit)) m (now (d .exit)) ≡ leavesIn (world (now (s .entry)) m (now (d .entry))) (unlessBusy (now (d .entry)) (doCreate (now (s .entry)) n dir (now (name .entry)) kind (createPlan (now (s .entry)) n b dir (now (name .entry)))))) ⌝ }
 {
     match entries::plan::create_plan(s, n, b, dir, name) {
@@ -57,7 +57,7 @@ pub fn link(
     name: &[u8],
     inode: usize,
 ) -> Answer
-    requires { ⌜ Fits (now s) (now d) n × (b ≡ blocksIn (now s)) ⌝ }
+    requires { ⌜ Fits (now s) (now d) n b ⌝ }
     ensures { λ r. ⌜ ((m : List ℕ) → left r (now (s .exit)) m (now (d .exit)) ≡ leavesIn (world (now (s .entry)) m (now (d .entry))) (unlessBusy (now (d .entry)) (doLink (now (s .entry)) n dir (now (name .entry)) inode (linkPlan (now (s .entry)) n b dir (now (name .entry)) inode)))) ⌝ }
 {
     match entries::plan::link_plan(s, n, b, dir, name, inode) {
@@ -75,7 +75,7 @@ pub fn link(
 }
 
 pub fn write(s: &mut [u8], d: &[u8], n: usize, b: usize, i: usize, o: usize, xs: &[u8]) -> Answer
-    requires { ⌜ Fits (now s) (now d) n × (b ≡ blocksIn (now s)) ⌝ }
+    requires { ⌜ Fits (now s) (now d) n b ⌝ }
     ensures { λ r. ⌜ ((m : List ℕ) → left r (now (s .exit)) m (now (d .entry)) ≡ leavesIn (world (now (s .entry)) m (now (d .entry))) (unlessBusy (now (d .entry)) (doWrite (now (s .entry)) n b i o (now (xs .entry)) (writePlan (now (s .entry)) n i o (length (now (xs .entry))))))) ⌝ }
 {
     match content::plan::write_plan(s, n, i, o, xs.len()) {
@@ -91,7 +91,7 @@ pub fn write(s: &mut [u8], d: &[u8], n: usize, b: usize, i: usize, o: usize, xs:
 }
 
 pub fn shorten(s: &mut [u8], d: &[u8], n: usize, i: usize, z: usize) -> Answer
-    requires { ⌜ Fits (now s) (now d) n ⌝ }
+    requires { ⌜ Fits (now s) (now d) n (blocksIn (now s)) ⌝ }
     ensures { λ r. ⌜ ((m : List ℕ) → left r (now (s .exit)) m (now (d .entry)) ≡ leavesIn (world (now (s .entry)) m (now (d .entry))) (unlessBusy (now (d .entry)) (doShorten (now (s .entry)) n i (shortenPlan (now (s .entry)) n i z)))) ⌝ }
 {
     match content::plan::shorten_plan(s, n, i, z) {
@@ -108,7 +108,7 @@ pub fn shorten(s: &mut [u8], d: &[u8], n: usize, i: usize, z: usize) -> Answer
 
 // ---- calls that take an entry out
 pub fn unlink(s: &mut [u8], m: &mut [u8], d: &mut [u8], n: usize, dir: usize, name: &[u8]) -> Answer
-    requires { ⌜ Fits (now s) (now d) n × Readable (now m) (now d) n ⌝ }
+    requires { ⌜ Fits (now s) (now d) n (blocksIn (now s)) × Readable (now m) (now d) n ⌝ }
     ensures { λ r. ⌜ left r (now (s .exit)) (now (m .exit)) (now (d .exit)) ≡ leavesIn (world (now (s .entry)) (now (m .entry)) (now (d .entry))) (unlessBusy (now (d .entry)) (doUnlink (now (s .entry)) n dir (unlinkPlan (now (s .entry)) n dir (now (name .entry))))) ⌝ }
 {
     match entries::plan::unlink_plan(s, n, dir, name) {
@@ -136,7 +136,7 @@ pub fn rename(
     to: usize,
     other: &[u8],
 ) -> Answer
-    requires { ⌜ Fits (now s) (now d) n × (b ≡ blocksIn (now s)) × Readable (now m) (now d) n ⌝ }
+    requires { ⌜ Fits (now s) (now d) n b × Readable (now m) (now d) n ⌝ }
     ensures { λ r. ⌜ left r (now (s .exit)) (now (m .exit)) (now (d .exit)) ≡ leavesIn (world (now (s .entry)) (now (m .entry)) (now (d .entry))) (unlessBusy (now (d .entry)) (doRename (now (s .entry)) n from to (now (other .entry)) (renamePlan (now (s .entry)) n b from (now (name .entry)) to (now (other .entry))))) ⌝ }
 {
     match entries::plan::rename_plan(s, n, b, from, name, to, other) {

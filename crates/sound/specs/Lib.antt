@@ -4,3 +4,4 @@ pub mod Entry
 pub mod Link
 pub mod Sound
 pub mod Test
+pub mod Counted

@@ -21,8 +21,8 @@ use Rattle.desk.specs.Desk.{deskOf, markOf}
 use Rattle.sound.specs.Place.{placeOf}
 use Rattle.sound.specs.Sound.{Sound, inodesIn}
 use Rattle.sound.specs.declared.Form.the-variants.{Store}
-use Rattle.changes.proofs.StoreLaws.{dir-of}
-use Rattle.changes.proofs.SoundTreeLaws.{body-at}
+use Rattle.changes.proofs.StoreLaws.{sound-store, dir-of}
+use Rattle.changes.proofs.KeepLaws.{body-of}
 use Rattle.files.specs.Effect.{Entry, placeIn, Effect}
 use Rattle.files.proofs.Lawful.{Away, Stands, Stays, Lawful}
 use Rattle.checkpoint.specs.Fit.{isRunning}
@@ -75,7 +75,7 @@ module _ {n b : ℕ} {s m d : List ℕ} (k : Sound Store s) (x : n ≡ inodesIn 
   opened-here z =
       let o = h .opened z in
       let r = stays z in
-      let w = dir-of s n k x (deskOf d .locked) (o .low) (h .desk .high) .few in
+      let w = dir-of (sound-store k x) (deskOf d .locked) (o .low) (h .desk .high) .few in
       let f = o .few in
       record {
         low = o .low;
@@ -124,7 +124,7 @@ stands-whole s n k e y r =
     let l = r .low in
     let o = r .high in
     let u = r .small in
-    let z = body-at s n k e .entries (placeIn y) (omega arith) (r .stands) .low in
+    let z = body-of (sound-store k e) .entries (placeIn y) (omega arith) (r .stands) .low in
     record { ranged = stands-ranged s n y r; some = subst (λ (v : ℕ). 1 ≤ v) (r .names) z }
 
 -- the slots of a directory that is not among theirs

@@ -19,6 +19,7 @@ use Rattle.sound.proofs.SoundLaws.{is-sound}
 use Rattle.answers.specs.declared.Refusal.the-variants.{Busy}
 use Rattle.answers.specs.Refusal.{refusalNumber}
 use Rattle.answers.proofs.RefusalLaws.{not-none}
+use Rattle.changes.proofs.StoreLaws.{sound-store}
 use Rattle.files.specs.declared.Guard.the-variants.{Pass}
 use Rattle.files.specs.Guard.{guardOf, onGuard}
 use Rattle.files.specs.Effect.{Call, Entry, placeIn, Effect, Planned, refused, does, onPlanned, planned, plainDecision}
@@ -92,7 +93,7 @@ pub record Does (c : Call) (w : World) (x : Effect) : Type 0 where
 
 pub live-accepted : (c : Call) (w : World) → Ready w → accepted (call c) w ≡ true → (x : Effect) × Does c w x
 live-accepted c w r a =
-    go (planned c s n b) refl (lawful c s n b h refl refl) (taken-made-apart c s n b h refl refl)
+    go (planned c s n b) refl (lawful c (sound-store h refl)) (taken-made-apart c (sound-store h refl))
     (ap (done w) (sym (ready-decides c w r)) ∙ sym (accepted-is c w) ∙ a)
   where
     s : List ℕ

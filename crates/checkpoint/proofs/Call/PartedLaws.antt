@@ -6,8 +6,7 @@ use mathlib.Core.List.{List}
 use native.Mathlib.Omega.{arith}
 use Rattle.bounded.proofs.EachLaws.{All, all-map, all-both}
 use Rattle.directory.specs.Slot.{mostSlots}
-use Rattle.sound.specs.Sound.{Sound, inodesIn, blocksIn}
-use Rattle.sound.specs.declared.Form.the-variants.{Store}
+use Rattle.sound.specs.Counted.{SoundStore}
 use Rattle.content.specs.declared.NumberPlan.{NumberPlan}
 use Rattle.content.specs.declared.NumberPlan.the-variants.{To, NoNumber}
 use Rattle.content.specs.Plan.{readPlan, writePlan, shortenPlan}
@@ -84,8 +83,8 @@ parted s n x k h =
     (λ y p. all-map _ _ (x .made) (λ z q. other-place y z (p .0 .low) (q .0 .low) (p .0 .small) (q .0 .small) (q .1)) (all-both _ _ (x .made) (k .stands) (p .1)))
     (all-both _ _ (x .taken) (k .stood) h)
 
-pub taken-made-apart : (c : Call) (s : List ℕ) (n b : ℕ) → Sound Store s → n ≡ inodesIn s → b ≡ blocksIn s → Each Parted (planned c s n b)
-taken-made-apart c s n b h x y = go (planned c s n b) (lawful c s n b h x y) (elsewhere c s n b)
+pub taken-made-apart : (c : Call) {s : List ℕ} {n b : ℕ} → SoundStore s n b → Each Parted (planned c s n b)
+taken-made-apart c {s} {n} {b} h = go (planned c s n b) (lawful c h) (elsewhere c s n b)
   where
     go : (p : Planned) → Each (Lawful s n) p → Each Elsewhere p → Each Parted p
     go (does z) k e = parted s n z k e

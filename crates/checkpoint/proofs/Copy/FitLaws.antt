@@ -21,7 +21,7 @@ use Rattle.desk.specs.Desk.{deskOf, copiedOf, deskRestZero}
 use Rattle.sound.specs.Sound.{Sound, inodesIn}
 use Rattle.sound.specs.declared.Form.the-variants.{Store}
 use Rattle.sound.proofs.SoundLaws.{framed, is-sound}
-use Rattle.changes.proofs.StoreLaws.{dir-of}
+use Rattle.changes.proofs.StoreLaws.{sound-store, dir-of}
 use Rattle.changes.proofs.AddressLaws.{address-kth, kth-bound}
 use Rattle.checkpoint.specs.Fit.{deskFramed, isRunning, mostSteps, blocksFit, deskFits, imageFits, notesFit}
 use Rattle.checkpoint.specs.Notes.{isCopied}
@@ -137,7 +137,7 @@ module _ {n b : ℕ} {s m d : List ℕ} (h : Laid n b s m d) where
         go (yes z) = let c = h .desk .none z in omega arith
         go (no z) =
             let o = h .opened z .few in
-            let w = dir-of s n sound e (deskOf d .locked) (omega arith) (h .desk .high) .few in
+            let w = dir-of (sound-store sound e) (deskOf d .locked) (omega arith) (h .desk .high) .few in
             omega arith
 
     -- "steps .. above 14 × N if running" never

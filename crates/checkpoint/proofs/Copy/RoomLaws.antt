@@ -17,7 +17,7 @@ use Rattle.desk.specs.Desk.{deskOf}
 use Rattle.sound.specs.Sound.{Sound, inodesIn}
 use Rattle.sound.proofs.FactLaws.{named-is}
 use Rattle.sound.specs.declared.Form.the-variants.{Store}
-use Rattle.changes.proofs.StoreLaws.{dir-of}
+use Rattle.changes.proofs.StoreLaws.{sound-store, dir-of}
 use Rattle.checkpoint.specs.Copier.{targetBlock}
 use Rattle.checkpoint.proofs.Copy.Laid.{Laid}
 use Rattle.checkpoint.proofs.Copy.TargetLaws.{target-absent}
@@ -81,7 +81,7 @@ laid-room {n} {b} {s} {m} {d} h sound e lock more enough = go (targetBlock m n b
     go Absent q =
         let low : 1 ≤ l = omega arith in
         let high = h .desk .high in
-        let w = dir-of s n sound e l low high .few in
+        let w = dir-of (sound-store sound e) l low high .few in
         let f : k < 12 = omega arith in
         let x = more-addresses m n b (addressIndex l k) (omega arith) (h .opened lock .rest k f (omega arith)) (target-absent m n b (kthBlock s n l k) q) in
         absurd (omega arith)

@@ -18,6 +18,7 @@ use Rattle.sound.specs.Entry.{sameNames}
 use Rattle.sound.specs.Sound.{Sound, inodesIn}
 use Rattle.sound.proofs.PlaceLaws.{naming-filled}
 use Rattle.sound.specs.declared.Form.the-variants.{Store}
+use Rattle.changes.proofs.StoreLaws.{sound-store}
 use Rattle.changes.proofs.TreeLaws.{Tree, Names, Dir, entry-one, leads-same}
 use Rattle.changes.proofs.SoundTreeLaws.{nodesOf, names-at, above-at, tree-at}
 use Rattle.copying.specs.View.{Tidy}
@@ -26,7 +27,7 @@ use Rattle.checkpoint.proofs.Copy.SeenLaws.{names-in, names-below, name
 
 module _ (s : List ℕ) (n : ℕ) (h : Sound Store s) (x : n ≡ inodesIn s) where
   tree : Tree n (nodesOf s n)
-  tree = tree-at s n h x
+  tree = tree-at (sound-store h x)
 
   -- an entry at place p
   module _ (p : ℕ) (e : shelfOf n s .names p ≢ 0) where
@@ -66,7 +67,7 @@ module _ (s : List ℕ) (n : ℕ) (h : Sound Store s) (x : n ≡ inodesIn s) whe
   unfolding sameNames
   differ p q l d e f =
       rw (entry-in n s p, entry-in n s q)
-      (names-at s n h x .differ p q (names-below n s p e) (names-below n s q f) d l (naming-filled s n p (names-low n s p e)) (naming-filled s n q (names-low n s q f)))
+      (names-at (sound-store h x) .differ p q (names-below n s p e) (names-below n s q f) d l (naming-filled s n p (names-low n s p e)) (naming-filled s n q (names-low n s q f)))
 
   pub store-tidy : Tidy n (shelfOf n s)
   store-tidy =
@@ -76,7 +77,7 @@ module _ (s : List ℕ) (n : ℕ) (h : Sound Store s) (x : n ≡ inodesIn s) whe
         high = high;
         used = λ p e z. names p e .used (sym (kind p e) ∙ z);
         not-root = λ p z. let e : shelfOf n s .names p ≢ 0 = λ y. omega arith in names p e .not-root (sym (at p e) ∙ z);
-        inside = λ p e. let m = names-below n s p e in kind-in n s (dirOf p) (omega arith) (omega arith) ∙ above-at s n h x p m (names-low n s p e);
+        inside = λ p e. let m = names-below n s p e in kind-in n s (dirOf p) (omega arith) (omega arith) ∙ above-at (sound-store h x) p m (names-low n s p e);
         one = λ p q e z k.
             let f : shelfOf n s .names q ≢ 0 = λ y. e (z ∙ y) in
             entry-one n (nodesOf s n) tree (naming s n p) p q (names-low n s p e) (names p e .high) (sym (kind p e) ∙ k) (names-below n s p e) (names-below n s q f) refl (sym (at q f) ∙ sym z ∙ at p e);
@@ -85,5 +86,5 @@ module _ (s : List ℕ) (n : ℕ) (h : Sound Store s) (x : n ≡ inodesIn s) whe
         root = kind-in n s rootInode (omega arith) l ∙ tree .root;
         root-parent = parent-in n s rootInode (omega arith) l ∙ tree .root-parent;
         named = named;
-        leads = λ i k. leads-same n (nodesOf s n) tree (above-at s n h x) (shelfOf n s .parent) (λ y d. parent-in n s y (d .low) (d .high)) i (dir i k);
+        leads = λ i k. leads-same n (nodesOf s n) tree (above-at (sound-store h x)) (shelfOf n s .parent) (λ y d. parent-in n s y (d .low) (d .high)) i (dir i k);
       }

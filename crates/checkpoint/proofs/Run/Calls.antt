@@ -9,6 +9,7 @@ use Rattle.blocks.specs.Block.{storeLength, Allowed}
 use Rattle.sound.specs.Sound.{Sound, inodesIn, blocksIn}
 use Rattle.sound.specs.declared.Form.the-variants.{Store}
 use Rattle.answers.specs.declared.Refusal.the-variants.{WrongState}
+use Rattle.changes.proofs.StoreLaws.{sound-store}
 use Rattle.files.specs.Effect.{Call, Effect, Planned, does, refused, planned}
 use Rattle.files.proofs.Lawful.{Each, Lawful}
 use Rattle.files.proofs.LawfulCalls.{lawful}
@@ -90,8 +91,8 @@ module _ (n b : ℕ) (w : World) (r : Running n b w) where
   pub call-goes : (c : Call) → Goes n b w (next (call c) w)
   unfolding next outcome live
   call-goes c =
-      let h = lawful c (w .store) (inodesIn (w .store)) (blocksIn (w .store)) (r .sound) refl refl in
-      let p = taken-made-apart c (w .store) (inodesIn (w .store)) (blocksIn (w .store)) (r .sound) refl refl in
+      let h = lawful c (sound-store (r .sound) refl) in
+      let p = taken-made-apart c (sound-store (r .sound) refl) in
       let k = subst (λ (i : ℕ). Each (Lawful (w .store) i) (planned c (w .store) (inodesIn (w .store)) (blocksIn (w .store)))) (sym (r .count)) h in
       decided c (decision c w) refl (each-decided (λ x. Lawful (w .store) n x × Parted x) c w (each-both _ _ (planned c (w .store) (inodesIn (w .store)) (blocksIn (w .store))) k p))
 

@@ -17,7 +17,7 @@ use Rattle.sound.specs.Sound.{Sound, inodesIn}
 use Rattle.sound.specs.declared.Form.the-variants.{Store}
 use Rattle.answers.specs.declared.Refusal.{Refusal}
 use Rattle.answers.specs.declared.Refusal.the-variants.{IllegalName, WrongInode}
-use Rattle.changes.proofs.StoreLaws.{kind-some}
+use Rattle.changes.proofs.StoreLaws.{sound-store, kind-some}
 use Rattle.changes.proofs.SlotPlaceLaws.{found-here}
 use Rattle.content.specs.declared.NumberPlan.{NumberPlan}
 use Rattle.content.specs.declared.NumberPlan.the-variants.{To, NoNumber}
@@ -78,7 +78,7 @@ module _ (s : List ℕ) (b : ℕ) (h : Sound Store s) where
   one-of k i l t e = let m = kind-some s n k i t in omega arith
 
   found-one : (d t i l : ℕ) (name : List ℕ) → FoundIn s n d name t i → l ≡ i → 1 ≤ l
-  found-one d t i l name f e = let m = found-here s n h refl d t name (f .directory) (f .legal) (f .found) .low in let q = f .inode in omega arith
+  found-one d t i l name f e = let m = found-here (sound-store h refl) d t name (f .directory) (f .legal) (f .found) .low in let q = f .inode in omega arith
 
   look : (d : ℕ) (name : List ℕ) (p : NumberPlan) → Each (Touches (lookUp d name)) (doLookUp s p)
   look d name (To i) = λ l z. absurd z

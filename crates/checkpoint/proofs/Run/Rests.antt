@@ -15,11 +15,12 @@ use Rattle.layout.specs.Header.{headerOf}
 use Rattle.blocks.specs.Block.{storeLength}
 use Rattle.desk.specs.Sizes.{running, finished, stopped}
 use Rattle.desk.specs.Desk.{deskOf}
-use Rattle.sound.specs.Sound.{Sound, inodesIn, blocksIn}
+use Rattle.sound.specs.Sound.{Sound, inodesIn}
 use Rattle.sound.specs.declared.Form.the-variants.{Store}
 use Rattle.sound.proofs.SoundLaws.{is-sound}
 use Rattle.sound.specs.Test.{framedB, isSound}
 use Rattle.answers.specs.declared.Refusal.the-variants.{WrongState}
+use Rattle.changes.proofs.StoreLaws.{sound-store}
 use Rattle.files.specs.Effect.{Call, Planned, does, refused}
 use Rattle.files.proofs.Lawful.{Each, Lawful}
 use Rattle.files.proofs.LawfulCalls.{lawful}
@@ -92,7 +93,7 @@ module _ (n b : ℕ) (w : World) (r : Resting n b w) where
   pub call-kept : (c : Call) → Kept (next (call c) w)
   unfolding next outcome live
   call-kept c =
-      let h = lawful c (w .store) (inodesIn (w .store)) (blocksIn (w .store)) sound refl refl in
+      let h = lawful c (sound-store sound refl) in
       decided (decision c w) (drop-allowed (decision c w) (each-decided (Lawful (w .store) (inodesIn (w .store))) c w h))
 
   pub asks-kept : Kept (next asks w)

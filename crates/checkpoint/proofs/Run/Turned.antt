@@ -15,6 +15,7 @@ use Rattle.desk.specs.Next.{locking, copyingOne, unlocking}
 use Rattle.desk.specs.Desk.{deskOf, putCopied}
 use Rattle.desk.proofs.DeskLaws.{desk-putDesk, length-putCopied}
 use Rattle.sound.specs.Sound.{inodesIn}
+use Rattle.changes.proofs.StoreLaws.{sound-store}
 use Rattle.copying.specs.View.{Tidy}
 use Rattle.copying.specs.Deed.{Deed, locks, closes, rests}
 use Rattle.copying.specs.Holds.{Ended}
@@ -106,7 +107,7 @@ module _ (n b : ℕ) (w : World) (r : Running n b w) where
       (ap (λ (x : Desk). x .steps) (desk-putDesk (w .desk) (copyingOne (deskOf (w .desk))) long))
       refl
   chose p e (will-close z l) =
-      let k : Closing n b (w .store) (w .image) (w .desk) = record { laid = r .laid; sound = r .sound; inodes = r .count; on = z; used = locked-used r z; all = l } in
+      let k : Closing n b (w .store) (w .image) (w .desk) = record { laid = r .laid; sound = sound-store (r .sound) (r .count); on = z; used = locked-used r z; all = l } in
       let i = deskOf (w .desk) .locked in
       step-on (close i) e
       (goes (after (close i)) refl (close-laid k) (closes i (close-closed k)))

@@ -13,6 +13,7 @@ use Rattle.blocks.specs.Block.{blockOf}
 use Rattle.directory.specs.Slot.{mostSlots}
 use Rattle.sound.specs.Place.{naming}
 use Rattle.sound.proofs.PlaceLaws.{naming-filled}
+use Rattle.changes.proofs.StoreLaws.{sound-store}
 use Rattle.content.specs.Content.{fileBytes}
 use Rattle.files.specs.Effect.{Call, Effect, Planned, onPlanned}
 use Rattle.files.proofs.Lawful.{Apart, Keeps, Lawful}
@@ -67,7 +68,7 @@ module _ (n b : ℕ) (w : World) (g : Going n b w) (p : ℕ) (l : p < mostSlots 
 
   keeps-kept : (t : List ℕ) → Keeps (w .store) t n i → FileKept t
   keeps-kept t k =
-      let few = blocks-of (w .store) n (ready-sound w (fit g)) (counted g) .few i low high in
+      let few = blocks-of (sound-store (ready-sound w (fit g)) (counted g)) .few i low high in
       record {
         kind = k .body .kind ∙ file;
         same = record {

@@ -20,12 +20,11 @@ use Rattle.desk.specs.Desk.{deskOf, copiedOf, putCopied, markOf}
 use Rattle.desk.specs.Next.{unlocking}
 use Rattle.desk.proofs.DeskLaws.{length-putDesk, length-putCopied, desk-putDesk, reserved-putDesk, reserved-putCopied, copied-putDesk, copied-same, copied-other, mark-putDesk, mark-putCopied}
 use Rattle.sound.specs.Inode.{InodeSound}
-use Rattle.sound.specs.Sound.{Sound, inodesIn, blocksIn}
-use Rattle.sound.specs.declared.Form.the-variants.{Store}
+use Rattle.sound.specs.Sound.{blocksIn}
+use Rattle.sound.specs.Counted.{SoundStore}
 use Rattle.changes.proofs.SameLaws.{InInode, NewInode, put-attributes, attributes-blocks, attributes-new}
-use Rattle.changes.proofs.KeepLaws.{inode-kept}
+use Rattle.changes.proofs.KeepLaws.{body-of, inode-kept}
 use Rattle.changes.proofs.StoreLaws.{dir-of}
-use Rattle.changes.proofs.SoundTreeLaws.{body-at}
 use Rattle.checkpoint.specs.Notes.{isCopied}
 use Rattle.checkpoint.specs.Copier.{close, copiedBlock, unlinkedInode, stepImage, stepDesk}
 use Rattle.checkpoint.proofs.Copy.Laid.{DeskLaid, Open, Laid}
@@ -35,8 +34,7 @@ use Rattle.checkpoint.proofs.Step.PasteLaws.{pasted, file-block, slot-p
 -- the locked inode, in use in a sound store, has all its blocks copied
 pub record Closing (n b : ℕ) (s m d : List ℕ) : Type 0 where
   pub laid : Laid n b s m d
-  pub sound : Sound Store s
-  pub inodes : n ≡ inodesIn s
+  pub sound : SoundStore s n (blocksIn s)
   pub on : deskOf d .locked ≢ 0
   pub used : kindOf s (deskOf d .locked) ≢ freeKind
   pub all : blocksUsed (sizeOf s (deskOf d .locked)) ≤ deskOf d .transferred
@@ -127,10 +125,10 @@ module _ {n b : ℕ} {s m d : List ℕ} (c : Closing n b s m d) where
   same-blocks i o q k a = each-else (λ i. 1 ≤ i → i ≤ n → kthBlock m′ n i k ≡ kthBlock m n i k) l i (λ _ _. attributes-blocks m n l fits (unlinkedInode (inodeOf s n l)) k a) (λ z x y. in-inode .others i x y z .blocks k a) o q
 
   pub few : blocksUsed (sizeOf s l) ≤ addressCount
-  few = dir-of s n (c .sound) (c .inodes) l low high .few
+  few = dir-of (c .sound) l low high .few
 
   store : InodeSound s n (blocksIn s) l
-  store = body-at s n (c .sound) (c .inodes) .inodes l low high
+  store = body-of (c .sound) .inodes l low high
 
   -- its blocks
   pub new-block : (k : ℕ) → k < blocksUsed (sizeOf s l) → blockOf m′ n (kthBlock m′ n l k) ≡ copiedBlock s d n l k
@@ -145,7 +143,7 @@ module _ {n b : ℕ} {s m d : List ℕ} (c : Closing n b s m d) where
   pub entry-new : kindOf s l ≡ directoryKind → (t : ℕ) → t < slots s l → entryOf m′ n l t ≡ pasted d n l t (entryOf s n l t)
   unfolding slots
   entry-new e t u =
-      let r = dir-of s n (c .sound) (c .inodes) l low high .blocks (t / 4) (omega arith) in
+      let r = dir-of (c .sound) l low high .blocks (t / 4) (omega arith) in
       let a = r .low in
       let i = r .inside in
       slot-pasted s m′ d n l t e (unfold blockOf in length-inside s _ blockBytes (omega arith)) (new-block (t / 4) (omega arith))

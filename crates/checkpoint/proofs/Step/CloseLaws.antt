@@ -21,9 +21,8 @@ use Rattle.desk.specs.Desk.{deskOf}
 use Rattle.sound.specs.Place.{dirOf, slotOf, isSlot, entryAt}
 use Rattle.sound.proofs.PlaceLaws.{slot-is, filled-is, naming-entry}
 use Rattle.changes.proofs.SameLaws.{SameInode}
-use Rattle.changes.proofs.KeepLaws.{SamePlace, place-slot, slot-kept, same-slots, entry-kept}
+use Rattle.changes.proofs.KeepLaws.{body-of, SamePlace, place-slot, slot-kept, same-slots, entry-kept}
 use Rattle.changes.proofs.AddressLaws.{same-named, same-differ}
-use Rattle.changes.proofs.SoundTreeLaws.{body-at}
 use Rattle.checkpoint.specs.Notes.{isCopied}
 use Rattle.checkpoint.specs.Copier.{close, stepImage, stepDesk}
 use Rattle.checkpoint.proofs.Copy.Laid.{Frame, frame-kept, Fair, Laid, cost, costSoFar}
@@ -76,7 +75,7 @@ module _ {n b : ℕ} {s m d : List ℕ} (c : Closing n b s m d) where
       go : (x : Bool) → isEmpty (entryAt s n p) ≡ x → Fair (entryAt s n p)
       go true q = inl q
       go false q =
-          let r = body-at s n (c .sound) (c .inodes) .entries p a (filled-is s n p .from (e, q)) in
+          let r = body-of (c .sound) .entries p a (filled-is s n p .from (e, q)) in
           let u = naming-entry s n p e in
           inr ((λ y. let w = r .low in omega arith), r .legal)
 

@@ -26,7 +26,7 @@ use Rattle.sound.specs.Sound.{Sound, inodesIn}
 use Rattle.sound.proofs.PlaceLaws.{slot-is}
 use Rattle.sound.proofs.FactLaws.{named-is, unnamed}
 use Rattle.sound.specs.declared.Form.the-variants.{Store}
-use Rattle.changes.proofs.StoreLaws.{dir-of}
+use Rattle.changes.proofs.StoreLaws.{sound-store, dir-of}
 use Rattle.changes.proofs.FreeLaws.{FreeBlock}
 use Rattle.changes.proofs.KeepLaws.{slot-kept}
 use Rattle.copying.specs.Deed.{Quiet}
@@ -63,7 +63,7 @@ module _ {n b : ℕ} {s m d : List ℕ} (h : Laid n b s m d) (sound : Sound Stor
   high = h .desk .high
 
   few : k < addressCount
-  few = let w = dir-of s n sound e l low high .few in omega arith
+  few = let w = dir-of (sound-store sound e) l low high .few in omega arith
 
   free : FreeBlock m n b c
   free = target-at m n b (kthBlock s n l k) c goes
@@ -73,7 +73,7 @@ module _ {n b : ℕ} {s m d : List ℕ} (h : Laid n b s m d) (sound : Sound Stor
 
   long : length (copiedBlock s d n l k) ≡ blockBytes
   long =
-      let w = dir-of s n sound e l low high .blocks k more in
+      let w = dir-of (sound-store sound e) l low high .blocks k more in
       let a = w .low in
       let z = w .inside in
       length-copied-block d n l k s ∙ (unfold blockOf in length-inside s (blockAt n (kthBlock s n l k)) 64 (omega arith))

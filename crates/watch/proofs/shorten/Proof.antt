@@ -1,7 +1,6 @@
 use mathlib.Core.Path.{refl, sym, _∙_}
-use denote.Ref.{now}
 use Rattle.files.specs.Effect.{shorten}
-use Rattle.live.proofs.CallLaws.{let-through}
+use Rattle.live.proofs.CallLaws.{let-through, uncounted-fits}
 use Rattle.watch.proofs.ReturnLaws.{call-through, call-stopped}
 use borrow.Author.Needs.{needs}
 use Rattle.watch.proofs.shorten.Statement.{statement}
@@ -14,7 +13,7 @@ enum-known-n : tie.Need-enum-known-n
 enum-known-n c = search needs
 
 shorten-requires : tie.Need-shorten-requires
-shorten-requires c κs = let-through _ _ _ _ _ (sym (c .before .before .before .before .before .three-guards .ensures) ∙ c .before .before .before .n .given .1) .0
+shorten-requires c κs = uncounted-fits (let-through _ _ _ _ _ (sym (c .before .before .before .before .before .three-guards .ensures) ∙ c .before .before .before .n .given .1) .0)
 
 enum-known-why : tie.Need-enum-known-why
 enum-known-why c = search needs

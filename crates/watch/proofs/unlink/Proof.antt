@@ -1,7 +1,7 @@
 use mathlib.Core.Path.{refl, sym, _∙_}
 use denote.Ref.{now}
 use Rattle.files.specs.Effect.{unlink}
-use Rattle.live.proofs.CallLaws.{let-through}
+use Rattle.live.proofs.CallLaws.{let-through, uncounted-fits}
 use Rattle.watch.proofs.ReturnLaws.{call-through, call-stopped}
 use borrow.Author.Needs.{needs}
 use Rattle.watch.proofs.unlink.Statement.{statement}
@@ -14,7 +14,7 @@ enum-known-n : tie.Need-enum-known-n
 enum-known-n c = search needs
 
 unlink-requires : tie.Need-unlink-requires
-unlink-requires c κs = let p = let-through _ _ _ _ _ (sym (c .before .before .before .before .before .before .three-guards .ensures) ∙ c .before .before .before .before .n .given .1) in (p .0, p .2)
+unlink-requires c κs = let p = let-through _ _ _ _ _ (sym (c .before .before .before .before .before .before .three-guards .ensures) ∙ c .before .before .before .before .n .given .1) in (uncounted-fits (p .0), p .1)
 
 enum-known-why : tie.Need-enum-known-why
 enum-known-why c = search needs

@@ -20,7 +20,7 @@ more : (c : tie.After-blocks-used2) → c .before .before .blocks-used .result -
 more c = let e = c .before .before .blocks-used .ensures in let g = used c in omega arith
 
 read-requires : tie.Need-read-requires
-read-requires c κs = let p = c .before .before .pre .0 in kind-fits _ _ (p .0) (p .1) _ _ (p .3)
+read-requires c κs = let p = c .before .before .pre .0 in kind-fits (p .0) _ _ (p .1)
 
 blocks-used-requires : tie.Need-blocks-used-requires
 blocks-used-requires c κs = search needs
@@ -37,7 +37,7 @@ sub-more c = let e = c .before .before .blocks-used .ensures in let g = used c i
 put-size-requires : tie.Need-put-size-requires
 put-size-requires c κs =
     let p = c .before .before .before .before .before .before .before .before .pre in
-    (kind-fits _ _ (p .0 .0) (p .0 .1) _ _ (p .0 .3), c .before .before .before .before .before .read .ensures, p .1 .1)
+    (kind-fits (p .0 .0) _ _ (p .0 .1), c .before .before .before .before .before .read .ensures, p .1 .1)
 
 same-length : tie.Need-same-length
 same-length c = search needs
@@ -53,7 +53,7 @@ grow-requires c κs =
     let h = c .before .if1 .left in
     let a = more-few _ _ (q .0) (q .1) in
     let d = q .2 in
-    ((p .0, p .1, p .2, p .3, c .before .before .before .before .before .read .ensures), (omega arith, omega arith, omega arith, q .1))
+    ((p .0, p .1, c .before .before .before .before .before .read .ensures), (omega arith, omega arith, omega arith, q .1))
 
 same-length-2 : tie.Need-same-length-2
 same-length-2 c = search needs

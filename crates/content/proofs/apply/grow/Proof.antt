@@ -25,13 +25,13 @@ abbrev μ-loop : tie.MeasureT-loop
 
 -- the inode, and the blocks that it uses then
 fits : (c : tie.Start Inv-loop μ-loop) → InodeFits (now (c .args .s)) (c .args .n) (c .args .i)
-fits c = let p = c .pre .0 in kind-fits _ _ (p .0) (p .1) _ _ (p .3)
+fits c = let p = c .pre .0 in kind-fits (p .0) _ _ (p .1)
 
 sizes : (c : tie.Start Inv-loop μ-loop) → let a = c .args in Sized (now (a .s)) (a .n) (a .b)
-sizes c = let p = c .pre .0 in sized-at _ _ _ (p .0) (p .1) (p .2)
+sizes c = sized-at (c .pre .0 .0)
 
 few : (c : tie.After-blocks-used Inv-loop μ-loop) → c .blocks-used .result + c .before .before .before .args .m ≤ 12
-few c = let e = used-is _ _ _ _ (c .before .before .before .pre .0 .4) _ (c .blocks-used .ensures) in let p = c .before .before .before .pre .1 .1 in omega arith
+few c = let e = used-is _ _ _ _ (c .before .before .before .pre .0 .2) _ (c .blocks-used .ensures) in let p = c .before .before .before .pre .1 .1 in omega arith
 
 -- the block that a turn takes
 takes : (c : tie.After-next Inv-loop μ-loop) → let a = c .before .before .before .before .before .before .before .before .before .before .args in freeBlock (c .before .before .before .loop .inv .store) (a .n) (a .b) ≡ At (c .next .result)
@@ -47,10 +47,10 @@ blocks-used-requires : tie.Need-blocks-used-requires Inv-loop μ-loop
 blocks-used-requires c κs = search needs
 
 named-blocks-requires : tie.Need-named-blocks-requires Inv-loop μ-loop
-named-blocks-requires c κs = let p = c .before .before .before .before .pre .0 in let f = fits (c .before .before .before .before) in ((f .few, f .area), addresses-most _ _ (p .0) (p .1))
+named-blocks-requires c κs = let p = c .before .before .before .before .pre .0 in let f = fits (c .before .before .before .before) in ((f .few, f .area), addresses-most (p .0))
 
 loop-holds : tie.Need-loop-holds Inv-loop μ-loop
-loop-holds c = turn-begin _ _ _ _ _ _ _ (c .before .before .before .before .before .before .pre .0 .4) (c .before .before .before .blocks-used .ensures) (let p = c .before .before .before .before .before .before .pre in spare-of _ _ _ _ _ (p .0 .0) (p .0 .1) (p .0 .2) (p .0 .3) (p .1 .2) (p .1 .1))
+loop-holds c = turn-begin _ _ _ _ _ _ _ (c .before .before .before .before .before .before .pre .0 .2) (c .before .before .before .blocks-used .ensures) (let p = c .before .before .before .before .before .before .pre in spare-of _ _ _ _ _ (p .0 .0) (p .0 .1) (p .1 .2) (p .1 .1))
 
 slice-aggregate-next : tie.Need-slice-aggregate-next Inv-loop μ-loop
 slice-aggregate-next c = sym (c .before .before .before .before .named-blocks .ensures .long)

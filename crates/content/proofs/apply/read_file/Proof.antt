@@ -20,7 +20,7 @@ abbrev μ-loop : tie.MeasureT-loop
 
 -- the bytes to read lie inside
 fits : (c : tie.Start Inv-loop μ-loop) → let a = c .args in FileFits (now (a .s)) (a .n) (a .i) (a .o + a .k)
-fits c = let p = c .pre in file-fits _ _ (p .0) (p .1) _ _ (p .2) _ (p .3)
+fits c = let p = c .pre in file-fits (p .0) _ _ (p .1) _ (p .2)
 
 loop-holds : tie.Need-loop-holds Inv-loop μ-loop
 loop-holds c = (omega arith, read-begin _ _ _ _ _, refl)

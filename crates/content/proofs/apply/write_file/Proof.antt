@@ -13,18 +13,18 @@ use Rattle.content.proofs.apply.write_file.Tie as tie
 extend-requires : tie.Need-extend-requires
 extend-requires c κs =
     let p = c .before .before .before .pre in
-    let w = writes _ _ _ _ _ _ (p .3) in
-    let l = kind-size _ _ (p .0) (p .1) _ _ (w .file) in
+    let w = writes _ _ _ _ _ _ (p .1) in
+    let l = kind-size (p .0) _ _ (w .file) in
     let z = w .size in
     let m = w .most in
-    ((p .0, p .1, p .2, w .file), (omega arith, omega arith, w .blocks))
+    ((p .0, w .file), (omega arith, omega arith, w .blocks))
 
 put-file-requires : tie.Need-put-file-requires
 put-file-requires c κs =
     let p = c .before .before .before .before .before .before .before .pre in
     let a = c .before .before .before .before .before .before .before .args in
-    let w = writes _ _ _ _ _ _ (p .3) in
-    rw (c .before .before .before .extend .ensures) (holds-fits _ _ _ _ _ (sized-holds _ _ _ _ _ (now (a .xs)) _ (p .0) (p .1) (p .2) w))
+    let w = writes _ _ _ _ _ _ (p .1) in
+    rw (c .before .before .before .extend .ensures) (holds-fits _ _ _ _ _ (sized-holds _ _ _ _ _ (now (a .xs)) _ (p .0) w))
 
 same-length : tie.Need-same-length
 same-length c = search needs

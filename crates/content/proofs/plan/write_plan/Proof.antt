@@ -18,7 +18,7 @@ is-file c = sym (c .before .is-kind .ensures) ∙ not-false _ (c .if1 .left)
 few : (c : tie.After-size) → c .size .result ≤ 768
 few c =
     let p = c .before .before .before .before .pre in
-    let w = kind-size _ _ (p .0) (p .1) _ _ (is-file (c .before)) in
+    let w = kind-size p _ _ (is-file (c .before)) in
     let e = c .size .ensures in
     omega arith
 
@@ -29,7 +29,7 @@ returns : tie.Need-returns
 returns c = write-wrong _ _ _ _ _ (sym (c .before .is-kind .ensures) ∙ not-true _ (c .if1 .taken))
 
 size-requires : tie.Need-size-requires
-size-requires c κs = let p = c .before .before .before .pre in kind-fits _ _ (p .0) (p .1) _ _ (is-file c)
+size-requires c κs = let p = c .before .before .before .pre in kind-fits p _ _ (is-file c)
 
 cast-size : tie.Need-cast-size
 cast-size c = search needs

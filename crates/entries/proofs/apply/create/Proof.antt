@@ -17,13 +17,13 @@ enter-requires : tie.Need-enter-requires
 enter-requires c κs = let p = c .before .before .before .pre in (p .0, (free-inode _ _ _ (p .1 .0) .high, p .1 .1))
 
 new-inode-requires : tie.Need-new-inode-requires
-new-inode-requires c κs = let p = c .before .before .before .before .before .before .pre .0 in let a = kind-most _ _ _ _ (p .3) in let b = p .0 .framed .most-inodes in let e = p .1 in omega arith
+new-inode-requires c κs = let p = c .before .before .before .before .before .before .pre .0 in let a = kind-most _ _ _ _ (p .1) in let b = p .0 .sound .framed .most-inodes in let e = p .0 .inodes in omega arith
 
 write-requires : tie.Need-write-requires
-write-requires c κs = let p = c .before .before .before .before .before .before .before .before .pre .0 in let f = free-inode _ _ _ (c .before .before .before .before .before .before .before .before .pre .1 .0) in entered-fits _ _ _ _ _ (p .0) (p .1) (p .2) (p .3) (p .4) _ _ _ (c .before .before .before .before .enter .ensures) _ (f .low) (f .high)
+write-requires c κs = let p = c .before .before .before .before .before .before .before .before .pre .0 in let f = free-inode _ _ _ (c .before .before .before .before .before .before .before .before .pre .1 .0) in entered-fits _ _ _ _ _ (p .0) (p .1) (p .2) _ _ _ (c .before .before .before .before .enter .ensures) _ (f .low) (f .high)
 
 less-free-requires : tie.Need-less-free-requires
-less-free-requires c κs = let p = c .before .before .before .before .before .before .before .before .before .before .before .before .pre .0 in let z = create-counts _ _ _ _ _ (p .0) (p .1) (p .2) (p .3) (p .4) _ _ _ (c .before .before .before .before .before .before .before .before .enter .ensures) (c .before .before .before .before .before .before .before .before .before .before .before .before .pre .1 .0) (c .before .before .before .before .before .before .before .before .before .before .before .before .args .kind) _ (c .before .before .before .write .ensures ∙ ap (putInode _ _ _) (c .before .before .before .before .before .new-inode .ensures)) in (z .0, z .1, omega arith)
+less-free-requires c κs = let p = c .before .before .before .before .before .before .before .before .before .before .before .before .pre .0 in let z = create-counts _ _ _ _ _ (p .0) (p .1) (p .2) _ _ _ (c .before .before .before .before .before .before .before .before .enter .ensures) (c .before .before .before .before .before .before .before .before .before .before .before .before .pre .1 .0) (c .before .before .before .before .before .before .before .before .before .before .before .before .args .kind) _ (c .before .before .before .write .ensures ∙ ap (putInode _ _ _) (c .before .before .before .before .before .new-inode .ensures)) in (z .0, z .1, omega arith)
 
 same-length : tie.Need-same-length
 same-length c = search needs

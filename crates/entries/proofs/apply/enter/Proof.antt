@@ -19,7 +19,7 @@ put-entry-requires : tie.Need-put-entry-requires
 put-entry-requires c κs =
     let p = c .before .before .before .before .before .before .before .pre .0 in
     let q = c .before .before .before .make-room .ensures in
-    (roomed-dir _ _ _ _ _ (p .0) (p .1) (p .2) (p .3) (p .4) _ q _ (p .3), roomed _ _ _ _ _ (p .0) (p .1) (p .2) (p .3) (p .4) _ q .slot, c .before .before .before .before .before .before .before .pre .1 .1)
+    (roomed-dir _ _ _ _ _ (p .0) (p .1) (p .2) _ q _ (p .1), roomed _ _ _ _ _ (p .0) (p .1) (p .2) _ q .slot, c .before .before .before .before .before .before .before .pre .1 .1)
 
 same-length : tie.Need-same-length
 same-length c = search needs

@@ -14,20 +14,20 @@ enter-requires : tie.Need-enter-requires
 enter-requires c κs = let p = c .before .before .before .pre in (p .0, (kind-most _ _ _ _ (p .1 .0), p .1 .1))
 
 links-requires : tie.Need-links-requires
-links-requires c κs = let p = c .before .before .before .before .before .before .before .pre .0 in let f = c .before .before .before .before .before .before .before .pre .1 .0 in entered-fits _ _ _ _ _ (p .0) (p .1) (p .2) (p .3) (p .4) _ _ _ (c .before .before .before .enter .ensures) _ (kind-some _ _ _ _ f) (kind-most _ _ _ _ f)
+links-requires c κs = let p = c .before .before .before .before .before .before .before .pre .0 in let f = c .before .before .before .before .before .before .before .pre .1 .0 in entered-fits _ _ _ _ _ (p .0) (p .1) (p .2) _ _ _ (c .before .before .before .enter .ensures) _ (kind-some _ _ _ _ f) (kind-most _ _ _ _ f)
 
 add-put-links : tie.Need-add-put-links
 add-put-links c =
     let p = c .before .before .before .before .before .before .before .before .before .pre .0 in
     let f = c .before .before .before .before .before .before .before .before .before .pre .1 .0 in
     let a = kind-most _ _ _ _ f in
-    let e = p .1 in
-    let l = c .before .links .ensures ∙ entered-links _ _ _ _ _ (p .0) (p .1) (p .2) (p .3) (p .4) _ _ _ (c .before .before .before .before .before .enter .ensures) _ (kind-some _ _ _ _ f) (kind-most _ _ _ _ f) in
-    let m = few-links _ (p .0) _ (kind-some _ _ _ _ f) (omega arith) in
+    let e = p .0 .inodes in
+    let l = c .before .links .ensures ∙ entered-links _ _ _ _ _ (p .0) (p .1) (p .2) _ _ _ (c .before .before .before .before .before .enter .ensures) _ (kind-some _ _ _ _ f) (kind-most _ _ _ _ f) in
+    let m = few-links _ (p .0 .sound) _ (kind-some _ _ _ _ f) (omega arith) in
     omega arith
 
 put-links-requires : tie.Need-put-links-requires
-put-links-requires c κs = let p = c .before .before .before .before .before .before .before .before .before .pre .0 in let f = c .before .before .before .before .before .before .before .before .before .pre .1 .0 in entered-fits _ _ _ _ _ (p .0) (p .1) (p .2) (p .3) (p .4) _ _ _ (c .before .before .before .before .before .enter .ensures) _ (kind-some _ _ _ _ f) (kind-most _ _ _ _ f)
+put-links-requires c κs = let p = c .before .before .before .before .before .before .before .before .before .pre .0 in let f = c .before .before .before .before .before .before .before .before .before .pre .1 .0 in entered-fits _ _ _ _ _ (p .0) (p .1) (p .2) _ _ _ (c .before .before .before .before .before .enter .ensures) _ (kind-some _ _ _ _ f) (kind-most _ _ _ _ f)
 
 same-length : tie.Need-same-length
 same-length c = search needs

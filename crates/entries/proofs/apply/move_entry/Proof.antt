@@ -19,7 +19,7 @@ clear-entry-requires c κs =
     let p = c .before .before .before .before .before .before .before .pre .0 in
     let f = c .before .before .before .before .before .before .before .pre .1 in
     let q = c .before .before .before .make-room .ensures in
-    (roomed-dir _ _ _ _ _ (p .0) (p .1) (p .2) (p .3) (p .4) _ q _ (f .0), roomed-slot _ _ _ _ _ (p .0) (p .1) (p .2) (p .3) (p .4) _ q _ (f .0) _ (f .1))
+    (roomed-dir _ _ _ _ _ (p .0) (p .1) (p .2) _ q _ (f .0), roomed-slot _ _ _ _ _ (p .0) (p .1) (p .2) _ q _ (f .0) _ (f .1))
 
 cast-put-entry : tie.Need-cast-put-entry
 cast-put-entry c = search needs
@@ -29,16 +29,16 @@ put-entry-requires c κs =
     let p = c .before .before .before .before .before .before .before .before .before .before .before .pre .0 in
     let q = c .before .before .before .before .before .before .before .make-room .ensures in
     let u = c .before .before .before .clear-entry .ensures in
-    (moving-dir _ _ _ _ _ (p .0) (p .1) (p .2) (p .3) (p .4) _ q _ _ _ u, moving-slot _ _ _ _ _ (p .0) (p .1) (p .2) (p .3) (p .4) _ q _ _ _ u, c .before .before .before .before .before .before .before .before .before .before .before .pre .1 .4)
+    (moving-dir _ _ _ _ _ (p .0) (p .1) (p .2) _ q _ _ _ u, moving-slot _ _ _ _ _ (p .0) (p .1) (p .2) _ q _ _ _ u, c .before .before .before .before .before .before .before .before .before .before .before .pre .1 .4)
 
 set-parent-requires : tie.Need-set-parent-requires
 set-parent-requires c κs =
     let p = c .before .before .before .before .before .before .before .before .before .before .before .before .before .before .before .pre .0 in
     let f = c .before .before .before .before .before .before .before .before .before .before .before .before .before .before .before .pre .1 in
-    let a = kind-most _ _ _ _ (p .3) in
-    let m = p .0 .framed .most-inodes in
-    let e = p .1 in
-    (moving-fits _ _ _ _ _ (p .0) (p .1) (p .2) (p .3) (p .4) _ (c .before .before .before .before .before .before .before .before .before .before .before .make-room .ensures) _ _ _ (c .before .before .before .before .before .before .before .clear-entry .ensures) _ _ _ (c .before .before .before .put-entry .ensures) _ (f .2) (f .3), omega arith)
+    let a = kind-most _ _ _ _ (p .1) in
+    let m = p .0 .sound .framed .most-inodes in
+    let e = p .0 .inodes in
+    (moving-fits _ _ _ _ _ (p .0) (p .1) (p .2) _ (c .before .before .before .before .before .before .before .before .before .before .before .make-room .ensures) _ _ _ (c .before .before .before .before .before .before .before .clear-entry .ensures) _ _ _ (c .before .before .before .put-entry .ensures) _ (f .2) (f .3), omega arith)
 
 same-length : tie.Need-same-length
 same-length c = search needs

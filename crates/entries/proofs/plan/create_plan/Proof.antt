@@ -36,7 +36,7 @@ returns-2 : tie.Need-returns-2
 returns-2 c = create-wrong _ _ _ _ _ (is-legal (c .before .before)) (chain-off _ _ (c .before .is-kind .ensures) (c .if2 .taken))
 
 find-slot-requires : tie.Need-find-slot-requires
-find-slot-requires c κs = let p = c .before .before .before .before .before .before .pre in (kind-dir _ _ (p .0) (p .1) _ _ (is-dir c), legal-bounds _ (is-legal (c .before .before)) .1)
+find-slot-requires c κs = let p = c .before .before .before .before .before .before .pre in (kind-dir p _ _ (is-dir c), legal-bounds _ (is-legal (c .before .before)) .1)
 
 enum-told : tie.Need-enum-told
 enum-told c = search needs
@@ -60,7 +60,7 @@ returns-4 : tie.Need-returns-4
 returns-4 c = create-full _ _ _ _ _ (is-legal (c .before .before .before .before .before .before .before .before)) (is-dir (c .before .before .before .before .before .before)) (not-there (c .before .before .before)) (sym (c .before .before .free-inode .ensures) ∙ c .enum-told3 .given .1)
 
 room-in-requires : tie.Need-room-in-requires
-room-in-requires c κs = let p = c .before .before .before .before .before .before .before .before .before .before .before .before .before .pre in (p .0, p .1, p .2, is-dir (c .before .before .before .before .before .before .before))
+room-in-requires c κs = let p = c .before .before .before .before .before .before .before .before .before .before .before .before .before .pre in (p, is-dir (c .before .before .before .before .before .before .before))
 
 enum-known-room : tie.Need-enum-known-room
 enum-known-room c = search needs

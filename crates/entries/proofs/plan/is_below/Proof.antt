@@ -6,7 +6,7 @@ use Rattle.entries.proofs.plan.is_below.Statement.{statement}
 use Rattle.entries.proofs.plan.is_below.Tie as tie
 
 kind-requires : tie.Need-kind-requires
-kind-requires c κs = fits _ _ (c .before .pre .0) (c .before .pre .1) _ (c .before .pre .3) (c .before .pre .4)
+kind-requires c κs = fits (c .before .pre .0) _ (c .before .pre .2) (c .before .pre .3)
 
 returns : tie.Need-returns
 returns c = below-file _ _ _ _ (λ e. c .if1 .taken (c .before .kind .ensures ∙ e))

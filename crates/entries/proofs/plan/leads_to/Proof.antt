@@ -13,16 +13,16 @@ abbrev μ-loop : tie.MeasureT-loop
 μ-loop s n i e x₀ counter₀ x counter = n - counter
 
 loop-holds : tie.Need-loop-holds Inv-loop μ-loop
-loop-holds c = climbing-start _ _ _ _ (c .before .pre .0) (c .before .pre .1) (c .before .pre .2)
+loop-holds c = climbing-start _ _ _ _ (c .before .pre .0) (c .before .pre .1)
 
 returns : tie.Need-returns Inv-loop μ-loop
-returns c = climbing-found _ _ _ _ (c .before .before .before .before .pre .0) (c .before .before .before .before .pre .1) _ _ (c .before .before .loop .inv) (c .if1 .taken)
+returns c = climbing-found _ _ _ _ (c .before .before .before .before .pre .0) _ _ (c .before .before .loop .inv) (c .if1 .taken)
 
 returns-2 : tie.Need-returns-2 Inv-loop μ-loop
-returns-2 c = climbing-root _ _ _ _ (c .before .before .before .before .before .pre .0) (c .before .before .before .before .before .pre .1) _ _ (c .before .before .before .loop .inv) (c .before .before .before .before .before .pre .3) (c .before .if1 .left) (c .if2 .taken)
+returns-2 c = climbing-root _ _ _ _ (c .before .before .before .before .before .pre .0) _ _ (c .before .before .before .loop .inv) (c .before .before .before .before .before .pre .2) (c .before .if1 .left) (c .if2 .taken)
 
 parent-requires : tie.Need-parent-requires Inv-loop μ-loop
-parent-requires c κs = fits _ _ (c .before .before .before .before .before .pre .0) (c .before .before .before .before .before .pre .1) _ (c .before .before .before .loop .inv .dir .low) (c .before .before .before .loop .inv .dir .high)
+parent-requires c κs = fits (c .before .before .before .before .before .pre .0) _ (c .before .before .before .loop .inv .dir .low) (c .before .before .before .loop .inv .dir .high)
 
 cast-x : tie.Need-cast-x Inv-loop μ-loop
 cast-x c = search needs
@@ -34,10 +34,10 @@ loop-less : tie.Need-loop-less Inv-loop μ-loop
 loop-less c = omega arith
 
 loop-again : tie.Need-loop-again Inv-loop μ-loop
-loop-again c = climbing-turn _ _ _ _ (c .before .before .before .before .before .before .pre .0) (c .before .before .before .before .before .before .pre .1) _ _ (c .before .before .before .before .loop .inv) (omega arith) (c .before .before .if1 .left) (c .before .if2 .left) _ (c .parent .ensures)
+loop-again c = climbing-turn _ _ _ _ (c .before .before .before .before .before .before .pre .0) _ _ (c .before .before .before .before .loop .inv) (omega arith) (c .before .before .if1 .left) (c .before .if2 .left) _ (c .parent .ensures)
 
 returns-3 : tie.Need-returns-3 Inv-loop μ-loop
-returns-3 c = climbing-end _ _ _ _ (c .before .before .before .pre .0) (c .before .before .before .pre .1) _ _ (c .before .loop .inv) (omega arith)
+returns-3 c = climbing-end _ _ _ _ (c .before .before .before .pre .0) _ _ (c .before .loop .inv) (omega arith)
 
 pub leads-to-spec : {M : Type 1} → statement M
 leads-to-spec =

@@ -45,7 +45,7 @@ returns-3 : tie.Need-returns-3
 returns-3 c = link-other _ _ _ _ _ _ (is-legal (c .before .before .before .before)) (is-dir (c .before .before)) (chain-off _ _ (c .before .is-kind2 .ensures) (c .if3 .taken))
 
 find-slot-requires : tie.Need-find-slot-requires
-find-slot-requires c κs = let p = c .before .before .before .before .before .before .before .before .pre in (kind-dir _ _ (p .0) (p .1) _ _ (is-dir (c .before .before)), legal-bounds _ (is-legal (c .before .before .before .before)) .1)
+find-slot-requires c κs = let p = c .before .before .before .before .before .before .before .before .pre in (kind-dir p _ _ (is-dir (c .before .before)), legal-bounds _ (is-legal (c .before .before .before .before)) .1)
 
 enum-told : tie.Need-enum-told
 enum-told c = search needs
@@ -57,7 +57,7 @@ enum-told-2 : tie.Need-enum-told-2
 enum-told-2 c = search needs
 
 room-in-requires : tie.Need-room-in-requires
-room-in-requires c κs = let p = c .before .before .before .before .before .before .before .before .before .before .before .pre in (p .0, p .1, p .2, is-dir (c .before .before .before .before .before))
+room-in-requires c κs = let p = c .before .before .before .before .before .before .before .before .before .before .before .pre in (p, is-dir (c .before .before .before .before .before))
 
 enum-known-room : tie.Need-enum-known-room
 enum-known-room c = search needs

@@ -13,7 +13,7 @@ use Rattle.entries.proofs.plan.room_in.Tie as tie
 
 -- the directory fits
 fits : (c : tie.Start) → DirFits (now (c .args .s)) (c .args .n) (c .args .d)
-fits c = kind-dir (now (c .args .s)) (c .args .n) (c .pre .0) (c .pre .1) directoryKind (c .args .d) (c .pre .3)
+fits c = kind-dir (c .pre .0) directoryKind (c .args .d) (c .pre .1)
 
 -- no slot is empty
 full : (c : tie.After-enum-told) → emptySlot (now (c .before .before .before .before .args .s)) (c .before .before .before .before .args .n) (c .before .before .before .before .args .d) ≡ Absent
@@ -40,13 +40,13 @@ returns-2 c = room-none _ _ _ _ _ (full (c .before .before)) (c .before .slot-co
 free-block-requires : tie.Need-free-block-requires
 free-block-requires c κs =
     let p = c .before .before .before .before .before .before .pre in
-    let e = p .1 in
-    let q = p .2 in
-    let f = p .0 .framed in
+    let e = p .0 .inodes in
+    let q = p .0 .blocks in
+    let f = p .0 .sound .framed in
     let i = f .most-inodes in
     let m = f .most-blocks in
     let l = f .long in
-    ((omega arith, omega arith, omega arith), addresses-most _ _ (p .0) e)
+    ((omega arith, omega arith, omega arith), addresses-most (p .0))
 
 enum-known-c : tie.Need-enum-known-c
 enum-known-c c = search needs

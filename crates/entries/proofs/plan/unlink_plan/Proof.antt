@@ -32,13 +32,13 @@ some : (c : tie.After-slot-inode) → 1 ≤ c .slot-inode .result
 some c =
     let p = c .before .before .before .before .before .before .before .before .before .before .before .pre in
     let e : c .slot-inode .result ≡ inodeAt (now (c .before .before .before .before .before .before .before .before .before .before .before .args .s)) (c .before .before .before .before .before .before .before .before .before .before .before .args .n) (c .before .before .before .before .before .before .before .before .before .before .before .args .d) (c .before .before .t .given .0 .0) = c .slot-inode .ensures in
-    omega (arith, found-here _ _ (p .0) (p .1) _ _ _ (is-dir (c .before .before .before .before .before)) (is-legal (c .before .before .before .before .before .before .before)) (is-at (c .before)) .low, e)
+    omega (arith, found-here p _ _ _ (is-dir (c .before .before .before .before .before)) (is-legal (c .before .before .before .before .before .before .before)) (is-at (c .before)) .low, e)
 
 most : (c : tie.After-slot-inode) → c .slot-inode .result ≤ c .before .before .before .before .before .before .before .before .before .before .before .args .n
 most c =
     let p = c .before .before .before .before .before .before .before .before .before .before .before .pre in
     let e : c .slot-inode .result ≡ inodeAt (now (c .before .before .before .before .before .before .before .before .before .before .before .args .s)) (c .before .before .before .before .before .before .before .before .before .before .before .args .n) (c .before .before .before .before .before .before .before .before .before .before .before .args .d) (c .before .before .t .given .0 .0) = c .slot-inode .ensures in
-    omega (arith, found-here _ _ (p .0) (p .1) _ _ _ (is-dir (c .before .before .before .before .before)) (is-legal (c .before .before .before .before .before .before .before)) (is-at (c .before)) .high, e)
+    omega (arith, found-here p _ _ _ (is-dir (c .before .before .before .before .before)) (is-legal (c .before .before .before .before .before .before .before)) (is-at (c .before)) .high, e)
 
 legal-name-requires : tie.Need-legal-name-requires
 legal-name-requires c κs = search needs
@@ -53,7 +53,7 @@ returns-2 : tie.Need-returns-2
 returns-2 c = unlink-wrong _ _ _ _ (is-legal (c .before .before)) (chain-off _ _ (c .before .is-kind .ensures) (c .if2 .taken))
 
 find-slot-requires : tie.Need-find-slot-requires
-find-slot-requires c κs = let p = c .before .before .before .before .before .before .pre in (kind-dir _ _ (p .0) (p .1) _ _ (is-dir c), legal-bounds _ (is-legal (c .before .before)) .1)
+find-slot-requires c κs = let p = c .before .before .before .before .before .before .pre in (kind-dir p _ _ (is-dir c), legal-bounds _ (is-legal (c .before .before)) .1)
 
 enum-known-t : tie.Need-enum-known-t
 enum-known-t c = search needs
@@ -65,16 +65,16 @@ returns-3 : tie.Need-returns-3
 returns-3 c = unlink-absent _ _ _ _ (is-legal (c .before .before .before .before .before)) (is-dir (c .before .before .before)) (sym (c .before .before .find-slot .ensures) ∙ c .enum-told .given .1)
 
 slot-inode-requires : tie.Need-slot-inode-requires
-slot-inode-requires c κs = let p = c .before .before .before .before .before .before .before .before .before .before .pre in (kind-dir _ _ (p .0) (p .1) _ _ (is-dir (c .before .before .before .before)), find-below _ _ _ _ _ (is-at c))
+slot-inode-requires c κs = let p = c .before .before .before .before .before .before .before .before .before .before .pre in (kind-dir p _ _ (is-dir (c .before .before .before .before)), find-below _ _ _ _ _ (is-at c))
 
 cast-i : tie.Need-cast-i
 cast-i c = search needs
 
 kind-requires : tie.Need-kind-requires
-kind-requires c κs = let p = c .before .before .before .before .before .before .before .before .before .before .before .pre in fits _ _ (p .0) (p .1) _ (some c) (most c)
+kind-requires c κs = let p = c .before .before .before .before .before .before .before .before .before .before .before .pre in fits p _ (some c) (most c)
 
 holds-none-requires : tie.Need-holds-none-requires
-holds-none-requires c κs = let p = c .before .before .before .before .before .before .before .before .before .before .before .before .before .pre in dir-of _ _ (p .0) (p .1) _ (some (c .before .before)) (most (c .before .before))
+holds-none-requires c κs = let p = c .before .before .before .before .before .before .before .before .before .before .before .before .before .pre in dir-of p _ (some (c .before .before)) (most (c .before .before))
 
 returns-4 : tie.Need-returns-4
 returns-4 c = unlink-full _ _ _ _ (is-legal (c .before .before .before .before .before .before .before .before .before .before .before)) (is-dir (c .before .before .before .before .before .before .before .before .before)) _ _ (is-at (c .before .before .before .before .before)) (c .before .before .before .before .slot-inode .ensures) (sym (c .before .before .before .kind .ensures) ∙ c .before .before .if3 .taken) (chain-off _ _ (c .before .holds-none .ensures) (c .if4 .taken))

@@ -21,7 +21,7 @@ create-requires : tie.Need-create-requires
 create-requires c κs =
     let p = c .before .before .before .before .before .before .before .before .pre in
     let f = creates _ _ _ _ _ _ _ (sym (c .before .before .before .before .create-plan .ensures) ∙ c .before .before .i .given .1) in
-    ((p .0, p .1, p .2, f .new .directory, f .room), (f .inode, legal-bounds _ (f .new .legal) .1))
+    ((p, f .new .directory, f .room), (f .inode, legal-bounds _ (f .new .legal) .1))
 
 enum-known-why : tie.Need-enum-known-why
 enum-known-why c = search needs

@@ -21,7 +21,7 @@ link-requires : tie.Need-link-requires
 link-requires c κs =
     let p = c .before .before .before .before .before .before .before .before .pre in
     let f = links _ _ _ _ _ _ _ (sym (c .before .before .before .before .link-plan .ensures) ∙ c .before .before .room .given .1) in
-    ((p .0, p .1, p .2, f .new .directory, f .room), (f .file, legal-bounds _ (f .new .legal) .1))
+    ((p, f .new .directory, f .room), (f .file, legal-bounds _ (f .new .legal) .1))
 
 enum-known-why : tie.Need-enum-known-why
 enum-known-why c = search needs

@@ -21,7 +21,7 @@ enum-known-count : tie.Need-enum-known-count
 enum-known-count c = search needs
 
 read-file-requires : tie.Need-read-file-requires
-read-file-requires c κs = let p = c .before .before .before .before .before .before .before .pre in let r = planned (c .before) in let m = r .count in let l = r .inside in (p .0, p .1, r .file, omega arith, omega arith)
+read-file-requires c κs = let p = c .before .before .before .before .before .before .before .pre in let r = planned (c .before) in let m = r .count in let l = r .inside in (p, r .file, omega arith, omega arith)
 
 enum-known-why : tie.Need-enum-known-why
 enum-known-why c = search needs

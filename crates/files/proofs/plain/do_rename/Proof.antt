@@ -6,6 +6,7 @@ use denote.Ref.{now}
 use Rattle.names.proofs.NameLaws.{legal-bounds}
 use Rattle.directory.proofs.SlotLaws.{find-below}
 use Rattle.answers.specs.declared.Answer.the-variants.{Done}
+use Rattle.changes.proofs.StoreLaws.{uncounted}
 use Rattle.changes.proofs.SlotPlaceLaws.{found-here}
 use Rattle.entries.proofs.PlanFacts.{renames, moves}
 use Rattle.files.specs.Effect.{doRename}
@@ -29,8 +30,8 @@ rename-requires c κs =
     let g = renames _ _ _ _ _ _ _ _ _ (sym (c .before .before .before .before .rename-plan .ensures) ∙ c .before .before .t .given .1) .0 in
     let f = g .entry in
     let e = f .inode in
-    let m = found-here _ _ (p .0) (p .1) _ _ _ (f .directory) (f .legal) (f .found) .high in
-    (p .0, p .1, f .directory, find-below _ _ _ _ _ (f .found), omega arith, legal-bounds _ (g .new .legal) .1)
+    let m = found-here p _ _ _ (f .directory) (f .legal) (f .found) .high in
+    (uncounted p, f .directory, find-below _ _ _ _ _ (f .found), omega arith, legal-bounds _ (g .new .legal) .1)
 
 enum-known-t-2 : tie.Need-enum-known-t-2
 enum-known-t-2 c = search needs
@@ -41,9 +42,9 @@ move-entry-requires c κs =
     let g = moves _ _ _ _ _ _ _ _ _ _ (sym (c .before .before .before .before .rename-plan .ensures) ∙ c .before .before .t2 .given .1) in
     let f = g .0 .entry in
     let e = f .inode in
-    let l = found-here _ _ (p .0) (p .1) _ _ _ (f .directory) (f .legal) (f .found) .low in
-    let m = found-here _ _ (p .0) (p .1) _ _ _ (f .directory) (f .legal) (f .found) .high in
-    ((p .0, p .1, p .2, g .0 .new .directory, g .1 .room), (f .directory, find-below _ _ _ _ _ (f .found), omega arith, omega arith, legal-bounds _ (g .0 .new .legal) .1))
+    let l = found-here p _ _ _ (f .directory) (f .legal) (f .found) .low in
+    let m = found-here p _ _ _ (f .directory) (f .legal) (f .found) .high in
+    ((p, g .0 .new .directory, g .1 .room), (f .directory, find-below _ _ _ _ _ (f .found), omega arith, omega arith, legal-bounds _ (g .0 .new .legal) .1))
 
 enum-known-why : tie.Need-enum-known-why
 enum-known-why c = search needs

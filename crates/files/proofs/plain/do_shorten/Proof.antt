@@ -24,7 +24,7 @@ shorten-file-requires c κs =
     let f = shortens _ _ _ _ _ e in
     let l = f .inside in
     let g = f .size in
-    (p .0, p .1, f .file, omega arith)
+    (p, f .file, omega arith)
 
 enum-known-why : tie.Need-enum-known-why
 enum-known-why c = search needs

@@ -24,9 +24,9 @@ unlink-requires c κs =
     let p = c .before .before .before .before .before .before .before .before .pre in
     let f = unlinks _ _ _ _ _ _ (sym (c .before .before .before .before .unlink-plan .ensures) ∙ c .before .before .t .given .1) .entry in
     let e = f .inode in
-    let l = found-here _ _ (p .0) (p .1) _ _ _ (f .directory) (f .legal) (f .found) .low in
-    let m = found-here _ _ (p .0) (p .1) _ _ _ (f .directory) (f .legal) (f .found) .high in
-    (p .0, p .1, f .directory, find-below _ _ _ _ _ (f .found), omega arith, omega arith)
+    let l = found-here p _ _ _ (f .directory) (f .legal) (f .found) .low in
+    let m = found-here p _ _ _ (f .directory) (f .legal) (f .found) .high in
+    (p, f .directory, find-below _ _ _ _ _ (f .found), omega arith, omega arith)
 
 enum-known-why : tie.Need-enum-known-why
 enum-known-why c = search needs

@@ -16,7 +16,7 @@ enum-known-z : tie.Need-enum-known-z
 enum-known-z c = search needs
 
 write-file-requires : tie.Need-write-file-requires
-write-file-requires c κs = let p = c .before .before .before .before .before .before .before .before .pre in (p .0, p .1, p .2, sym (c .before .before .before .before .write-plan .ensures) ∙ c .before .before .z .given .1)
+write-file-requires c κs = let p = c .before .before .before .before .before .before .before .before .pre in (p, sym (c .before .before .before .before .write-plan .ensures) ∙ c .before .before .z .given .1)
 
 enum-known-why : tie.Need-enum-known-why
 enum-known-why c = search needs

@@ -1,5 +1,6 @@
 use mathlib.Core.Path.{sym, _∙_}
 use denote.Ref.{now}
+use Rattle.changes.proofs.StoreLaws.{uncounted}
 use Rattle.files.specs.Effect.{lookUp}
 use Rattle.files.proofs.CallLaws.{passed, call-through, call-stopped}
 use borrow.Author.Needs.{needs}
@@ -13,7 +14,7 @@ enum-known-n : tie.Need-enum-known-n
 enum-known-n c = search needs
 
 do-look-up-requires : tie.Need-do-look-up-requires
-do-look-up-requires c κs = let p = passed _ _ _ (sym (c .before .before .before .guard .ensures) ∙ c .before .n .given .1) in (p .sound, p .inodes)
+do-look-up-requires c κs = uncounted (passed _ _ _ (sym (c .before .before .before .guard .ensures) ∙ c .before .n .given .1))
 
 enum-known-why : tie.Need-enum-known-why
 enum-known-why c = search needs

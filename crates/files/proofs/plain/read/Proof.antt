@@ -1,5 +1,6 @@
 use mathlib.Core.Path.{sym, _∙_}
 use denote.Ref.{now}
+use Rattle.changes.proofs.StoreLaws.{uncounted}
 use Rattle.files.specs.Effect.{read}
 use Rattle.files.proofs.CallLaws.{passed, call-through, call-stopped}
 use borrow.Author.Needs.{needs}
@@ -13,7 +14,7 @@ enum-known-n : tie.Need-enum-known-n
 enum-known-n c = search needs
 
 do-read-requires : tie.Need-do-read-requires
-do-read-requires c κs = let p = passed _ _ _ (sym (c .before .before .before .before .guard .ensures) ∙ c .before .before .n .given .1) in (p .sound, p .inodes)
+do-read-requires c κs = uncounted (passed _ _ _ (sym (c .before .before .before .before .guard .ensures) ∙ c .before .before .n .given .1))
 
 enum-known-why : tie.Need-enum-known-why
 enum-known-why c = search needs

@@ -1,4 +1,5 @@
 use mathlib.Core.Path.{sym, _∙_}
+use Rattle.changes.proofs.StoreLaws.{uncounted}
 use Rattle.files.specs.Effect.{shorten}
 use Rattle.files.proofs.CallLaws.{passed, call-through, call-stopped}
 use borrow.Author.Needs.{needs}
@@ -12,7 +13,7 @@ enum-known-n : tie.Need-enum-known-n
 enum-known-n c = search needs
 
 do-shorten-requires : tie.Need-do-shorten-requires
-do-shorten-requires c κs = let p = passed _ _ _ (sym (c .before .before .before .before .guard .ensures) ∙ c .before .before .n .given .1) in (p .sound, p .inodes)
+do-shorten-requires c κs = uncounted (passed _ _ _ (sym (c .before .before .before .before .guard .ensures) ∙ c .before .before .n .given .1))
 
 enum-known-why : tie.Need-enum-known-why
 enum-known-why c = search needs

@@ -34,16 +34,15 @@ create-requires : tie.Need-create-requires
 create-requires c κs =
     let x = c .before .before .before .before .before in
     let o = x .before .before .before .before .before .before .before in
-    let p = o .pre .0 in
     let f = creates _ _ _ _ _ _ _ (sym (x .before .before .create-plan .ensures) ∙ x .i .given .1) in
-    ((p .sound, p .inodes, o .pre .1, f .new .directory, f .room), (f .inode, legal-bounds _ (f .new .legal) .1))
+    ((o .pre .sound, f .new .directory, f .room), (f .inode, legal-bounds _ (f .new .legal) .1))
 
 note-made-requires : tie.Need-note-made-requires
 note-made-requires c κs =
     let x = c .before .before .before .before .before .before .before .before .before .before .before .before .before .before .before .before in
     let a = x .args in
-    let k = effect-laws (create (a .dir) (now (a .name)) (a .kind)) _ _ _ _ (x .pre .0) (x .pre .1) _ (ap (doCreate (now (a .s)) (a .n) (a .dir) (now (a .name)) (a .kind)) (sym (c .before .before .before .before .before .before .before .before .before .i .given .1) ∙ c .before .before .before .before .before .before .before .before .before .before .before .create-plan .ensures)) .stands .0 in
-    (k .low, k .high, x .pre .0 .long, k .small)
+    let k = effect-laws (create (a .dir) (now (a .name)) (a .kind)) (x .pre) _ (ap (doCreate (now (a .s)) (a .n) (a .dir) (now (a .name)) (a .kind)) (sym (c .before .before .before .before .before .before .before .before .before .i .given .1) ∙ c .before .before .before .before .before .before .before .before .before .before .before .create-plan .ensures)) .stands .0 in
+    (k .low, k .high, x .pre .long, k .small)
 
 enum-known-why : tie.Need-enum-known-why
 enum-known-why c = search needs
@@ -60,7 +59,7 @@ returns-2 c =
     let x = c .before .before .before .before .before .before .before .before in
     let o = x .before .before .before .before .before .before .before .before .before .before .before in
     let a = o .args in
-    λ m. ends-done _ _ _ (ap (doCreate (now (a .s)) (a .n) (a .dir) (now (a .name)) (a .kind)) (sym (x .before .before .before .before .i .given .1) ∙ x .before .before .before .before .before .before .create-plan .ensures)) _ (x .before .is-locked .ensures ∙ locked-one _ _) (x .if1 .left) _ (o .pre .0 .inodes) _ _ _ (c .before .before .before .before .before .before .create .ensures) refl (c .before .before .note-made .ensures)
+    λ m. ends-done _ _ _ (ap (doCreate (now (a .s)) (a .n) (a .dir) (now (a .name)) (a .kind)) (sym (x .before .before .before .before .i .given .1) ∙ x .before .before .before .before .before .before .create-plan .ensures)) _ (x .before .is-locked .ensures ∙ locked-one _ _) (x .if1 .left) _ (o .pre .sound .inodes) _ _ _ (c .before .before .before .before .before .before .create .ensures) refl (c .before .before .note-made .ensures)
 
 same-length-5 : tie.Need-same-length-5
 same-length-5 c = search needs

@@ -3,6 +3,7 @@ use native.Mathlib.Omega.{arith}
 use denote.Ref.{now}
 use Rattle.names.proofs.NameLaws.{legal-bounds}
 use Rattle.directory.proofs.SlotLaws.{find-below}
+use Rattle.changes.proofs.StoreLaws.{uncounted}
 use Rattle.changes.proofs.SlotPlaceLaws.{found-here}
 use Rattle.entries.proofs.PlanFacts.{renames, moves}
 use Rattle.files.specs.Effect.{rename, doRename}
@@ -57,8 +58,8 @@ rename-requires c κs =
     let g = renames _ _ _ _ _ _ _ _ _ (sym (x .before .before .rename-plan .ensures) ∙ x .t .given .1) .0 in
     let f = g .entry in
     let e = f .inode in
-    let m = found-here _ _ (p .sound) (p .inodes) _ _ _ (f .directory) (f .legal) (f .found) .high in
-    (p .sound, p .inodes, f .directory, find-below _ _ _ _ _ (f .found), omega arith, legal-bounds _ (g .new .legal) .1)
+    let m = found-here (p .sound) _ _ _ (f .directory) (f .legal) (f .found) .high in
+    (uncounted (p .sound), f .directory, find-below _ _ _ _ _ (f .found), omega arith, legal-bounds _ (g .new .legal) .1)
 
 enum-known-t-2 : tie.Need-enum-known-t-2
 enum-known-t-2 c = search needs
@@ -85,9 +86,9 @@ move-entry-requires c κs =
     let g = moves _ _ _ _ _ _ _ _ _ _ (sym (x .before .before .rename-plan .ensures) ∙ x .t2 .given .1) in
     let f = g .0 .entry in
     let e = f .inode in
-    let l = found-here _ _ (p .sound) (p .inodes) _ _ _ (f .directory) (f .legal) (f .found) .low in
-    let m = found-here _ _ (p .sound) (p .inodes) _ _ _ (f .directory) (f .legal) (f .found) .high in
-    ((p .sound, p .inodes, o .pre .1, g .0 .new .directory, g .1 .room), (f .directory, find-below _ _ _ _ _ (f .found), omega arith, omega arith, legal-bounds _ (g .0 .new .legal) .1))
+    let l = found-here (p .sound) _ _ _ (f .directory) (f .legal) (f .found) .low in
+    let m = found-here (p .sound) _ _ _ (f .directory) (f .legal) (f .found) .high in
+    ((p .sound, g .0 .new .directory, g .1 .room), (f .directory, find-below _ _ _ _ _ (f .found), omega arith, omega arith, legal-bounds _ (g .0 .new .legal) .1))
 
 cut-image-requires : tie.Need-cut-image-requires
 cut-image-requires c κs =
@@ -97,16 +98,16 @@ cut-image-requires c κs =
     let p = o .pre .0 in
     let f = moves _ _ _ _ _ _ _ _ _ _ (sym (x .before .before .rename-plan .ensures) ∙ x .t2 .given .1) .0 .entry in
     let e = f .inode in
-    let l = found-here _ _ (p .sound) (p .inodes) _ _ _ (f .directory) (f .legal) (f .found) .low in
-    let k = effect-laws (rename (a .from) (now (a .name)) (a .to) (now (a .other))) _ _ _ _ (o .pre .0) (o .pre .1) _ (ap (doRename (now (a .s)) (a .n) (a .from) (a .to) (now (a .other))) (sym (x .t2 .given .1) ∙ x .before .before .rename-plan .ensures)) .stood .0 in
-    (o .pre .2, p .long, k .low, k .high, k .small, omega arith)
+    let l = found-here (p .sound) _ _ _ (f .directory) (f .legal) (f .found) .low in
+    let k = effect-laws (rename (a .from) (now (a .name)) (a .to) (now (a .other))) (o .pre .0) _ (ap (doRename (now (a .s)) (a .n) (a .from) (a .to) (now (a .other))) (sym (x .t2 .given .1) ∙ x .before .before .rename-plan .ensures)) .stood .0 in
+    (o .pre .1, p .long, k .low, k .high, k .small, omega arith)
 
 note-taken-requires : tie.Need-note-taken-requires
 note-taken-requires c κs =
     let x = c .before .before .before .before .before .before .before .before .before .before .before .before .before .before in
     let o = x .before .before .before .before .before .before .before .before .before in
     let a = o .args in
-    let k = effect-laws (rename (a .from) (now (a .name)) (a .to) (now (a .other))) _ _ _ _ (o .pre .0) (o .pre .1) _ (ap (doRename (now (a .s)) (a .n) (a .from) (a .to) (now (a .other))) (sym (x .t2 .given .1) ∙ x .before .before .rename-plan .ensures)) .stood .0 in
+    let k = effect-laws (rename (a .from) (now (a .name)) (a .to) (now (a .other))) (o .pre .0) _ (ap (doRename (now (a .s)) (a .n) (a .from) (a .to) (now (a .other))) (sym (x .t2 .given .1) ∙ x .before .before .rename-plan .ensures)) .stood .0 in
     (k .low, k .high, o .pre .0 .long, k .small)
 
 note-made-requires : tie.Need-note-made-requires
@@ -114,7 +115,7 @@ note-made-requires c κs =
     let x = c .before .before .before .before .before .before .before .before .before .before .before .before .before .before .before .before .before .before in
     let o = x .before .before .before .before .before .before .before .before .before in
     let a = o .args in
-    let k = effect-laws (rename (a .from) (now (a .name)) (a .to) (now (a .other))) _ _ _ _ (o .pre .0) (o .pre .1) _ (ap (doRename (now (a .s)) (a .n) (a .from) (a .to) (now (a .other))) (sym (x .t2 .given .1) ∙ x .before .before .rename-plan .ensures)) .stands .0 in
+    let k = effect-laws (rename (a .from) (now (a .name)) (a .to) (now (a .other))) (o .pre .0) _ (ap (doRename (now (a .s)) (a .n) (a .from) (a .to) (now (a .other))) (sym (x .t2 .given .1) ∙ x .before .before .rename-plan .ensures)) .stands .0 in
     (k .low, k .high, still-long _ _ _ _ _ _ (c .before .before .before .note-taken .ensures) (o .pre .0 .long), k .small)
 
 enum-known-why : tie.Need-enum-known-why
@@ -132,7 +133,7 @@ returns-4 c =
     let x = c .before .before .before .before .before in
     let o = x .before .before .before .before .before .before .before in
     let a = o .args in
-    ends-done _ _ _ (ap (doRename (now (a .s)) (a .n) (a .from) (a .to) (now (a .other))) (sym (c .before .before .before .enum-told .given .1) ∙ x .rename-plan .ensures)) _ (c .before .is-locked .ensures ∙ locked-one _ _) (c .if1 .left) _ (o .pre .0 .inodes) _ _ _ refl refl refl
+    ends-done _ _ _ (ap (doRename (now (a .s)) (a .n) (a .from) (a .to) (now (a .other))) (sym (c .before .before .before .enum-told .given .1) ∙ x .rename-plan .ensures)) _ (c .before .is-locked .ensures ∙ locked-one _ _) (c .if1 .left) _ (o .pre .0 .sound .inodes) _ _ _ refl refl refl
 
 same-length-9 : tie.Need-same-length-9
 same-length-9 c = search needs
@@ -146,7 +147,7 @@ returns-5 c =
     let x = c .before .before .before .before .before .before .before .before in
     let o = x .before .before .before .before .before .before .before .before .before in
     let a = o .args in
-    ends-done _ _ _ (ap (doRename (now (a .s)) (a .n) (a .from) (a .to) (now (a .other))) (sym (x .t .given .1) ∙ x .before .before .rename-plan .ensures)) _ (c .before .before .before .before .before .is-locked2 .ensures ∙ locked-one _ _) (c .before .before .before .before .if2 .left) _ (o .pre .0 .inodes) _ _ _ (c .before .before .rename .ensures) refl refl
+    ends-done _ _ _ (ap (doRename (now (a .s)) (a .n) (a .from) (a .to) (now (a .other))) (sym (x .t .given .1) ∙ x .before .before .rename-plan .ensures)) _ (c .before .before .before .before .before .is-locked2 .ensures ∙ locked-one _ _) (c .before .before .before .before .if2 .left) _ (o .pre .0 .sound .inodes) _ _ _ (c .before .before .rename .ensures) refl refl
 
 same-length-11 : tie.Need-same-length-11
 same-length-11 c = search needs
@@ -163,7 +164,7 @@ returns-6 c =
     let x = c .before .before .before .before .before .before .before .before .before .before .before .before .before .before .before in
     let o = x .before .before .before .before .before .before .before .before .before .before .before .before .before .before .before in
     let a = o .args in
-    ends-done _ _ _ (ap (doRename (now (a .s)) (a .n) (a .from) (a .to) (now (a .other))) (sym (x .before .before .before .before .before .before .t2 .given .1) ∙ x .before .before .before .before .before .before .before .before .rename-plan .ensures)) _ (x .before .before .before .any-locked .ensures) (x .before .before .if3 .left) _ (o .pre .0 .inodes) _ _ _ (x .move-entry .ensures) (c .before .before .before .before .before .before .before .before .before .before .cut-image .ensures) (c .before .before .note-made .ensures ∙ ap (λ y. noteMade y (a .n) (a .to) (x .before .before .before .before .before .before .t2 .given .0 .1 .1 .0 .slot)) (c .before .before .before .before .before .before .note-taken .ensures))
+    ends-done _ _ _ (ap (doRename (now (a .s)) (a .n) (a .from) (a .to) (now (a .other))) (sym (x .before .before .before .before .before .before .t2 .given .1) ∙ x .before .before .before .before .before .before .before .before .rename-plan .ensures)) _ (x .before .before .before .any-locked .ensures) (x .before .before .if3 .left) _ (o .pre .0 .sound .inodes) _ _ _ (x .move-entry .ensures) (c .before .before .before .before .before .before .before .before .before .before .cut-image .ensures) (c .before .before .note-made .ensures ∙ ap (λ y. noteMade y (a .n) (a .to) (x .before .before .before .before .before .before .t2 .given .0 .1 .1 .0 .slot)) (c .before .before .before .before .before .before .note-taken .ensures))
 
 same-length-14 : tie.Need-same-length-14
 same-length-14 c = search needs

@@ -33,7 +33,7 @@ shorten-file-requires c κs =
     let f = shortens _ _ _ _ _ (sym (c .before .before .before .before .before .before .shorten-plan .ensures) ∙ c .before .before .before .before .y .given .1) in
     let l = f .inside in
     let g = f .size in
-    (p .sound, p .inodes, f .file, omega arith)
+    (p .sound, f .file, omega arith)
 
 enum-known-why : tie.Need-enum-known-why
 enum-known-why c = search needs
@@ -47,7 +47,7 @@ returns-2 c =
     let x = c .before .before .before .before .before .before .before in
     let o = x .before .before .before .before .before .before in
     let a = o .args in
-    λ m. ends-done _ _ _ (ap (doShorten (now (a .s)) (a .n) (a .i)) (sym (x .y .given .1) ∙ x .before .before .shorten-plan .ensures)) _ (c .before .before .before .before .before .is-locked .ensures ∙ locked-one _ _) (c .before .before .before .before .if1 .left) _ (o .pre .inodes) _ _ _ (c .before .before .shorten-file .ensures) refl refl
+    λ m. ends-done _ _ _ (ap (doShorten (now (a .s)) (a .n) (a .i)) (sym (x .y .given .1) ∙ x .before .before .shorten-plan .ensures)) _ (c .before .before .before .before .before .is-locked .ensures ∙ locked-one _ _) (c .before .before .before .before .if1 .left) _ (o .pre .sound .inodes) _ _ _ (c .before .before .shorten-file .ensures) refl refl
 
 same-length-3 : tie.Need-same-length-3
 same-length-3 c = search needs

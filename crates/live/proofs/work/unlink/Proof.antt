@@ -1,4 +1,4 @@
-use mathlib.Core.Path.{refl, sym, ap, _∙_}
+use mathlib.Core.Path.{sym, ap, _∙_}
 use native.Mathlib.Omega.{arith}
 use denote.Ref.{now}
 use Rattle.directory.proofs.SlotLaws.{find-below}
@@ -37,9 +37,9 @@ unlink-requires c κs =
     let p = x .before .before .before .before .before .before .before .before .pre .0 in
     let f = unlinks _ _ _ _ _ _ (sym (x .before .before .unlink-plan .ensures) ∙ x .t .given .1) .entry in
     let e = f .inode in
-    let l = found-here _ _ (p .sound) (p .inodes) _ _ _ (f .directory) (f .legal) (f .found) .low in
-    let m = found-here _ _ (p .sound) (p .inodes) _ _ _ (f .directory) (f .legal) (f .found) .high in
-    (p .sound, p .inodes, f .directory, find-below _ _ _ _ _ (f .found), omega arith, omega arith)
+    let l = found-here (p .sound) _ _ _ (f .directory) (f .legal) (f .found) .low in
+    let m = found-here (p .sound) _ _ _ (f .directory) (f .legal) (f .found) .high in
+    (p .sound, f .directory, find-below _ _ _ _ _ (f .found), omega arith, omega arith)
 
 cut-image-requires : tie.Need-cut-image-requires
 cut-image-requires c κs =
@@ -49,8 +49,8 @@ cut-image-requires c κs =
     let p = o .pre .0 in
     let f = unlinks _ _ _ _ _ _ (sym (x .before .before .unlink-plan .ensures) ∙ x .t .given .1) .entry in
     let e = f .inode in
-    let l = found-here _ _ (p .sound) (p .inodes) _ _ _ (f .directory) (f .legal) (f .found) .low in
-    let k = effect-laws (unlink (a .dir) (now (a .name))) _ _ _ _ p refl _ (ap (doUnlink (now (a .s)) (a .n) (a .dir)) (sym (x .t .given .1) ∙ x .before .before .unlink-plan .ensures)) .stood .0 in
+    let l = found-here (p .sound) _ _ _ (f .directory) (f .legal) (f .found) .low in
+    let k = effect-laws (unlink (a .dir) (now (a .name))) p _ (ap (doUnlink (now (a .s)) (a .n) (a .dir)) (sym (x .t .given .1) ∙ x .before .before .unlink-plan .ensures)) .stood .0 in
     (o .pre .1, p .long, k .low, k .high, k .small, omega arith)
 
 note-taken-requires : tie.Need-note-taken-requires
@@ -58,7 +58,7 @@ note-taken-requires c κs =
     let x = c .before .before .before .before .before .before .before .before .before .before .before .before .before .before in
     let o = x .before .before .before .before .before .before .before .before in
     let a = o .args in
-    let k = effect-laws (unlink (a .dir) (now (a .name))) _ _ _ _ (o .pre .0) refl _ (ap (doUnlink (now (a .s)) (a .n) (a .dir)) (sym (x .t .given .1) ∙ x .before .before .unlink-plan .ensures)) .stood .0 in
+    let k = effect-laws (unlink (a .dir) (now (a .name))) (o .pre .0) _ (ap (doUnlink (now (a .s)) (a .n) (a .dir)) (sym (x .t .given .1) ∙ x .before .before .unlink-plan .ensures)) .stood .0 in
     (k .low, k .high, o .pre .0 .long, k .small)
 
 enum-known-why : tie.Need-enum-known-why
@@ -79,7 +79,7 @@ returns-2 c =
     let x = c .before .before .before .before .before .before .before .before .before .before .before in
     let o = x .before .before .before .before .before .before .before .before .before .before .before .before .before .before in
     let a = o .args in
-    ends-done _ _ _ (ap (doUnlink (now (a .s)) (a .n) (a .dir)) (sym (x .before .before .before .before .before .before .t .given .1) ∙ x .before .before .before .before .before .before .before .before .unlink-plan .ensures)) _ (x .before .before .before .either-locked .ensures) (x .before .before .if1 .left) _ (o .pre .0 .inodes) _ _ _ (x .unlink .ensures) (c .before .before .before .before .before .before .cut-image .ensures) (c .before .before .note-taken .ensures)
+    ends-done _ _ _ (ap (doUnlink (now (a .s)) (a .n) (a .dir)) (sym (x .before .before .before .before .before .before .t .given .1) ∙ x .before .before .before .before .before .before .before .before .unlink-plan .ensures)) _ (x .before .before .before .either-locked .ensures) (x .before .before .if1 .left) _ (o .pre .0 .sound .inodes) _ _ _ (x .unlink .ensures) (c .before .before .before .before .before .before .cut-image .ensures) (c .before .before .note-taken .ensures)
 
 same-length-6 : tie.Need-same-length-6
 same-length-6 c = search needs

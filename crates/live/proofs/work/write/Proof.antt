@@ -29,8 +29,7 @@ write-file-requires : tie.Need-write-file-requires
 write-file-requires c κs =
     let x = c .before .before .before .before in
     let o = x .before .before .before .before .before .before .before in
-    let p = o .pre .0 in
-    (p .sound, p .inodes, o .pre .1, sym (x .before .before .write-plan .ensures) ∙ x .z .given .1)
+    (o .pre .sound, sym (x .before .before .write-plan .ensures) ∙ x .z .given .1)
 
 enum-known-why : tie.Need-enum-known-why
 enum-known-why c = search needs
@@ -44,7 +43,7 @@ returns-2 c =
     let x = c .before .before .before .before .before .before .before in
     let o = x .before .before .before .before .before .before .before in
     let a = o .args in
-    λ m. ends-done _ _ _ (ap (doWrite (now (a .s)) (a .n) (a .b) (a .i) (a .o) (now (a .xs))) (sym (x .z .given .1) ∙ x .before .before .write-plan .ensures)) _ (c .before .before .before .before .before .is-locked .ensures ∙ locked-one _ _) (c .before .before .before .before .if1 .left) _ (o .pre .0 .inodes) _ _ _ (c .before .before .write-file .ensures) refl refl
+    λ m. ends-done _ _ _ (ap (doWrite (now (a .s)) (a .n) (a .b) (a .i) (a .o) (now (a .xs))) (sym (x .z .given .1) ∙ x .before .before .write-plan .ensures)) _ (c .before .before .before .before .before .is-locked .ensures ∙ locked-one _ _) (c .before .before .before .before .if1 .left) _ (o .pre .sound .inodes) _ _ _ (c .before .before .write-file .ensures) refl refl
 
 same-length-3 : tie.Need-same-length-3
 same-length-3 c = search needs
