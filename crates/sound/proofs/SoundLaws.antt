@@ -1,5 +1,5 @@
 -- The tests decide the records of conditions, on any bytes. n and b are the counts of inodes and blocks.
-use Prim.Native.Nat.{ℕ, _+_, _*_, _%_, _≤_, _<_}
+use Prim.Native.Nat.{ℕ, _*_, _%_, _≤_, _<_}
 use mathlib.Core.Path.{_≡_, sym, ap, _∙_, subst}
 use mathlib.Core.Bool.{true, false, _&&_}
 use mathlib.Core.List.{List}
@@ -221,14 +221,14 @@ module _ (s : List ℕ) where
       r-and (r-eq (headerOf s .«free_inodes») (countTo (inodeFree s) (inodesIn s)))
       (r-eq (headerOf s .«free_blocks») (countTo (blockFree s (inodesIn s)) (blocksIn s)))
 
-  zero-block-is : (k : ℕ) → Reflects (blankBlockB s (inodesIn s) (k + 1)) ((o : ℕ) → o < blockBytes → getD (blockOf s (inodesIn s) (k + 1)) o 0 ≡ 0)
+  zero-block-is : (c : ℕ) → Reflects (blankBlockB s (inodesIn s) c) ((o : ℕ) → o < blockBytes → getD (blockOf s (inodesIn s) c) o 0 ≡ 0)
   unfolding blankBlockB
-  zero-block-is k = r-all blockBytes (λ o. r-eq (getD (blockOf s (inodesIn s) (k + 1)) o 0) 0)
+  zero-block-is c = r-all blockBytes (λ o. r-eq (getD (blockOf s (inodesIn s) c) o 0) 0)
 
-  blanks-is : (f : Form) → Reflects (blanksB f s) (blankOf f ≡ true → (k : ℕ) → k < blocksIn s → blockFree s (inodesIn s) (k + 1) ≡ true → (o : ℕ) → o < blockBytes → getD (blockOf s (inodesIn s) (k + 1)) o 0 ≡ 0)
+  blanks-is : (f : Form) → Reflects (blanksB f s) (blankOf f ≡ true → (c : ℕ) → 1 ≤ c → c ≤ blocksIn s → blockFree s (inodesIn s) c ≡ true → (o : ℕ) → o < blockBytes → getD (blockOf s (inodesIn s) c) o 0 ≡ 0)
   unfolding blanksB
   blanks-is f =
-      r-imp (r-true (blankOf f)) (r-all (blocksIn s) (λ k. r-imp (r-true (blockFree s (inodesIn s) (k + 1))) (zero-block-is k)))
+      r-imp (r-true (blankOf f)) (r-to (blocksIn s) (λ c l m. r-imp (r-true (blockFree s (inodesIn s) c)) (zero-block-is c)))
 
 pub all-counted : {f : Form} {s : List ℕ} → Sound f s → AllCounted s (inodesIn s)
 all-counted {s = s} h i l m = counted-of s (inodesIn s) i (h .links i l m)

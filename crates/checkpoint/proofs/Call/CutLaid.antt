@@ -67,18 +67,18 @@ module _ {n b : ℕ} {s m d : List ℕ} (k : Sound Store s) (x : n ≡ inodesIn 
   addresses j a c = cut-inode h e t slot j a c .blocks
 
   -- a block that no address names is not the one written
-  other-block : (i : ℕ) → blockFree m n (i + 1) ≡ true → i + 1 ≢ kthBlock m n e (t / 4)
+  other-block : (i : ℕ) → blockFree m n i ≡ true → i ≢ kthBlock m n e (t / 4)
   unfolding kthBlock
   other-block i u z =
       let a = slot .low in
       let c = slot .high in
       let f = slot .small in
-      unnamed m n (i + 1) (not-true (blockNamed m n (i + 1)) u) (addressIndex e (t / 4)) (omega arith) (sym z)
+      unnamed m n i (not-true (blockNamed m n i) u) (addressIndex e (t / 4)) (omega arith) (sym z)
 
-  blanks : (i : ℕ) → i < b → blockFree cut n (i + 1) ≡ true → (o : ℕ) → o < blockBytes → getD (blockOf cut n (i + 1)) o 0 ≡ 0
-  blanks i l u o v =
-      let w : blockFree m n (i + 1) ≡ true = ap not (sym (same-named m cut n addresses (i + 1))) ∙ u in
-      ap (λ (y : List ℕ). getD y o 0) (inside h e t slot .others (i + 1) (omega arith) (other-block i w)) ∙ h .blanks i l w o v
+  blanks : (c : ℕ) → 1 ≤ c → c ≤ b → blockFree cut n c ≡ true → (o : ℕ) → o < blockBytes → getD (blockOf cut n c) o 0 ≡ 0
+  blanks c l r u o v =
+      let w : blockFree m n c ≡ true = ap not (sym (same-named m cut n addresses c)) ∙ u in
+      ap (λ (y : List ℕ). getD y o 0) (inside h e t slot .others c l (other-block c w)) ∙ h .blanks c l r w o v
 
   fair : (p : ℕ) → p < mostSlots * n → isSlot cut p ≡ true → Fair (entryAt cut n p)
   fair p l y = go (ℕ-discrete p (placeOf e t))

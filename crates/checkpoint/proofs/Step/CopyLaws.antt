@@ -207,11 +207,11 @@ module _ {n b : ℕ} {s m d : List ℕ} (h : Laid n b s m d) (sound : Sound Stor
   not-taken : (a : ℕ) → blockNamed after n a ≡ false → a ≢ c
   not-taken a q z = let f = few in let o = low in let y = high in unnamed after n a q (addressIndex l k) (omega arith) (wrote .address ∙ sym z)
 
-  blanks : (j : ℕ) → j < b → blockFree after n (j + 1) ≡ true → (o : ℕ) → o < blockBytes → getD (blockOf after n (j + 1)) o 0 ≡ 0
-  blanks j a q o v =
-      let z = not-true (blockNamed after n (j + 1)) q in
-      ap (λ (x : List ℕ). getD x o 0) (wrote .blocks (j + 1) (omega arith) (not-taken (j + 1) z))
-      ∙ h .blanks j a (ap not (still-free (j + 1) (omega arith) z)) o v
+  blanks : (a : ℕ) → 1 ≤ a → a ≤ b → blockFree after n a ≡ true → (o : ℕ) → o < blockBytes → getD (blockOf after n a) o 0 ≡ 0
+  blanks a x y q o v =
+      let z = not-true (blockNamed after n a) q in
+      ap (λ (w : List ℕ). getD w o 0) (wrote .blocks a x (not-taken a z))
+      ∙ h .blanks a x y (ap not (still-free a x z)) o v
 
   pub copy-laid : Laid n b s (stepImage s m d n (copy (deskOf d .locked) (deskOf d .transferred) c)) (stepDesk d (copy (deskOf d .locked) (deskOf d .transferred) c))
   copy-laid =
