@@ -14,6 +14,7 @@ use Rattle.layout.specs.Block.{blocksUsed, kthBlock}
 use Rattle.layout.specs.Fits.{InodeFits, Sized}
 use Rattle.sound.specs.Sound.{Sound, inodesIn, blocksIn}
 use Rattle.sound.proofs.FactLaws.{sized, one-block, inode-fits, dir-fits, address-bound}
+use Rattle.sound.proofs.SoundLaws.{size-most}
 use Rattle.sound.specs.declared.Form.the-variants.{Store}
 
 -- ---- the kind of a number
@@ -76,4 +77,4 @@ module _ (s : List ℕ) (n : ℕ) (h : Sound Store s) (e : n ≡ inodesIn s) (k 
   kind-dir = dir-of s n h e i (kind-some s n k i t) (kind-most s n k i t)
 
   pub kind-size : sizeOf s i ≤ mostFileBytes
-  kind-size = let m = kind-most s n k i t in h .inodes i (kind-some s n k i t) (omega arith) .size
+  kind-size = let m = kind-most s n k i t in size-most (h .inodes i (kind-some s n k i t) (omega arith))

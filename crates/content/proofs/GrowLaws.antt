@@ -32,6 +32,7 @@ use Rattle.sound.specs.Inode.{InodeSound}
 use Rattle.sound.specs.Sound.{Sound, inodesIn, blocksIn}
 use Rattle.sound.proofs.FactLaws.{unnamed, named-is}
 use Rattle.sound.proofs.PlaceLaws.{slot-is}
+use Rattle.sound.proofs.SoundLaws.{any-most, size-most}
 use Rattle.sound.specs.declared.Form.the-variants.{Store}
 use Rattle.changes.proofs.StoreLaws.{fits}
 use Rattle.changes.proofs.SameLaws.{same-body, OtherInodes, SameFrame, SameBlock, frame-then, inode-then, zero-block, zero-block-is, put-inode, inode-new, inode-blocks, less-free}
@@ -189,7 +190,7 @@ module _ (s t : List ℕ) (n b i c : ℕ) (h : Sound Store s) (x : n ≡ inodesI
   pub grown-bytes : (j k : ℕ) → 1 ≤ j → j ≤ n → k < blocksUsed (sizeOf s j) → SameBlock s t n (kthBlock s n j k)
   unfolding blocksUsed
   grown-bytes j k a d q =
-      let z = body .inodes j a d .size in
+      let z = size-most (body .inodes j a d) in
       let w : k < 12 = omega arith in
       g .bytes (kthBlock s n j k) (body .inodes j a d .used k w q .0) (not-new j k a d w)
 
@@ -203,7 +204,7 @@ module _ (s t : List ℕ) (n b i c : ℕ) (h : Sound Store s) (x : n ≡ inodesI
   pub grown-entry : (e u : ℕ) → 1 ≤ e → e ≤ n → u < slots s e → entryOf t n e u ≡ entryOf s n e u
   unfolding slots blocksUsed
   grown-entry e u a d q =
-      let z = body .inodes e a d .size in
+      let z = size-most (body .inodes e a d) in
       entry-kept s t n e u (grown-kth e (u / 4) a d (omega arith) (omega arith)) (grown-bytes e (u / 4) a d (omega arith))
 
   -- a place of the inode that grows
@@ -266,7 +267,7 @@ module _ (s t : List ℕ) (n b i c : ℕ) (h : Sound Store s) (x : n ≡ inodesI
         kind = rw (g .kind) (r .kind);
         spare = g .spare;
         free = λ k. absurd (v (sym (g .kind) ∙ k));
-        size = omega arith;
+        size = any-most (kindOf t i) (sizeOf t i) (omega arith);
         used = λ k a d. grown-block k a (omega arith);
         rest = λ k a d. grown-rest k a (omega arith);
         directory = λ k. omega arith;

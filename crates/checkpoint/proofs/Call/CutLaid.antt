@@ -20,6 +20,7 @@ use Rattle.desk.specs.Desk.{deskOf}
 use Rattle.sound.specs.Place.{isSlot, entryAt, placeOf}
 use Rattle.sound.specs.Sound.{Sound, inodesIn}
 use Rattle.sound.proofs.FactLaws.{unnamed}
+use Rattle.sound.proofs.SoundLaws.{size-most}
 use Rattle.sound.specs.declared.Form.the-variants.{Store}
 use Rattle.changes.proofs.KeepLaws.{inode-kept}
 use Rattle.changes.proofs.AddressLaws.{same-named, same-differ}
@@ -100,7 +101,7 @@ module _ {n b : ℕ} {s m d : List ℕ} (k : Sound Store s) (x : n ≡ inodesIn 
     frame = frame;
     inodes = λ i l o z.
         inode-kept m cut n b i (cut-inode h e t slot i l o)
-        (λ f r. cut-file h e t slot i (sizeOf m i / blockBytes) l o f (let g = h .inodes i l o z .size in omega arith) (let g = h .inodes i l o z .size in (unfold blocksUsed in omega arith)))
+        (λ f r. cut-file h e t slot i (sizeOf m i / blockBytes) l o f (let g = size-most (h .inodes i l o z) in omega arith) (let g = size-most (h .inodes i l o z) in (unfold blocksUsed in omega arith)))
         (h .inodes i l o z);
     blank = λ i l o c. cut-inode h e t slot i l o .kind ∙ h .blank i l o c;
     opened = opened;

@@ -25,6 +25,7 @@ use Rattle.sound.specs.Place.{dirOf}
 use Rattle.sound.specs.Sound.{Sound, inodesIn}
 use Rattle.sound.proofs.PlaceLaws.{slot-is}
 use Rattle.sound.proofs.FactLaws.{named-is, unnamed}
+use Rattle.sound.proofs.SoundLaws.{size-most}
 use Rattle.sound.specs.declared.Form.the-variants.{Store}
 use Rattle.changes.proofs.StoreLaws.{dir-of}
 use Rattle.changes.proofs.FreeLaws.{FreeBlock}
@@ -104,7 +105,7 @@ module _ {n b : ℕ} {s m d : List ℕ} (h : Laid n b s m d) (sound : Sound Stor
           blocks = λ j v. w .addresses (addressIndex i j) (omega arith) (λ y. q (omega arith));
         };
         blocks = λ j v.
-            let u : j < 12 = unfold blocksUsed in (let y = r .size in omega arith) in
+            let u : j < 12 = unfold blocksUsed in (let y = size-most r in omega arith) in
             w .blocks (kthBlock m n i j) (r .used j u v .0) (apart (addressIndex i j) (omega arith));
       }
 
@@ -119,7 +120,7 @@ module _ {n b : ℕ} {s m d : List ℕ} (h : Laid n b s m d) (sound : Sound Stor
         entries = λ p a z. whole-entry p (whole (dirOf p) (omega arith) (omega arith) (used-other h (dirOf p) (omega arith) (omega arith) (λ y. let x = slot-is m p .to z .0 in omega arith))) z;
         bytes = λ i a z v.
             let u : kindOf m i ≢ 0 = λ y. omega arith in
-            whole-bytes (whole i a z (used-other h i a z u)) (used-sound h i a z u .size);
+            whole-bytes (whole i a z (used-other h i a z u)) (size-most (used-sound h i a z u));
       }
 
   same-notes : SameNotes d notes n
