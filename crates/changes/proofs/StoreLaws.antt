@@ -9,9 +9,10 @@ use lib.Dec.{eqb, leb}
 use Rattle.directory.specs.Fits.{DirFits}
 use Rattle.bounded.proofs.BoolLaws.{and-false-l, and-left, and-right, chain-end}
 use Rattle.layout.specs.Sizes.{mostImageBlocks, mostFileBytes, addressCount}
-use Rattle.layout.specs.Inode.{kindOf, sizeOf, addressOf, isKind}
+use Rattle.layout.specs.Inode.{kindOf, sizeOf, addressOf, directoryKind, isKind, isDirectory}
 use Rattle.layout.specs.Block.{blocksUsed, kthBlock}
 use Rattle.layout.specs.Fits.{InodeFits, Sized}
+use Rattle.sound.specs.Place.{IsDir}
 use Rattle.sound.specs.Sound.{Sound, inodesIn, blocksIn}
 use Rattle.sound.proofs.FactLaws.{sized, one-block, inode-fits, dir-fits, address-bound}
 use Rattle.sound.proofs.SoundLaws.{size-most}
@@ -46,6 +47,9 @@ module _ (s : List ℕ) (n k i : ℕ) where
     pub kind-is : kindOf s i ≡ k
     unfolding isKind
     kind-is = eqb-true (kindOf s i) k (and-right (leb i n) (eqb (kindOf s i) k) (and-right (leb 1 i) (leb i n && eqb (kindOf s i) k) t))
+
+pub is-dir : (s : List ℕ) (n d : ℕ) → isDirectory s n d ≡ true → IsDir s n d
+is-dir s n d t = record { low = kind-some s n directoryKind d t; high = kind-most s n directoryKind d t; kind = kind-is s n directoryKind d t }
 
 -- ---- a sound store
 pub sized-at : (s : List ℕ) (n b : ℕ) → Sound Store s → n ≡ inodesIn s → b ≡ blocksIn s → Sized s n b

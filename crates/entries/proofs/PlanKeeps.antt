@@ -11,7 +11,7 @@ use Rattle.directory.proofs.SlotLaws.{find-below}
 use Rattle.sound.specs.Sound.{Sound, inodesIn, blocksIn}
 use Rattle.sound.specs.declared.Form.the-variants.{Store}
 use Rattle.changes.proofs.KeepLaws.{same-slots}
-use Rattle.changes.proofs.StoreLaws.{kind-some, kind-most}
+use Rattle.changes.proofs.StoreLaws.{is-dir}
 use Rattle.changes.proofs.SlotPlaceLaws.{entry-here, found-full}
 use Rattle.entries.specs.declared.Kind.{Kind}
 use Rattle.entries.specs.declared.Room.{Room}
@@ -47,7 +47,7 @@ module _ (s : List ℕ) (n b : ℕ) (h : Sound Store s) (x : n ≡ inodesIn s) (
     kind j i = same-kind s m n j i (roomed .tree .kinds)
 
     still : NewIn s n d name → findSlot m n d name ≡ Absent
-    still w = same-find s m n d (r .slot) roomed name (w .legal) d (kind-some s n directoryKind d k) (kind-most s n directoryKind d k) ∙ w .absent
+    still w = same-find s m n d (r .slot) roomed name (w .legal) (is-dir s n d k) ∙ w .absent
 
   pub created-sound : (d : ℕ) (name : List ℕ) (k : Kind) (i : ℕ) (r : Room) → createPlan s n b d name ≡ Make i r → Sound Store (created s n d name k i r)
   unfolding created enter
@@ -96,7 +96,7 @@ module _ (s : List ℕ) (n b : ℕ) (h : Sound Store s) (x : n ≡ inodesIn s) (
       let g = roomed e other r (v .directory) (o .room) in
       let same = kind e other r (v .directory) (o .room) in
       let n-same = count e other r (v .directory) (o .room) in
-      let entry = g .entries d t (old .slot .low) (old .slot .high) inside in
+      let entry = g .entries d t (is-dir s n d (w .directory)) inside in
       move-sound m n d t i e (r .slot) other (g .sound) n-same (same directoryKind d ∙ w .directory)
       (subst (λ (z : ℕ). t < z) (sym (same-slots (g .others d (old .slot .low) (old .slot .high) (o .other)))) inside)
       (ap isEmpty entry ∙ full) (w .inode ∙ ap entryInode (sym entry))
