@@ -23,7 +23,7 @@ use Rattle.answers.specs.Told.{told}
 use Rattle.answers.specs.declared.Answer.the-variants.{Done, Refused}
 use Rattle.desk.specs.Desk.{deskOf}
 use Rattle.sound.specs.declared.Form.the-variants.{Store}
-use Rattle.sound.proofs.SoundLaws.{framed, is-sound}
+use Rattle.sound.proofs.SoundLaws.{framed, is-sound, size-most}
 use Rattle.entries.specs.declared.Kind.{Kind}
 use Rattle.files.specs.Effect.{create, write}
 use Rattle.checkpoint.specs.Fit.{isRunning, imageAllowed, blocksFit, deskFits, imageFits, notesFit}
@@ -80,7 +80,7 @@ file-size w i r f =
     let n = inodes w in
     let a = and-left (leb 1 i) (leb i n && eqb (kindOf s i) fileKind) f in
     let b = and-left (leb i n) (eqb (kindOf s i) fileKind) (and-right (leb 1 i) (leb i n && eqb (kindOf s i) fileKind) f) in
-    is-sound Store s .to (r .sound) .inodes i (leb-true 1 i a) (leb-true i n b) .size
+    size-most (is-sound Store s .to (r .sound) .inodes i (leb-true 1 i a) (leb-true i n b))
 
 module _ (w : World) (i o : ℕ) (xs : List ℕ) (h : Writes w i o xs) where
   write-done : o ≤ sizeOf (w .store) i → o + length xs ≤ 768 → live (write i o xs) w .answer ≡ Done (max (sizeOf (w .store) i) (o + length xs))

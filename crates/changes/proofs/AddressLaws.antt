@@ -18,6 +18,7 @@ use Rattle.layout.specs.Inode.{sizeOf, addressOf, addressIndex}
 use Rattle.blocks.specs.Block.{blocksUsed, kthBlock}
 use Rattle.blocks.specs.Free.{blockNamed, blockFree}
 use Rattle.sound.specs.Inode.{InodeSound}
+use Rattle.sound.proofs.SoundLaws.{size-most}
 
 -- ---- a row of twelve: the first k are not 0
 row-count : (f : ℕ → ℕ) (k : ℕ) → k ≤ addressCount → ((j : ℕ) → j < addressCount → j < k → 1 ≤ f j) → ((j : ℕ) → j < addressCount → k ≤ j → f j ≡ 0) → count (nonzero f) addressCount ≡ k
@@ -66,7 +67,7 @@ module _ (s : List ℕ) (n : ℕ) where
   used-row : (b i : ℕ) → InodeSound s n b i → count (λ k. nonzero (addressOf s n) (addressIndex i k)) addressCount ≡ blocksUsed (sizeOf s i)
   unfolding kthBlock blocksUsed
   used-row b i h =
-      let z = h .size in
+      let z = size-most h in
       row-count (λ k. addressOf s n (addressIndex i k)) (blocksUsed (sizeOf s i)) (omega arith) (λ k l u. h .used k l u .0) (h .rest)
 
   -- the named blocks are as many as the addresses in use

@@ -31,7 +31,7 @@ use Rattle.sound.specs.Sound.{Framed, Sound, inodesIn, blocksIn}
 use Rattle.sound.specs.Counted.{SoundStore}
 use Rattle.sound.specs.Place.{dirOf, slotOf, isSlot, entryAt, filled, naming, IsDir}
 use Rattle.sound.proofs.PlaceLaws.{slot-is, filled-is}
-use Rattle.sound.proofs.SoundLaws.{climbs}
+use Rattle.sound.proofs.SoundLaws.{size-most, climbs}
 use Rattle.sound.specs.declared.Form.the-variants.{Store}
 use Rattle.changes.proofs.SameLaws.{OtherInodes, SameFrame, SameInode, SameBody, SameBlock, same-body}
 use Rattle.changes.proofs.FreeLaws.{same-free}
@@ -52,7 +52,7 @@ inode-like s t n b i e bare file g h =
       kind = rw (e .kind) (h .kind);
       spare = e .spare ∙ h .spare;
       free = λ k. let k′ = sym (e .kind) ∙ k in (bare k′ .0 ∙ h .free k′ .0, (z ∙ h .free k′ .1 .0, bare k′ .1 ∙ h .free k′ .1 .1));
-      size = rw z (h .size);
+      size = rw (z, e .kind) (h .size);
       used = λ k l w. let q = h .used k l (omega arith) in rw (e .blocks k l) q;
       rest = λ k l w. e .blocks k l ∙ h .rest k l (omega arith);
       directory = λ k. ap (λ (x : ℕ). x % blockBytes) z ∙ h .directory (sym (e .kind) ∙ k);
@@ -67,7 +67,7 @@ pub tail-kept : (s t : List ℕ) (n b i : ℕ) → SameBody s t n i
 tail-kept s t n b i e g h k q o l w =
     let z = e .size in
     let r : sizeOf t i % blockBytes ≡ sizeOf s i % blockBytes = ap (λ (x : ℕ). x % blockBytes) z in
-    let m = h .size in
+    let m = size-most h in
     let k′ = sym (e .kind) ∙ k in
     let q′ : sizeOf s i % blockBytes ≡ 0 → ⊥ = λ x. q (r ∙ x) in
     let c : kthBlock t n i (sizeOf t i / blockBytes) ≡ kthBlock s n i (sizeOf s i / blockBytes) = ap (λ (x : ℕ). kthBlock t n i (x / blockBytes)) z ∙ e .blocks (sizeOf s i / blockBytes) (omega arith) in

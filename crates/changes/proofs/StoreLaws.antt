@@ -9,13 +9,15 @@ use lib.Dec.{eqb, leb}
 use Rattle.directory.specs.Fits.{DirFits}
 use Rattle.bounded.proofs.BoolLaws.{and-false-l, and-left, and-right, chain-end}
 use Rattle.layout.specs.Sizes.{mostImageBlocks, mostFileBytes, addressCount}
-use Rattle.layout.specs.Inode.{kindOf, sizeOf, addressOf, isKind}
-use Rattle.blocks.specs.Block.{blocksUsed, kthBlock}
+use Rattle.layout.specs.Inode.{kindOf, sizeOf, addressOf, directoryKind, isKind, isDirectory}
 use Rattle.layout.specs.Fits.{InodeFits}
+use Rattle.blocks.specs.Block.{blocksUsed, kthBlock}
 use Rattle.blocks.specs.Fits.{Sized}
+use Rattle.sound.specs.Place.{IsDir}
 use Rattle.sound.specs.Sound.{Sound, inodesIn, blocksIn}
 use Rattle.sound.specs.Counted.{SoundStore}
 use Rattle.sound.proofs.FactLaws.{sized, one-block, inode-fits, dir-fits, address-bound}
+use Rattle.sound.proofs.SoundLaws.{size-most}
 use Rattle.sound.specs.declared.Form.the-variants.{Store}
 use Rattle.changes.proofs.SameLaws.{SameFrame}
 
@@ -48,6 +50,9 @@ module _ (s : List ℕ) (n k i : ℕ) where
     pub kind-is : kindOf s i ≡ k
     unfolding isKind
     kind-is = eqb-true (kindOf s i) k (and-right (leb i n) (eqb (kindOf s i) k) (and-right (leb 1 i) (leb i n && eqb (kindOf s i) k) t))
+
+pub is-dir : (s : List ℕ) (n d : ℕ) → isDirectory s n d ≡ true → IsDir s n d
+is-dir s n d t = record { low = kind-some s n directoryKind d t; high = kind-most s n directoryKind d t; kind = kind-is s n directoryKind d t }
 
 -- ---- a sound store
 pub sound-store : {s : List ℕ} {n : ℕ} → Sound Store s → n ≡ inodesIn s → SoundStore s n (blocksIn s)
@@ -93,4 +98,4 @@ module _ {s : List ℕ} {n b : ℕ} (h : SoundStore s n b) where
     kind-dir = dir-of i (kind-some s n k i t) (kind-most s n k i t)
 
     pub kind-size : sizeOf s i ≤ mostFileBytes
-    kind-size = let e = h .inodes in let m = kind-most s n k i t in h .sound .inodes i (kind-some s n k i t) (omega arith) .size
+    kind-size = let e = h .inodes in let m = kind-most s n k i t in size-most (h .sound .inodes i (kind-some s n k i t) (omega arith))

@@ -29,7 +29,7 @@ use Rattle.sound.specs.Inode.{InodeSound}
 use Rattle.sound.specs.Place.{IsDir}
 use Rattle.sound.specs.Sound.{inodesIn, blocksIn, Framed, limitOf, blankOf}
 use Rattle.sound.proofs.FactLaws.{limit-few}
-use Rattle.sound.proofs.SoundLaws.{framed, inode-sound, entry-sound, counted-is, climbs}
+use Rattle.sound.proofs.SoundLaws.{framed, inode-sound, size-most, entry-sound, counted-is, climbs}
 use Rattle.sound.specs.Test.{inodeB, entryB, countedB, leadB, framedB, headerB, freeCountsB, blankBlockB, blanksB, bodyB, isSound}
 use Rattle.sound.specs.declared.Form.the-variants.{Image}
 use Rattle.sound.specs.declared.Form.{Form}
@@ -157,7 +157,7 @@ module _ (s : List ℕ) {n b : ℕ} (f : Framed Image s) (e : n ≡ inodesIn s) 
     unfolding blocksUsed
     dir-fits d l m =
         let h = each d l m in
-        let z = h .size in
+        let z = size-most h in
         let w = f .long in
         record {
           inode = frame-fits d l m;

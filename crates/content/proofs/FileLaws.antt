@@ -17,6 +17,7 @@ use Rattle.blocks.specs.Block.{blockOf, blocksUsed, kthBlock}
 use Rattle.sound.specs.Inode.{InodeSound}
 use Rattle.sound.specs.Sound.{Sound}
 use Rattle.sound.specs.Counted.{SoundStore}
+use Rattle.sound.proofs.SoundLaws.{most-file, size-most}
 use Rattle.sound.specs.declared.Form.the-variants.{Store}
 use Rattle.changes.proofs.StoreLaws.{one-at, dir-of}
 use Rattle.changes.proofs.SameLaws.{OtherInodes, same-body, SameFrame, SameBlock, InBlock}
@@ -134,7 +135,7 @@ module _ (s t : List ℕ) (n b i z : ℕ) (h : SoundStore s n b)
         kind = omega arith;
         spare = g .spare;
         free = λ k. absurd (omega arith);
-        size = omega arith;
+        size = omega (arith, size-most r, most-file (kindOf t i) q);
         used = λ k a d. resized-block k a (omega arith);
         rest = λ k a d. g .rest k a (omega arith);
         directory = λ k. absurd (omega arith);

@@ -27,12 +27,13 @@ use Rattle.layout.specs.Fits.{InodeFits}
 use Rattle.names.specs.Entry.{isEmpty}
 use Rattle.names.proofs.EntryLaws.{empty}
 use Rattle.directory.specs.Slot.{slots, entryOf}
-use Rattle.sound.specs.Place.{dirOf, slotOf, entryAt}
+use Rattle.sound.specs.Place.{IsDir, dirOf, slotOf, entryAt}
 use Rattle.sound.specs.Inode.{InodeSound}
 use Rattle.sound.specs.Sound.{Sound}
 use Rattle.sound.specs.Counted.{SoundStore}
 use Rattle.sound.proofs.FactLaws.{unnamed, named-is}
 use Rattle.sound.proofs.PlaceLaws.{slot-is}
+use Rattle.sound.proofs.SoundLaws.{any-most, size-most, size-directory}
 use Rattle.sound.specs.declared.Form.the-variants.{Store}
 use Rattle.changes.proofs.StoreLaws.{fits}
 use Rattle.changes.proofs.SameLaws.{same-body, OtherInodes, SameFrame, SameBlock, frame-then, inode-then, zero-block, zero-block-is, put-inode, inode-new, inode-blocks, less-free}
@@ -190,7 +191,7 @@ module _ (s t : List ℕ) (n b i c : ℕ) (h : SoundStore s n b)
   pub grown-bytes : (j k : ℕ) → 1 ≤ j → j ≤ n → k < blocksUsed (sizeOf s j) → SameBlock s t n (kthBlock s n j k)
   unfolding blocksUsed
   grown-bytes j k a d q =
-      let z = body .inodes j a d .size in
+      let z = size-most (body .inodes j a d) in
       let w : k < 12 = omega arith in
       g .bytes (kthBlock s n j k) (body .inodes j a d .used k w q .0) (not-new j k a d w)
 
@@ -201,11 +202,11 @@ module _ (s t : List ℕ) (n b i c : ℕ) (h : SoundStore s n b)
   ]
 
   -- every slot that was there holds what it held
-  pub grown-entry : (e u : ℕ) → 1 ≤ e → e ≤ n → u < slots s e → entryOf t n e u ≡ entryOf s n e u
+  pub grown-entry : (e u : ℕ) → IsDir s n e → u < slots s e → entryOf t n e u ≡ entryOf s n e u
   unfolding slots blocksUsed
-  grown-entry e u a d q =
-      let z = body .inodes e a d .size in
-      entry-kept s t n e u (grown-kth e (u / 4) a d (omega arith) (omega arith)) (grown-bytes e (u / 4) a d (omega arith))
+  grown-entry e u d q =
+      let z = size-directory (body .inodes e (d .low) (d .high)) (d .kind) in
+      entry-kept s t n e u (grown-kth e (u / 4) (d .low) (d .high) (omega arith) (omega arith)) (grown-bytes e (u / 4) (d .low) (d .high) (omega arith))
 
   -- a place of the inode that grows
   grown-at : (p : ℕ) → dirOf p ≤ n → Grown s t n (dirOf p) c → SamePlace s t n p
@@ -224,7 +225,7 @@ module _ (s t : List ℕ) (n b i c : ℕ) (h : SoundStore s n b)
       go : Dec (kindOf s d ≡ directoryKind) → Dec (slotOf p < slots s d) → Dec (slotOf p < slots t d) → SamePlace s t n p
       go (no q) o w = place-slot s t n p (slot-kept s t p (r .kind) (λ e. absurd (q e))) (λ e. absurd (q (slot-is s p .to e .0)))
       go (yes q) (yes o) w =
-          place-slot s t n p (slot-is t p .from (r .kind ∙ q, (let z = more in omega arith)) ∙ sym (slot-is s p .from (q, o))) (λ _. grown-entry d (slotOf p) low a o)
+          place-slot s t n p (slot-is t p .from (r .kind ∙ q, (let z = more in omega arith)) ∙ sym (slot-is s p .from (q, o))) (λ _. grown-entry d (slotOf p) (record { low = low; high = a; kind = q }) o)
       go (yes q) (no o) (yes w) =
           place-new s t n p (r-fails (slot-is s p) (λ e. o (e .1))) (slot-is t p .from (r .kind ∙ q, w)) (grown-empty s t n d c r (slotOf p) (omega arith) w)
       go (yes q) (no o) (no w) =
@@ -267,7 +268,7 @@ module _ (s t : List ℕ) (n b i c : ℕ) (h : SoundStore s n b)
         kind = rw (g .kind) (r .kind);
         spare = g .spare;
         free = λ k. absurd (v (sym (g .kind) ∙ k));
-        size = omega arith;
+        size = any-most (kindOf t i) (sizeOf t i) (omega arith);
         used = λ k a d. grown-block k a (omega arith);
         rest = λ k a d. grown-rest k a (omega arith);
         directory = λ k. omega arith;

@@ -9,12 +9,12 @@ use Rattle.bounded.specs.Climb.{leadsB}
 use Rattle.bounded.proofs.BoolLaws.{fails}
 use Rattle.bounded.proofs.ClimbLaws.{leads-prop, leads-here, leads-turn, leads-end, leads-top}
 use Rattle.layout.specs.Sizes.{rootInode}
-use Rattle.layout.specs.Inode.{parentOf, directoryKind, isDirectory}
+use Rattle.layout.specs.Inode.{parentOf, isDirectory}
 use Rattle.sound.specs.Sound.{inodesIn}
 use Rattle.sound.specs.Counted.{SoundStore}
 use Rattle.sound.specs.Place.{IsDir}
 use Rattle.sound.proofs.FactLaws.{naming-dir}
-use Rattle.changes.proofs.StoreLaws.{kind-some, kind-most, kind-is}
+use Rattle.changes.proofs.StoreLaws.{is-dir}
 
 -- ---- above the root there is nothing
 -- the root has no parent, and number 0 reads as it does
@@ -34,7 +34,7 @@ module _ (s : List ℕ) (n i e : ℕ) {b : ℕ} (h : SoundStore s n b) where
       let z : n ≡ n - 0 = omega arith in
       record {
         few = omega arith;
-        dir = record { low = kind-some s n directoryKind e d; high = kind-most s n directoryKind e d; kind = kind-is s n directoryKind e d };
+        dir = is-dir s n e d;
         left = ap (λ (j : ℕ). leadsB (parentOf s) i j e) z;
       }
 

@@ -12,7 +12,7 @@ use Rattle.sound.specs.Sound.{Sound}
 use Rattle.sound.specs.Counted.{SoundStore}
 use Rattle.sound.specs.declared.Form.the-variants.{Store}
 use Rattle.changes.proofs.KeepLaws.{same-slots}
-use Rattle.changes.proofs.StoreLaws.{same-counts, kind-some, kind-most}
+use Rattle.changes.proofs.StoreLaws.{same-counts, is-dir}
 use Rattle.changes.proofs.SlotPlaceLaws.{entry-here, found-full}
 use Rattle.entries.specs.declared.Kind.{Kind}
 use Rattle.entries.specs.declared.Room.{Room}
@@ -48,7 +48,7 @@ module _ (s : List ℕ) (n b : ℕ) (h : SoundStore s n b) where
     kind j i = same-kind s m n j i (roomed .tree .kinds)
 
     still : NewIn s n d name → findSlot m n d name ≡ Absent
-    still w = same-find s m n d (r .slot) roomed name (w .legal) d (kind-some s n directoryKind d k) (kind-most s n directoryKind d k) ∙ w .absent
+    still w = same-find s m n d (r .slot) roomed name (w .legal) (is-dir s n d k) ∙ w .absent
 
   pub created-sound : (d : ℕ) (name : List ℕ) (k : Kind) (i : ℕ) (r : Room) → createPlan s n b d name ≡ Make i r → Sound Store (created s n d name k i r)
   unfolding created enter
@@ -97,7 +97,7 @@ module _ (s : List ℕ) (n b : ℕ) (h : SoundStore s n b) where
       let g = roomed e other r (v .directory) (o .room) in
       let same = kind e other r (v .directory) (o .room) in
       let k = counts e other r (v .directory) (o .room) in
-      let entry = g .entries d t (old .slot .low) (old .slot .high) inside in
+      let entry = g .entries d t (is-dir s n d (w .directory)) inside in
       move-sound m n d t i e (r .slot) other k (same directoryKind d ∙ w .directory)
       (subst (λ (z : ℕ). t < z) (sym (same-slots (g .others d (old .slot .low) (old .slot .high) (o .other)))) inside)
       (ap isEmpty entry ∙ full) (w .inode ∙ ap entryInode (sym entry))

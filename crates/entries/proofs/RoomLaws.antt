@@ -1,10 +1,10 @@
 -- Room for an entry: a directory with an empty slot, or with a block more. n and b are the counts of inodes and blocks.
 use Prim.Native.Nat.{ℕ, _+_, _-_, _≤_, _<_}
-use mathlib.Core.Path.{_≡_, refl, sym, ap, _∙_, subst}
+use mathlib.Core.Path.{_≡_, refl, sym, ap, _∙_}
 use mathlib.Core.Logic.{_≢_}
 use mathlib.Core.Bool.{Bool, true, false}
 use mathlib.Core.List.{List}
-use native.Mathlib.Decide.{ℕ-discrete, decLt}
+use native.Mathlib.Decide.{decLt}
 use native.Mathlib.Omega.{arith}
 use borrow.Author.Tests.{ltb-true, ne-eqb}
 use lib.Dec.{eqb, ltb}
@@ -22,13 +22,14 @@ use Rattle.names.specs.Entry.{sameName}
 use Rattle.names.proofs.EntryLaws.{empty-not-named}
 use Rattle.directory.specs.Slot.{slots, entryOf, slotHasName, findSlot, slotEmpty, emptySlot}
 use Rattle.directory.proofs.SlotLaws.{empty-below, empty-at}
+use Rattle.sound.specs.Place.{IsDir}
 use Rattle.sound.specs.Sound.{Sound}
 use Rattle.sound.specs.Counted.{SoundStore}
 use Rattle.sound.specs.declared.Form.the-variants.{Store}
 use Rattle.answers.specs.declared.Refusal.the-variants.{NoBlocks, NoSlot}
 use Rattle.changes.proofs.StoreLaws.{kind-read, kind-low, kind-high, kind-some, kind-most, kind-is}
 use Rattle.changes.proofs.SameLaws.{OtherInodes, SameFrame, frame-stays, inode-stays}
-use Rattle.changes.proofs.KeepLaws.{SameTree, tree-stays, same-slots}
+use Rattle.changes.proofs.KeepLaws.{SameTree, tree-stays}
 use Rattle.changes.proofs.FreeLaws.{FreeBlock, free-block}
 use Rattle.content.specs.Content.{addBlock}
 use Rattle.content.proofs.GrowLaws.{block-added, add-block-sound, grown-tree, grown-slots, grown-entry, grown-empty}
@@ -61,7 +62,7 @@ pub record Roomed (s t : List ℕ) (n d u : ℕ) : Type 0 where
   pub free-inodes : headerOf t .«free_inodes» ≡ headerOf s .«free_inodes»
   -- the slots that were there, and those that are new
   pub more : slots s d ≤ slots t d
-  pub entries : (e v : ℕ) → 1 ≤ e → e ≤ n → v < slots s e → entryOf t n e v ≡ entryOf s n e v
+  pub entries : (e v : ℕ) → IsDir s n e → v < slots s e → entryOf t n e v ≡ entryOf s n e v
   pub new : (v : ℕ) → slots s d ≤ v → v < slots t d → slotEmpty t n d v ≡ true
   -- the slot for the entry
   pub slot : u < slots t d
@@ -85,7 +86,7 @@ module _ (s : List ℕ) (n b d : ℕ) (h : SoundStore s n b) (k : isDirectory s 
     others = λ j _ _ _. inode-stays s n j;
     free-inodes = refl;
     more = omega arith;
-    entries = λ e v _ _ _. refl;
+    entries = λ e v _ _. refl;
     new = λ v p q. absurd (omega arith);
     slot = empty-below s n d t e;
     empty = unfold slotEmpty in empty-at s n d t e;
@@ -140,25 +141,18 @@ unfolding freeInode
 same-free-inode s t n e = first-ext (inodeFree t) (inodeFree s) 1 n (λ j l m. ap (λ (x : ℕ). eqb x freeKind) (e j l (omega arith)))
 
 -- a search for a name finds what it found
-module _ (s t : List ℕ) (n d u : ℕ) (r : Roomed s t n d u) (name : List ℕ) (g : legalName name ≡ true) where
-  find-among : (e : ℕ) → 1 ≤ e → e ≤ n → firstFrom (slotHasName t n e name) 0 (slots s e) ≡ firstFrom (slotHasName s n e name) 0 (slots s e)
+module _ (s t : List ℕ) (n d u : ℕ) (r : Roomed s t n d u) (name : List ℕ) (g : legalName name ≡ true) (h : IsDir s n d) where
+  find-among : firstFrom (slotHasName t n d name) 0 (slots s d) ≡ firstFrom (slotHasName s n d name) 0 (slots s d)
   unfolding slotHasName
-  find-among e l m = first-ext (slotHasName t n e name) (slotHasName s n e name) 0 (slots s e) (λ v p q. ap (λ (x : List ℕ). sameName x name) (r .entries e v l m (omega arith)))
+  find-among = first-ext (slotHasName t n d name) (slotHasName s n d name) 0 (slots s d) (λ v p q. ap (λ (x : List ℕ). sameName x name) (r .entries d v h (omega arith)))
 
-  find-grown : 1 ≤ d → d ≤ n → findSlot t n d name ≡ findSlot s n d name
+  pub same-find : findSlot t n d name ≡ findSlot s n d name
   unfolding findSlot first slotHasName slotEmpty
-  find-grown l m =
+  same-find =
       let a = r .more in
       let k : ℕ = slots t d - slots s d in
       let e : slots t d ≡ slots s d + k = omega arith in
       let w = absent-of (slotHasName t n d name) (0 + slots s d) k (λ v p q. empty-not-named (entryOf t n d v) name (r .new v (omega arith) (omega arith)) g) in
       ap (firstFrom (slotHasName t n d name) 0) e ∙ first-split (slotHasName t n d name) 0 (slots s d) k
       ∙ ap (onFound (firstFrom (slotHasName t n d name) 0 (slots s d)) At) w
-      ∙ found-else (firstFrom (slotHasName t n d name) 0 (slots s d)) ∙ find-among d l m
-
-  pub same-find : (e : ℕ) → 1 ≤ e → e ≤ n → findSlot t n e name ≡ findSlot s n e name
-  unfolding findSlot first
-  same-find e l m = elim (ℕ-discrete e d) as (λ _. findSlot t n e name ≡ findSlot s n e name) [
-    | yes q ↦ subst (λ (x : ℕ). findSlot t n x name ≡ findSlot s n x name) (sym q) (find-grown (subst (λ (x : ℕ). 1 ≤ x) q l) (subst (λ (x : ℕ). x ≤ n) q m))
-    | no q ↦ ap (firstFrom (slotHasName t n e name) 0) (same-slots (r .others e l m q)) ∙ find-among e l m
-  ]
+      ∙ found-else (firstFrom (slotHasName t n d name) 0 (slots s d)) ∙ find-among

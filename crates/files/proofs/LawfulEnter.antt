@@ -18,7 +18,7 @@ use Rattle.sound.specs.Counted.{SoundStore}
 use Rattle.sound.proofs.PlaceLaws.{filled-is, entry-place}
 use Rattle.sound.specs.declared.Form.the-variants.{Store}
 use Rattle.changes.proofs.SameLaws.{put-entry}
-use Rattle.changes.proofs.StoreLaws.{kind-fits, fits}
+use Rattle.changes.proofs.StoreLaws.{is-dir, kind-fits, fits}
 use Rattle.changes.proofs.FreeLaws.{free-inode}
 use Rattle.changes.proofs.EntryWriteLaws.{SlotIn, place-below}
 use Rattle.changes.proofs.ChangeLaws.{Filled}
@@ -66,7 +66,7 @@ module _ (s : List ℕ) (n b d : ℕ) (name : List ℕ) (r : Room) (h : SoundSto
   grown = room-sound s n b d r h (new .directory) e
 
   pub still : findSlot m n d name ≡ Absent
-  still = same-find s m n d (r .slot) room name (new .legal) d (there .low) (there .high) ∙ new .absent
+  still = same-find s m n d (r .slot) room name (new .legal) (is-dir s n d (new .directory)) ∙ new .absent
 
   pub was-bare : filled s n (placeOf d (r .slot)) ≡ false
   was-bare = sym (room .tree .places (placeOf d (r .slot)) (place-below there) .stands) ∙ bare-slot m n d (r .slot) there (room .empty)

@@ -20,7 +20,7 @@ use Rattle.names.specs.Entry.{isEmpty, entryInode}
 use Rattle.sound.specs.Place.{placeOf}
 use Rattle.sound.specs.Counted.{SoundStore}
 use Rattle.changes.proofs.SameLaws.{SameInode, frame-stays, inode-stays, same-body, put-entry, clear-entry}
-use Rattle.changes.proofs.StoreLaws.{fits}
+use Rattle.changes.proofs.StoreLaws.{is-dir, fits}
 use Rattle.changes.proofs.EntryWriteLaws.{SlotIn, slot-in, place-below}
 use Rattle.changes.proofs.InodeWriteLaws.{parent-relinked, body-all}
 use Rattle.changes.proofs.SlotPlaceLaws.{entry-here, found-full, place-filled}
@@ -112,7 +112,7 @@ module _ (s : List ℕ) (n b d : ℕ) (name : List ℕ) (e : ℕ) (other : List 
       let inside = find-below s n d name t (w .found) in
       let full = found-full s n d name t (w .legal) (w .found) in
       let old = entry-here h d t i (w .directory) inside full (w .inode) in
-      let bytes = room .entries d t (old .slot .low) (old .slot .high) inside in
+      let bytes = room .entries d t (is-dir s n d (w .directory)) inside in
       let from = same directoryKind d ∙ w .directory in
       let inside-g = subst (λ (z : ℕ). t < z) (sym (same-slots (room .others d (old .slot .low) (old .slot .high) (o .other)))) inside in
       let below = below-kept g n i e grown (old .low) (old .not-root) (same directoryKind e ∙ v .directory) s (room .tree) (old .high) (not-below s n i e h (old .low) (old .not-root) (v .directory) (o .outside)) in

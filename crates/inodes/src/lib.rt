@@ -21,6 +21,7 @@ use layout::sizes::BLOCK_BYTES;
 use layout::sizes::DIRECTORY;
 use layout::sizes::FILE;
 use layout::sizes::FREE;
+use layout::sizes::MOST_DIRECTORY_BYTES;
 use layout::sizes::MOST_FILE_BYTES;
 use octets::all_zero;
 
@@ -37,9 +38,6 @@ fn attributes_right(s: &[u8], n: usize, i: usize) -> bool
     if inode::spare(s, n, i) != 0 {
         return false;
     }
-    if MOST_FILE_BYTES < size {
-        return false;
-    }
     if kind == FREE {
         if inode::links(s, n, i) != 0 {
             return false;
@@ -50,7 +48,13 @@ fn attributes_right(s: &[u8], n: usize, i: usize) -> bool
         return inode::parent(s, n, i) == 0;
     }
     if kind == FILE {
+        if MOST_FILE_BYTES < size {
+            return false;
+        }
         return inode::parent(s, n, i) == 0;
+    }
+    if MOST_DIRECTORY_BYTES < size {
+        return false;
     }
     size % BLOCK_BYTES == 0
 }

@@ -39,13 +39,17 @@ blockBytes = 64
 abbrev pub mostBlocks : ℕ
 mostBlocks = addressCount
 
--- "at most 768 bytes"
+-- "at most 768 bytes", for a file
 abbrev pub mostFileBytes : ℕ
 mostFileBytes = blockBytes * mostBlocks
 
--- "fewer than twelve blocks": the most that a directory takes, from which its slots follow. Its size is held to the limit of a file's, which is as many blocks
+-- "fewer than twelve blocks": the most that a directory takes, from which its slots and its size follow
 abbrev pub mostDirectoryBlocks : ℕ
 mostDirectoryBlocks = 12
+
+-- "at most 768 bytes", for a directory
+abbrev pub mostDirectoryBytes : ℕ
+mostDirectoryBytes = blockBytes * mostDirectoryBlocks
 
 -- byte 8: "1 if complete, else 0"
 abbrev pub isComplete : ℕ

@@ -29,6 +29,8 @@ pub const MOST_FILE_BYTES: usize = BLOCK_BYTES * MOST_BLOCKS;
 
 pub const MOST_DIRECTORY_BLOCKS: usize = 12;
 
+pub const MOST_DIRECTORY_BYTES: usize = BLOCK_BYTES * MOST_DIRECTORY_BLOCKS;
+
 pub const FREE: u8 = 0;
 
 pub const FILE: u8 = 1;

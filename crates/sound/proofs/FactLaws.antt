@@ -19,7 +19,7 @@ use Rattle.directory.specs.Fits.{DirFits}
 use Rattle.sound.specs.Sound.{inodesIn, blocksIn, Sound, limitOf}
 use Rattle.sound.specs.Place.{naming, IsDir}
 use Rattle.sound.proofs.PlaceLaws.{naming-filled}
-use Rattle.sound.proofs.SoundLaws.{InParent, in-parent, all-counted}
+use Rattle.sound.proofs.SoundLaws.{size-most, InParent, in-parent, all-counted}
 use Rattle.sound.specs.declared.Form.{Form}
 use Rattle.sound.specs.declared.Form.the-variants.{Store, Image}
 
@@ -48,11 +48,12 @@ module _ {f : Form} {s : List ℕ} (h : Sound f s) where
 
     pub used-few : blocksUsed (sizeOf s i) ≤ addressCount
     unfolding blocksUsed
-    used-few = let z = h .inodes i l m .size in omega arith
+    used-few = let z = size-most (h .inodes i l m) in omega arith
 
     pub used-block : (k : ℕ) → k < blocksUsed (sizeOf s i) → (1 ≤ kthBlock s (inodesIn s) i k) × (kthBlock s (inodesIn s) i k ≤ blocksIn s)
     used-block k u = let w = used-few in h .inodes i l m .used k (omega arith) u
 
+    -- whatever its kind: no file has more blocks than a directory may
     pub dir-fits : DirFits s (inodesIn s) i
     dir-fits =
         record {

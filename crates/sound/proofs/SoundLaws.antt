@@ -1,16 +1,19 @@
 -- The tests decide the records of conditions, on any bytes. n and b are the counts of inodes and blocks.
-use Prim.Native.Nat.{ℕ, _+_, _*_, _%_, _≤_, _<_}
-use mathlib.Core.Path.{_≡_, sym, ap, _∙_, subst}
-use mathlib.Core.Bool.{true, false, _&&_}
+use Prim.Native.Nat.{ℕ, _*_, _%_, _≤_, _<_}
+use mathlib.Core.Path.{_≡_, refl, sym, ap, _∙_, subst}
+use mathlib.Core.Bool.{Bool, true, false, _&&_}
 use mathlib.Core.List.{List}
 use native.Mathlib.Omega.{arith}
+use borrow.Author.Tests.{eq-eqb, ne-eqb}
+use lib.Dec.{eqb}
 use lib.ListN.{length, getD}
+use Rattle.bounded.specs.Search.{pick}
 use Rattle.bounded.specs.Count.{tally, countTo}
 use Rattle.bounded.specs.Climb.{Leads, Closed}
 use Rattle.bounded.specs.Reflect.{Reflects}
 use Rattle.bounded.proofs.CountLaws.{met-at}
 use Rattle.bounded.proofs.ReflectLaws.{r-eq, r-le, r-lt, r-true, r-false, r-and, r-then, r-not, r-where, r-imp, r-else, r-all, r-to, r-differ, r-leads, r-says}
-use Rattle.layout.specs.Sizes.{mostFileBytes, addressCount, blockBytes, rootInode}
+use Rattle.layout.specs.Sizes.{mostFileBytes, mostDirectoryBytes, addressCount, blockBytes, rootInode}
 use Rattle.layout.specs.Header.{headerOf, headerRestZero}
 use Rattle.layout.specs.Inode.{kindOf, spareOf, linksOf, sizeOf, parentOf, addressOf, addressIndex, freeKind, fileKind, directoryKind}
 use Rattle.blocks.specs.Block.{blockOf, blocksUsed, kthBlock}
@@ -19,7 +22,7 @@ use Rattle.blocks.specs.Free.{inodeFree, blockFree}
 use Rattle.names.specs.Entry.{legalEntry}
 use Rattle.directory.specs.Slot.{mostSlots}
 use Rattle.sound.specs.Place.{IsDir, dirOf, slotOf, isSlot, entryAt, filled, naming}
-use Rattle.sound.specs.Inode.{InodeSound, tailByte}
+use Rattle.sound.specs.Inode.{InodeSound, mostBytes, tailByte}
 use Rattle.sound.specs.Entry.{EntrySound, sameNames, sibling}
 use Rattle.sound.specs.Link.{LinkSound}
 use Rattle.sound.specs.Sound.{inodesIn, blocksIn, Framed, Sound, limitOf, blankOf}
@@ -31,6 +34,28 @@ pub framed : (f : Form) (s : List ℕ) → Reflects (framedB f s) (Framed f s)
 unfolding framedB
 framed f s = allowed-is (limitOf f) (inodesIn s) (blocksIn s) (length s)
 
+-- ---- the limit of a kind k is a directory's or a file's, and no directory may be larger than a file
+module _ (k : ℕ) where
+  pub most-directory : k ≡ directoryKind → mostBytes k ≡ mostDirectoryBytes
+  most-directory e = rw (eq-eqb k directoryKind e) refl
+
+  pub most-file : k ≡ fileKind → mostBytes k ≡ mostFileBytes
+  most-file e = rw (ne-eqb k directoryKind (λ z. omega arith)) refl
+
+  most-between : (mostDirectoryBytes ≤ mostBytes k) × (mostBytes k ≤ mostFileBytes)
+  most-between = go (eqb k directoryKind)
+    where
+      go : (b : Bool) → (mostDirectoryBytes ≤ pick b mostDirectoryBytes mostFileBytes) × (pick b mostDirectoryBytes mostFileBytes ≤ mostFileBytes)
+      go true = (omega arith, omega arith)
+      go false = (omega arith, omega arith)
+
+  pub most-any : (z : ℕ) → z ≤ mostBytes k → z ≤ mostFileBytes
+  most-any z l = omega (arith, most-between .1)
+
+  -- what a directory may have, any inode may
+  pub any-most : (z : ℕ) → z ≤ mostDirectoryBytes → z ≤ mostBytes k
+  any-most z l = omega (arith, most-between .0)
+
 -- ---- an inode by itself
 module _ (s : List ℕ) (i : ℕ) where
   abbrev Free : Type 0
@@ -41,7 +66,7 @@ module _ (s : List ℕ) (i : ℕ) where
       (kindOf s i ≤ directoryKind)
       × ((spareOf s i ≡ 0)
       × (Free
-      × ((sizeOf s i ≤ mostFileBytes)
+      × ((sizeOf s i ≤ mostBytes (kindOf s i))
       × ((kindOf s i ≡ directoryKind → sizeOf s i % blockBytes ≡ 0)
       × (kindOf s i ≡ fileKind → parentOf s i ≡ 0)))))
 
@@ -51,7 +76,7 @@ module _ (s : List ℕ) (i : ℕ) where
       r-and (r-le (kindOf s i) directoryKind)
       (r-and (r-eq (spareOf s i) 0)
       (r-and (r-imp (r-eq (kindOf s i) freeKind) (r-and (r-eq (linksOf s i) 0) (r-and (r-eq (sizeOf s i) 0) (r-eq (parentOf s i) 0))))
-      (r-and (r-le (sizeOf s i) mostFileBytes)
+      (r-and (r-le (sizeOf s i) (mostBytes (kindOf s i)))
       (r-and (r-imp (r-eq (kindOf s i) directoryKind) (r-eq (sizeOf s i % blockBytes) 0))
       (r-imp (r-eq (kindOf s i) fileKind) (r-eq (parentOf s i) 0))))))
 
@@ -96,6 +121,13 @@ module _ (s : List ℕ) (n b i : ℕ) where
       })
       (λ r. ((r .kind, (r .spare, (r .free, (r .size, (r .directory, r .parent))))), ((λ k l. (r .used k l, r .rest k l)), r .tail)))
       (r-and (attributes s i) (r-and addresses zero-tail))
+
+module _ {s : List ℕ} {n b i : ℕ} (h : InodeSound s n b i) where
+  pub size-most : sizeOf s i ≤ mostFileBytes
+  size-most = most-any (kindOf s i) (sizeOf s i) (h .size)
+
+  pub size-directory : kindOf s i ≡ directoryKind → sizeOf s i ≤ mostDirectoryBytes
+  size-directory e = subst (λ (m : ℕ). sizeOf s i ≤ m) (most-directory (kindOf s i) e) (h .size)
 
 -- ---- an entry
 module _ (s : List ℕ) (n p : ℕ) where
@@ -221,14 +253,14 @@ module _ (s : List ℕ) where
       r-and (r-eq (headerOf s .«free_inodes») (countTo (inodeFree s) (inodesIn s)))
       (r-eq (headerOf s .«free_blocks») (countTo (blockFree s (inodesIn s)) (blocksIn s)))
 
-  zero-block-is : (k : ℕ) → Reflects (blankBlockB s (inodesIn s) (k + 1)) ((o : ℕ) → o < blockBytes → getD (blockOf s (inodesIn s) (k + 1)) o 0 ≡ 0)
+  zero-block-is : (c : ℕ) → Reflects (blankBlockB s (inodesIn s) c) ((o : ℕ) → o < blockBytes → getD (blockOf s (inodesIn s) c) o 0 ≡ 0)
   unfolding blankBlockB
-  zero-block-is k = r-all blockBytes (λ o. r-eq (getD (blockOf s (inodesIn s) (k + 1)) o 0) 0)
+  zero-block-is c = r-all blockBytes (λ o. r-eq (getD (blockOf s (inodesIn s) c) o 0) 0)
 
-  blanks-is : (f : Form) → Reflects (blanksB f s) (blankOf f ≡ true → (k : ℕ) → k < blocksIn s → blockFree s (inodesIn s) (k + 1) ≡ true → (o : ℕ) → o < blockBytes → getD (blockOf s (inodesIn s) (k + 1)) o 0 ≡ 0)
+  blanks-is : (f : Form) → Reflects (blanksB f s) (blankOf f ≡ true → (c : ℕ) → 1 ≤ c → c ≤ blocksIn s → blockFree s (inodesIn s) c ≡ true → (o : ℕ) → o < blockBytes → getD (blockOf s (inodesIn s) c) o 0 ≡ 0)
   unfolding blanksB
   blanks-is f =
-      r-imp (r-true (blankOf f)) (r-all (blocksIn s) (λ k. r-imp (r-true (blockFree s (inodesIn s) (k + 1))) (zero-block-is k)))
+      r-imp (r-true (blankOf f)) (r-to (blocksIn s) (λ c l m. r-imp (r-true (blockFree s (inodesIn s) c)) (zero-block-is c)))
 
 pub all-counted : {f : Form} {s : List ℕ} → Sound f s → AllCounted s (inodesIn s)
 all-counted {s = s} h i l m = counted-of s (inodesIn s) i (h .links i l m)

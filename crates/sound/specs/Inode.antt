@@ -2,10 +2,16 @@
 use Prim.Native.Nat.{ℕ, _/_, _%_, _≤_, _<_}
 use mathlib.Core.Path.{_≡_}
 use mathlib.Core.List.{List}
+use lib.Dec.{eqb}
 use lib.ListN.{getD}
-use Rattle.layout.specs.Sizes.{addressCount, blockBytes, mostFileBytes}
+use Rattle.bounded.specs.Search.{pick}
+use Rattle.layout.specs.Sizes.{addressCount, blockBytes, mostFileBytes, mostDirectoryBytes}
 use Rattle.layout.specs.Inode.{kindOf, spareOf, linksOf, sizeOf, parentOf, addressOf, addressIndex, freeKind, fileKind, directoryKind}
 use Rattle.blocks.specs.Block.{blockOf, blocksUsed, kthBlock}
+
+-- the most bytes of an inode of kind k
+abbrev pub mostBytes : ℕ → ℕ
+mostBytes k = pick (eqb k directoryKind) mostDirectoryBytes mostFileBytes
 
 -- byte o of the block that the size ends in
 abbrev pub tailByte : List ℕ → ℕ → ℕ → ℕ → ℕ
@@ -18,7 +24,7 @@ pub record InodeSound (s : List ℕ) (n b i : ℕ) : Type 0 where
   -- "Free inodes have all-zero attributes and addresses": their addresses by rest
   pub free : kindOf s i ≡ freeKind → (linksOf s i ≡ 0) × ((sizeOf s i ≡ 0) × (parentOf s i ≡ 0))
   -- "A size of s uses the first s/64 addresses, rounded up; the rest are 0; at most 768 bytes."
-  pub size : sizeOf s i ≤ mostFileBytes
+  pub size : sizeOf s i ≤ mostBytes (kindOf s i)
   pub used : (k : ℕ) → k < addressCount → k < blocksUsed (sizeOf s i) → (1 ≤ kthBlock s n i k) × (kthBlock s n i k ≤ b)
   pub rest : (k : ℕ) → k < addressCount → blocksUsed (sizeOf s i) ≤ k → addressOf s n (addressIndex i k) ≡ 0
   -- "Directory sizes are multiples of 64."

@@ -1,5 +1,5 @@
 -- "A sound store": one definition for a store and a finished image, by their form.
-use Prim.Native.Nat.{ℕ, _+_, _*_, _≤_, _<_}
+use Prim.Native.Nat.{ℕ, _*_, _≤_, _<_}
 use mathlib.Core.Path.{_≡_}
 use mathlib.Core.Bool.{Bool, true, false}
 use mathlib.Core.List.{List}
@@ -56,5 +56,5 @@ pub record Sound (f : Form) (s : List ℕ) : Type 0 where
   -- "The free counts are true."
   pub free-inodes : headerOf s .«free_inodes» ≡ countTo (inodeFree s) (inodesIn s)
   pub free-blocks : headerOf s .«free_blocks» ≡ countTo (blockFree s (inodesIn s)) (blocksIn s)
-  -- "in a finished image they are zero": each block k + 1 that is free
-  pub blanks : blankOf f ≡ true → (k : ℕ) → k < blocksIn s → blockFree s (inodesIn s) (k + 1) ≡ true → (o : ℕ) → o < blockBytes → getD (blockOf s (inodesIn s) (k + 1)) o 0 ≡ 0
+  -- "in a finished image they are zero": each block c that is free
+  pub blanks : blankOf f ≡ true → (c : ℕ) → 1 ≤ c → c ≤ blocksIn s → blockFree s (inodesIn s) c ≡ true → (o : ℕ) → o < blockBytes → getD (blockOf s (inodesIn s) c) o 0 ≡ 0

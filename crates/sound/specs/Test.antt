@@ -7,7 +7,7 @@ use lib.ListN.{length, getD}
 use Rattle.bounded.specs.Below.{allBelow, allTo}
 use Rattle.bounded.specs.Count.{countTo, tally, differB}
 use Rattle.bounded.specs.Climb.{leadsB}
-use Rattle.layout.specs.Sizes.{addressCount, blockBytes, mostFileBytes, rootInode, isComplete}
+use Rattle.layout.specs.Sizes.{addressCount, blockBytes, rootInode, isComplete}
 use Rattle.layout.specs.Header.{headerOf, headerRestZero}
 use Rattle.layout.specs.Inode.{kindOf, spareOf, linksOf, sizeOf, parentOf, addressOf, addressIndex, freeKind, fileKind, directoryKind}
 use Rattle.blocks.specs.Block.{allowed, blockOf, blocksUsed, kthBlock}
@@ -15,7 +15,7 @@ use Rattle.blocks.specs.Free.{inodeFree, blockFree}
 use Rattle.names.specs.Entry.{legalEntry}
 use Rattle.directory.specs.Slot.{mostSlots}
 use Rattle.sound.specs.Place.{dirOf, slotOf, entryAt, filled, naming}
-use Rattle.sound.specs.Inode.{tailByte}
+use Rattle.sound.specs.Inode.{mostBytes, tailByte}
 use Rattle.sound.specs.Entry.{sameNames, sibling}
 use Rattle.sound.specs.Sound.{inodesIn, blocksIn, limitOf, blankOf}
 use Rattle.sound.specs.declared.Form.{Form}
@@ -35,7 +35,7 @@ attributesB s i =
     leb (kindOf s i) directoryKind
     && (eqb (spareOf s i) 0
     && ((not (eqb (kindOf s i) freeKind) || (eqb (linksOf s i) 0 && (eqb (sizeOf s i) 0 && eqb (parentOf s i) 0)))
-    && (leb (sizeOf s i) mostFileBytes
+    && (leb (sizeOf s i) (mostBytes (kindOf s i))
     && ((not (eqb (kindOf s i) directoryKind) || eqb (sizeOf s i % blockBytes) 0)
     && (not (eqb (kindOf s i) fileKind) || eqb (parentOf s i) 0)))))
 

@@ -21,6 +21,7 @@ use Rattle.desk.specs.declared.Desk.{Desk}
 use Rattle.desk.specs.Desk.{deskOf, markOf}
 use Rattle.sound.specs.Place.{dirOf, slotOf, filled, naming, placeOf}
 use Rattle.sound.specs.Sound.{Sound, inodesIn}
+use Rattle.sound.proofs.SoundLaws.{size-most}
 use Rattle.sound.specs.declared.Form.the-variants.{Store}
 use Rattle.changes.proofs.BaredLaws.{naming-none}
 use Rattle.content.specs.Content.{fileByte, fileBytes}
@@ -158,7 +159,7 @@ module _ {n b : ℕ} {s m d : List ℕ} (k : Sound Store s) (e : n ≡ inodesIn 
   file-byte : (i : ℕ) → 1 ≤ i → i ≤ n → kindOf m i ≡ fileKind → (o : ℕ) → o < sizeOf m i → fileByte image n i o ≡ fileByte m n i o
   unfolding fileByte blocksUsed
   file-byte i l p z o u =
-      let g = used-sound h i l p (λ w. omega arith) .size in
+      let g = size-most (used-sound h i l p (λ w. omega arith)) in
       ap (λ (c : ℕ). getD (blockOf image n c) (o % blockBytes) 0) (cuts .inodes i l p .blocks (o / blockBytes) (omega arith))
       ∙ ap (λ (y : List ℕ). getD y (o % blockBytes) 0) (cuts .files i (o / blockBytes) l p z (omega arith) (omega arith))
 

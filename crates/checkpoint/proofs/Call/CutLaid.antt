@@ -20,6 +20,7 @@ use Rattle.desk.specs.Desk.{deskOf}
 use Rattle.sound.specs.Place.{isSlot, entryAt, placeOf}
 use Rattle.sound.specs.Sound.{Sound, inodesIn}
 use Rattle.sound.proofs.FactLaws.{unnamed}
+use Rattle.sound.proofs.SoundLaws.{size-most}
 use Rattle.sound.specs.declared.Form.the-variants.{Store}
 use Rattle.changes.proofs.KeepLaws.{inode-kept}
 use Rattle.changes.proofs.AddressLaws.{same-named, same-differ}
@@ -67,18 +68,18 @@ module _ {n b : ℕ} {s m d : List ℕ} (k : Sound Store s) (x : n ≡ inodesIn 
   addresses j a c = cut-inode h e t slot j a c .blocks
 
   -- a block that no address names is not the one written
-  other-block : (i : ℕ) → blockFree m n (i + 1) ≡ true → i + 1 ≢ kthBlock m n e (t / 4)
+  other-block : (i : ℕ) → blockFree m n i ≡ true → i ≢ kthBlock m n e (t / 4)
   unfolding kthBlock
   other-block i u z =
       let a = slot .low in
       let c = slot .high in
       let f = slot .small in
-      unnamed m n (i + 1) (not-true (blockNamed m n (i + 1)) u) (addressIndex e (t / 4)) (omega arith) (sym z)
+      unnamed m n i (not-true (blockNamed m n i) u) (addressIndex e (t / 4)) (omega arith) (sym z)
 
-  blanks : (i : ℕ) → i < b → blockFree cut n (i + 1) ≡ true → (o : ℕ) → o < blockBytes → getD (blockOf cut n (i + 1)) o 0 ≡ 0
-  blanks i l u o v =
-      let w : blockFree m n (i + 1) ≡ true = ap not (sym (same-named m cut n addresses (i + 1))) ∙ u in
-      ap (λ (y : List ℕ). getD y o 0) (inside h e t slot .others (i + 1) (omega arith) (other-block i w)) ∙ h .blanks i l w o v
+  blanks : (c : ℕ) → 1 ≤ c → c ≤ b → blockFree cut n c ≡ true → (o : ℕ) → o < blockBytes → getD (blockOf cut n c) o 0 ≡ 0
+  blanks c l r u o v =
+      let w : blockFree m n c ≡ true = ap not (sym (same-named m cut n addresses c)) ∙ u in
+      ap (λ (y : List ℕ). getD y o 0) (inside h e t slot .others c l (other-block c w)) ∙ h .blanks c l r w o v
 
   fair : (p : ℕ) → p < mostSlots * n → isSlot cut p ≡ true → Fair (entryAt cut n p)
   fair p l y = go (ℕ-discrete p (placeOf e t))
@@ -100,7 +101,7 @@ module _ {n b : ℕ} {s m d : List ℕ} (k : Sound Store s) (x : n ≡ inodesIn 
     frame = frame;
     inodes = λ i l o z.
         inode-kept m cut n b i (cut-inode h e t slot i l o)
-        (λ f r. cut-file h e t slot i (sizeOf m i / blockBytes) l o f (let g = h .inodes i l o z .size in omega arith) (let g = h .inodes i l o z .size in (unfold blocksUsed in omega arith)))
+        (λ f r. cut-file h e t slot i (sizeOf m i / blockBytes) l o f (let g = size-most (h .inodes i l o z) in omega arith) (let g = size-most (h .inodes i l o z) in (unfold blocksUsed in omega arith)))
         (h .inodes i l o z);
     blank = λ i l o c. cut-inode h e t slot i l o .kind ∙ h .blank i l o c;
     opened = opened;

@@ -20,7 +20,7 @@ use Rattle.desk.specs.Sizes.{deskLength, stopped, stepsAnInode}
 use Rattle.desk.specs.Desk.{deskOf, copiedOf, deskRestZero}
 use Rattle.sound.specs.Sound.{Sound, inodesIn}
 use Rattle.sound.specs.declared.Form.the-variants.{Store}
-use Rattle.sound.proofs.SoundLaws.{framed, is-sound}
+use Rattle.sound.proofs.SoundLaws.{framed, is-sound, size-most}
 use Rattle.changes.proofs.StoreLaws.{sound-store, dir-of}
 use Rattle.changes.proofs.AddressLaws.{address-kth, kth-bound}
 use Rattle.checkpoint.specs.Fit.{deskFramed, isRunning, mostSteps, blocksFit, deskFits, imageFits, notesFit}
@@ -119,7 +119,7 @@ module _ {n b : ℕ} {s m d : List ℕ} (h : Laid n b s m d) where
     where
       go : (c : Bool) → isCopied d n (j + 1) ≡ c → pick c (2 + blocksUsed (sizeOf m (j + 1))) 0 ≤ 14
       go true c =
-          let z = h .inodes (j + 1) (omega arith) (omega arith) (copied-other (j + 1) (omega arith) c) .size in
+          let z = size-most (h .inodes (j + 1) (omega arith) (omega arith) (copied-other (j + 1) (omega arith) c)) in
           let u : blocksUsed (sizeOf m (j + 1)) ≤ 12 = unfold blocksUsed in omega arith in
           omega arith
       go false c = omega arith

@@ -98,7 +98,7 @@ pub record Laid (n b : ℕ) (s m d : List ℕ) : Type 0 where
   pub opened : deskOf d .locked ≢ 0 → Open n b s m d (deskOf d .locked) (deskOf d .transferred)
   -- no image block is named twice, and those that none names are zero
   pub once : Differ (addressOf m n) (addressCount * n)
-  pub blanks : (k : ℕ) → k < b → blockFree m n (k + 1) ≡ true → (o : ℕ) → o < blockBytes → getD (blockOf m n (k + 1)) o 0 ≡ 0
+  pub blanks : (c : ℕ) → 1 ≤ c → c ≤ b → blockFree m n c ≡ true → (o : ℕ) → o < blockBytes → getD (blockOf m n c) o 0 ≡ 0
   pub fair : (p : ℕ) → p < mostSlots * n → isSlot m p ≡ true → Fair (entryAt m n p)
   -- every accepted step is accounted for
   pub steps : deskOf d .steps ≡ sum (cost m d n) n + costSoFar d

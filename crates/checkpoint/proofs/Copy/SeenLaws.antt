@@ -19,6 +19,7 @@ use Rattle.directory.specs.Slot.{mostSlots}
 use Rattle.desk.specs.Desk.{copiedOf, markOf}
 use Rattle.sound.specs.Inode.{InodeSound}
 use Rattle.sound.specs.Place.{dirOf, slotOf, entryAt, naming}
+use Rattle.sound.proofs.SoundLaws.{size-most}
 use Rattle.changes.proofs.SameLaws.{SameBody, SameBlock}
 use Rattle.content.specs.Content.{fileByte, fileBytes}
 use Rattle.copying.specs.Deed.{Alike}
@@ -101,7 +102,7 @@ alike s t n b i e f g h =
       bytes = λ k.
           let r = kind-some n s i (λ z. let y = sym k ∙ z in omega arith) in
           let v = e (r .0) (r .1) in
-          let w = h (r .0) (r .1) .size in
+          let w = size-most (h (r .0) (r .1)) in
           bytes-in n t i
           ∙ bytes-same s t n i (v .size) (λ j l. ap (blockOf t n) (v .blocks j (omega arith)) ∙ g (kthBlock s n i j))
           ∙ sym (bytes-in n s i);

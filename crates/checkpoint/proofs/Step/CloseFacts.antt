@@ -171,7 +171,7 @@ module _ {n b : ℕ} {s m d : List ℕ} (c : Closing n b s m d) where
         kind = rw a (r .kind);
         spare = new .spare;
         free = λ k. absurd (u (sym a ∙ k));
-        size = rw z (r .size);
+        size = rw (z, a) (r .size);
         used = λ k f g. rw (same-blocks l low high k f) (lock .named k f (omega arith));
         rest = λ k f g. same-blocks l low high k f ∙ lock .rest k f (omega arith);
         directory = λ k. ap (λ (y : ℕ). y % blockBytes) z ∙ r .directory (sym a ∙ k);

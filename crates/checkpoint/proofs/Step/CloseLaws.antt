@@ -144,7 +144,7 @@ module _ {n b : ℕ} {s m d : List ℕ} (c : Closing n b s m d) where
         blank = blank;
         opened = λ y. absurd (y z);
         once = same-differ m m′ n (same-blocks c) (c .laid .once);
-        blanks = λ k a e o u. ap (λ (y : List ℕ). getD y o 0) (in-inode c .bytes (k + 1)) ∙ c .laid .blanks k a (sym (ap not (same-named m m′ n (same-blocks c) (k + 1))) ∙ e) o u;
+        blanks = λ k a q e o u. ap (λ (y : List ℕ). getD y o 0) (in-inode c .bytes k) ∙ c .laid .blanks k a q (sym (ap not (same-named m m′ n (same-blocks c) k)) ∙ e) o u;
         fair = fair;
         steps = steps;
       }

@@ -25,6 +25,7 @@ use Rattle.sound.specs.Place.{dirOf}
 use Rattle.sound.specs.Sound.{Sound, inodesIn}
 use Rattle.sound.proofs.PlaceLaws.{slot-is}
 use Rattle.sound.proofs.FactLaws.{named-is, unnamed}
+use Rattle.sound.proofs.SoundLaws.{size-most}
 use Rattle.sound.specs.declared.Form.the-variants.{Store}
 use Rattle.changes.proofs.StoreLaws.{sound-store, dir-of}
 use Rattle.changes.proofs.FreeLaws.{FreeBlock}
@@ -104,7 +105,7 @@ module _ {n b : ℕ} {s m d : List ℕ} (h : Laid n b s m d) (sound : Sound Stor
           blocks = λ j v. w .addresses (addressIndex i j) (omega arith) (λ y. q (omega arith));
         };
         blocks = λ j v.
-            let u : j < 12 = unfold blocksUsed in (let y = r .size in omega arith) in
+            let u : j < 12 = unfold blocksUsed in (let y = size-most r in omega arith) in
             w .blocks (kthBlock m n i j) (r .used j u v .0) (apart (addressIndex i j) (omega arith));
       }
 
@@ -119,7 +120,7 @@ module _ {n b : ℕ} {s m d : List ℕ} (h : Laid n b s m d) (sound : Sound Stor
         entries = λ p a z. whole-entry p (whole (dirOf p) (omega arith) (omega arith) (used-other h (dirOf p) (omega arith) (omega arith) (λ y. let x = slot-is m p .to z .0 in omega arith))) z;
         bytes = λ i a z v.
             let u : kindOf m i ≢ 0 = λ y. omega arith in
-            whole-bytes (whole i a z (used-other h i a z u)) (used-sound h i a z u .size);
+            whole-bytes (whole i a z (used-other h i a z u)) (size-most (used-sound h i a z u));
       }
 
   same-notes : SameNotes d notes n
@@ -207,11 +208,11 @@ module _ {n b : ℕ} {s m d : List ℕ} (h : Laid n b s m d) (sound : Sound Stor
   not-taken : (a : ℕ) → blockNamed after n a ≡ false → a ≢ c
   not-taken a q z = let f = few in let o = low in let y = high in unnamed after n a q (addressIndex l k) (omega arith) (wrote .address ∙ sym z)
 
-  blanks : (j : ℕ) → j < b → blockFree after n (j + 1) ≡ true → (o : ℕ) → o < blockBytes → getD (blockOf after n (j + 1)) o 0 ≡ 0
-  blanks j a q o v =
-      let z = not-true (blockNamed after n (j + 1)) q in
-      ap (λ (x : List ℕ). getD x o 0) (wrote .blocks (j + 1) (omega arith) (not-taken (j + 1) z))
-      ∙ h .blanks j a (ap not (still-free (j + 1) (omega arith) z)) o v
+  blanks : (a : ℕ) → 1 ≤ a → a ≤ b → blockFree after n a ≡ true → (o : ℕ) → o < blockBytes → getD (blockOf after n a) o 0 ≡ 0
+  blanks a x y q o v =
+      let z = not-true (blockNamed after n a) q in
+      ap (λ (w : List ℕ). getD w o 0) (wrote .blocks a x (not-taken a z))
+      ∙ h .blanks a x y (ap not (still-free a x z)) o v
 
   pub copy-laid : Laid n b s (stepImage s m d n (copy (deskOf d .locked) (deskOf d .transferred) c)) (stepDesk d (copy (deskOf d .locked) (deskOf d .transferred) c))
   copy-laid =

@@ -1,5 +1,5 @@
 -- What makes a finished image sound, where nothing was left to copy: its tree, names, inodes and counts. s is the store, m the image, d the desk, n and b the counts of inodes and image blocks.
-use Prim.Native.Nat.{ℕ, _+_, _*_, _≤_, _<_}
+use Prim.Native.Nat.{ℕ, _*_, _≤_, _<_}
 use mathlib.Core.Path.{_≡_, sym, ap, _∙_, subst}
 use mathlib.Core.Logic.{_≢_, inl, inr}
 use mathlib.Core.Bool.{true, false, not}
@@ -52,8 +52,8 @@ module _ {n b : ℕ} {s m d : List ℕ} (h : Laid n b s m d) where
   pub finish-blocks : (j : ℕ) → 1 ≤ j → j ≤ n → (k : ℕ) → k < addressCount → kthBlock t n j k ≡ kthBlock m n j k
   finish-blocks j l o = done .bodies j l o .blocks
 
-  pub finish-blanks : (k : ℕ) → k < b → blockFree t n (k + 1) ≡ true → (o : ℕ) → o < blockBytes → getD (blockOf t n (k + 1)) o 0 ≡ 0
-  finish-blanks k l e o u = ap (λ (x : List ℕ). getD x o 0) (done .bytes (k + 1)) ∙ h .blanks k l (sym (ap not (same-named m t n finish-blocks (k + 1))) ∙ e) o u
+  pub finish-blanks : (c : ℕ) → 1 ≤ c → c ≤ b → blockFree t n c ≡ true → (o : ℕ) → o < blockBytes → getD (blockOf t n c) o 0 ≡ 0
+  finish-blanks c l r e o u = ap (λ (x : List ℕ). getD x o 0) (done .bytes c) ∙ h .blanks c l r (sym (ap not (same-named m t n finish-blocks c)) ∙ e) o u
 
   -- the counts written are true of what the image then names
   counted : (i : ℕ) → 1 ≤ i → i ≤ n → linksOf t i ≡ tally (naming t n) (mostSlots * n) i

@@ -1,5 +1,5 @@
 -- The step that finishes a copy: a sound image, and nothing that the theory of a running copy sees. s is the store, m the image, d the desk, n and b the counts of inodes and image blocks.
-use Prim.Native.Nat.{ℕ, _+_, _*_, _≤_, _<_}
+use Prim.Native.Nat.{ℕ, _*_, _≤_, _<_}
 use mathlib.Core.Path.{_≡_, refl, sym, ap, _∙_, subst}
 use mathlib.Core.Logic.{_≢_}
 use mathlib.Core.Bool.{true}
@@ -36,7 +36,7 @@ record Whole (t : List ℕ) (n b : ℕ) : Type 0 where
   most-blocks : b ≤ mostImageBlocks
   long : length t ≡ storeLength n b
   body : Body t n b
-  blanks : (k : ℕ) → k < b → blockFree t n (k + 1) ≡ true → (o : ℕ) → o < blockBytes → getD (blockOf t n (k + 1)) o 0 ≡ 0
+  blanks : (c : ℕ) → 1 ≤ c → c ≤ b → blockFree t n c ≡ true → (o : ℕ) → o < blockBytes → getD (blockOf t n c) o 0 ≡ 0
 
 whole-sound : (t : List ℕ) → headerOf t .complete ≡ isComplete → headerOf t .root ≡ rootInode → headerRestZero t ≡ true → Whole t (inodesIn t) (blocksIn t) → Sound Image t
 whole-sound t c r z w = record {

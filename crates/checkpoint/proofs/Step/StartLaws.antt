@@ -139,7 +139,7 @@ module _ (s m d : List ℕ) (n : ℕ) (sound : Sound Store s) (e : n ≡ inodesI
         blank = λ i l h _. start-kind n (length m) i l h;
         opened = λ q. absurd (q z);
         once = λ i j l h p _. let q = start-address n (length m) j h in omega arith;
-        blanks = λ j _ _ o l. start-byte n (length m) (j + 1) o l;
+        blanks = λ c _ _ _ o l. start-byte n (length m) c o l;
         fair = λ p l q. absurd (clash _ q (start-slot n (length m) p l));
         steps = omega arith;
       }
