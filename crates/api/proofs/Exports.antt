@@ -1,21 +1,20 @@
 -- Each export is the public call of its name: from what a caller learns by its contract, whatever the arguments, follows that the call was made, and what its caller is told.
 -- a are the arguments, z is the result, e the parameters at exit; m and d are an image and a desk that the call does not have.
 use Prim.Native.Nat.{ℕ}
-use mathlib.Core.Path.{_≡_, refl, sym, ap}
+use mathlib.Core.Path.{_≡_, refl, ap}
 use mathlib.Core.List.{List, [], _∷_}
-use lib.Dec.{eqb}
 use lib.IntN.{ℤ}
 use denote.Ref.{now}
 use Rattle.entries.specs.declared.Kind.the-variants.{File, Directory}
 use Rattle.answers.specs.Told.{Told, told}
-use Rattle.files.specs.Effect.{Call, lookUp, read, create, write, shorten, link, unlink, rename}
+use Rattle.files.specs.Effect.{lookUp, read, create, write, shorten, link, unlink, rename}
 use Rattle.files.specs.Plain as alone
 use Rattle.checkpoint.specs.Live.{World, Outcome, left, live, start, step, status}
 use Rattle.checkpoint.specs.Shown.{world, shown, toldStatus}
-use Rattle.checkpoint.specs.List.{call, advances, asks, starts}
+use Rattle.checkpoint.specs.List.{call, advances, starts}
 use Rattle.watch.specs.Made.{got, looked-up, has-read, created, written, shortened, linked, unlinked, renamed, started, stepped, asked}
 use Rattle.watch.proofs.Contracts.{Gives}
-use Rattle.api.specs.Api.{Sent, codeOf, sends, sentAlone, sent, SentState, sendsState, sentState}
+use Rattle.api.specs.Api.{Sent, codeOf, sends, sentAlone, sent, SentState, sentState}
 use Rattle.api.specs.Exported.{Exported, Asked}
 use Rattle.api.proofs.honecerise_look_up.Kinds as look-up-kinds
 use Rattle.api.proofs.honecerise_look_up.Reads as look-up-reads

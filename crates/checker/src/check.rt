@@ -1,6 +1,6 @@
 // The check of a store or an image: any bytes, yes or no.
 ghost use mathlib.Core.Path.{_≡_};
-ghost use Prim.Native.Nat.{_+_, _*_, _≤_};
+ghost use Prim.Native.Nat.{_*_, _≤_};
 ghost use Rattle.layout.specs.Sizes.{mostImageBlocks, addressCount, rootInode};
 ghost use Rattle.layout.specs.Fits.{InodeFits};
 ghost use Rattle.blocks.specs.Map.{Maps};

@@ -1,5 +1,5 @@
 -- A live file call is the plain store's call between its guards, and so a list's file calls are the plain store's.
-use Prim.Native.Nat.{ℕ, _≤_}
+use Prim.Native.Nat.{ℕ}
 use mathlib.Core.Path.{_≡_, refl, sym, ap, _∙_}
 use mathlib.Core.Bool.{Bool, true, false}
 use mathlib.Core.List.{List, [], _∷_}
@@ -18,7 +18,7 @@ use Rattle.files.specs.declared.Guard.{Guard}
 use Rattle.files.specs.declared.Guard.the-variants.{Pass, Stop}
 use Rattle.checkpoint.specs.Fit.{isRunning}
 use Rattle.checkpoint.specs.Copier.{Step, lock, copy, close, finish, full, stepOf}
-use Rattle.checkpoint.specs.Live.{World, Outcome, refuse, decision, leavesIn, live, outOf, guarded, doStep, started, start, step, threeGuards, startGuards}
+use Rattle.checkpoint.specs.Live.{World, Outcome, refuse, leavesIn, live, outOf, guarded, doStep, started, start, step, threeGuards, startGuards}
 use Rattle.checkpoint.specs.Shown.{numberOf}
 use Rattle.checkpoint.specs.List.{Event, Ready, call, advances, asks, starts, outcome, next, run, Moment, here, after, isBusy, replies, heard, plainRun, plainReplies}
 use Rattle.checkpoint.specs.Demand.{AsPlain}

@@ -1,5 +1,4 @@
 -- The numbers of document 01 that are reckoned from others, as it gives them.
-use Prim.Native.Nat.{ℕ}
 use mathlib.Core.Path.{_≡_, refl}
 use Rattle.layout.specs.Sizes.{addressBytes, inodeBytes, mostFileBytes, mostDirectoryBytes}
 use Rattle.directory.specs.Slot.{mostSlots}

@@ -1,5 +1,5 @@
 -- Laws of a line that is run: what the code's branches and turns leave is the definition's.
-use Prim.Native.Nat.{ℕ, zero, suc, _+_, _-_, _≤_, _<_}
+use Prim.Native.Nat.{ℕ, zero, suc, _+_, _-_, _<_}
 use mathlib.Core.Path.{_≡_, refl, sym, ap, ap₂, _∙_}
 use mathlib.Core.Bool.{Bool, true, false, _||_}
 use mathlib.Core.List.{List}
@@ -28,8 +28,8 @@ use Rattle.files.specs.Effect.{Call}
 use Rattle.checkpoint.specs.Live.{World, left, live, step}
 use Rattle.checkpoint.specs.Shown.{world, Shown, shown}
 use Rattle.checkpoint.specs.List.{Event, advances, outcome, next, refusalOf, accepted, completes}
-use Rattle.lines.specs.Ask.{Ask, event, stepping, none, forms, asked, askOf, formIn, formOf, num}
-use Rattle.session.specs.Reply.{Ran, reply, ran, replyTo, stepped, answered, lineRuns, eventOf, eventIn, Turned}
+use Rattle.lines.specs.Ask.{Ask, event, forms, asked, askOf, formIn, formOf, num}
+use Rattle.session.specs.Reply.{Ran, reply, ran, replyTo, stepped, answered, lineRuns, eventIn, Turned}
 use Rattle.session.specs.declared.Reply.{Reply}
 use Rattle.session.specs.declared.Turn.{Turn}
 

@@ -49,6 +49,6 @@ first-demand = record {
   lowest-first = lowest-first;
   calls = λ d. calls d;
   lays-store = λ {s} {t} r n b h. lays (allowed mostStoreBlocks n b (length s)) s (freshStore n b) t r h;
-  lays-desk = λ {d} {t} r n h. lays (deskAllowed n (length d)) d (freshDesk n) t r h;
+  lays-desk = λ {desk} {t} r n h. lays (deskAllowed n (length desk)) desk (freshDesk n) t r h;
   checks = λ f s r h. rw h (is-sound f s);
 }

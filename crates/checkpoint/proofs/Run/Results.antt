@@ -1,5 +1,5 @@
 -- What an event answers at any moment of a list: a result, a refusal that changes nothing, or 16. n and b are the counts of inodes and image blocks.
-use Prim.Native.Nat.{ℕ, _≤_}
+use Prim.Native.Nat.{ℕ}
 use mathlib.Core.Path.{_≡_, refl, sym, ap, _∙_, subst}
 use mathlib.Core.Logic.{_≢_}
 use mathlib.Core.Bool.{true}

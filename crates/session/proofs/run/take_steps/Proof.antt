@@ -7,7 +7,7 @@ use Rattle.session.specs.Reply.{stepped}
 use lib.ListN.{length}
 use Prim.Native.Nat.{_-_, _≤_}
 use mathlib.Core.Bool.{false}
-use mathlib.Core.Path.{_≡_, refl, sym, ap, _∙_}
+use mathlib.Core.Path.{_≡_, refl, sym, _∙_}
 use Rattle.session.proofs.run.take_steps.Statement.{statement}
 use Rattle.session.proofs.run.take_steps.Tie as tie
 
