@@ -1,6 +1,7 @@
 // Blocks: where they stand, how many a size uses, and which an inode uses.
 pub mod free;
 pub mod map;
+
 ghost use mathlib.Core.Path.{_≡_};
 ghost use Prim.Native.Nat.{_<_, _≤_};
 ghost use Rattle.layout.specs.Sizes.{addressCount, mostInodes, mostImageBlocks};

@@ -9,8 +9,8 @@ ghost use Rattle.checkpoint.specs.Fit.{deskFramed, deskFits, imageBlocks, image
 ghost use Rattle.guards.specs.Fit.{blocksRight, copiedRight, countsRight, addressesRight, notesRight};
 use blocks::allowed;
 use blocks::store_length;
-use desk::Desk;
 use desk::DESK_HEADER_BYTES;
+use desk::Desk;
 use desk::IDLE;
 use desk::RUNNING;
 use desk::STEPS_AN_INODE;
