@@ -1,4 +1,5 @@
 pub mod AllowedLaws
+pub mod MapLaws
 pub mod View
 pub mod FrameLaws
 pub mod ViewLaws

@@ -1,4 +1,4 @@
--- The map of named blocks, which the code makes in one pass over the addresses: a byte for each block by its number, place 0 for no block.
+-- The map of named blocks, which the code makes in one pass over the addresses: a byte for each block by its number. Place 0 is no block's, and says nothing.
 use Prim.Native.Nat.{ℕ, _+_}
 use mathlib.Core.Bool.{Bool}
 use mathlib.Core.List.{List}
@@ -18,4 +18,4 @@ lacks map b = eqb (getD map b 0) 0
 
 -- the map has the blocks that the first x addresses name, and no other
 abbrev pub Maps : List ℕ → ℕ → ℕ → List ℕ → Type 0
-Maps s n x map = Seen (addressOf s n) (mostImageBlocks + 1) x map
+Maps s n x map = Seen (addressOf s n) 1 (mostImageBlocks + 1) x map

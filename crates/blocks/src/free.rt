@@ -9,12 +9,12 @@ ghost use Rattle.layout.specs.Fits.{InodeFits};
 ghost use Rattle.blocks.specs.Free.{inodeFree, freeInode, freeBlock};
 ghost use Rattle.blocks.specs.Map.{Maps};
 use crate::map;
+use crate::map::BLOCK_PLACES;
 use bounded::Found;
 use layout::inode::address;
 use layout::inode::addresses_zero;
 use layout::inode::kind;
 use layout::sizes::ADDRESS_COUNT;
-use layout::sizes::BLOCK_PLACES;
 use layout::sizes::FREE;
 
 pub fn free_inode(s: &[u8], n: usize) -> Found
@@ -29,7 +29,7 @@ pub fn free_inode(s: &[u8], n: usize) -> Found
     Found::Absent
 }
 
-// How many inodes are free. A count of 16 bits, since a vector has more of them.
+// How many inodes are free, counted in 16 bits as free blocks are.
 pub fn free_inodes(s: &[u8], n: usize) -> usize
     requires { ⌜ (n ≤ mostInodes) × (headerBytes + inodeBytes * n ≤ length (now s)) ⌝ }
     ensures { λ r. ⌜ r ≡ countTo (inodeFree (now (s .entry))) n ⌝ }
@@ -50,7 +50,6 @@ fn note_blocks(s: &[u8], n: usize, i: usize, map: &mut [u8])
     ensures { λ _. ⌜ Maps (now (s .entry)) n (addressCount * i) (now (map .exit)) ⌝ }
 {
     if addresses_zero(s, n, i) {
-        map::note(&mut *map, 0);
         return;
     }
     let x = ADDRESS_COUNT * (i - 1);
@@ -59,7 +58,7 @@ fn note_blocks(s: &[u8], n: usize, i: usize, map: &mut [u8])
     }
 }
 
-// A byte for each block, 1 where an address names the block: one pass over the addresses. Place 0 stands for no block.
+// The map of all blocks that an address names: one pass over the addresses.
 pub fn named_blocks(s: &[u8], n: usize) -> [u8; BLOCK_PLACES]
     requires { ⌜ (n ≤ mostInodes) × (headerBytes + inodeBytes * n ≤ length (now s)) ⌝ }
     requires { ⌜ ((x : ℕ) → x < addressCount * n → addressOf (now s) n x ≤ mostImageBlocks) ⌝ }

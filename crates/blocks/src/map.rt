@@ -1,4 +1,4 @@
-// The map of named blocks: a byte for each block by its number, 0 where no address names it. Place 0 stands for no block.
+// The map of named blocks: a byte for each block by its number, 0 where no address names it. Place 0 is no block's.
 ghost use mathlib.Core.Path.{_≡_};
 ghost use mathlib.Core.Bool.{not};
 ghost use Prim.Native.Nat.{_+_, _-_, _<_, _≤_};
@@ -9,6 +9,10 @@ ghost use Rattle.bounded.specs.declared.Found.the-variants.{At, Absent};
 ghost use Rattle.layout.specs.Sizes.{mostImageBlocks};
 ghost use Rattle.blocks.specs.Map.{noted, lacks};
 use bounded::Found;
+use layout::sizes::MOST_IMAGE_BLOCKS;
+
+// A place for each block of the largest image, by their numbers, which start at 1.
+pub const BLOCK_PLACES: usize = MOST_IMAGE_BLOCKS + 1;
 
 pub fn note(map: &mut [u8], b: usize)
     requires { ⌜ b < length (now map) ⌝ }
@@ -39,7 +43,7 @@ pub fn lowest(map: &[u8], count: usize) -> Found
 
 // The lowest of the blocks from first to last that the map does not have, where there is one.
 pub fn next(map: &[u8], first: usize, last: usize) -> usize
-    requires { ⌜ (last < length (now map)) × (firstFrom (lacks (now map)) first (last + 1 - first) ≡ Absent → ⊥) ⌝ }
+    requires { ⌜ (1 ≤ first) × (last < length (now map)) × (firstFrom (lacks (now map)) first (last + 1 - first) ≡ Absent → ⊥) ⌝ }
     ensures { λ r. ⌜ firstFrom (lacks (now (map .entry))) first (last + 1 - first) ≡ At r ⌝ }
 {
     let mut c = first;

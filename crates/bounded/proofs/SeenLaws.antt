@@ -2,7 +2,7 @@
 use mathlib.Core.Path.{_≡_, refl, sym, ap, ap₂, _∙_, subst}
 use mathlib.Core.Bool.{Bool, true, false, not, _||_}
 use mathlib.Core.List.{List}
-use Prim.Native.Nat.{ℕ, zero, suc, _+_, _<_}
+use Prim.Native.Nat.{ℕ, zero, suc, _+_, _≤_, _<_}
 use native.Mathlib.Decide.{ℕ-discrete}
 use native.Mathlib.Omega.{arith}
 use borrow.Author.Tests.{eq-eqb, ne-eqb}
@@ -37,38 +37,33 @@ some-skips p m (suc w) h =
     let e : m + suc w ≡ m + w + 1 = omega arith in
     ap (someBelow p) e ∙ some-skip p (m + w) (h w (omega arith)) ∙ some-skips p m w (λ k l. h k (omega arith))
 
-module _ (f : ℕ → ℕ) (n : ℕ) where
-  pub seen-start : Seen f n 0 (replicate n 0)
+module _ (f : ℕ → ℕ) (lo n : ℕ) where
+  pub seen-start : Seen f lo n 0 (replicate n 0)
   seen-start = record {
     long = length-replicate n 0;
-    each = λ v h. getD-replicate n v 0 0 h ∙ sym (ap one (none-some (λ k. eqb (f k) v) 0 (λ k l. absurd (omega arith))));
+    each = λ v b h. getD-replicate n v 0 0 h ∙ sym (ap one (none-some (λ k. eqb (f k) v) 0 (λ k l. absurd (omega arith))));
   }
 
-  pub seen-more : (m a : ℕ) (l : List ℕ) → a ≡ f m → a < n → Seen f n m l → Seen f n (m + 1) (set l a 1)
-  seen-more m a l e h s = record { long = length-set l a 1 ∙ s .long; each = λ v b. at v b (ℕ-discrete v a) }
+  pub seen-more : (m a : ℕ) (l : List ℕ) → a ≡ f m → a < n → Seen f lo n m l → Seen f lo n (m + 1) (set l a 1)
+  seen-more m a l e h s = record { long = length-set l a 1 ∙ s .long; each = λ v g b. at v g b (ℕ-discrete v a) }
     where
-      at : (v : ℕ) → v < n → Dec (v ≡ a) → getD (set l a 1) v 0 ≡ one (someBelow (λ k. eqb (f k) v) (m + 1))
-      at v b (yes q) =
+      at : (v : ℕ) → lo ≤ v → v < n → Dec (v ≡ a) → getD (set l a 1) v 0 ≡ one (someBelow (λ k. eqb (f k) v) (m + 1))
+      at v g b (yes q) =
           ap (λ (j : ℕ). getD (set l a 1) j 0) q ∙ getD-set-same l a 1 0 (omega (arith, s .long))
           ∙ sym (ap one (some-here (λ k. eqb (f k) v) m (eq-eqb (f m) v (sym e ∙ sym q))))
-      at v b (no q) =
-          getD-set-other l a v 1 0 q ∙ s .each v b ∙ sym (ap one (some-skip (λ k. eqb (f k) v) m (ne-eqb (f m) v (λ z. q (sym z ∙ sym e)))))
+      at v g b (no q) =
+          getD-set-other l a v 1 0 q ∙ s .each v g b ∙ sym (ap one (some-skip (λ k. eqb (f k) v) m (ne-eqb (f m) v (λ z. q (sym z ∙ sym e)))))
 
   -- the same turns, in other words
-  pub seen-as : (l : List ℕ) {m k : ℕ} → m ≡ k → Seen f n m l → Seen f n k l
-  seen-as l e h = subst (λ (x : ℕ). Seen f n x l) e h
+  pub seen-as : (l : List ℕ) {m k : ℕ} → m ≡ k → Seen f lo n m l → Seen f lo n k l
+  seen-as l e h = subst (λ (x : ℕ). Seen f lo n x l) e h
 
-  -- one value at the w numbers from m on
-  pub seen-run : (m w a : ℕ) (l : List ℕ) → 0 < w → ((k : ℕ) → k < w → f (m + k) ≡ a) → a < n → Seen f n m l → Seen f n (m + w) (set l a 1)
-  seen-run m w a l z e h s = record { long = length-set l a 1 ∙ s .long; each = λ v b. at v b (ℕ-discrete v a) }
-    where
-      at : (v : ℕ) → v < n → Dec (v ≡ a) → getD (set l a 1) v 0 ≡ one (someBelow (λ k. eqb (f k) v) (m + w))
-      at v b (yes q) =
-          ap (λ (j : ℕ). getD (set l a 1) j 0) q ∙ getD-set-same l a 1 0 (omega (arith, s .long))
-          ∙ sym (ap one (some-of (λ k. eqb (f k) v) (m + w) (m + 0) (omega arith) (eq-eqb (f (m + 0)) v (e 0 z ∙ sym q))))
-      at v b (no q) =
-          getD-set-other l a v 1 0 q ∙ s .each v b
-          ∙ sym (ap one (some-skips (λ k. eqb (f k) v) m w (λ k c. ne-eqb (f (m + k)) v (λ y. q (sym y ∙ e k c)))))
+  -- values below lo need no note
+  pub seen-pass : (m w : ℕ) (l : List ℕ) → ((k : ℕ) → k < w → f (m + k) < lo) → Seen f lo n m l → Seen f lo n (m + w) l
+  seen-pass m w l e s = record {
+    long = s .long;
+    each = λ v g b. s .each v g b ∙ sym (ap one (some-skips (λ k. eqb (f k) v) m w (λ k c. ne-eqb (f (m + k)) v (λ y. let z = e k c in omega arith))));
+  }
 
 -- what a place of the list says
 one-zero : (b : Bool) → one b ≡ 0 → b ≡ false
@@ -79,31 +74,31 @@ one-not : (b : Bool) → (one b ≡ 0 → ⊥) → b ≡ true
 one-not true e = refl
 one-not false e = absurd (e refl)
 
-module _ (f : ℕ → ℕ) (n m v : ℕ) (l : List ℕ) (s : Seen f n m l) (h : v < n) where
+module _ (f : ℕ → ℕ) (lo n m v : ℕ) (l : List ℕ) (s : Seen f lo n m l) (g : lo ≤ v) (h : v < n) where
   pub seen-not : getD l v 0 ≡ 0 → someBelow (λ k. eqb (f k) v) m ≡ false
-  seen-not e = one-zero _ (sym (s .each v h) ∙ e)
+  seen-not e = one-zero _ (sym (s .each v g h) ∙ e)
 
   pub seen-some : (getD l v 0 ≡ 0 → ⊥) → someBelow (λ k. eqb (f k) v) m ≡ true
-  seen-some e = one-not _ (λ z. e (s .each v h ∙ z))
+  seen-some e = one-not _ (λ z. e (s .each v g h ∙ z))
 
   -- the test that the code makes, as the definition has it
   pub seen-test : eqb (getD l v 0) 0 ≡ not (someBelow (λ k. eqb (f k) v) m)
-  seen-test = ap (λ (x : ℕ). eqb x 0) (s .each v h) ∙ go (someBelow (λ k. eqb (f k) v) m)
+  seen-test = ap (λ (x : ℕ). eqb x 0) (s .each v g h) ∙ go (someBelow (λ k. eqb (f k) v) m)
     where
       go : (b : Bool) → eqb (one b) 0 ≡ not b
       go true = refl
       go false = refl
 
 -- is the value a of f at m new
-module _ (f : ℕ → ℕ) (n m a : ℕ) (l : List ℕ) (e : a ≡ f m) (h : a < n) (s : Seen f n m l) where
+module _ (f : ℕ → ℕ) (lo n m a : ℕ) (l : List ℕ) (e : a ≡ f m) (g : lo ≤ a) (h : a < n) (s : Seen f lo n m l) where
   pub new-noted : getD l a 0 ≡ 0 → newAt f m ≡ true
   new-noted z =
       or-r (eqb (f m) 0) (eqb (tally f m (f m)) 0)
-      (eq-eqb (tally f m (f m)) 0 (ap (tally f m) (sym e) ∙ count-none (λ k. eqb (f k) a) m (some-none (λ k. eqb (f k) a) m (seen-not f n m a l s h z))))
+      (eq-eqb (tally f m (f m)) 0 (ap (tally f m) (sym e) ∙ count-none (λ k. eqb (f k) a) m (some-none (λ k. eqb (f k) a) m (seen-not f lo n m a l s g h z))))
 
   pub again-noted : (getD l a 0 ≡ 0 → ⊥) → (a ≡ 0 → ⊥) → newAt f m ≡ false
-  again-noted z g =
-      let r = some-at (λ k. eqb (f k) a) m (seen-some f n m a l s h z) in
+  again-noted z p =
+      let r = some-at (λ k. eqb (f k) a) m (seen-some f lo n m a l s g h z) in
       let u : 0 < tally f m a = count-pos (λ k. eqb (f k) a) m (r .0) (r .1) (r .2) in
       let v : 0 < tally f m (f m) = subst (λ (x : ℕ). 0 < tally f m x) e u in
-      ap₂ _||_ (ne-eqb (f m) 0 (λ q. g (e ∙ q))) (ne-eqb (tally f m (f m)) 0 (omega arith))
+      ap₂ _||_ (ne-eqb (f m) 0 (λ q. p (e ∙ q))) (ne-eqb (tally f m (f m)) 0 (omega arith))

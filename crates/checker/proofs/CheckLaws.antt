@@ -1,27 +1,26 @@
 -- Each way that the check's own functions return.
-use Prim.Native.Nat.{ℕ, _+_, _*_, _≤_, _<_}
+use Prim.Native.Nat.{ℕ, _*_, _≤_, _<_}
 use mathlib.Core.Path.{_≡_, sym, ap, ap₂, _∙_}
 use mathlib.Core.Bool.{Bool, true, false, not, _&&_, _||_, and-assoc}
 use mathlib.Core.List.{List}
 use native.Mathlib.Omega.{arith}
 use borrow.Author.Tests.{eq-eqb, ne-eqb}
 use lib.Dec.{eqb}
-use lib.ListN.{length, getD}
+use lib.ListN.{length}
 use Rattle.bounded.specs.Below.{allBelow, allTo}
 use Rattle.bounded.specs.Count.{differB, countTo}
 use Rattle.bounded.specs.Climb.{Closed}
-use Rattle.bounded.specs.Seen.{Seen}
 use Rattle.bounded.proofs.BoolLaws.{fails, and-false-l, chain-end}
-use Rattle.bounded.proofs.CountLaws.{count-ext}
 use Rattle.bounded.proofs.ReflectLaws.{r-all, r-to}
-use Rattle.bounded.proofs.SeenLaws.{seen-test}
-use Rattle.layout.specs.Sizes.{rootInode, addressCount}
+use Rattle.layout.specs.Sizes.{rootInode, addressCount, mostImageBlocks}
 use Rattle.layout.specs.Header.{headerOf, headerRestZero}
 use Rattle.layout.specs.Inode.{kindOf, parentOf, addressOf, directoryKind}
 use Rattle.blocks.specs.Block.{blocksUsed, allowed}
 use Rattle.directory.specs.Slot.{mostSlots}
 use Rattle.directory.specs.Fits.{DirFits}
-use Rattle.blocks.specs.Free.{blockNamed, inodeFree, blockFree}
+use Rattle.blocks.specs.Free.{inodeFree, blockFree}
+use Rattle.blocks.specs.Map.{lacks, Maps}
+use Rattle.blocks.proofs.MapLaws.{map-count}
 use Rattle.layout.specs.declared.header.Header.{Header}
 use Rattle.layout.specs.Fits.{InodeFits}
 use Rattle.blocks.specs.Fits.{Sized}
@@ -75,22 +74,17 @@ module _ (s : List ℕ) (h : Header) (e : h ≡ headerOf s) where
         header-5 p q g = on-2 _ _ (chain-end _ _ _ q₃ (chain-end _ _ _ (eq-eqb (kindOf s rootInode) directoryKind (sym f ∙ q)) (ap (λ (x : ℕ). eqb x 0) g)))
 
 -- ---- the free counts
-pub map-count : (s : List ℕ) (n b w : ℕ) (l : List ℕ) → Seen (addressOf s n) w (addressCount * n) l → b < w
-    → countTo (λ c. eqb (getD l c 0) 0) b ≡ countTo (blockFree s n) b
-unfolding blockNamed
-map-count s n b w l h m = count-ext _ _ b (λ k j. seen-test (addressOf s n) w (addressCount * n) (k + 1) l h (omega arith))
-
 module _ (s : List ℕ) (h : Header) (e : h ≡ headerOf s) (x : ℕ) (f : x ≡ countTo (inodeFree s) (inodesIn s)) where
   pub counts-1 : (h .«free_inodes» ≡ x → ⊥) → false ≡ freeCountsB s
   unfolding freeCountsB
   counts-1 q = sym (and-false-l _ _ (ne-eqb (headerOf s .«free_inodes») (countTo (inodeFree s) (inodesIn s)) (λ z. q (ap (λ (y : Header). y .«free_inodes») e ∙ z ∙ sym f))))
 
-  pub counts-2 : (b y : ℕ) (l : List ℕ) → h .«free_inodes» ≡ x → Seen (addressOf s (inodesIn s)) 4097 (addressCount * inodesIn s) l → b ≡ blocksIn s → b ≤ 4096
-      → y ≡ countTo (λ c. eqb (getD l c 0) 0) b → eqb (h .«free_blocks») y ≡ freeCountsB s
+  pub counts-2 : (b y : ℕ) (l : List ℕ) → h .«free_inodes» ≡ x → Maps s (inodesIn s) (addressCount * inodesIn s) l → b ≡ blocksIn s → b ≤ mostImageBlocks
+      → y ≡ countTo (lacks l) b → eqb (h .«free_blocks») y ≡ freeCountsB s
   unfolding freeCountsB
   counts-2 b y l q m g i z =
       chain-end _ _ _ (eq-eqb (headerOf s .«free_inodes») (countTo (inodeFree s) (inodesIn s)) (sym (ap (λ (w : Header). w .«free_inodes») e) ∙ q ∙ f))
-      (ap₂ eqb (ap (λ (w : Header). w .«free_blocks») e) (z ∙ map-count s (inodesIn s) b 4097 l m (omega arith) ∙ ap (countTo (blockFree s (inodesIn s))) g))
+      (ap₂ eqb (ap (λ (w : Header). w .«free_blocks») e) (z ∙ map-count s (inodesIn s) l m b i ∙ ap (countTo (blockFree s (inodesIn s))) g))
 
 -- ---- the body: n and b are the counts that the code has read
 abbrev pub inodesRight : List ℕ → ℕ → ℕ → Bool

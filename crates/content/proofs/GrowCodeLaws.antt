@@ -7,22 +7,22 @@ use mathlib.Core.List.{List}
 use native.Mathlib.Decide.{decLt, ℕ-discrete}
 use native.Mathlib.Omega.{arith}
 use borrow.Author.Tests.{not-true, not-false}
-use lib.Dec.{eqb}
-use lib.ListN.{length, getD, set, replicate, length-set}
+use lib.ListN.{length, set, replicate, length-set}
 use Rattle.bounded.specs.Search.{firstFrom, onFound}
-use Rattle.bounded.specs.Seen.{Seen}
 use Rattle.bounded.specs.declared.Found.{Found}
 use Rattle.bounded.specs.declared.Found.the-variants.{At, Absent}
 use Rattle.bounded.proofs.BoolLaws.{clash}
 use Rattle.bounded.proofs.SearchLaws.{Lowest, found-lowest, absent-of, first-ext, first-skip}
-use Rattle.bounded.proofs.SeenLaws.{seen-test}
 use Rattle.octets.specs.Octets.{zeroed}
 use Rattle.octets.proofs.PartLaws.{length-zeroed}
+use Rattle.layout.specs.Sizes.{addressCount, mostImageBlocks}
 use Rattle.layout.specs.declared.inode.Inode.{Inode}
 use Rattle.layout.specs.Header.{headerOf, lessFree}
 use Rattle.layout.specs.Inode.{attributesAt, attributeEntry, addressIndex, sizeOf, addressOf, inodeOf, putAttributes, putInode, withBlocks}
 use Rattle.blocks.specs.Block.{blockAt, zeroBlock, blocksUsed}
 use Rattle.blocks.specs.Free.{blockNamed, freeBlock}
+use Rattle.blocks.specs.Map.{lacks, Maps}
+use Rattle.blocks.proofs.MapLaws.{map-free}
 use Rattle.blocks.proofs.FrameLaws.{length-inode, header-past}
 use Rattle.blocks.proofs.ViewLaws.{inode-fits}
 use Rattle.layout.specs.Fits.{InodeFits}
@@ -146,15 +146,15 @@ turn-begin s n b i m v u e q g =
 
 module _ (s₀ : List ℕ) (n b i m : ℕ) (v : Inode) (u : ℕ) (s a : List ℕ) (c j : ℕ) (h : Turn s₀ n b i m v u s a c j) where
   -- the search goes on in the map of the blocks that were named at first
-  pub turn-search : (map : List ℕ) → Seen (addressOf s₀ n) 4097 (12 * n) map → b ≤ 4096 → firstFrom (λ d. eqb (getD map d 0) 0) (c + 1) (b + 1 - (c + 1)) ≡ freeBlock (h .store) n b
+  pub turn-search : (map : List ℕ) → Maps s₀ n (addressCount * n) map → b ≤ mostImageBlocks → firstFrom (lacks map) (c + 1) (b + 1 - (c + 1)) ≡ freeBlock (h .store) n b
   unfolding freeBlock blockNamed
   turn-search map y k =
       let l = h .last in
       let p : b + 1 - (c + 1) ≡ b - c = omega arith in
       let q : c + 1 ≡ 1 + c = omega arith in
       rw (p, q)
-      (first-ext (λ d. eqb (getD map d 0) 0) (λ d. not (blockNamed (h .store) n d)) (1 + c) (b - c)
-      (λ d x z. seen-test (addressOf s₀ n) 4097 (12 * n) d map y (omega arith) ∙ ap not (sym (h .ahead d (omega arith))))
+      (first-ext (lacks map) (λ d. not (blockNamed (h .store) n d)) (1 + c) (b - c)
+      (λ d x z. map-free s₀ n map y d (omega arith) (omega arith) ∙ ap not (sym (h .ahead d (omega arith))))
       ∙ sym (first-skip (λ d. not (blockNamed (h .store) n d)) 1 c b l
       (absent-of (λ d. not (blockNamed (h .store) n d)) 1 c (λ d x z. ap not (h .passed d x (omega arith))))))
 

@@ -1,7 +1,7 @@
 -- Where the bytes of a file stand, and which lie inside of the store. n is the inode count.
 use Prim.Native.Nat.{ℕ, _+_, _*_, _/_, _%_, _≤_, _<_}
 use mathlib.Core.List.{List}
-use Rattle.directory.specs.Fits.{BlockFits}
+use Rattle.blocks.specs.Fits.{BlockFits}
 use Rattle.layout.specs.Sizes.{blockBytes, mostFileBytes}
 use Rattle.blocks.specs.Block.{blockAt, kthBlock}
 use Rattle.layout.specs.Fits.{InodeFits}

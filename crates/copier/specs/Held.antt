@@ -7,8 +7,8 @@ use Rattle.desk.specs.Sizes.{deskLength}
 use Rattle.desk.specs.Desk.{deskOf}
 use Rattle.desk.specs.declared.Desk.{Desk}
 
--- h is the header of the desk d, and a step more can be counted
-pub record Held (d : List ℕ) (n : ℕ) (h : Desk) : Type 0 where
-  pub read : h ≡ deskOf d
-  pub long : deskLength n ≤ length d
+-- h is the header of the desk, and a step more can be counted
+pub record Held (desk : List ℕ) (n : ℕ) (h : Desk) : Type 0 where
+  pub read : h ≡ deskOf desk
+  pub long : deskLength n ≤ length desk
   pub steps : h .steps + 1 < 4294967296

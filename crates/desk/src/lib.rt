@@ -2,7 +2,7 @@
 ghost use mathlib.Core.Path.{_≡_};
 ghost use Prim.Native.Nat.{_+_, _<_, _≤_};
 ghost use lib.ListN.{length};
-ghost use Rattle.marks.specs.Mark.{wordBits};
+ghost use Rattle.marks.specs.Mark.{markBits};
 ghost use Rattle.desk.specs.Sizes.{deskHeaderBytes, deskLength, deskAllowed};
 ghost use Rattle.desk.specs.Desk.{deskOf, putDesk, deskRestZero, copiedOf, putCopied, marksOf, putMarks, markOf, setMark, clearMark, clearNotes};
 ghost use Rattle.desk.specs.Next.{starting, locking, copyingOne, unlocking, finishing, stopping};
@@ -169,14 +169,14 @@ pub fn put_mark_word(d: &mut [u8], n: usize, i: usize, w: u64)
 }
 
 pub fn is_marked(d: &[u8], n: usize, i: usize, slot: usize) -> bool
-    requires { ⌜ (1 ≤ i) × (i ≤ n) × (deskLength n ≤ length (now d)) × (slot < wordBits) ⌝ }
+    requires { ⌜ (1 ≤ i) × (i ≤ n) × (deskLength n ≤ length (now d)) × (slot < markBits) ⌝ }
     ensures { λ r. ⌜ r ≡ markOf (now (d .entry)) n i slot ⌝ }
 {
     marks::marked(mark_word(d, n, i), slot)
 }
 
 pub fn set_mark(d: &mut [u8], n: usize, i: usize, slot: usize)
-    requires { ⌜ (1 ≤ i) × (i ≤ n) × (deskLength n ≤ length (now d)) × (slot < wordBits) ⌝ }
+    requires { ⌜ (1 ≤ i) × (i ≤ n) × (deskLength n ≤ length (now d)) × (slot < markBits) ⌝ }
     ensures { λ _. ⌜ now (d .exit) ≡ setMark (now (d .entry)) n i slot ⌝ }
 {
     let w = mark_word(&*d, n, i);
@@ -184,7 +184,7 @@ pub fn set_mark(d: &mut [u8], n: usize, i: usize, slot: usize)
 }
 
 pub fn clear_mark(d: &mut [u8], n: usize, i: usize, slot: usize)
-    requires { ⌜ (1 ≤ i) × (i ≤ n) × (deskLength n ≤ length (now d)) × (slot < wordBits) ⌝ }
+    requires { ⌜ (1 ≤ i) × (i ≤ n) × (deskLength n ≤ length (now d)) × (slot < markBits) ⌝ }
     ensures { λ _. ⌜ now (d .exit) ≡ clearMark (now (d .entry)) n i slot ⌝ }
 {
     let w = mark_word(&*d, n, i);

@@ -23,7 +23,8 @@ use Rattle.names.specs.Entry.{isEmpty, sameName, entryFor}
 use Rattle.names.proofs.EntryLaws.{same-words, length-entry}
 use Rattle.names.specs.Words.{wordsAt, sameWords}
 use Rattle.directory.specs.Slot.{mostSlots, slots, slotAt, entryOf, slotHasName, findSlot, slotEmpty, emptySlot, putEntry, clearEntry}
-use Rattle.directory.specs.Fits.{BlockFits, DirFits}
+use Rattle.blocks.specs.Fits.{BlockFits}
+use Rattle.directory.specs.Fits.{DirFits}
 
 -- ---- where slots lie
 pub slot-low : (s : List ℕ) (n d t : ℕ) → 16 + 32 * n ≤ slotAt s n d t

@@ -1,16 +1,11 @@
--- Blocks and directories that lie inside of a store or an image: what the code asks for. n is the inode count.
-use Prim.Native.Nat.{ℕ, _+_, _*_, _≤_, _<_}
+-- Directories that lie inside of a store or an image: what the code asks for. n is the inode count.
+use Prim.Native.Nat.{ℕ, _≤_, _<_}
 use mathlib.Core.List.{List}
-use lib.ListN.{length}
-use Rattle.layout.specs.Sizes.{headerBytes, inodeBytes, blockBytes, mostDirectoryBlocks}
+use Rattle.layout.specs.Sizes.{mostDirectoryBlocks}
 use Rattle.layout.specs.Inode.{sizeOf}
-use Rattle.blocks.specs.Block.{blocksUsed, kthBlock}
 use Rattle.layout.specs.Fits.{InodeFits}
-
--- block b lies inside of s
-pub record BlockFits (s : List ℕ) (n b : ℕ) : Type 0 where
-  pub low : 1 ≤ b
-  pub inside : headerBytes + inodeBytes * n + blockBytes * b ≤ length s
+use Rattle.blocks.specs.Block.{blocksUsed, kthBlock}
+use Rattle.blocks.specs.Fits.{BlockFits}
 
 -- d is an inode, and the blocks that its size uses lie inside of s
 pub record DirFits (s : List ℕ) (n d : ℕ) : Type 0 where

@@ -13,15 +13,16 @@ use Rattle.bounded.specs.Reflect.{Reflects}
 use Rattle.bounded.proofs.BoolLaws.{clash, fails, same-test, chain-stop, chain-on, chain-off, and-true, and-left, and-right, and-false-l, and-false-r, or-l, or-r}
 use Rattle.bounded.proofs.BelowLaws.{all-at, all-of, all-ext, all-chunk, all-and, all-from}
 use Rattle.bounded.proofs.CountLaws.{new-zero}
-use Rattle.bounded.proofs.SeenLaws.{seen-more, seen-run, seen-not, seen-some, seen-as, new-noted, again-noted}
+use Rattle.bounded.proofs.SeenLaws.{new-noted, again-noted}
 use Rattle.bounded.proofs.ReflectLaws.{r-eq, r-le, r-lt, r-and, r-imp, r-fails, r-says, reflects-ext}
 use Rattle.octets.proofs.PartLaws.{getD-part}
 use Rattle.layout.specs.Sizes.{addressCount, blockBytes, mostFileBytes, mostDirectoryBytes, mostImageBlocks}
 use Rattle.layout.specs.Inode.{kindOf, spareOf, linksOf, sizeOf, parentOf, addressOf, addressIndex, freeKind, fileKind, directoryKind, attributesZero, addressesZero}
 use Rattle.blocks.specs.Block.{blockAt, blockOf, blocksUsed, kthBlock}
-use Rattle.blocks.specs.Free.{blockNamed, blockFree}
+use Rattle.blocks.specs.Free.{blockFree}
 use Rattle.blocks.specs.Map.{noted, lacks, Maps}
 use Rattle.layout.proofs.InodeLaws.{attributes-none, addresses-none}
+use Rattle.blocks.proofs.MapLaws.{map-more, map-pass, map-as, map-free}
 use Rattle.sound.specs.Inode.{mostBytes, tailByte}
 use Rattle.sound.proofs.SoundLaws.{most-directory, most-file, most-any, attributes}
 use Rattle.sound.specs.Test.{usedB, restB, tailB, attributesB, addressesB, zeroTailB, inodeB, blankBlockB}
@@ -103,22 +104,27 @@ module _ (s : List ℕ) (n b i k u a : ℕ) (eu : u ≡ blocksUsed (sizeOf s i))
       (λ t. eq-eqb a 0 (address-is .to (and-left (usedB s n b i k && restB s n i k) (newBlockB s n i k) t) .1 l))
 
   -- the blocks named before it are noted in m
-  module _ (m : List ℕ) (h : Maps s n (addressIndex i k) m) (l : a < 4097) where
-    pub address-again : 1 ≤ a → lacks m a ≡ false → false ≡ addressB s n b i k
+  module _ (m : List ℕ) (h : Maps s n (addressIndex i k) m) (p : 1 ≤ a) (l : a ≤ mostImageBlocks) where
+    pub address-again : lacks m a ≡ false → false ≡ addressB s n b i k
     unfolding addressB kthBlock
-    address-again p z =
-        sym (and-false-r (usedB s n b i k && restB s n i k) (newBlockB s n i k) (again-noted (addressOf s n) 4097 (addressIndex i k) a m ea l h (eqb-false _ 0 z) (omega arith)))
+    address-again z =
+        sym (and-false-r (usedB s n b i k && restB s n i k) (newBlockB s n i k) (again-noted (addressOf s n) 1 (mostImageBlocks + 1) (addressIndex i k) a m ea p (omega arith) h (eqb-false _ 0 z) (omega arith)))
 
-    pub address-new : k < u → 1 ≤ a → a ≤ b → lacks m a ≡ true → true ≡ addressB s n b i k
+    pub address-new : k < u → a ≤ b → lacks m a ≡ true → true ≡ addressB s n b i k
     unfolding addressB kthBlock
-    address-new j p q z =
+    address-new j q z =
         sym
         (and-true (usedB s n b i k && restB s n i k) (newBlockB s n i k) (address-is .from ((λ x. (p, q)), λ x. absurd (omega arith)))
-        (new-noted (addressOf s n) 4097 (addressIndex i k) a m ea l h (eqb-true _ 0 z)))
+        (new-noted (addressOf s n) 1 (mostImageBlocks + 1) (addressIndex i k) a m ea p (omega arith) h (eqb-true _ 0 z)))
 
-pub address-noted : (s : List ℕ) (n i k a : ℕ) (m : List ℕ) → a ≡ kthBlock s n i k → a < 4097 → Maps s n (addressIndex i k) m → Maps s n (addressIndex i k + 1) (noted m a)
-unfolding kthBlock
-address-noted s n i k a m e l h = seen-more (addressOf s n) 4097 (addressIndex i k) a m e l h
+module _ (s : List ℕ) (n i k a : ℕ) (m : List ℕ) (e : a ≡ kthBlock s n i k) (h : Maps s n (addressIndex i k) m) where
+  pub address-noted : a ≤ mostImageBlocks → Maps s n (addressIndex i k + 1) (noted m a)
+  unfolding kthBlock
+  address-noted l = map-more s n (addressIndex i k) a m e l h
+
+  pub address-passed : a ≡ 0 → Maps s n (addressIndex i k + 1) m
+  unfolding kthBlock
+  address-passed z = map-pass s n (addressIndex i k) 1 m (λ j l. let y : addressIndex i k + j ≡ addressIndex i k = omega arith in ap (addressOf s n) y ∙ sym e ∙ z) h
 
 -- ---- all addresses of inode i
 pub addresses-are : (s : List ℕ) (n b i : ℕ) → allBelow (addressB s n b i) addressCount ≡ addressesB s n b i && newBlocksB s n i
@@ -228,16 +234,15 @@ module _ (s : List ℕ) (n i z : ℕ) (ez : z ≡ sizeOf s i) (h : z % blockByte
 
 -- ---- the blocks that the map does not have
 module _ (s : List ℕ) (n k : ℕ) (map : List ℕ) (h : Maps s n (addressCount * n) map) (l : k < mostImageBlocks) where
+  free : lacks map (k + 1) ≡ blockFree s n (k + 1)
+  free = map-free s n map h (k + 1) (omega arith) (omega arith)
+
   pub blank-named : lacks map (k + 1) ≡ false → not (blockFree s n (k + 1)) || blankBlockB s n (k + 1) ≡ true
-  unfolding blockNamed
-  blank-named z = or-l _ (blankBlockB s n (k + 1)) (ap (λ (x : Bool). not (not x)) (seen-some (addressOf s n) 4097 (addressCount * n) (k + 1) map h (omega arith) (eqb-false _ 0 z)))
+  blank-named z = or-l _ (blankBlockB s n (k + 1)) (ap not (sym free ∙ z))
 
   pub blank-tested : (a : ℕ) → lacks map (k + 1) ≡ true → a ≡ blockAt n (k + 1) →
       allBelow (λ j. eqb (getD s (a + j) 0) 0) blockBytes ≡ not (blockFree s n (k + 1)) || blankBlockB s n (k + 1)
-  unfolding blockNamed
-  blank-tested a z e =
-      zero-block-is s n k a e
-      ∙ sym (ap (λ (x : Bool). not (not x) || blankBlockB s n (k + 1)) (seen-not (addressOf s n) 4097 (addressCount * n) (k + 1) map h (omega arith) (eqb-true _ 0 z)))
+  blank-tested a z e = zero-block-is s n k a e ∙ sym (ap (λ (x : Bool). not x || blankBlockB s n (k + 1)) (sym free ∙ z))
 
 -- ---- an inode that is all zero
 module _ (s : List ℕ) (n b i : ℕ) (h : attributesZero s i && addressesZero s n i ≡ true) where
@@ -273,5 +278,5 @@ module _ (s : List ℕ) (n b i : ℕ) (h : attributesZero s i && addressesZero s
       (and-true (addressesB s n b i) (zeroTailB s n i) (and-left (addressesB s n b i) (newBlocksB s n i) x) y))
       (and-right (addressesB s n b i) (newBlocksB s n i) x))
 
-  pub zero-noted : (map : List ℕ) → 1 ≤ i → Maps s n (addressIndex i 0) map → Maps s n (addressCount * i) (noted map 0)
-  zero-noted map l g = seen-as (addressOf s n) 4097 (noted map 0) (omega arith) (seen-run (addressOf s n) 4097 (addressIndex i 0) 12 0 map (omega arith) (addresses-none s n i d) (omega arith) g)
+  pub zero-passed : (map : List ℕ) → 1 ≤ i → Maps s n (addressIndex i 0) map → Maps s n (addressCount * i) map
+  zero-passed map l g = map-as s n map (omega arith) (map-pass s n (addressIndex i 0) 12 map (addresses-none s n i d) g)

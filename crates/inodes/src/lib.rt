@@ -2,7 +2,6 @@
 ghost use mathlib.Core.Path.{_≡_};
 ghost use mathlib.Core.Bool.{true, not, _&&_, _||_};
 ghost use Prim.Native.Nat.{_+_, _*_, _<_, _≤_};
-ghost use lib.ListN.{replicate};
 ghost use Rattle.bounded.specs.Below.{allTo};
 ghost use Rattle.bounded.specs.Count.{differB};
 ghost use Rattle.layout.specs.Sizes.{mostImageBlocks, addressCount};
@@ -59,7 +58,7 @@ fn attributes_right(s: &[u8], n: usize, i: usize) -> bool
     size % BLOCK_BYTES == 0
 }
 
-// Address k of inode i: one of b blocks, which no address before it names, or 0 from `used` on. It is noted in the map, 0 as well.
+// Address k of inode i: one of b blocks, which no address before it names, or 0 from `used` on. A block is noted in the map.
 fn address_right(
     s: &[u8],
     n: usize,
@@ -75,7 +74,6 @@ fn address_right(
 {
     let a = blocks::kth_block(s, n, i, k) as usize;
     if used <= k {
-        map::note(&mut *map, 0);
         return a == 0;
     }
     if a < 1 {
@@ -138,7 +136,6 @@ fn inode_right(s: &[u8], n: usize, b: usize, i: usize, map: &mut [u8]) -> bool
     ensures { λ r. ⌜ (r ≡ inodeB (now (s .entry)) n b i && newBlocksB (now (s .entry)) n i) × (r ≡ true → Maps (now (s .entry)) n (addressCount * i) (now (map .exit))) ⌝ }
 {
     if inode_zero(s, n, i) {
-        map::note(&mut *map, 0);
         return true;
     }
     if !attributes_right(s, n, i) {
@@ -150,9 +147,9 @@ fn inode_right(s: &[u8], n: usize, b: usize, i: usize, map: &mut [u8]) -> bool
     zero_tail(s, n, b, i)
 }
 
-// Every inode is right, and no block is named twice; the map, which comes in zero, then has the blocks that are named.
+// Every inode is right, and no block is named twice; the map, which comes in empty, then has the blocks that are named.
 pub fn inodes_right(s: &[u8], n: usize, b: usize, map: &mut [u8]) -> bool
-    requires { ⌜ Sized (now s) n b × (now map ≡ replicate (mostImageBlocks + 1) 0) ⌝ }
+    requires { ⌜ Sized (now s) n b × Maps (now s) n 0 (now map) ⌝ }
     ensures { λ r. ⌜ (r ≡ allTo (inodeB (now (s .entry)) n b) n && differB (addressOf (now (s .entry)) n) (addressCount * n)) × (r ≡ true → Maps (now (s .entry)) n (addressCount * n) (now (map .exit))) ⌝ }
 {
     for k in 0..n {

@@ -7,10 +7,8 @@ pub const MOST_STORE_BLOCKS: usize = 1024;
 
 pub const MOST_IMAGE_BLOCKS: usize = 4096;
 
-// A place for each inode, and for each block of the largest image: by their numbers, which start at 1, so that place 0 stands for none.
+// A place for each inode by its number, which starts at 1, so that place 0 stands for none.
 pub const INODE_PLACES: usize = MOST_INODES + 1;
-
-pub const BLOCK_PLACES: usize = MOST_IMAGE_BLOCKS + 1;
 
 pub const ATTRIBUTE_BYTES: usize = 8;
 

@@ -17,9 +17,9 @@ unfoldable pub withMark : ℕ → ℕ → ℕ
 withMark w s = bitOr w (2 ^ s)
 
 -- the bits of a mark word
-abbrev pub wordBits : ℕ
-wordBits = 64
+abbrev pub markBits : ℕ
+markBits = 64
 
 -- w with bit s clear
 unfoldable pub withoutMark : ℕ → ℕ → ℕ
-withoutMark w s = bitAnd w (2 ^ wordBits - 1 - 2 ^ s)
+withoutMark w s = bitAnd w (2 ^ markBits - 1 - 2 ^ s)

@@ -1,4 +1,4 @@
--- A sound store and its counts, as the code has read them: what the calls ask for.
+-- A sound store and its counts of inodes and blocks: what the calls ask for.
 use Prim.Native.Nat.{ℕ}
 use mathlib.Core.Path.{_≡_}
 use mathlib.Core.List.{List}

@@ -9,10 +9,8 @@ use native.Mathlib.Omega.{arith}
 use borrow.Author.Tests.{le-leb}
 use lib.Dec.{eqb}
 use lib.ListN.{length, getD, set, take, drop}
-use Rattle.checker.proofs.CheckLaws.{map-count}
 use Rattle.bounded.specs.Count.{Tallied, tally, countTo}
 use Rattle.bounded.specs.Search.{pick, firstFrom}
-use Rattle.bounded.specs.Seen.{Seen}
 use Rattle.bounded.proofs.BoolLaws.{chain-end}
 use Rattle.bounded.proofs.CountLaws.{tally-skip, tally-one, tally-skips, tally-past, count-some-is}
 use Rattle.bounded.proofs.ReflectLaws.{r-fails}
@@ -22,9 +20,11 @@ use Rattle.octets.proofs.PartLaws.{cut}
 use Rattle.octets.proofs.NumLaws.{length-num}
 use Rattle.layout.specs.Sizes.{mostInodes, mostImageBlocks, addressCount, isComplete}
 use Rattle.layout.specs.Header.{putFree, putComplete}
-use Rattle.layout.specs.Inode.{kindOf, directoryKind, addressOf, addressIndex, putLinks}
+use Rattle.layout.specs.Inode.{kindOf, directoryKind, addressIndex, putLinks}
 use Rattle.blocks.specs.Block.{blockAt, kthBlock}
 use Rattle.blocks.specs.Free.{inodeFree}
+use Rattle.blocks.specs.Map.{lacks, Maps}
+use Rattle.blocks.proofs.MapLaws.{map-count}
 use Rattle.names.specs.Entry.{entryInode}
 use Rattle.directory.specs.Slot.{mostSlots, slotAt, entryOf}
 use Rattle.desk.specs.Desk.{copiedOf}
@@ -147,8 +147,8 @@ module _ (d : List ℕ) (n i : ℕ) where
   unfolding isCopied
   copied-read x l h e = chain-end _ _ _ (le-leb 1 i l) (chain-end _ _ _ (le-leb i n h) (ap (λ (y : ℕ). eqb y 1) e))
 
-pub finish-read : (m map t u v : List ℕ) (n b i k : ℕ) → b ≤ mostImageBlocks → Seen (addressOf m n) (mostImageBlocks + 1) (addressCount * n) map
-    → i ≡ countTo (inodeFree m) n → k ≡ countTo (λ c. eqb (getD map c 0) 0) b → t ≡ putCounts m m n n → u ≡ putFree t i k → v ≡ putComplete u isComplete → v ≡ finishImage m n b
+pub finish-read : (m map t u v : List ℕ) (n b i k : ℕ) → b ≤ mostImageBlocks → Maps m n (addressCount * n) map
+    → i ≡ countTo (inodeFree m) n → k ≡ countTo (lacks map) b → t ≡ putCounts m m n n → u ≡ putFree t i k → v ≡ putComplete u isComplete → v ≡ finishImage m n b
 unfolding finishImage
 finish-read m map t u v n b i k l s e f p q r =
-    r ∙ ap (λ (x : List ℕ). putComplete x 1) (q ∙ rw (p, e, f, map-count m n b (mostImageBlocks + 1) map s (omega arith)))
+    r ∙ ap (λ (x : List ℕ). putComplete x 1) (q ∙ rw (p, e, f, map-count m n map s b l))

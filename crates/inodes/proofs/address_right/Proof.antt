@@ -3,7 +3,7 @@ use native.Mathlib.Omega.{arith}
 use borrow.Author.Tests.{eqb-true, not-true, not-false}
 use borrow.Author.Needs.{needs}
 use Rattle.bounded.proofs.BoolLaws.{never}
-use Rattle.inodes.proofs.InodeLaws.{address-none, address-past, address-rest, address-again, address-new, address-noted}
+use Rattle.inodes.proofs.InodeLaws.{address-none, address-past, address-rest, address-again, address-new, address-noted, address-passed}
 use Rattle.inodes.proofs.address_right.Statement.{statement}
 use Rattle.inodes.proofs.address_right.Tie as tie
 
@@ -13,19 +13,11 @@ kth-block-requires c κs = search needs
 cast-a : tie.Need-cast-a
 cast-a c = search needs
 
-note-requires : tie.Need-note-requires
-note-requires c κs = search needs
-
-same-length : tie.Need-same-length
-same-length c = search needs
-
 returns : tie.Need-returns
 returns c =
-    let p = c .before .before .before .before .before .before .before .before .pre in
-    let e = c .before .before .before .before .before .kth-block .ensures in (
-      address-rest _ _ _ _ _ _ _ (p .0 .2) e (omega arith),
-      λ q. rw (c .before .before .note .ensures) (address-noted _ _ _ _ 0 _ (sym (eqb-true _ 0 q) ∙ e) (omega arith) (p .1)),
-    )
+    let p = c .before .before .before .before .pre in
+    let e = c .before .kth-block .ensures in
+    (address-rest _ _ _ _ _ _ _ (p .0 .2) e (omega arith), λ q. address-passed _ _ _ _ _ _ e (p .1) (eqb-true _ 0 q))
 
 returns-2 : tie.Need-returns-2
 returns-2 c =
@@ -38,8 +30,8 @@ returns-3 c =
 has-requires : tie.Need-has-requires
 has-requires c κs = search needs
 
-same-length-2 : tie.Need-same-length-2
-same-length-2 c = search needs
+same-length : tie.Need-same-length
+same-length c = search needs
 
 returns-4 : tie.Need-returns-4
 returns-4 c =
@@ -48,18 +40,18 @@ returns-4 c =
       never,
     )
 
-note-requires-2 : tie.Need-note-requires-2
-note-requires-2 c κs = search needs
+note-requires : tie.Need-note-requires
+note-requires c κs = search needs
 
-same-length-3 : tie.Need-same-length-3
-same-length-3 c = search needs
+same-length-2 : tie.Need-same-length-2
+same-length-2 c = search needs
 
 returns-5 : tie.Need-returns-5
 returns-5 c =
     let p = c .before .before .before .before .before .before .before .before .before .before .before .before .before .pre in
     let e = c .before .before .before .before .before .before .before .before .before .before .kth-block .ensures in (
       address-new _ _ _ _ _ _ _ (p .0 .2) e _ (p .1) (omega arith) (omega arith) (omega arith) (omega arith) (not-false _ (sym (c .before .before .before .before .before .has .ensures) ∙ c .before .before .before .before .if4 .left)),
-      λ q. rw (c .before .before .note2 .ensures) (address-noted _ _ _ _ _ _ e (omega arith) (p .1)),
+      λ q. rw (c .before .before .note .ensures) (address-noted _ _ _ _ _ _ e (p .1) (omega arith)),
     )
 
 pub address-right-spec : {M : Type 1} → statement M
@@ -68,14 +60,12 @@ address-right-spec =
     (tie.spec
     kth-block-requires
     cast-a
-    note-requires
-    same-length
     returns
     returns-2
     returns-3
     has-requires
-    same-length-2
+    same-length
     returns-4
-    note-requires-2
-    same-length-3
+    note-requires
+    same-length-2
     returns-5)

@@ -1,7 +1,7 @@
 use mathlib.Core.Path.{sym, _∙_}
 use borrow.Author.Tests.{not-false}
 use Rattle.bounded.proofs.BoolLaws.{chain-on, never}
-use Rattle.inodes.proofs.InodeLaws.{inode-stop, inode-named, inode-addresses, inode-end, zero-right, zero-noted}
+use Rattle.inodes.proofs.InodeLaws.{inode-stop, inode-named, inode-addresses, inode-end, zero-right, zero-passed}
 use borrow.Author.Needs.{needs}
 use Rattle.inodes.proofs.inode_right.Statement.{statement}
 use Rattle.inodes.proofs.inode_right.Tie as tie
@@ -9,17 +9,11 @@ use Rattle.inodes.proofs.inode_right.Tie as tie
 inode-zero-requires : tie.Need-inode-zero-requires
 inode-zero-requires c κs = search needs
 
-note-requires : tie.Need-note-requires
-note-requires c κs = search needs
-
-same-length : tie.Need-same-length
-same-length c = search needs
-
 returns : tie.Need-returns
 returns c =
-    let p = c .before .before .before .before .before .before .before .before .pre in
-    let e = sym (c .before .before .before .before .before .inode-zero .ensures) ∙ c .before .before .before .before .if1 .taken in
-    (zero-right _ _ _ _ e, λ q. rw (c .before .before .note .ensures) (zero-noted _ _ 0 _ e _ (p .1 .low) (p .2)))
+    let p = c .before .before .before .before .pre in
+    let e = sym (c .before .inode-zero .ensures) ∙ c .if1 .taken in
+    (zero-right _ _ _ _ e, λ q. zero-passed _ _ 0 _ e _ (p .1 .low) (p .2))
 
 attributes-right-requires : tie.Need-attributes-right-requires
 attributes-right-requires c κs = search needs
@@ -30,8 +24,8 @@ returns-2 c = (inode-stop _ _ _ _ _ (c .before .attributes-right .ensures) (c .i
 addresses-right-requires : tie.Need-addresses-right-requires
 addresses-right-requires c κs = search needs
 
-same-length-2 : tie.Need-same-length-2
-same-length-2 c = search needs
+same-length : tie.Need-same-length
+same-length c = search needs
 
 returns-3 : tie.Need-returns-3
 returns-3 c =
@@ -43,8 +37,8 @@ zero-tail-requires c κs =
     let a = chain-on _ _ (c .before .before .before .before .before .before .attributes-right .ensures) (c .before .before .before .before .before .if2 .left) in
     (p .0, p .1, a, inode-addresses _ _ _ _ _ a (c .before .before .before .addresses-right .ensures .0) (c .if3 .left))
 
-same-length-3 : tie.Need-same-length-3
-same-length-3 c = search needs
+same-length-2 : tie.Need-same-length-2
+same-length-2 c = search needs
 
 returns-4 : tie.Need-returns-4
 returns-4 c =
@@ -57,14 +51,12 @@ inode-right-spec =
     tie.close
     (tie.spec
     inode-zero-requires
-    note-requires
-    same-length
     returns
     attributes-right-requires
     returns-2
     addresses-right-requires
-    same-length-2
+    same-length
     returns-3
     zero-tail-requires
-    same-length-3
+    same-length-2
     returns-4)

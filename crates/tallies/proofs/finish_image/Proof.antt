@@ -1,12 +1,11 @@
 use Prim.Native.Nat.{_+_}
-use lib.Dec.{eqb}
-use lib.ListN.{getD}
 use Rattle.bounded.proofs.CountLaws.{count-le}
 use Rattle.tallies.proofs.NameLaws.{finish-read}
 use denote.Ref.{now}
 use native.Mathlib.Omega.{arith}
 use borrow.Author.Needs.{needs}
 use Rattle.blocks.specs.Free.{inodeFree}
+use Rattle.blocks.specs.Map.{lacks}
 use Rattle.tallies.proofs.finish_image.Statement.{statement}
 use Rattle.tallies.proofs.finish_image.Tie as tie
 
@@ -36,7 +35,7 @@ cast-put-free c =
 cast-put-free-2 : tie.Need-cast-put-free-2
 cast-put-free-2 c =
     let z = c .before .before .before .before .before .before .before .before .before .before .before .before .before .before .before in
-    omega (arith, z .pre .1, c .before .before .before .before .before .before .free-blocks .ensures, count-le (λ k. eqb (getD (c .before .before .before .before .before .before .before .before .before .before .named-blocks .result) (k + 1) 0) 0) (z .args .b))
+    omega (arith, z .pre .1, c .before .before .before .before .before .before .free-blocks .ensures, count-le (λ k. lacks (c .before .before .before .before .before .before .before .before .before .before .named-blocks .result) (k + 1)) (z .args .b))
 
 put-free-requires : tie.Need-put-free-requires
 put-free-requires c κs = search needs

@@ -1,9 +1,9 @@
 use Prim.Native.Nat.{_+_, _≤_, _-_, _*_}
 use mathlib.Core.Path.{_≡_, sym}
 use native.Mathlib.Omega.{arith}
-use Rattle.bounded.proofs.SeenLaws.{seen-start}
 use Rattle.layout.specs.Inode.{addressIndex}
 use Rattle.blocks.specs.Map.{Maps}
+use Rattle.blocks.proofs.MapLaws.{map-none}
 use borrow.Author.Needs.{needs}
 use Rattle.blocks.proofs.free.named_blocks.Statement.{statement}
 use Rattle.blocks.proofs.free.named_blocks.Tie as tie
@@ -15,7 +15,7 @@ abbrev μ-loop : tie.MeasureT-loop
 μ-loop s n map₀ k₀ map k = n - k
 
 loop-holds : tie.Need-loop-holds Inv-loop μ-loop
-loop-holds c = (omega arith, seen-start _ 4097)
+loop-holds c = (omega arith, map-none _ _)
 
 add-note-blocks : tie.Need-add-note-blocks Inv-loop μ-loop
 add-note-blocks c = search needs

@@ -1,10 +1,10 @@
 use Prim.Native.Nat.{_+_, _≤_, _-_, _*_}
 use mathlib.Core.Path.{_≡_, refl, sym, _∙_}
 use native.Mathlib.Omega.{arith}
-use Rattle.bounded.proofs.SeenLaws.{seen-more, seen-run}
 use Rattle.layout.specs.Inode.{addressIndex}
 use Rattle.layout.proofs.InodeLaws.{addresses-none}
 use Rattle.blocks.specs.Map.{Maps}
+use Rattle.blocks.proofs.MapLaws.{map-more, map-pass}
 use borrow.Author.Needs.{needs}
 use Rattle.blocks.proofs.free.note_blocks.Statement.{statement}
 use Rattle.blocks.proofs.free.note_blocks.Tie as tie
@@ -18,19 +18,13 @@ abbrev μ-loop : tie.MeasureT-loop
 addresses-zero-requires : tie.Need-addresses-zero-requires Inv-loop μ-loop
 addresses-zero-requires c κs = search needs
 
-note-requires : tie.Need-note-requires Inv-loop μ-loop
-note-requires c κs = omega (arith, c .before .before .before .before .before .pre .0 .1 .long)
-
-same-length : tie.Need-same-length Inv-loop μ-loop
-same-length c = search needs
-
 returns : tie.Need-returns Inv-loop μ-loop
 returns c =
-    let b = c .before .before .before .before .before .before .before .before in
+    let b = c .before .before .before .before in
     let p = b .pre .0 in
     let i = b .args .i in
     let e : addressIndex i 0 + 12 ≡ 12 * i = omega (arith, p .0 .low) in
-    rw (c .before .before .note .ensures) (rw e at (seen-run _ 4097 (addressIndex i 0) 12 0 _ (omega arith) (addresses-none _ _ i (sym (c .before .before .before .before .before .addresses-zero .ensures) ∙ c .before .before .before .before .if1 .taken)) (omega arith) (p .1)))
+    rw e at (map-pass _ _ (addressIndex i 0) 12 _ (addresses-none _ _ i (sym (c .before .addresses-zero .ensures) ∙ c .if1 .taken)) (p .1))
 
 sub-x : tie.Need-sub-x Inv-loop μ-loop
 sub-x c = search needs
@@ -50,8 +44,8 @@ address-requires c κs = search needs
 cast-note : tie.Need-cast-note Inv-loop μ-loop
 cast-note c = search needs
 
-note-requires-2 : tie.Need-note-requires-2 Inv-loop μ-loop
-note-requires-2 c κs =
+note-requires : tie.Need-note-requires Inv-loop μ-loop
+note-requires c κs =
     let b = c .before .before .before .before .before .before .before .before in
     let l = c .before .before .before .loop in
     omega (arith, c .address .ensures, l .inv .2 .long, b .pre .1 (addressIndex (b .args .i) (l .k)) (omega (arith, b .pre .0 .0 .low, b .pre .0 .0 .high)))
@@ -70,10 +64,10 @@ loop-again c =
     let i = b .args .i in
     let y = b .pre .1 (addressIndex i (l .k)) (omega (arith, b .pre .0 .0 .low, b .pre .0 .0 .high)) in
     let e : addressIndex i (l .k) + 1 ≡ addressIndex i (l .k + 1) = omega arith in
-    (omega arith, refl, rw (c .before .before .note2 .ensures) (rw e at (seen-more _ 4097 (addressIndex i (l .k)) _ _ a (omega (arith, a, y)) (l .inv .2))))
+    (omega arith, refl, rw (c .before .before .note .ensures) (rw e at (map-more _ _ (addressIndex i (l .k)) _ _ a (omega (arith, a, y)) (l .inv .2))))
 
-same-length-2 : tie.Need-same-length-2 Inv-loop μ-loop
-same-length-2 c = c .before .loop .inv .2 .long ∙ sym (c .before .before .before .before .before .before .pre .0 .1 .long)
+same-length : tie.Need-same-length Inv-loop μ-loop
+same-length c = c .before .loop .inv .2 .long ∙ sym (c .before .before .before .before .before .before .pre .0 .1 .long)
 
 returns-2 : tie.Need-returns-2 Inv-loop μ-loop
 returns-2 c =
@@ -89,8 +83,6 @@ note-blocks-spec =
     Inv-loop
     μ-loop
     addresses-zero-requires
-    note-requires
-    same-length
     returns
     sub-x
     mul-x
@@ -98,9 +90,9 @@ note-blocks-spec =
     add-address
     address-requires
     cast-note
-    note-requires-2
+    note-requires
     add-k
     loop-less
     loop-again
-    same-length-2
+    same-length
     returns-2)

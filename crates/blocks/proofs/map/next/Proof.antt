@@ -16,7 +16,7 @@ abbrev μ-loop : tie.MeasureT-loop
 μ-loop map first last c₀ c = last + 1 - c
 
 loop-holds : tie.Need-loop-holds Inv-loop μ-loop
-loop-holds c = (search-left _ _ _ (c .before .pre .1), refl)
+loop-holds c = (search-left _ _ _ (c .before .pre .2), refl)
 
 has-requires : tie.Need-has-requires Inv-loop μ-loop
 has-requires c κs = omega arith
@@ -31,7 +31,7 @@ loop-again : tie.Need-loop-again Inv-loop μ-loop
 loop-again c =
     let i = c .before .before .loop in
     let e = i .inv .1 ∙ first-turn _ (i .c) _ (omega arith) (not-true _ (sym (c .before .has .ensures) ∙ c .if1 .taken)) in
-    (search-left _ _ _ (λ z. c .before .before .before .before .pre .1 (e ∙ z)), e)
+    (search-left _ _ _ (λ z. c .before .before .before .before .pre .2 (e ∙ z)), e)
 
 returns : tie.Need-returns Inv-loop μ-loop
 returns c = let i = c .before .before .loop in i .inv .1 ∙ first-found _ (i .c) _ (omega arith) (not-false _ (sym (c .before .has .ensures) ∙ c .if1 .left))

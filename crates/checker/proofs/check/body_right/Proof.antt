@@ -7,6 +7,7 @@ use borrow.Author.Needs.{needs}
 use borrow.Author.Tests.{not-false}
 use denote.Ref.{now}
 use Rattle.blocks.specs.Fits.{Sized}
+use Rattle.blocks.proofs.MapLaws.{map-none}
 use Rattle.sound.specs.Test.{bodyB}
 use Rattle.sound.specs.declared.Form.{Form}
 use Rattle.sound.specs.Sound.{blankOf}
@@ -58,7 +59,7 @@ slice-aggregate-inodes-right : tie.Need-slice-aggregate-inodes-right
 slice-aggregate-inodes-right c = search needs
 
 inodes-right-requires : tie.Need-inodes-right-requires
-inodes-right-requires c κs = (sized (c .before .before .before .before), refl)
+inodes-right-requires c κs = (sized (c .before .before .before .before), map-none _ _)
 
 returns-2 : tie.Need-returns-2
 returns-2 c = past-header (c .before .before .before .before) _ (chain-stop _ _ _ (c .before .before .inodes-right .ensures .0) (c .if2 .taken))

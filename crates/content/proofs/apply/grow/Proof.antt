@@ -63,7 +63,7 @@ next-requires c κs =
     let g = sizes (c .before .before .before .before .before .before .before .before .before) .blocks in
     let h = c .before .before .loop .inv in
     let m = c .before .before .before .before .named-blocks .ensures in
-    (omega (arith, g, m .long), λ e. turn-some _ _ _ _ _ _ _ _ _ _ _ h (omega arith) (sym (turn-search _ _ _ _ _ _ _ _ _ _ _ h _ m g) ∙ e))
+    (omega arith, omega (arith, g, m .long), λ e. turn-some _ _ _ _ _ _ _ _ _ _ _ h (omega arith) (sym (turn-search _ _ _ _ _ _ _ _ _ _ _ h _ m g) ∙ e))
 
 zero-block-requires : tie.Need-zero-block-requires Inv-loop μ-loop
 zero-block-requires c κs = let r = bound (c .before) in (sized-same _ _ _ _ (c .before .before .before .before .loop .inv .same) (sizes (c .before .before .before .before .before .before .before .before .before .before .before)), r .0, r .1)
