@@ -16,7 +16,7 @@ use Rattle.bounded.proofs.CountLaws.{new-zero}
 use Rattle.bounded.proofs.SeenLaws.{new-noted, again-noted}
 use Rattle.bounded.proofs.ReflectLaws.{r-eq, r-le, r-lt, r-and, r-imp, r-fails, r-says, reflects-ext}
 use Rattle.octets.proofs.PartLaws.{getD-part}
-use Rattle.layout.specs.Sizes.{addressCount, blockBytes, mostFileBytes, mostDirectoryBytes, mostImageBlocks}
+use Rattle.layout.specs.Sizes.{addressCount, blockBytes, mostFileBytes, mostImageBlocks}
 use Rattle.layout.specs.Inode.{kindOf, spareOf, linksOf, sizeOf, parentOf, addressOf, addressIndex, freeKind, fileKind, directoryKind, attributesZero, addressesZero}
 use Rattle.blocks.specs.Block.{blockAt, blockOf, blocksUsed, kthBlock}
 use Rattle.blocks.specs.Free.{blockFree}
@@ -24,7 +24,7 @@ use Rattle.blocks.specs.Map.{noted, lacks, Maps}
 use Rattle.layout.proofs.InodeLaws.{attributes-none, addresses-none}
 use Rattle.blocks.proofs.MapLaws.{map-more, map-pass, map-as, map-free}
 use Rattle.sound.specs.Inode.{mostBytes, tailByte}
-use Rattle.sound.proofs.SoundLaws.{most-directory, most-file, most-any, attributes}
+use Rattle.sound.proofs.SoundLaws.{most-any, attributes}
 use Rattle.sound.specs.Test.{usedB, restB, tailB, attributesB, addressesB, zeroTailB, inodeB, blankBlockB}
 use Rattle.inodes.specs.Pass.{newBlockB, newBlocksB, addressB}
 
@@ -36,9 +36,8 @@ module _ (s : List ℕ) (i : ℕ) where
   pub attr-spare : (spareOf s i ≡ 0 → ⊥) → false ≡ attributesB s i
   attr-spare h = sym (r-fails (attributes s i) (λ a. h (a .1 .0)))
 
-  -- a size past the limit m of the kind
-  pub attr-size : (m : ℕ) → mostBytes (kindOf s i) ≡ m → m < sizeOf s i → false ≡ attributesB s i
-  attr-size m e h = sym (r-fails (attributes s i) (λ a. omega (arith, a .1 .1 .1 .0)))
+  pub attr-size : mostBytes (kindOf s i) < sizeOf s i → false ≡ attributesB s i
+  attr-size h = sym (r-fails (attributes s i) (λ a. omega (arith, a .1 .1 .1 .0)))
 
   -- a free inode that has links, or a size
   pub attr-linked : kindOf s i ≡ freeKind → (linksOf s i ≡ 0 → ⊥) → false ≡ attributesB s i
@@ -55,18 +54,18 @@ module _ (s : List ℕ) (i : ℕ) where
       (λ q. (omega arith, (eo, ((λ x. (el, (ez, sym ep ∙ q))), (omega arith, ((λ x. absurd (omega arith)), λ x. absurd (omega arith)))))))
       (attributes s i))
 
-  pub attr-file : (p : ℕ) → kindOf s i ≡ fileKind → spareOf s i ≡ 0 → sizeOf s i ≤ mostFileBytes → p ≡ parentOf s i → eqb p 0 ≡ attributesB s i
+  pub attr-file : (p : ℕ) → kindOf s i ≡ fileKind → spareOf s i ≡ 0 → sizeOf s i ≤ mostBytes (kindOf s i) → p ≡ parentOf s i → eqb p 0 ≡ attributesB s i
   attr-file p ek eo h ep =
       reflects-ext (r-eq p 0)
       (r-says (λ a. ep ∙ a .1 .1 .1 .1 .1 ek)
-      (λ q. (omega arith, (eo, ((λ x. absurd (omega arith)), (omega (arith, most-file (kindOf s i) ek), ((λ x. absurd (omega arith)), λ x. sym ep ∙ q))))))
+      (λ q. (omega arith, (eo, ((λ x. absurd (omega arith)), (h, ((λ x. absurd (omega arith)), λ x. sym ep ∙ q))))))
       (attributes s i))
 
-  pub attr-directory : (z : ℕ) → kindOf s i ≡ directoryKind → spareOf s i ≡ 0 → z ≤ mostDirectoryBytes → z ≡ sizeOf s i → eqb (z % blockBytes) 0 ≡ attributesB s i
+  pub attr-directory : (z : ℕ) → kindOf s i ≡ directoryKind → spareOf s i ≡ 0 → sizeOf s i ≤ mostBytes (kindOf s i) → z ≡ sizeOf s i → eqb (z % blockBytes) 0 ≡ attributesB s i
   attr-directory z ek eo h ez =
       reflects-ext (r-eq (z % blockBytes) 0)
       (r-says (λ a. omega (arith, ez, a .1 .1 .1 .1 .0 ek))
-      (λ q. (omega arith, (eo, ((λ x. absurd (omega arith)), (omega (arith, most-directory (kindOf s i) ek), ((λ x. omega (arith, ez, q)), λ x. absurd (omega arith)))))))
+      (λ q. (omega arith, (eo, ((λ x. absurd (omega arith)), (h, ((λ x. omega (arith, ez, q)), λ x. absurd (omega arith)))))))
       (attributes s i))
 
   attr-small : attributesB s i ≡ true → sizeOf s i ≤ mostFileBytes

@@ -11,6 +11,7 @@ ghost use Rattle.blocks.specs.Block.{blocksUsed};
 ghost use Rattle.blocks.specs.Free.{blockFree};
 ghost use Rattle.blocks.specs.Fits.{Sized};
 ghost use Rattle.blocks.specs.Map.{Maps};
+ghost use Rattle.sound.specs.Inode.{mostBytes};
 ghost use Rattle.sound.specs.Test.{attributesB, addressesB, zeroTailB, inodeB, blankBlockB};
 ghost use Rattle.inodes.specs.Pass.{addressB, newBlocksB};
 use blocks::map;
@@ -23,6 +24,16 @@ use layout::sizes::FREE;
 use layout::sizes::MOST_DIRECTORY_BYTES;
 use layout::sizes::MOST_FILE_BYTES;
 use octets::all_zero;
+
+// The most bytes of an inode of the kind.
+fn most_bytes(kind: u8) -> usize
+    ensures { λ r. ⌜ r ≡ mostBytes kind ⌝ }
+{
+    if kind == DIRECTORY {
+        return MOST_DIRECTORY_BYTES;
+    }
+    MOST_FILE_BYTES
+}
 
 // The attributes of inode i.
 fn attributes_right(s: &[u8], n: usize, i: usize) -> bool
@@ -37,6 +48,9 @@ fn attributes_right(s: &[u8], n: usize, i: usize) -> bool
     if inode::spare(s, n, i) != 0 {
         return false;
     }
+    if most_bytes(kind) < size {
+        return false;
+    }
     if kind == FREE {
         if inode::links(s, n, i) != 0 {
             return false;
@@ -47,13 +61,7 @@ fn attributes_right(s: &[u8], n: usize, i: usize) -> bool
         return inode::parent(s, n, i) == 0;
     }
     if kind == FILE {
-        if MOST_FILE_BYTES < size {
-            return false;
-        }
         return inode::parent(s, n, i) == 0;
-    }
-    if MOST_DIRECTORY_BYTES < size {
-        return false;
     }
     size % BLOCK_BYTES == 0
 }
