@@ -1,4 +1,4 @@
--- "A call takes the lowest free inode, block or slot that it needs". n is the inode count.
+-- "A call takes the lowest free .. block .. that it needs". n is the inode count.
 use Prim.Native.Nat.{ℕ, _*_}
 use mathlib.Core.Bool.{Bool, not}
 use mathlib.Core.List.{List}
@@ -7,15 +7,7 @@ use Rattle.bounded.specs.Below.{someBelow}
 use Rattle.bounded.specs.Search.{firstFrom}
 use Rattle.bounded.specs.declared.Found.{Found}
 use Rattle.layout.specs.Sizes.{addressCount}
-use Rattle.layout.specs.Inode.{kindOf, addressOf, freeKind}
-
--- inode i is free
-abbrev pub inodeFree : List ℕ → ℕ → Bool
-inodeFree s i = eqb (kindOf s i) freeKind
-
--- the lowest free inode
-unfoldable pub freeInode : List ℕ → ℕ → Found
-freeInode s n = firstFrom (inodeFree s) 1 n
+use Rattle.layout.specs.Inode.{addressOf}
 
 -- some address of some inode names block b
 unfoldable pub blockNamed : List ℕ → ℕ → ℕ → Bool

@@ -1,47 +1,18 @@
-// The lowest free inode, how many there are, and the lowest block that no address names.
+// Which blocks the addresses name, and the lowest that none names.
 ghost use mathlib.Core.Path.{_≡_};
 ghost use Prim.Native.Nat.{ℕ, _+_, _*_, _<_, _≤_};
 ghost use lib.ListN.{length};
-ghost use Rattle.bounded.specs.Count.{countTo};
 ghost use Rattle.layout.specs.Sizes.{headerBytes, inodeBytes, addressCount, mostInodes, mostImageBlocks};
 ghost use Rattle.layout.specs.Inode.{addressOf, addressIndex};
 ghost use Rattle.layout.specs.Fits.{InodeFits};
-ghost use Rattle.blocks.specs.Free.{inodeFree, freeInode, freeBlock};
+ghost use Rattle.blocks.specs.Free.{freeBlock};
 ghost use Rattle.blocks.specs.Map.{Maps};
 use crate::map;
 use crate::map::BLOCK_PLACES;
 use bounded::Found;
 use layout::inode::address;
 use layout::inode::addresses_zero;
-use layout::inode::kind;
 use layout::sizes::ADDRESS_COUNT;
-use layout::sizes::FREE;
-
-pub fn free_inode(s: &[u8], n: usize) -> Found
-    requires { ⌜ (n ≤ mostInodes) × (headerBytes + inodeBytes * n ≤ length (now s)) ⌝ }
-    ensures { λ r. ⌜ r ≡ freeInode (now (s .entry)) n ⌝ }
-{
-    for i in 1..n + 1 {
-        if kind(s, n, i) == FREE {
-            return Found::At(i);
-        }
-    }
-    Found::Absent
-}
-
-// How many inodes are free, counted in 16 bits as free blocks are.
-pub fn free_inodes(s: &[u8], n: usize) -> usize
-    requires { ⌜ (n ≤ mostInodes) × (headerBytes + inodeBytes * n ≤ length (now s)) ⌝ }
-    ensures { λ r. ⌜ r ≡ countTo (inodeFree (now (s .entry))) n ⌝ }
-{
-    let mut free = 0u16;
-    for k in 0..n {
-        if kind(s, n, k + 1) == FREE {
-            free += 1;
-        }
-    }
-    free as usize
-}
 
 // The addresses of inode i are noted in the map. Most inodes have none.
 fn note_blocks(s: &[u8], n: usize, i: usize, map: &mut [u8])

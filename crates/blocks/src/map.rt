@@ -53,7 +53,7 @@ pub fn next(map: &[u8], first: usize, last: usize) -> usize
     c
 }
 
-// How many of the count blocks the map does not have. A count of 16 bits, since a vector has more of them.
+// How many of the count blocks the map does not have, counted in 16 bits as free inodes are.
 pub fn free_blocks(map: &[u8], count: usize) -> usize
     requires { ⌜ (count < length (now map)) × (count ≤ mostImageBlocks) ⌝ }
     ensures { λ r. ⌜ r ≡ countTo (lacks (now (map .entry))) count ⌝ }

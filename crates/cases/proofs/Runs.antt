@@ -9,9 +9,9 @@ use Rattle.marks.specs.Mark.{digit, marked, withMark, withoutMark}
 use Rattle.names.specs.Entry.{entryInode, isEmpty, sameByte, sameName, nameLength, entryName, legalEntry, entryFor}
 use Rattle.names.specs.Name.{plainByte, isDots, legalName}
 use Rattle.blocks.specs.Block.{blockOf, putInBlock, zeroBlock, blocksUsed, kthBlock, allowed}
-use Rattle.blocks.specs.Free.{freeInode, blockNamed, freeBlock}
+use Rattle.blocks.specs.Free.{blockNamed, freeBlock}
 use Rattle.layout.specs.Header.{headerOf, putFree, putComplete, putHeader, headerRestZero, lessFree, moreFree}
-use Rattle.layout.specs.Inode.{kindOf, spareOf, linksOf, sizeOf, parentOf, putLinks, attributeEntry, putAttributes, addressOf, putAddress, addressesOf, putAddresses, inodeOf, putInode, isKind, zeroInode}
+use Rattle.layout.specs.Inode.{kindOf, spareOf, linksOf, sizeOf, parentOf, putLinks, attributeEntry, putAttributes, addressOf, putAddress, addressesOf, putAddresses, inodeOf, putInode, isKind, zeroInode, freeInode}
 use Rattle.directory.specs.Slot.{slots, slotAt, entryOf, slotHasName, findSlot, slotEmpty, emptySlot, putEntry, clearEntry}
 use Rattle.desk.specs.Desk.{deskOf, putDesk, copiedOf, putCopied, marksOf, putMarks, markOf, setMark, clearMark, clearNotes}
 use Rattle.sound.specs.Entry.{sameNames}

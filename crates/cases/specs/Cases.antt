@@ -8,9 +8,8 @@ use Rattle.bounded.specs.Count.{tally}
 use Rattle.bounded.specs.declared.Found.the-variants.{At, Absent}
 use Rattle.layout.specs.Sizes.{mostFileBytes}
 use Rattle.layout.specs.Header.{headerOf}
-use Rattle.layout.specs.Inode.{sizeOf, isFile, isDirectory}
+use Rattle.layout.specs.Inode.{sizeOf, isFile, isDirectory, freeInode}
 use Rattle.blocks.specs.Block.{blocksUsed, blockOf, kthBlock}
-use Rattle.blocks.specs.Free.{freeInode}
 use Rattle.names.specs.Name.{nameBytes, slash, legalName}
 use Rattle.directory.specs.Slot.{mostSlots, slots, findSlot, emptySlot, slotEmpty}
 use Rattle.desk.specs.Sizes.{finished}

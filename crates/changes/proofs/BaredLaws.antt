@@ -16,9 +16,9 @@ use Rattle.bounded.proofs.TallyLaws.{count-but}
 use Rattle.layout.specs.Sizes.{addressCount, blockBytes}
 use Rattle.layout.specs.Header.{headerOf}
 use Rattle.layout.specs.declared.inode.Inode.{Inode}
-use Rattle.layout.specs.Inode.{kindOf, sizeOf, addressOf, putInode, freeKind, fileKind, directoryKind}
+use Rattle.layout.specs.Inode.{kindOf, sizeOf, addressOf, putInode, freeKind, fileKind, directoryKind, inodeFree}
 use Rattle.blocks.specs.Block.{blocksUsed, kthBlock}
-use Rattle.blocks.specs.Free.{inodeFree, blockFree}
+use Rattle.blocks.specs.Free.{blockFree}
 use Rattle.layout.specs.Fits.{InodeFits}
 use Rattle.directory.specs.Slot.{mostSlots, slots}
 use Rattle.sound.specs.Place.{dirOf, isSlot, filled, naming}

@@ -12,8 +12,8 @@ use Rattle.bounded.proofs.CountLaws.{count-ext, count-le, count-pos, count-some
 use Rattle.bounded.proofs.SearchLaws.{found-lowest, lowest-of, lowest-found}
 use Rattle.layout.specs.Sizes.{mostInodes, mostStoreBlocks}
 use Rattle.layout.specs.Header.{headerOf}
-use Rattle.layout.specs.Inode.{kindOf, freeKind}
-use Rattle.blocks.specs.Free.{blockNamed, inodeFree, freeInode, freeBlock, blockFree}
+use Rattle.layout.specs.Inode.{kindOf, freeKind, inodeFree, freeInode}
+use Rattle.blocks.specs.Free.{blockNamed, freeBlock, blockFree}
 use Rattle.sound.specs.Sound.{Sound, inodesIn, blocksIn}
 use Rattle.sound.specs.declared.Form.the-variants.{Store}
 

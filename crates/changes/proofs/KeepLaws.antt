@@ -18,9 +18,9 @@ use Rattle.octets.specs.Octets.{part}
 use Rattle.octets.proofs.PartLaws.{part-part}
 use Rattle.layout.specs.Sizes.{addressCount, blockBytes, rootInode}
 use Rattle.layout.specs.Header.{headerOf}
-use Rattle.layout.specs.Inode.{kindOf, linksOf, sizeOf, parentOf, addressOf, freeKind, fileKind, directoryKind}
+use Rattle.layout.specs.Inode.{kindOf, linksOf, sizeOf, parentOf, addressOf, freeKind, fileKind, directoryKind, inodeFree}
 use Rattle.blocks.specs.Block.{blockAt, blockOf, blocksUsed, kthBlock}
-use Rattle.blocks.specs.Free.{inodeFree, blockFree}
+use Rattle.blocks.specs.Free.{blockFree}
 use Rattle.names.specs.Entry.{isEmpty, legalEntry}
 use Rattle.names.proofs.EntryLaws.{empty-inode}
 use Rattle.directory.specs.Slot.{mostSlots, slots, slotAt, entryOf}

@@ -8,9 +8,9 @@ use Rattle.bounded.proofs.CaseLaws.{each-else}
 use Rattle.layout.specs.Sizes.{addressCount, blockBytes}
 use Rattle.layout.specs.Header.{headerOf}
 use Rattle.layout.specs.declared.header.Header.{Header}
-use Rattle.layout.specs.Inode.{kindOf, sizeOf, parentOf, addressOf, freeKind, fileKind}
+use Rattle.layout.specs.Inode.{kindOf, sizeOf, parentOf, addressOf, freeKind, fileKind, inodeFree}
 use Rattle.blocks.specs.Block.{blocksUsed, kthBlock}
-use Rattle.blocks.specs.Free.{inodeFree, blockFree}
+use Rattle.blocks.specs.Free.{blockFree}
 use Rattle.sound.specs.Inode.{InodeSound}
 use Rattle.sound.specs.Sound.{Sound}
 use Rattle.sound.specs.Counted.{SoundStore}

@@ -14,11 +14,11 @@ use Rattle.bounded.proofs.BoolLaws.{fails, and-false-l, chain-end}
 use Rattle.bounded.proofs.ReflectLaws.{r-all, r-to}
 use Rattle.layout.specs.Sizes.{rootInode, addressCount, mostImageBlocks}
 use Rattle.layout.specs.Header.{headerOf, headerRestZero}
-use Rattle.layout.specs.Inode.{kindOf, parentOf, addressOf, directoryKind}
+use Rattle.layout.specs.Inode.{kindOf, parentOf, addressOf, directoryKind, inodeFree}
 use Rattle.blocks.specs.Block.{blocksUsed, allowed}
 use Rattle.directory.specs.Slot.{mostSlots}
 use Rattle.directory.specs.Fits.{DirFits}
-use Rattle.blocks.specs.Free.{inodeFree, blockFree}
+use Rattle.blocks.specs.Free.{blockFree}
 use Rattle.blocks.specs.Map.{lacks, Maps}
 use Rattle.blocks.proofs.MapLaws.{map-count}
 use Rattle.layout.specs.declared.header.Header.{Header}

@@ -10,7 +10,6 @@ ghost use Rattle.sound.specs.declared.Form.the-variants.{Image};
 use crate::entries;
 use crate::links;
 use blocks::allowed;
-use blocks::free;
 use blocks::map;
 use blocks::map::BLOCK_PLACES;
 use layout::header;
@@ -78,7 +77,7 @@ fn counts_right(s: &[u8], n: usize, b: usize, map: &[u8]) -> bool
     ensures { λ r. ⌜ r ≡ freeCountsB (now (s .entry)) ⌝ }
 {
     let h = Header::read(s);
-    if h.free_inodes as usize != free::free_inodes(s, n) {
+    if h.free_inodes as usize != inode::free_inodes(s, n) {
         return false;
     }
     h.free_blocks as usize == map::free_blocks(map, b)

@@ -11,9 +11,9 @@ use Rattle.bounded.proofs.BoolLaws.{clash}
 use Rattle.bounded.proofs.SearchLaws.{by-pick, by-found}
 use Rattle.layout.specs.Sizes.{mostFileBytes, addressCount}
 use Rattle.layout.specs.Header.{headerOf}
-use Rattle.layout.specs.Inode.{kindOf, sizeOf, directoryKind, isFile, isDirectory}
+use Rattle.layout.specs.Inode.{kindOf, sizeOf, directoryKind, isFile, isDirectory, freeInode}
 use Rattle.blocks.specs.Block.{blocksUsed}
-use Rattle.blocks.specs.Free.{freeInode, freeBlock}
+use Rattle.blocks.specs.Free.{freeBlock}
 use Rattle.names.specs.Name.{legalName}
 use Rattle.directory.specs.Slot.{findSlot, emptySlot, inodeAt}
 use Rattle.sound.specs.Sound.{inodesIn, blocksIn}

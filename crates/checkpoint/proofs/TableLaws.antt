@@ -10,9 +10,8 @@ use Rattle.bounded.specs.declared.Found.{Found}
 use Rattle.bounded.specs.declared.Found.the-variants.{At, Absent}
 use Rattle.layout.specs.Sizes.{mostFileBytes}
 use Rattle.layout.specs.Header.{headerOf}
-use Rattle.layout.specs.Inode.{kindOf, sizeOf, directoryKind, isFile, isDirectory}
+use Rattle.layout.specs.Inode.{kindOf, sizeOf, directoryKind, isFile, isDirectory, freeInode}
 use Rattle.blocks.specs.Block.{blocksUsed}
-use Rattle.blocks.specs.Free.{freeInode}
 use Rattle.names.specs.Name.{legalName}
 use Rattle.directory.specs.Slot.{findSlot}
 use Rattle.sound.specs.Sound.{inodesIn, blocksIn}

@@ -11,9 +11,9 @@ use Rattle.bounded.specs.declared.Found.the-variants.{At}
 use Rattle.octets.specs.Octets.{part, splice}
 use Rattle.layout.specs.Sizes.{rootInode, isComplete, notComplete}
 use Rattle.layout.specs.Header.{putHeader, putFree, putComplete}
-use Rattle.layout.specs.Inode.{kindOf, sizeOf, inodeOf, putAttributes, putLinks, putAddress, addressIndex, directoryKind, withLinks}
+use Rattle.layout.specs.Inode.{kindOf, sizeOf, inodeOf, putAttributes, putLinks, putAddress, addressIndex, directoryKind, withLinks, inodeFree}
 use Rattle.blocks.specs.Block.{blockOf, putInBlock, blocksUsed, kthBlock}
-use Rattle.blocks.specs.Free.{blockNamed, freeBlock, inodeFree, blockFree}
+use Rattle.blocks.specs.Free.{blockNamed, freeBlock, blockFree}
 use Rattle.layout.specs.declared.inode.Inode.{Inode}
 use Rattle.names.specs.Entry.{entryBytes, entryInode}
 use Rattle.directory.specs.Slot.{mostSlots, slotsInBlock}

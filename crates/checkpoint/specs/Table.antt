@@ -11,9 +11,9 @@ use Rattle.bounded.specs.declared.Found.{Found}
 use Rattle.bounded.specs.declared.Found.the-variants.{At, Absent}
 use Rattle.layout.specs.Sizes.{mostFileBytes, mostDirectoryBlocks}
 use Rattle.layout.specs.Header.{headerOf}
-use Rattle.layout.specs.Inode.{kindOf, sizeOf, directoryKind, isFile, isDirectory}
+use Rattle.layout.specs.Inode.{kindOf, sizeOf, directoryKind, isFile, isDirectory, freeInode}
 use Rattle.blocks.specs.Block.{blocksUsed}
-use Rattle.blocks.specs.Free.{blockNamed, freeInode, freeBlock}
+use Rattle.blocks.specs.Free.{blockNamed, freeBlock}
 use Rattle.names.specs.Name.{legalName}
 use Rattle.directory.specs.Slot.{findSlot, emptySlot, inodeAt}
 use Rattle.desk.specs.Desk.{deskOf}

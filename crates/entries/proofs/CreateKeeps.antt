@@ -12,8 +12,7 @@ use Rattle.layout.specs.Sizes.{addressCount}
 use Rattle.layout.specs.Header.{headerOf, lessFree}
 use Rattle.layout.specs.declared.header.Header.{Header}
 use Rattle.layout.specs.declared.inode.Inode.{Inode}
-use Rattle.layout.specs.Inode.{kindOf, sizeOf, putInode, freeKind, fileKind, directoryKind, isDirectory}
-use Rattle.blocks.specs.Free.{freeInode}
+use Rattle.layout.specs.Inode.{kindOf, sizeOf, putInode, freeKind, fileKind, directoryKind, isDirectory, freeInode}
 use Rattle.blocks.proofs.FrameLaws.{length-inode}
 use Rattle.blocks.proofs.ViewLaws.{inode-fits}
 use Rattle.layout.specs.Fits.{InodeFits}

@@ -14,9 +14,8 @@ use Rattle.layout.specs.Sizes.{headerBytes, mostInodes, mostStoreBlocks, addres
 use Rattle.layout.specs.declared.header.Header.{Header}
 use Rattle.layout.specs.declared.inode.Inode.{Inode}
 use Rattle.layout.specs.Header.{headerOf, moreFree}
-use Rattle.layout.specs.Inode.{kindOf, linksOf, sizeOf, inodeOf, putInode, putLinks, putAttributes, directoryKind, isDirectory, zeroInode, withParent}
+use Rattle.layout.specs.Inode.{kindOf, linksOf, sizeOf, inodeOf, putInode, putLinks, putAttributes, directoryKind, isDirectory, zeroInode, withParent, freeInode}
 use Rattle.blocks.specs.Block.{blocksUsed, kthBlock}
-use Rattle.blocks.specs.Free.{freeInode}
 use Rattle.blocks.proofs.ViewLaws.{inode-fits}
 use Rattle.blocks.proofs.FrameLaws.{length-inode}
 use Rattle.layout.specs.Fits.{InodeFits}

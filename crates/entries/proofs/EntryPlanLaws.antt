@@ -7,9 +7,9 @@ use native.Mathlib.Omega.{arith}
 use borrow.Author.Tests.{lt-ltb, le-ltb}
 use Rattle.bounded.specs.declared.Found.the-variants.{At, Absent}
 use Rattle.layout.specs.Sizes.{mostDirectoryBlocks}
-use Rattle.layout.specs.Inode.{sizeOf, isFile, isDirectory}
+use Rattle.layout.specs.Inode.{sizeOf, isFile, isDirectory, freeInode}
 use Rattle.blocks.specs.Block.{blocksUsed}
-use Rattle.blocks.specs.Free.{freeInode, freeBlock}
+use Rattle.blocks.specs.Free.{freeBlock}
 use Rattle.names.specs.Name.{legalName}
 use Rattle.directory.specs.Slot.{slots, mostSlots, emptySlot, findSlot, inodeAt}
 use Rattle.answers.specs.declared.Refusal.{Refusal}

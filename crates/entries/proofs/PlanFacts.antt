@@ -10,8 +10,7 @@ use Rattle.bounded.specs.Search.{pick}
 use Rattle.bounded.specs.declared.Found.the-variants.{At, Absent}
 use Rattle.bounded.proofs.BoolLaws.{and-left, and-right, clash}
 use Rattle.bounded.proofs.SearchLaws.{pick-else, pick-not, found-none, found-at}
-use Rattle.layout.specs.Inode.{kindOf, directoryKind, isFile, isDirectory}
-use Rattle.blocks.specs.Free.{freeInode}
+use Rattle.layout.specs.Inode.{kindOf, directoryKind, isFile, isDirectory, freeInode}
 use Rattle.names.specs.Name.{legalName}
 use Rattle.directory.specs.Slot.{findSlot, inodeAt}
 use Rattle.answers.specs.declared.Refusal.{Refusal}

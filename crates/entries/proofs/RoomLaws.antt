@@ -14,9 +14,9 @@ use Rattle.bounded.specs.declared.Found.the-variants.{At, Absent}
 use Rattle.bounded.proofs.SearchLaws.{first-ext, first-split, absent-of, found-else}
 use Rattle.layout.specs.Sizes.{mostDirectoryBlocks}
 use Rattle.layout.specs.Header.{headerOf}
-use Rattle.layout.specs.Inode.{kindOf, sizeOf, freeKind, directoryKind, isKind, isDirectory}
+use Rattle.layout.specs.Inode.{kindOf, sizeOf, freeKind, directoryKind, isKind, isDirectory, inodeFree, freeInode}
 use Rattle.blocks.specs.Block.{blocksUsed}
-use Rattle.blocks.specs.Free.{inodeFree, freeInode, freeBlock}
+use Rattle.blocks.specs.Free.{freeBlock}
 use Rattle.names.specs.Name.{legalName}
 use Rattle.names.specs.Entry.{sameName}
 use Rattle.names.proofs.EntryLaws.{empty-not-named}

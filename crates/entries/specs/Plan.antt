@@ -6,8 +6,7 @@ use lib.Dec.{eqb}
 use Rattle.bounded.specs.Below.{allBelow}
 use Rattle.bounded.specs.Search.{pick, onFound}
 use Rattle.bounded.specs.Climb.{leadsB}
-use Rattle.layout.specs.Inode.{kindOf, parentOf, directoryKind, isFile, isDirectory}
-use Rattle.blocks.specs.Free.{freeInode}
+use Rattle.layout.specs.Inode.{kindOf, parentOf, directoryKind, isFile, isDirectory, freeInode}
 use Rattle.names.specs.Name.{legalName}
 use Rattle.directory.specs.Slot.{slots, inodeAt, findSlot, slotEmpty}
 use Rattle.answers.specs.declared.Refusal.the-variants.{IllegalName, WrongInode, NameAbsent, NameTaken, NotEmpty, IntoItself, NoInode}

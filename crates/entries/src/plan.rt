@@ -78,7 +78,7 @@ pub fn create_plan(s: &[u8], n: usize, b: usize, d: usize, name: &[u8]) -> Creat
     let Found::Absent = directory::find_slot(s, n, d, name) else {
         return CreatePlan::NoCreate(Refusal::NameTaken);
     };
-    let Found::At(i) = free::free_inode(s, n) else {
+    let Found::At(i) = inode::free_inode(s, n) else {
         return CreatePlan::NoCreate(Refusal::NoInode);
     };
     match room_in(s, n, b, d) {

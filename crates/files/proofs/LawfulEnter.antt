@@ -5,12 +5,11 @@ use mathlib.Core.Logic.{_≢_, inl}
 use mathlib.Core.Bool.{true, false}
 use mathlib.Core.List.{List, [], _∷_}
 use native.Mathlib.Omega.{arith}
-use Rattle.layout.specs.Inode.{linksOf, fileKind, isFile}
+use Rattle.layout.specs.Inode.{linksOf, fileKind, isFile, freeInode}
 use Rattle.blocks.proofs.ViewLaws.{inode-fits}
 use Rattle.directory.specs.Slot.{mostSlots, slotEmpty, findSlot}
 use Rattle.bounded.specs.declared.Found.the-variants.{At, Absent}
 use Rattle.bounded.proofs.BoolLaws.{clash, fails}
-use Rattle.blocks.specs.Free.{freeInode}
 use Rattle.names.specs.Entry.{isEmpty}
 use Rattle.sound.specs.Place.{entryAt, filled, placeOf}
 use Rattle.sound.specs.Sound.{Sound}

@@ -22,9 +22,9 @@ use Rattle.octets.proofs.ZeroLaws.{byte-zeros, num-zeros, zero-over}
 use Rattle.layout.specs.Sizes.{mostInodes, mostStoreBlocks, rootInode}
 use Rattle.layout.specs.declared.header.Header.{Header}
 use Rattle.layout.specs.Header.{headerOf, putHeader, putFree, putComplete, headerRestZero}
-use Rattle.layout.specs.Inode.{attributesAt, addressAt, addressIndex, kindOf, spareOf, linksOf, sizeOf, parentOf, addressOf, attributeEntry, putAttributes, putAddresses, putInode, freeKind, directoryKind}
+use Rattle.layout.specs.Inode.{attributesAt, addressAt, addressIndex, kindOf, spareOf, linksOf, sizeOf, parentOf, addressOf, attributeEntry, putAttributes, putAddresses, putInode, freeKind, directoryKind, inodeFree}
 use Rattle.blocks.specs.Block.{storeLength, blocksUsed, allowed}
-use Rattle.blocks.specs.Free.{blockNamed, inodeFree, blockFree}
+use Rattle.blocks.specs.Free.{blockNamed, blockFree}
 use Rattle.blocks.proofs.FrameLaws.{length-header, length-inode, header-past}
 use Rattle.blocks.proofs.ViewLaws.{header-put}
 use Rattle.directory.specs.Slot.{mostSlots, slots}

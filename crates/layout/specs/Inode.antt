@@ -6,7 +6,9 @@ use lib.Dec.{eqb, leb}
 use lib.ListN.{replicate}
 use Rattle.octets.specs.Octets.{splice, numAt, toBytes, putNum, wordBytes}
 use Rattle.bounded.specs.Below.{allBelow}
+use Rattle.bounded.specs.Search.{firstFrom}
 use Rattle.bounded.specs.Table.{table}
+use Rattle.bounded.specs.declared.Found.{Found}
 use Rattle.layout.specs.Sizes.{headerBytes, attributeBytes, addressCount}
 use Rattle.layout.specs.declared.inode.Inode.{Inode}
 
@@ -93,6 +95,14 @@ isFile s n i = isKind s n fileKind i
 
 abbrev pub isDirectory : List ℕ → ℕ → ℕ → Bool
 isDirectory s n i = isKind s n directoryKind i
+
+-- inode i is free
+abbrev pub inodeFree : List ℕ → ℕ → Bool
+inodeFree s i = eqb (kindOf s i) freeKind
+
+-- "A call takes the lowest free inode .. that it needs"
+unfoldable pub freeInode : List ℕ → ℕ → Found
+freeInode s n = firstFrom (inodeFree s) 1 n
 
 -- "all-zero attributes and addresses": both, each by itself
 unfoldable pub attributesZero : List ℕ → ℕ → Bool

@@ -2,13 +2,16 @@
 ghost use mathlib.Core.Path.{_≡_};
 ghost use Prim.Native.Nat.{_+_, _*_, _<_, _≤_};
 ghost use lib.ListN.{length};
+ghost use Rattle.bounded.specs.Count.{countTo};
 ghost use Rattle.octets.specs.Octets.{splice, wordBytes};
 ghost use Rattle.layout.specs.Sizes.{headerBytes, inodeBytes, addressCount, addressBytes, mostInodes, mostFileBytes};
-ghost use Rattle.layout.specs.Inode.{attributesAt, addressAt, kindOf, spareOf, linksOf, sizeOf, parentOf, attributesZero, addressesZero, putLinks, putAttributes, addressOf, putAddress, addressesOf, inodeOf, putInode, emptyInode, withLinks, withSize, withBlocks, withParent};
+ghost use Rattle.layout.specs.Inode.{attributesAt, addressAt, kindOf, spareOf, linksOf, sizeOf, parentOf, inodeFree, freeInode, attributesZero, addressesZero, putLinks, putAttributes, addressOf, putAddress, addressesOf, inodeOf, putInode, emptyInode, withLinks, withSize, withBlocks, withParent};
 ghost use Rattle.layout.specs.Fits.{InodeFits};
 use crate::sizes::ADDRESS_COUNT;
 use crate::sizes::ATTRIBUTE_BYTES;
+use crate::sizes::FREE;
 use crate::sizes::HEADER_BYTES;
+use bounded::Found;
 
 pub struct Inode {
     pub kind: u8,
@@ -83,6 +86,33 @@ pub fn addresses_zero(s: &[u8], n: usize, i: usize) -> bool
     ensures { λ r. ⌜ r ≡ addressesZero (now (s .entry)) n i ⌝ }
 {
     octets::words_zero(s, address_at(n, ADDRESS_COUNT * (i - 1)), 3)
+}
+
+// The lowest free inode.
+pub fn free_inode(s: &[u8], n: usize) -> Found
+    requires { ⌜ (n ≤ mostInodes) × (headerBytes + inodeBytes * n ≤ length (now s)) ⌝ }
+    ensures { λ r. ⌜ r ≡ freeInode (now (s .entry)) n ⌝ }
+{
+    for i in 1..n + 1 {
+        if kind(s, n, i) == FREE {
+            return Found::At(i);
+        }
+    }
+    Found::Absent
+}
+
+// How many inodes are free. A count of 16 bits, since a vector has more of them.
+pub fn free_inodes(s: &[u8], n: usize) -> usize
+    requires { ⌜ (n ≤ mostInodes) × (headerBytes + inodeBytes * n ≤ length (now s)) ⌝ }
+    ensures { λ r. ⌜ r ≡ countTo (inodeFree (now (s .entry))) n ⌝ }
+{
+    let mut free = 0u16;
+    for k in 0..n {
+        if kind(s, n, k + 1) == FREE {
+            free += 1;
+        }
+    }
+    free as usize
 }
 
 pub fn put_links(s: &mut [u8], n: usize, i: usize, v: u16)

@@ -15,10 +15,10 @@ use Rattle.bounded.proofs.CountLaws.{met-at}
 use Rattle.bounded.proofs.ReflectLaws.{r-eq, r-le, r-lt, r-true, r-false, r-and, r-then, r-not, r-where, r-imp, r-else, r-all, r-to, r-differ, r-leads, r-says}
 use Rattle.layout.specs.Sizes.{mostFileBytes, mostDirectoryBytes, addressCount, blockBytes, rootInode}
 use Rattle.layout.specs.Header.{headerOf, headerRestZero}
-use Rattle.layout.specs.Inode.{kindOf, spareOf, linksOf, sizeOf, parentOf, addressOf, addressIndex, freeKind, fileKind, directoryKind}
+use Rattle.layout.specs.Inode.{kindOf, spareOf, linksOf, sizeOf, parentOf, addressOf, addressIndex, freeKind, fileKind, directoryKind, inodeFree}
 use Rattle.blocks.specs.Block.{blockOf, blocksUsed, kthBlock}
 use Rattle.blocks.proofs.AllowedLaws.{allowed-is}
-use Rattle.blocks.specs.Free.{inodeFree, blockFree}
+use Rattle.blocks.specs.Free.{blockFree}
 use Rattle.names.specs.Entry.{legalEntry}
 use Rattle.directory.specs.Slot.{mostSlots}
 use Rattle.sound.specs.Place.{IsDir, dirOf, slotOf, isSlot, entryAt, filled, naming}

@@ -7,9 +7,9 @@ use lib.ListN.{length, getD}
 use Rattle.bounded.specs.Count.{countTo, Differ}
 use Rattle.layout.specs.Sizes.{mostStoreBlocks, mostImageBlocks, addressCount, blockBytes, rootInode, isComplete}
 use Rattle.layout.specs.Header.{headerOf, headerRestZero}
-use Rattle.layout.specs.Inode.{kindOf, parentOf, addressOf, directoryKind}
+use Rattle.layout.specs.Inode.{kindOf, parentOf, addressOf, directoryKind, inodeFree}
 use Rattle.blocks.specs.Block.{Allowed, blockOf}
-use Rattle.blocks.specs.Free.{inodeFree, blockFree}
+use Rattle.blocks.specs.Free.{blockFree}
 use Rattle.directory.specs.Slot.{mostSlots}
 use Rattle.sound.specs.Place.{filled}
 use Rattle.sound.specs.Inode.{InodeSound}

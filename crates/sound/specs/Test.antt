@@ -9,9 +9,9 @@ use Rattle.bounded.specs.Count.{countTo, tally, differB}
 use Rattle.bounded.specs.Climb.{leadsB}
 use Rattle.layout.specs.Sizes.{addressCount, blockBytes, rootInode, isComplete}
 use Rattle.layout.specs.Header.{headerOf, headerRestZero}
-use Rattle.layout.specs.Inode.{kindOf, spareOf, linksOf, sizeOf, parentOf, addressOf, addressIndex, freeKind, fileKind, directoryKind}
+use Rattle.layout.specs.Inode.{kindOf, spareOf, linksOf, sizeOf, parentOf, addressOf, addressIndex, freeKind, fileKind, directoryKind, inodeFree}
 use Rattle.blocks.specs.Block.{allowed, blockOf, blocksUsed, kthBlock}
-use Rattle.blocks.specs.Free.{inodeFree, blockFree}
+use Rattle.blocks.specs.Free.{blockFree}
 use Rattle.names.specs.Entry.{legalEntry}
 use Rattle.directory.specs.Slot.{mostSlots}
 use Rattle.sound.specs.Place.{dirOf, slotOf, entryAt, filled, naming}

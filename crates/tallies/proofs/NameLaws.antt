@@ -20,9 +20,8 @@ use Rattle.octets.proofs.PartLaws.{cut}
 use Rattle.octets.proofs.NumLaws.{length-num}
 use Rattle.layout.specs.Sizes.{mostInodes, mostImageBlocks, addressCount, isComplete}
 use Rattle.layout.specs.Header.{putFree, putComplete}
-use Rattle.layout.specs.Inode.{kindOf, directoryKind, addressIndex, putLinks}
+use Rattle.layout.specs.Inode.{kindOf, directoryKind, addressIndex, putLinks, inodeFree}
 use Rattle.blocks.specs.Block.{blockAt, kthBlock}
-use Rattle.blocks.specs.Free.{inodeFree}
 use Rattle.blocks.specs.Map.{lacks, Maps}
 use Rattle.blocks.proofs.MapLaws.{map-count}
 use Rattle.names.specs.Entry.{entryInode}

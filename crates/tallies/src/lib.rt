@@ -139,7 +139,7 @@ pub fn finish_image(m: &mut [u8], n: usize, b: usize)
 {
     let counts = count_names(&*m, n);
     let map = free::named_blocks(&*m, n);
-    let inodes = free::free_inodes(&*m, n);
+    let inodes = inode::free_inodes(&*m, n);
     let blocks = map::free_blocks(&map, b);
     put_counts(&mut *m, n, &counts);
     header::put_free(&mut *m, inodes as u16, blocks as u16);

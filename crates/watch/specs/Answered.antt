@@ -5,8 +5,7 @@ use mathlib.Core.Path.{_≡_}
 use mathlib.Core.Bool.{Bool, true, false, not}
 use mathlib.Core.List.{List, [], _∷_}
 use lib.ListN.{length}
-use Rattle.layout.specs.Inode.{sizeOf}
-use Rattle.blocks.specs.Free.{freeInode}
+use Rattle.layout.specs.Inode.{sizeOf, freeInode}
 use Rattle.blocks.specs.Block.{allowed}
 use Rattle.layout.specs.Sizes.{mostStoreBlocks}
 use Rattle.desk.specs.Desk.{deskOf}

@@ -14,12 +14,12 @@ use Rattle.octets.proofs.NumLaws.{num-other, length-toBytes}
 use Rattle.layout.specs.Sizes.{mostInodes, isComplete}
 use Rattle.layout.specs.declared.header.Header.{Header}
 use Rattle.layout.specs.Header.{headerOf, headerRestZero, putFree, putComplete}
-use Rattle.layout.specs.Inode.{addressIndex, linksOf, parentOf, putLinks}
+use Rattle.layout.specs.Inode.{addressIndex, linksOf, parentOf, putLinks, inodeFree}
 use Rattle.blocks.specs.Block.{blockAt, blockOf, kthBlock}
 use Rattle.blocks.proofs.View.{completion}
 use Rattle.blocks.proofs.FrameLaws.{length-complete, kind-apart, spare-apart, size-apart, links-apart, parent-apart, address-apart}
 use Rattle.blocks.proofs.ViewLaws.{header-complete}
-use Rattle.blocks.specs.Free.{inodeFree, blockFree}
+use Rattle.blocks.specs.Free.{blockFree}
 use Rattle.layout.specs.Fits.{InodeFits}
 use Rattle.directory.specs.Slot.{mostSlots}
 use Rattle.changes.proofs.SameLaws.{SameFrame, SameInode, SameBody, SameBlock, same-body, body-then, frame-then, frame-stays, inode-stays, put-links, links-new, links-body, links-parent, put-free}

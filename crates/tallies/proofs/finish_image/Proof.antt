@@ -4,7 +4,7 @@ use Rattle.tallies.proofs.NameLaws.{finish-read}
 use denote.Ref.{now}
 use native.Mathlib.Omega.{arith}
 use borrow.Author.Needs.{needs}
-use Rattle.blocks.specs.Free.{inodeFree}
+use Rattle.layout.specs.Inode.{inodeFree}
 use Rattle.blocks.specs.Map.{lacks}
 use Rattle.tallies.proofs.finish_image.Statement.{statement}
 use Rattle.tallies.proofs.finish_image.Tie as tie

@@ -4,7 +4,7 @@ use denote.Ref.{now}
 use native.Mathlib.Omega.{arith}
 use Rattle.bounded.specs.Count.{countTo}
 use Rattle.layout.specs.Sizes.{addressCount}
-use Rattle.blocks.specs.Free.{inodeFree}
+use Rattle.layout.specs.Inode.{inodeFree}
 use Rattle.blocks.specs.Map.{Maps}
 use Rattle.checker.proofs.CheckLaws.{counts-1, counts-2}
 use borrow.Author.Needs.{needs}

@@ -4,11 +4,11 @@ use mathlib.Core.Logic.{⊎-elim}
 use native.Mathlib.Omega.{arith}
 use borrow.Author.Needs.{needs}
 use borrow.Author.Tests.{eq-eqb, ne-eqb}
-use Rattle.blocks.specs.Free.{inodeFree}
+use Rattle.layout.specs.Inode.{inodeFree}
 use Rattle.bounded.specs.Count.{countTo}
 use Rattle.bounded.proofs.CountLaws.{count-hit, count-miss, count-le, count-zero}
-use Rattle.blocks.proofs.free.free_inodes.Statement.{statement}
-use Rattle.blocks.proofs.free.free_inodes.Tie as tie
+use Rattle.layout.proofs.inode.free_inodes.Statement.{statement}
+use Rattle.layout.proofs.inode.free_inodes.Tie as tie
 
 abbrev Inv-loop : tie.InvT-loop
 Inv-loop s n free₀ k₀ free k = (k ≤ n) × (free ≡ countTo (inodeFree s) k)

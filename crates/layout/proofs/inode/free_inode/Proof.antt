@@ -4,10 +4,10 @@ use native.Mathlib.Omega.{arith}
 use borrow.Author.Tests.{eq-eqb, ne-eqb}
 use Rattle.bounded.specs.Search.{firstFrom}
 use Rattle.bounded.proofs.SearchLaws.{first-of-begin, first-turn, first-found, first-end}
-use Rattle.blocks.specs.Free.{freeInode, inodeFree}
+use Rattle.layout.specs.Inode.{freeInode, inodeFree}
 use borrow.Author.Needs.{needs}
-use Rattle.blocks.proofs.free.free_inode.Statement.{statement}
-use Rattle.blocks.proofs.free.free_inode.Tie as tie
+use Rattle.layout.proofs.inode.free_inode.Statement.{statement}
+use Rattle.layout.proofs.inode.free_inode.Tie as tie
 
 abbrev Inv-loop : tie.InvT-loop
 Inv-loop s n i₀ i-end i = (1 ≤ i) × (i ≤ n + 1) × (freeInode s n ≡ firstFrom (inodeFree s) i (n + 1 - i))
