@@ -94,7 +94,7 @@ pub fn link(s: &mut [u8], n: usize, b: usize, d: usize, name: &[u8], i: usize, r
 }
 
 // Inode i and its blocks are free again; the blocks keep their bytes.
-fn free_inode(s: &mut [u8], n: usize, i: usize)
+fn release_inode(s: &mut [u8], n: usize, i: usize)
     requires { ⌜ InodeFits (now s) n i × (headerOf (now s) .«free_inodes» ≤ mostInodes) × (headerOf (now s) .«free_blocks» ≤ mostStoreBlocks) ⌝ }
     ensures { λ _. ⌜ now (s .exit) ≡ moreFree (putInode (now (s .entry)) n i zeroInode) 1 (blocksUsed (sizeOf (now (s .entry)) i)) ⌝ }
 {
@@ -110,7 +110,7 @@ fn drop_link(s: &mut [u8], n: usize, i: usize)
 {
     let links = inode::links(s, n, i);
     if links <= 1 {
-        free_inode(&mut *s, n, i);
+        release_inode(&mut *s, n, i);
         return;
     }
     inode::put_links(&mut *s, n, i, links - 1);

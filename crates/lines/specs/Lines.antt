@@ -21,11 +21,11 @@ linesIn [] = []
 linesIn (x ∷ xs) = pick (eqb x newline) ([] ∷ linesIn xs) (begun x (linesIn xs))
 
 -- "Only the first 65,536 bytes of a script are read."
-abbrev pub mostBytes : ℕ
-mostBytes = 65536
+abbrev pub mostScriptBytes : ℕ
+mostScriptBytes = 65536
 
 unfoldable pub scriptLines : List ℕ → List (List ℕ)
-scriptLines s = linesIn (take mostBytes s)
+scriptLines s = linesIn (take mostScriptBytes s)
 
 -- the line that starts at a place ends at its byte 10, or at the end; at the end there is none
 unfoldable pub lineAt : List ℕ → ℕ → Next

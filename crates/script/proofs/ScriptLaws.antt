@@ -13,7 +13,7 @@ use Rattle.format.specs.Format.{LaidOut, laidOut, layOutStore, layOutDesk}
 use Rattle.text.specs.Pieces.{findFrom}
 use Rattle.checkpoint.specs.Live.{World}
 use Rattle.checkpoint.specs.Shown.{world}
-use Rattle.lines.specs.Lines.{linesIn, mostBytes, scriptLines}
+use Rattle.lines.specs.Lines.{linesIn, mostScriptBytes, scriptLines}
 use Rattle.lines.proofs.LineLaws.{line-splits, lines-end}
 use Rattle.session.specs.Reply.{Ran, ran, lineRuns, worldAfter}
 use Rattle.session.specs.Script.{linesRun, FinishesSound, scriptInodes, scriptBlocks, fresh}
@@ -48,9 +48,9 @@ unfolding linesRun
 all-run s at w l = rw (lines-end s at l) refl
 
 -- all of a script that was read, on the fresh buffers
-pub whole-script : (s : List ℕ) (w : World) → length s ≤ mostBytes → w ≡ fresh → linesRun (linesIn s) w ≡ linesRun (scriptLines s) fresh
+pub whole-script : (s : List ℕ) (w : World) → length s ≤ mostScriptBytes → w ≡ fresh → linesRun (linesIn s) w ≡ linesRun (scriptLines s) fresh
 unfolding scriptLines
-whole-script s w l e = rw (e, take-all mostBytes s l) refl
+whole-script s w l e = rw (e, take-all mostScriptBytes s l) refl
 
 -- the fresh buffers are those that were laid out
 pub laid-fresh : (s d t u : List ℕ) (a b : Answer) → s ≡ replicate 4624 0 → d ≡ replicate 160 0 → laidOut a t ≡ layOutStore s scriptInodes scriptBlocks → laidOut b u ≡ layOutDesk d scriptInodes

@@ -7,7 +7,7 @@ ghost use Rattle.layout.specs.Sizes.{headerBytes};
 ghost use Rattle.desk.specs.Sizes.{deskHeaderBytes};
 ghost use Rattle.text.specs.Pieces.{findFrom};
 ghost use Rattle.checkpoint.specs.Shown.{world};
-ghost use Rattle.lines.specs.Lines.{mostBytes, scriptLines};
+ghost use Rattle.lines.specs.Lines.{mostScriptBytes, scriptLines};
 ghost use Rattle.session.specs.Reply.{worldAfter};
 ghost use Rattle.session.specs.Script.{linesRun, FinishesSound, fresh};
 use crate::print;
@@ -38,7 +38,7 @@ fn one(script: &[u8], at: usize, store: &mut [u8], image: &mut [u8], desk: &mut 
 
 // All lines, in order, from the fresh buffers on.
 pub fn run(script: &[u8], store: &mut [u8], image: &mut [u8], desk: &mut [u8])
-    requires { ⌜ (headerBytes ≤ length (now image)) × (deskHeaderBytes ≤ length (now desk)) × (length (now script) ≤ mostBytes) × (world (now store) (now image) (now desk) ≡ fresh) ⌝ }
+    requires { ⌜ (headerBytes ≤ length (now image)) × (deskHeaderBytes ≤ length (now desk)) × (length (now script) ≤ mostScriptBytes) × (world (now store) (now image) (now desk) ≡ fresh) ⌝ }
     ensures { λ _. ⌜ world (now (store .exit)) (now (image .exit)) (now (desk .exit)) ≡ linesRun (scriptLines (now (script .entry))) fresh ⌝ }
 {
     let mut at = 0;

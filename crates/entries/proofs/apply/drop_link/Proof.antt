@@ -8,14 +8,14 @@ use Rattle.entries.proofs.apply.drop_link.Tie as tie
 links-requires : tie.Need-links-requires
 links-requires c κs = search needs
 
-free-inode-requires : tie.Need-free-inode-requires
-free-inode-requires c κs = search needs
+release-inode-requires : tie.Need-release-inode-requires
+release-inode-requires c κs = search needs
 
 same-length : tie.Need-same-length
 same-length c = search needs
 
 returns : tie.Need-returns
-returns c = let e = c .before .before .before .before .before .links .ensures in let l = c .before .before .before .before .if1 .taken in c .before .before .free-inode .ensures ∙ last-link _ _ _ (omega arith)
+returns c = let e = c .before .before .before .before .before .links .ensures in let l = c .before .before .before .before .if1 .taken in c .before .before .release-inode .ensures ∙ last-link _ _ _ (omega arith)
 
 sub-put-links : tie.Need-sub-put-links
 sub-put-links c = search needs
@@ -34,7 +34,7 @@ drop-link-spec =
     tie.close
     (tie.spec
     links-requires
-    free-inode-requires
+    release-inode-requires
     same-length
     returns
     sub-put-links

@@ -8,8 +8,8 @@ use Rattle.layout.specs.Inode.{putInode, zeroInode}
 use Rattle.layout.specs.Header.{moreFree}
 use Rattle.entries.proofs.EnterLaws.{freed-counts, used-bound}
 use borrow.Author.Needs.{needs}
-use Rattle.entries.proofs.apply.free_inode.Statement.{statement}
-use Rattle.entries.proofs.apply.free_inode.Tie as tie
+use Rattle.entries.proofs.apply.release_inode.Statement.{statement}
+use Rattle.entries.proofs.apply.release_inode.Tie as tie
 
 size-requires : tie.Need-size-requires
 size-requires c κs = search needs
@@ -44,8 +44,8 @@ returns c =
     (c .before .before .before .before .before .before .write .ensures ∙ ap (putInode (now (a .s)) (a .n) (a .i)) (c .before .before .before .before .before .before .before .before .empty .ensures))
     (c .before .before .before .before .before .before .before .before .before .blocks-used .ensures ∙ ap blocksUsed (c .before .before .before .before .before .before .before .before .before .before .size .ensures))
 
-pub free-inode-spec : {M : Type 1} → statement M
-free-inode-spec =
+pub release-inode-spec : {M : Type 1} → statement M
+release-inode-spec =
     tie.close
     (tie.spec
     size-requires
