@@ -3,3 +3,4 @@ pub mod MapLaws
 pub mod View
 pub mod FrameLaws
 pub mod ViewLaws
+pub mod KthLaws

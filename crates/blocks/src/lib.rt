@@ -3,16 +3,20 @@ pub mod free;
 pub mod map;
 
 ghost use mathlib.Core.Path.{_≡_};
-ghost use Prim.Native.Nat.{_<_, _≤_};
-ghost use Rattle.layout.specs.Sizes.{addressCount, mostInodes, mostImageBlocks};
-ghost use Rattle.blocks.specs.Block.{storeLength, allowed, blockAt, zeroBlock, blocksUsed, kthBlock};
+ghost use Prim.Native.Nat.{_+_, _<_, _≤_};
+ghost use lib.ListN.{length};
+ghost use Rattle.layout.specs.Sizes.{addressCount, furtherCount, blockBytes, mostInodes, mostImageBlocks};
+ghost use Rattle.blocks.specs.Block.{storeLength, allowed, blockAt, zeroBlock, blocksUsed, isLong, furtherOf, kthBlock};
 ghost use Rattle.layout.specs.Fits.{InodeFits};
 ghost use Rattle.blocks.specs.Fits.{Sized};
+use layout::inode;
 use layout::inode::address;
 use layout::sizes::ADDRESS_COUNT;
 use layout::sizes::BLOCK_BYTES;
+use layout::sizes::FILE;
 use layout::sizes::HEADER_BYTES;
 use layout::sizes::INODE_BYTES;
+use layout::sizes::MOST_DIRECT_BYTES;
 use layout::sizes::MOST_INODES;
 
 pub fn store_length(n: usize, b: usize) -> usize
@@ -61,7 +65,11 @@ pub fn blocks_used(size: usize) -> usize
     requires { ⌜ size < 65536 ⌝ }
     ensures { λ r. ⌜ r ≡ blocksUsed size ⌝ }
 {
-    (size + (BLOCK_BYTES - 1)) / BLOCK_BYTES
+    let bytes = (size + (BLOCK_BYTES - 1)) / BLOCK_BYTES;
+    if size <= MOST_DIRECT_BYTES {
+        return bytes;
+    }
+    bytes + 1
 }
 
 // The k-th block of an inode.
@@ -70,4 +78,23 @@ pub fn kth_block(s: &[u8], n: usize, i: usize, k: usize) -> u16
     ensures { λ r. ⌜ r ≡ kthBlock (now (s .entry)) n i k ⌝ }
 {
     address(s, n, ADDRESS_COUNT * (i - 1) + k)
+}
+
+// Inode i has an address block: a file of more than 768 bytes.
+pub fn is_long(s: &[u8], n: usize, i: usize) -> bool
+    requires { ⌜ InodeFits (now s) n i ⌝ }
+    ensures { λ r. ⌜ r ≡ isLong (now (s .entry)) i ⌝ }
+{
+    if inode::kind(s, n, i) != FILE {
+        return false;
+    }
+    MOST_DIRECT_BYTES < inode::size(s, n, i) as usize
+}
+
+// Address j of the address block a.
+pub fn further(s: &[u8], n: usize, a: usize, j: usize) -> u16
+    requires { ⌜ (n ≤ mostInodes) × (1 ≤ a) × (a ≤ mostImageBlocks) × (blockAt n a + blockBytes ≤ length (now s)) × (j < furtherCount) ⌝ }
+    ensures { λ r. ⌜ r ≡ furtherOf (now (s .entry)) n a j ⌝ }
+{
+    octets::get_16(s, block_at(n, a) + 2 * j)
 }

@@ -16,6 +16,7 @@ use Rattle.blocks.specs.Block.{blocksUsed, kthBlock}
 use Rattle.blocks.proofs.FrameLaws.{length-inode, length-entry, header-past}
 use Rattle.blocks.proofs.ViewLaws.{header-free}
 use Rattle.layout.specs.Fits.{InodeFits}
+use Rattle.blocks.proofs.KthLaws.{kth-direct}
 use Rattle.changes.proofs.SameLaws.{less-free, inode-new, inode-blocks}
 
 -- ---- the free counts
@@ -116,7 +117,7 @@ inode-twice s n i l m v w e g =
 -- ---- what is read after a record and the free counts were put
 module _ (s : List ℕ) (n i : ℕ) (f : InodeFits s n i) (v : Inode) (e : length (v .addresses) ≡ 12) (x y : ℕ) where
   pub inode-read : inodeOf (lessFree (putInode s n i v) x y) n i ≡ v
-  unfolding inodeOf addressesOf kthBlock
+  unfolding inodeOf addressesOf
   inode-read =
       let t = putInode s n i v in
       let o = length-inode s n i v in
@@ -128,5 +129,5 @@ module _ (s : List ℕ) (n i : ℕ) (f : InodeFits s n i) (v : Inode) (e : lengt
         links = (a .links ∙ g .links) k;
         size = (a .size ∙ g .size) k;
         parent = (a .parent ∙ g .parent) k;
-        addresses = (table-ext (λ j. addressOf (lessFree t x y) n (addressIndex i j)) (λ j. getD (v .addresses) j 0) 12 (λ j l. a .blocks j l ∙ inode-blocks s n i f v e j l) ∙ table-list (v .addresses) 12 e) k;
+        addresses = (table-ext (λ j. addressOf (lessFree t x y) n (addressIndex i j)) (λ j. getD (v .addresses) j 0) 12 (λ j l. sym (kth-direct _ (lessFree t x y) n i j l) ∙ a .blocks j (omega arith) ∙ inode-blocks s n i f v e j l) ∙ table-list (v .addresses) 12 e) k;
       }

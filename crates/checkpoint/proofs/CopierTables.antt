@@ -16,7 +16,7 @@ use Rattle.bounded.specs.Below.{allTo}
 use Rattle.layout.specs.Sizes.{rootInode}
 use Rattle.layout.specs.Inode.{sizeOf}
 use Rattle.blocks.specs.Block.{blocksUsed, kthBlock}
-use Rattle.blocks.specs.Free.{blockNamed, freeBlock}
+use Rattle.blocks.specs.Free.{blockNamed, lowestBy, freeBlock}
 use Rattle.desk.specs.Desk.{deskOf}
 use Rattle.sound.specs.Sound.{inodesIn}
 use Rattle.answers.specs.declared.Refusal.the-variants.{WrongState, ImageFull}
@@ -38,7 +38,7 @@ no-place c false (At j) h = absurd (true≢false (sym h))
 no-place c false Absent h = refl
 
 pub full-image : (m : List ℕ) (n b c : ℕ) → not (found (targetBlock m n b c)) ≡ allTo (blockNamed m n) b
-unfolding targetBlock freeBlock
+unfolding targetBlock lowestBy
 full-image m n b c = same-test (not (found (targetBlock m n b c))) (allTo (blockNamed m n) b) there back
   where
     there : not (found (targetBlock m n b c)) ≡ true → allTo (blockNamed m n) b ≡ true

@@ -5,9 +5,9 @@ use mathlib.Core.List.{List}
 use lib.Dec.{eqb}
 use lib.ListN.{getD}
 use Rattle.bounded.specs.Search.{pick}
-use Rattle.layout.specs.Sizes.{addressCount, blockBytes, mostFileBytes, mostDirectoryBytes}
-use Rattle.layout.specs.Inode.{kindOf, spareOf, linksOf, sizeOf, parentOf, addressOf, addressIndex, freeKind, fileKind, directoryKind}
-use Rattle.blocks.specs.Block.{blockOf, blocksUsed, kthBlock}
+use Rattle.layout.specs.Sizes.{mostBlocks, blockBytes, mostFileBytes, mostDirectoryBytes}
+use Rattle.layout.specs.Inode.{kindOf, spareOf, linksOf, sizeOf, parentOf, freeKind, fileKind, directoryKind}
+use Rattle.blocks.specs.Block.{blockOf, blocksUsed, kthBlock, bytesBlock}
 
 -- the most bytes of an inode of kind k
 abbrev pub mostBytes : ℕ → ℕ
@@ -15,7 +15,7 @@ mostBytes k = pick (eqb k directoryKind) mostDirectoryBytes mostFileBytes
 
 -- byte o of the block that the size ends in
 abbrev pub tailByte : List ℕ → ℕ → ℕ → ℕ → ℕ
-tailByte s n i o = getD (blockOf s n (kthBlock s n i (sizeOf s i / blockBytes))) o 0
+tailByte s n i o = getD (blockOf s n (bytesBlock s n i (sizeOf s i / blockBytes))) o 0
 
 pub record InodeSound (s : List ℕ) (n b i : ℕ) : Type 0 where
   -- "kind (0 free, 1 file, 2 directory), a zero byte"
@@ -25,8 +25,8 @@ pub record InodeSound (s : List ℕ) (n b i : ℕ) : Type 0 where
   pub free : kindOf s i ≡ freeKind → (linksOf s i ≡ 0) × ((sizeOf s i ≡ 0) × (parentOf s i ≡ 0))
   -- "A size of s uses the first s/64 addresses, rounded up; the rest are 0; at most 768 bytes."
   pub size : sizeOf s i ≤ mostBytes (kindOf s i)
-  pub used : (k : ℕ) → k < addressCount → k < blocksUsed (sizeOf s i) → (1 ≤ kthBlock s n i k) × (kthBlock s n i k ≤ b)
-  pub rest : (k : ℕ) → k < addressCount → blocksUsed (sizeOf s i) ≤ k → addressOf s n (addressIndex i k) ≡ 0
+  pub used : (k : ℕ) → k < mostBlocks → k < blocksUsed (sizeOf s i) → (1 ≤ kthBlock s n i k) × (kthBlock s n i k ≤ b)
+  pub rest : (k : ℕ) → k < mostBlocks → blocksUsed (sizeOf s i) ≤ k → kthBlock s n i k ≡ 0
   -- "Directory sizes are multiples of 64."
   pub directory : kindOf s i ≡ directoryKind → sizeOf s i % blockBytes ≡ 0
   -- "File bytes past the size in the last block are zero."

@@ -10,7 +10,7 @@ use Rattle.bounded.specs.Search.{pick}
 use Rattle.bounded.specs.declared.Found.the-variants.{At, Absent}
 use Rattle.bounded.proofs.BoolLaws.{and-left, and-right}
 use Rattle.bounded.proofs.SearchLaws.{none-below}
-use Rattle.blocks.specs.Free.{blockNamed, freeBlock}
+use Rattle.blocks.specs.Free.{blockNamed, lowestBy, freeBlock}
 use Rattle.changes.proofs.FreeLaws.{FreeBlock, free-block}
 use Rattle.checkpoint.specs.Copier.{targetBlock}
 
@@ -33,9 +33,9 @@ module _ (m : List ℕ) (n b x : ℕ) where
 
   -- where there is none, every block is named
   pub target-absent : targetBlock m n b x ≡ Absent → (c : ℕ) → 1 ≤ c → c ≤ b → blockNamed m n c ≡ true
-  unfolding targetBlock freeBlock
+  unfolding targetBlock lowestBy
   target-absent e c l h = go (leb 1 x && (leb x b && not (blockNamed m n x))) e
     where
       go : (t : Bool) → pick t (At x) (freeBlock m n b) ≡ Absent → blockNamed m n c ≡ true
       go true e = let z : _≡_ {A = ℕ} 0 1 = cc in absurd (omega arith)
-      go false e = not-false (blockNamed m n c) (none-below (λ a. not (blockNamed m n a)) 1 b (unfold freeBlock in e) c l (omega arith))
+      go false e = not-false (blockNamed m n c) (none-below (λ a. not (blockNamed m n a)) 1 b e c l (omega arith))

@@ -17,6 +17,7 @@ use Rattle.layout.specs.Inode.{kindOf, spareOf, linksOf, sizeOf, parentOf, addr
 use Rattle.blocks.specs.Block.{blockAt, blockOf, blocksUsed}
 use Rattle.blocks.proofs.View.{View, viewOf, contentOf}
 use Rattle.blocks.proofs.FrameLaws.{length-header}
+use Rattle.blocks.proofs.KthLaws.{bare-all}
 use Rattle.blocks.proofs.ViewLaws.{view-header, header-put}
 use Rattle.directory.specs.Slot.{mostSlots}
 use Rattle.sound.specs.Place.{dirOf, isSlot, naming}
@@ -98,7 +99,7 @@ module _ (n k : ℕ) where
         free = λ _. (start-links i l h, (z, start-parent i l h));
         size = omega arith;
         used = λ j _ u. absurd (omega arith);
-        rest = λ j u _. start-address (addressIndex i j) (omega arith);
+        rest = λ j u _. bare-all _ (startImage n k) n i (λ x y. start-address (addressIndex i 0 + x) (omega arith)) j u;
         directory = λ q. absurd (omega arith);
         tail = λ q. absurd (omega arith);
         parent = λ q. absurd (omega arith);
