@@ -63,7 +63,7 @@ pub record Demand (es : List Event) (w : World) : Type 0 where
   pub progress : Progress (run es w)
   pub done : GetsDone es w
   pub stays : Stays es w
-  -- "With 12 × N image blocks or more, 16 never comes in a run."
+  -- "With 44 × N image blocks or more, 16 never comes in a run."
   pub never-full : Roomy w → refusalOf advances (run es w) ≡ refusalNumber ImageFull → ⊥
   -- "step the steps so far"
   pub step-answer : accepted advances (run es w) ≡ true → outcome advances (run es w) .answer ≡ told (Done (acceptedSteps es w 0 + 1))

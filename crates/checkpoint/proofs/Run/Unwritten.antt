@@ -73,7 +73,7 @@ module _ (n b : ℕ) (w : World) (g : Going n b w) (p : ℕ) (l : p < mostSlots 
         kind = k .body .kind ∙ file;
         same = record {
           size = k .body .size;
-          bytes = bytes-same (w .store) t n i (k .body .size) (λ a u. ap (blockOf t n) (k .body .blocks a (omega arith)) ∙ k .bytes a u);
+          bytes = bytes-same (w .store) t n i (k .body .size) (λ a u _. ap (blockOf t n) (k .body .blocks a (omega arith)) ∙ k .bytes a u);
         };
       }
 
