@@ -12,7 +12,7 @@ use Rattle.octets.proofs.WordLaws.{length-words}
 use Rattle.layout.specs.declared.inode.Inode.{Inode}
 use Rattle.layout.specs.Header.{headerOf, putFree, lessFree}
 use Rattle.layout.specs.Inode.{attributesAt, addressAt, addressIndex, sizeOf, addressOf, addressesOf, attributeEntry, inodeOf, putAttributes, putAddresses, putInode}
-use Rattle.blocks.specs.Block.{blocksUsed, kthBlock}
+use Rattle.blocks.specs.Block.{blocksUsed}
 use Rattle.blocks.proofs.FrameLaws.{length-inode, length-entry, header-past}
 use Rattle.blocks.proofs.ViewLaws.{header-free}
 use Rattle.layout.specs.Fits.{InodeFits}

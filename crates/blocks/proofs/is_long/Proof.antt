@@ -2,7 +2,6 @@ use denote.Ref.{now}
 use Rattle.layout.specs.Inode.{kindOf}
 use mathlib.Core.Path.{sym, ap, _∙_}
 use lib.Dec.{ltb}
-use native.Mathlib.Omega.{arith}
 use borrow.Author.Tests.{eq-eqb, ne-eqb}
 use Rattle.bounded.proofs.BoolLaws.{and-false-l, chain-end}
 use Rattle.blocks.specs.Block.{isLong}

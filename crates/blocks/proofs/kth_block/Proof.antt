@@ -1,4 +1,3 @@
-use native.Mathlib.Omega.{arith}
 use borrow.Author.Tests.{lt-ltb}
 use Rattle.blocks.specs.Block.{kthBy}
 use borrow.Author.Needs.{needs}
