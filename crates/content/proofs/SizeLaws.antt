@@ -15,7 +15,7 @@ use Rattle.layout.specs.Header.{headerOf}
 use Rattle.layout.specs.Inode.{kindOf, sizeOf, inodeOf, putAttributes, withSize}
 use Rattle.blocks.specs.Block.{blockOf, blocksUsed, bytesPlace, isLong, kthBy, kthBlock, bytesBlock}
 use Rattle.layout.specs.Fits.{InodeFits}
-use Rattle.ledger.proofs.BytesLaws.{bytesBlocks, used-short, used-long, place-used, place-alike}
+use Rattle.ledger.proofs.BytesLaws.{bytesBlocks, used-short, used-long, place-used, place-alike, used-up}
 use Rattle.sound.specs.Inode.{InodeSound}
 use Rattle.sound.specs.Sound.{Sound}
 use Rattle.sound.proofs.SoundLaws.{most-file}
@@ -28,15 +28,6 @@ use Rattle.growth.specs.Extend.{putSize, extended}
 use Rattle.growth.proofs.FileFrame.{InFile}
 use Rattle.growth.proofs.TakenLaws.{taken-keeps, taken-file}
 use Rattle.content.proofs.FileLaws.{Holds, over-long, under-short}
-
--- a longer file uses no fewer blocks
-pub used-up : (y z : ℕ) → y ≤ z → blocksUsed y ≤ blocksUsed z
-used-up y z l = go (decLt 768 y) (decLt 768 z)
-  where
-    go : Dec (768 < y) → Dec (768 < z) → blocksUsed y ≤ blocksUsed z
-    go (yes a) _ = let u = used-long y a in let w = used-long z (omega arith) in omega arith
-    go (no a) (yes d) = let u = used-short y (omega arith) in let w = used-long z d in omega arith
-    go (no a) (no d) = let u = used-short y (omega arith) in let w = used-short z (omega arith) in omega arith
 
 -- two sizes of as many blocks are on one side of the edge
 module _ (y z : ℕ) (e : blocksUsed z ≡ blocksUsed y) where

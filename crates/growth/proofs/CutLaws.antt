@@ -18,7 +18,7 @@ use Rattle.layout.specs.Inode.{kindOf, sizeOf, inodeOf, putAttributes, withSize
 use Rattle.blocks.specs.Block.{blockOf, blocksUsed, isLong, kthBy, kthBlock, bytesBlock, putRow}
 use Rattle.ledger.specs.Change.{kept}
 use Rattle.ledger.proofs.ChangeLaws.{Rewritten, ledger-cut, kept-ext}
-use Rattle.ledger.proofs.BytesLaws.{used-limits, used-short, used-long, cut-bytes}
+use Rattle.ledger.proofs.BytesLaws.{used-limits, used-long, used-up, cut-bytes}
 use Rattle.sound.specs.Sound.{Sound}
 use Rattle.sound.specs.Counted.{SoundStore}
 use Rattle.sound.proofs.SoundLaws.{size-most}
@@ -69,12 +69,7 @@ module _ {s : List ℕ} {n b : ℕ} (h : SoundStore s n b) (i : ℕ) (low : 1 �
       go (no q) = absurd (clash over (and-true (isLong s i) (leb z mostDirectBytes) (over-long l) (le-leb z mostDirectBytes (omega arith))) e)
 
   down : blocksUsed z ≤ blocksUsed y
-  down = go (decLt 768 z) (decLt 768 y)
-    where
-      go : Dec (768 < z) → Dec (768 < y) → blocksUsed z ≤ blocksUsed y
-      go (yes a) _ = let u = used-long z a in let w = used-long y (omega arith) in omega arith
-      go (no a) (yes d) = let u = used-short z (omega arith) in let w = used-long y d in omega arith
-      go (no a) (no d) = let u = used-short z (omega arith) in let w = used-short y (omega arith) in omega arith
+  down = used-up z y fewer
 
   -- ---- the three writes
   abbrev s₁ : List ℕ

@@ -9,7 +9,7 @@ use Rattle.layout.specs.Sizes.{mostBlocks, blockBytes, mostFileBytes, mostDirec
 use Rattle.layout.specs.Inode.{kindOf, spareOf, linksOf, sizeOf, parentOf, freeKind, fileKind, directoryKind}
 use Rattle.blocks.specs.Block.{blockOf, blocksUsed, kthBlock, bytesBlock}
 
--- the most bytes of an inode of kind k
+-- the most bytes of an inode of kind k: F-1, "the limit becomes 2,752 bytes", "Directories keep twelve direct blocks."
 abbrev pub mostBytes : ℕ → ℕ
 mostBytes k = pick (eqb k directoryKind) mostDirectoryBytes mostFileBytes
 
@@ -23,7 +23,7 @@ pub record InodeSound (s : List ℕ) (n b i : ℕ) : Type 0 where
   pub spare : spareOf s i ≡ 0
   -- "Free inodes have all-zero attributes and addresses": their addresses by rest
   pub free : kindOf s i ≡ freeKind → (linksOf s i ≡ 0) × ((sizeOf s i ≡ 0) × (parentOf s i ≡ 0))
-  -- "A size of s uses the first s/64 addresses, rounded up; the rest are 0; at most 768 bytes."
+  -- "A size of s uses the first s/64 addresses, rounded up; the rest are 0", and F-1: a file above 768 bytes has an address block among them; each kind has its limit
   pub size : sizeOf s i ≤ mostBytes (kindOf s i)
   pub used : (k : ℕ) → k < mostBlocks → k < blocksUsed (sizeOf s i) → (1 ≤ kthBlock s n i k) × (kthBlock s n i k ≤ b)
   pub rest : (k : ℕ) → k < mostBlocks → blocksUsed (sizeOf s i) ≤ k → kthBlock s n i k ≡ 0

@@ -7,7 +7,7 @@ use Rattle.layout.specs.Inode.{sizeOf}
 use Rattle.blocks.specs.Block.{blocksUsed}
 use Rattle.changes.proofs.StoreLaws.{blocks-of}
 use Rattle.changes.proofs.FreeLaws.{few-free-inodes, few-free-blocks}
-use Rattle.content.proofs.SizeLaws.{used-up}
+use Rattle.ledger.proofs.BytesLaws.{used-up}
 use Rattle.content.proofs.ReadLaws.{fits-holds, fits-inode, fits-most}
 use Rattle.content.proofs.CodeLaws.{header-blocks, kept-address, crosses-more, cut-done}
 use borrow.Author.Needs.{needs}

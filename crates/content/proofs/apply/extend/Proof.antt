@@ -5,7 +5,7 @@ use denote.Ref.{now}
 use Rattle.layout.specs.Inode.{sizeOf}
 use Rattle.blocks.specs.Block.{blocksUsed}
 use Rattle.changes.proofs.StoreLaws.{kind-fits}
-use Rattle.content.proofs.SizeLaws.{used-up}
+use Rattle.ledger.proofs.BytesLaws.{used-up}
 use Rattle.content.proofs.CodeLaws.{extend-none, extend-some}
 use borrow.Author.Needs.{needs}
 use Rattle.content.proofs.apply.extend.Statement.{statement}

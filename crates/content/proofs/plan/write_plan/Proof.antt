@@ -6,7 +6,7 @@ use borrow.Author.Tests.{not-true, not-false}
 use denote.Ref.{now}
 use Rattle.layout.specs.Inode.{isFile}
 use Rattle.changes.proofs.StoreLaws.{kind-fits, kind-size}
-use Rattle.content.proofs.SizeLaws.{used-up}
+use Rattle.ledger.proofs.BytesLaws.{used-up}
 use Rattle.content.proofs.SizePlanLaws.{write-wrong, write-off, write-long, write-full, write-done}
 use borrow.Author.Needs.{needs}
 use Rattle.content.proofs.plan.write_plan.Statement.{statement}
