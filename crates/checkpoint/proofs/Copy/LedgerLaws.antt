@@ -1,8 +1,7 @@
 -- The image of a running copy is a ledger at every moment. s is the store, m the image, d the desk, n and b the counts of inodes and image blocks.
-use Prim.Native.Nat.{ℕ, _+_, _*_, _/_, _%_, _≤_, _<_}
+use Prim.Native.Nat.{ℕ, _+_, _*_, _-_, _/_, _%_, _≤_, _<_}
 use mathlib.Core.Path.{_≡_, sym, ap, _∙_, subst}
-use mathlib.Core.Logic.{_≢_}
-use mathlib.Core.Bool.{Bool, not}
+use mathlib.Core.Bool.{Bool, false, not}
 use mathlib.Core.List.{List}
 use native.Mathlib.Decide.{ℕ-discrete}
 use native.Mathlib.Omega.{arith}
@@ -10,7 +9,7 @@ use lib.Dec.{eqb}
 use Rattle.bounded.specs.Below.{someBelow}
 use Rattle.bounded.specs.Count.{Differ}
 use Rattle.bounded.specs.Reflect.{Reflects}
-use Rattle.bounded.proofs.ReflectLaws.{r-eq, r-some}
+use Rattle.bounded.proofs.ReflectLaws.{r-eq, r-some, r-no, r-fails}
 use Rattle.bounded.proofs.BelowLaws.{all-ext}
 use Rattle.bounded.proofs.DifferLaws.{differ-less}
 use Rattle.bounded.proofs.UpdateLaws.{upd-same, upd-other}
@@ -18,7 +17,9 @@ use Rattle.layout.specs.Sizes.{mostBlocks}
 use Rattle.layout.specs.Inode.{sizeOf}
 use Rattle.blocks.specs.Block.{isLong, kthBy, blocksUsed, rowBy, rowOf}
 use Rattle.blocks.specs.Free.{namedBy, blockNamed}
+use Rattle.blocks.proofs.KthLaws.{row-kth}
 use Rattle.ledger.specs.Ledger.{Ledger}
+use Rattle.ledger.proofs.LedgerLaws.{Unnamed}
 use Rattle.growth.proofs.ImageLaws.{imageHave, but-here, but-else}
 use Rattle.desk.specs.Desk.{deskOf}
 use Rattle.checkpoint.specs.Fit.{imageLong}
@@ -28,6 +29,13 @@ use Rattle.checkpoint.proofs.Copy.Laid.{Laid}
 pub named-by : (long : ℕ → Bool) (m : List ℕ) (n c : ℕ) → Reflects (namedBy long m n c) ((x : ℕ) × (x < mostBlocks * n) × (rowBy long m n x ≡ c))
 unfolding namedBy
 named-by long m n c = r-some (mostBlocks * n) (λ x. r-eq (rowBy long m n x) c)
+
+-- one that none has, by inode and place
+pub by-none : (long : ℕ → Bool) (m : List ℕ) (n c : ℕ) → namedBy long m n c ≡ false → Unnamed long m n c
+by-none long m n c e j u a z q y = r-no (named-by long m n c) e (mostBlocks * (j - 1) + u, omega arith, row-kth long m n j u a q ∙ y)
+
+pub none-by : (long : ℕ → Bool) (m : List ℕ) (n c : ℕ) → Unnamed long m n c → namedBy long m n c ≡ false
+none-by long m n c f = r-fails (named-by long m n c) (λ r. let q = r .1 in f (r .0 / 44 + 1) (r .0 % 44) (omega arith) (omega arith) (omega arith) (unfold rowBy in r .2))
 
 -- ---- the same blocks, by another word on which inodes are long
 module _ (f g : ℕ → Bool) (m t : List ℕ) (n : ℕ) (e : (x : ℕ) → x < mostBlocks * n → rowBy g t n x ≡ rowBy f m n x) where
