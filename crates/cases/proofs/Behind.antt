@@ -9,8 +9,7 @@ use Rattle.files.specs.Effect.{planned}
 use Rattle.checkpoint.specs.Fit.{isRunning}
 use Rattle.checkpoint.specs.Busy.{unlessBusy}
 use Rattle.checkpoint.specs.Copier.{stepOf}
-use Rattle.checkpoint.specs.Live.{World, Outcome, refuse, leavesIn, doStep, live, step}
-use Rattle.checkpoint.specs.Shown.{shown}
+use Rattle.checkpoint.specs.Live.{World, refuse, leavesIn, doStep, live, step}
 use Rattle.checkpoint.specs.List.{Ready, Event, call, advances, asks, starts, outcome, next, run}
 use Rattle.checkpoint.proofs.Call.LiveLaws.{ready-decides}
 use Rattle.checkpoint.proofs.Run.Going.{guards-pass, leftIn}
