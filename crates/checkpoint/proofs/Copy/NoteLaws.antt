@@ -3,6 +3,7 @@ use Prim.Native.Nat.{ℕ, zero, suc, _+_, _*_, _≤_, _<_}
 use mathlib.Core.Path.{_≡_, refl, ap, ap₂, _∙_}
 use mathlib.Core.Bool.{Bool, true, false, _&&_}
 use mathlib.Core.List.{List}
+use borrow.Author.Tests.{eq-eqb}
 use lib.Dec.{eqb, leb}
 use lib.ListN.{length, replicate, length-replicate}
 use native.Mathlib.Omega.{arith}
@@ -44,7 +45,13 @@ pub copied-is : (d : List ℕ) (n i : ℕ) → Reflects (isCopied d n i) ((1 ≤
 unfolding isCopied
 copied-is d n i = r-and (r-le 1 i) (r-and (r-le i n) (r-eq (copiedOf d i) 1))
 
--- ---- the block that a step copies depends on the marks of its directory and on the copied inodes
+-- ---- the block that a step copies
+-- "it starts zeroed in the image"
+pub address-block : (s d : List ℕ) (n i k : ℕ) → isLong s i ≡ true → k ≡ addressPlace → copiedBlock s d n i k ≡ replicate blockBytes 0
+unfolding copiedBlock
+address-block s d n i k p q = rw (p, eq-eqb k addressPlace q)
+
+-- it depends on the marks of its directory and on the copied inodes
 module _ (d e : List ℕ) (n i k : ℕ) (copied : (j : ℕ) → isCopied e n j ≡ isCopied d n j)
     (marks : (t : ℕ) → t < slotsInBlock → markOf e n i (slotsInBlock * k + t) ≡ markOf d n i (slotsInBlock * k + t)) where
   copied-entry : (x : List ℕ) (j : ℕ) → j < slotsInBlock → copiedEntry e n i k x j ≡ copiedEntry d n i k x j
@@ -59,8 +66,7 @@ module _ (d e : List ℕ) (n i k : ℕ) (copied : (j : ℕ) → isCopied e n j �
 
   pub copied-block : (s : List ℕ) → copiedBlock s e n i k ≡ copiedBlock s d n i k
   unfolding copiedBlock
-  copied-block s =
-      ap (λ (y : List ℕ). pick (isLong s i && eqb k addressPlace) (replicate blockBytes 0) (pick (eqb (kindOf s i) directoryKind) y (blockOf s n (kthBlock s n i k)))) (copied-entries (blockOf s n (kthBlock s n i k)) slotsInBlock (omega arith))
+  copied-block s = rw (copied-entries (blockOf s n (kthBlock s n i k)) slotsInBlock (omega arith))
 
 -- its length is that of a block
 module _ (d : List ℕ) (n i k : ℕ) where

@@ -6,8 +6,7 @@ use mathlib.Core.Bool.{Bool, true, false}
 use mathlib.Core.List.{List}
 use native.Mathlib.Decide.{ℕ-discrete}
 use native.Mathlib.Omega.{arith}
-use borrow.Author.Tests.{eq-eqb}
-use lib.ListN.{length, getD, replicate}
+use lib.ListN.{length, getD}
 use Rattle.bounded.specs.declared.Found.the-variants.{At}
 use Rattle.bounded.proofs.UpdateLaws.{upd-same, upd-other}
 use Rattle.octets.proofs.PartLaws.{length-inside}
@@ -41,7 +40,7 @@ use Rattle.checkpoint.proofs.Copy.Seen.{seen}
 use Rattle.checkpoint.proofs.Copy.Laid.{frame-kept, Laid, Open, Fair}
 use Rattle.checkpoint.proofs.Copy.LedgerLaws.{by-none, none-by, rows-named, rows-differ, laid-ledger}
 use Rattle.checkpoint.proofs.Copy.NamingLaws.{used-other, used-sound}
-use Rattle.checkpoint.proofs.Copy.NoteLaws.{SameNotes, put-desk, copied-block, length-copied-block, same-marked, same-costs}
+use Rattle.checkpoint.proofs.Copy.NoteLaws.{SameNotes, put-desk, address-block, copied-block, length-copied-block, same-marked, same-costs}
 use Rattle.checkpoint.proofs.Copy.TargetLaws.{FreeBy, target-at}
 use Rattle.checkpoint.proofs.Copy.WholeLaws.{Whole, whole-sound, whole-bytes, whole-entry, SameImage, image-names, image-entries, image-alike}
 use Rattle.checkpoint.proofs.Step.BlockLaws.{SameAttributes, block-attributes}
@@ -103,16 +102,12 @@ module _ {n b : ℕ} {s m d : List ℕ} (h : Laid n b s m d) (sound : Sound Stor
       let z = w .inside in
       length-copied-block d n l k s (unfold blockOf in length-inside s (blockAt n (kthBlock s n l k)) 64 (omega arith))
 
-  zeroed : isLong s l ≡ true → k ≡ addressPlace → copiedBlock s d n l k ≡ replicate blockBytes 0
-  unfolding copiedBlock
-  zeroed p q = rw (p, eq-eqb k addressPlace q)
-
   ledger : Ledger long have m n b
   ledger = laid-ledger h
 
   -- ---- what the step writes, and what it leaves
   wrote : Appended long have m after n b l k c (copiedBlock s d n l k)
-  wrote = copy-ledger l k (isLong s l) ledger (h .frame .long) low high few further c (free .low) (free .high) apart (copiedBlock s d n l k) full zeroed
+  wrote = copy-ledger l k (isLong s l) ledger (h .frame .long) low high few further c (free .low) (free .high) apart (copiedBlock s d n l k) full (address-block s d n l k)
 
   same : SameAttributes m after n
   same = block-attributes m n c (copiedBlock s d n l k) l k
