@@ -75,7 +75,7 @@ unfoldable pub copiedEntries : List ℕ → ℕ → ℕ → ℕ → List ℕ →
 copiedEntries desk n i k x zero = x
 copiedEntries desk n i k x (suc j) = copiedEntry desk n i k (copiedEntries desk n i k x j) j
 
--- the block as it is copied; an address block starts zeroed, and gets its entries by the steps after it
+-- the block as it is copied; of an address block: "it starts zeroed in the image and gains each image address as that block is copied"
 unfoldable pub copiedBlock : List ℕ → List ℕ → ℕ → ℕ → ℕ → List ℕ
 copiedBlock s desk n i k =
     let x = blockOf s n (kthBlock s n i k) in

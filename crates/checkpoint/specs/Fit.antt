@@ -63,7 +63,7 @@ deskFits desk =
 abbrev pub imageLong : List ℕ → List ℕ → List ℕ → ℕ → Bool
 imageLong s m desk = longBut m (deskOf desk .locked) (isLong s (deskOf desk .locked))
 
--- the locked inode is to have an address block, twelve of its blocks are copied, and its twelfth address is 0
+-- "3 also comes when the locked inode's store size is above 768, 12 or more of its blocks are copied and its twelfth image address is 0."
 unfoldable pub lacksAddresses : List ℕ → List ℕ → List ℕ → Bool
 lacksAddresses s m desk =
     not (eqb (deskOf desk .locked) 0)

@@ -1,6 +1,6 @@
 -- An entry of the image is cut: 16 bytes in a block of a copied directory become zero. What that leaves. s is the store, m the image, d the desk, n and b the counts of inodes and image blocks.
 use Prim.Native.Nat.{ℕ, _+_, _*_, _/_, _%_, _≤_, _<_}
-use mathlib.Core.Path.{_≡_, refl, sym, ap, _∙_, subst}
+use mathlib.Core.Path.{_≡_, sym, ap, _∙_, subst}
 use mathlib.Core.Logic.{_≢_}
 use mathlib.Core.Bool.{Bool, true, false}
 use mathlib.Core.List.{List}

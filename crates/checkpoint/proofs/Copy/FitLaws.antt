@@ -85,7 +85,7 @@ image-fits-is s m d =
     (r-and (r-all (mostBlocks * deskOf d .inodes) (λ x. r-le (rowBy (imageLong s m d) m (deskOf d .inodes) x) (deskOf d .blocks)))
     (r-not (r-true (lacksAddresses s m d))))))))
 
-lacks-is : (s m d : List ℕ) → Reflects (lacksAddresses s m d)
+pub lacks-is : (s m d : List ℕ) → Reflects (lacksAddresses s m d)
     ((deskOf d .locked ≢ 0) × ((isLong s (deskOf d .locked) ≡ true) × ((addressCount ≤ deskOf d .transferred) × (addressBlock m (deskOf d .inodes) (deskOf d .locked) ≡ 0))))
 unfolding lacksAddresses
 lacks-is s m d =

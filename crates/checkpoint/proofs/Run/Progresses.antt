@@ -87,7 +87,7 @@ module _ (n b : ℕ) (w : World) where
     question = asks-same w;
   }
 
--- ---- with 12 × N image blocks
+-- ---- with 44 × N image blocks
 pub roomy-blocks : {n b : ℕ} {w : World} → Running n b w → Roomy w → mostBlocks * n ≤ b
 roomy-blocks r h = let l = r .laid .frame .long in let c = r .count in omega arith
 

@@ -24,7 +24,7 @@ use Rattle.changes.proofs.StoreLaws.{sound-store}
 use Rattle.files.specs.Effect.{Call, Planned, does, refused}
 use Rattle.files.proofs.Lawful.{Each, Lawful}
 use Rattle.files.proofs.LawfulCalls.{lawful}
-use Rattle.checkpoint.specs.Fit.{isRunning, notesFit}
+use Rattle.checkpoint.specs.Fit.{isRunning}
 use Rattle.checkpoint.specs.Live.{World, refuse, decision, leavesIn, live, step}
 use Rattle.checkpoint.specs.Shown.{shown}
 use Rattle.checkpoint.specs.List.{Ready, call, advances, asks, outcome, next}
