@@ -62,7 +62,7 @@ fn note_blocks(s: &[u8], n: usize, i: usize, long: bool, map: &mut [u8])
 }
 
 // Inode i has an address block: inode l as told, every other by its own size.
-fn long_but(s: &[u8], n: usize, l: usize, long: bool, i: usize) -> bool
+pub fn long_but(s: &[u8], n: usize, l: usize, long: bool, i: usize) -> bool
     requires { ⌜ InodeFits (now s) n i ⌝ }
     ensures { λ r. ⌜ r ≡ longBut (now (s .entry)) l long i ⌝ }
 {

@@ -5,13 +5,15 @@ pub mod map;
 ghost use mathlib.Core.Path.{_≡_};
 ghost use Prim.Native.Nat.{_+_, _<_, _≤_};
 ghost use lib.ListN.{length};
-ghost use Rattle.layout.specs.Sizes.{addressCount, furtherCount, blockBytes, mostInodes, mostImageBlocks};
-ghost use Rattle.blocks.specs.Block.{storeLength, allowed, blockAt, zeroBlock, blocksUsed, isLong, furtherOf, kthBlock};
+ghost use Rattle.layout.specs.Sizes.{addressCount, furtherCount, mostBlocks, blockBytes, mostInodes, mostImageBlocks};
+ghost use Rattle.blocks.specs.Block.{storeLength, allowed, blockAt, zeroBlock, blocksUsed, isLong, addressBlock, furtherOf, kthBlock, putKth};
 ghost use Rattle.layout.specs.Fits.{InodeFits};
-ghost use Rattle.blocks.specs.Fits.{Sized};
+ghost use Rattle.blocks.specs.Fits.{Sized, BlockFits};
 use layout::inode;
 use layout::inode::address;
+use layout::inode::put_address;
 use layout::sizes::ADDRESS_COUNT;
+use layout::sizes::ADDRESS_PLACE;
 use layout::sizes::BLOCK_BYTES;
 use layout::sizes::FILE;
 use layout::sizes::HEADER_BYTES;
@@ -97,4 +99,18 @@ pub fn further(s: &[u8], n: usize, a: usize, j: usize) -> u16
     ensures { λ r. ⌜ r ≡ furtherOf (now (s .entry)) n a j ⌝ }
 {
     octets::get_16(s, block_at(n, a) + 2 * j)
+}
+
+// Block c is the k-th of inode i: its address goes into the inode, or into its address block.
+pub fn put_kth(s: &mut [u8], n: usize, i: usize, k: usize, c: u16)
+    requires { ⌜ InodeFits (now s) n i × (k < mostBlocks) × (addressCount ≤ k → BlockFits (now s) n (addressBlock (now s) n i)) ⌝ }
+    ensures { λ _. ⌜ now (s .exit) ≡ putKth (now (s .entry)) n i k c ⌝ }
+{
+    let x = ADDRESS_COUNT * (i - 1);
+    if k < ADDRESS_COUNT {
+        put_address(&mut *s, n, x + k, c);
+        return;
+    }
+    let a = address(s, n, x + ADDRESS_PLACE) as usize;
+    octets::put_16(&mut *s, block_at(n, a) + 2 * (k - ADDRESS_COUNT), c);
 }
