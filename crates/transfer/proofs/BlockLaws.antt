@@ -87,7 +87,7 @@ module _ {s : List ℕ} {n : ℕ} (f : SoundStore s n (blocksIn s)) (i : ℕ) (l
   abbrev plain : List ℕ
   plain = blockOf s n (kthBlock s n i k)
 
-  block-long : (d : List ℕ) → length (copiedBlock s d n i k) ≡ 64
+  pub block-long : (d : List ℕ) → length (copiedBlock s d n i k) ≡ 64
   unfolding blockOf
   block-long d = length-copied-block d n i k s (length-inside s (blockAt n (kthBlock s n i k)) 64 (block-here .2))
 
