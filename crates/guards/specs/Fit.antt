@@ -1,12 +1,14 @@
--- Parts of the paper's tests of desk and image, as the code goes through them: what is told by the desk's header alone, and what is a loop. n is the inode count, m the image.
+-- Parts of the paper's tests of desk and image, as the code goes through them: what is told by the desk's header alone, and what is a loop. n is the inode count, s the store, m the image.
 use Prim.Native.Nat.{ℕ, _+_, _*_}
 use mathlib.Core.Bool.{Bool, not, _&&_, _||_}
 use mathlib.Core.List.{List}
 use lib.Dec.{eqb, leb}
 use Rattle.bounded.specs.Below.{allBelow, allTo}
 use Rattle.bounded.specs.Search.{pick}
-use Rattle.layout.specs.Sizes.{mostImageBlocks, addressCount, mostBlocks}
+use Rattle.layout.specs.Sizes.{mostImageBlocks, addressCount, furtherCount, mostBlocks}
 use Rattle.layout.specs.Inode.{addressOf}
+use Rattle.blocks.specs.Block.{isLong, addressBlock, kthBy, rowBy}
+use Rattle.blocks.specs.Free.{longBut}
 use Rattle.desk.specs.Sizes.{idle, running, stepsAnInode}
 use Rattle.desk.specs.declared.Desk.{Desk}
 use Rattle.desk.specs.Desk.{deskOf, copiedOf}
@@ -20,7 +22,7 @@ blocksRight h = pick (eqb (h .state) idle) (eqb (h .blocks) 0) (leb 1 (h .blocks
 abbrev pub copiedRight : List ℕ → ℕ → Bool
 copiedRight desk n = allTo (λ i. leb (copiedOf desk i) 1) n
 
--- the opposite of "locked inode above N, more than 12 blocks copied, fields 6-9 not zero unless running, steps above 14 × N + 1, or above 14 × N if running"
+-- the opposite of "locked inode above N, more than 44 blocks copied, fields 6-9 not zero unless running, steps above 46 × N + 1, or above 46 × N if running"
 abbrev pub countsRight : Desk → Bool
 countsRight h =
     leb (h .locked) (h .inodes)
@@ -28,10 +30,34 @@ countsRight h =
     && ((eqb (h .state) running || (eqb (h .locked) 0 && eqb (h .transferred) 0))
     && leb (h .steps) (pick (eqb (h .state) running) (stepsAnInode * h .inodes) (stepsAnInode * h .inodes + 1))))
 
--- the opposite of "an address exceeds its block count", of b blocks
-abbrev pub addressesRight : List ℕ → ℕ → ℕ → Bool
-addressesRight m n b = allBelow (λ x. leb (addressOf m n x) b) (addressCount * n)
+-- the opposite of "an address exceeds its block count", of b blocks; long tells which inodes have an address block
+abbrev pub addressesRight : (ℕ → Bool) → List ℕ → ℕ → ℕ → Bool
+addressesRight long m n b = allBelow (λ x. leb (rowBy long m n x) b) (mostBlocks * n)
 
--- no refusal 3, beside a store of n inodes
-abbrev pub notesRight : ℕ → List ℕ → List ℕ → Bool
-notesRight n m desk = deskFits desk && (eqb (deskOf desk .inodes) n && (not (isRunning desk) || imageFits m desk))
+-- the same of the twelve addresses of each inode, and of the 32 that its address block has
+abbrev pub directRight : List ℕ → ℕ → ℕ → Bool
+directRight m n b = allBelow (λ x. leb (addressOf m n x) b) (addressCount * n)
+
+abbrev pub entriesRight : Bool → List ℕ → ℕ → ℕ → ℕ → Bool
+entriesRight long m n b i = allBelow (λ j. leb (kthBy long m n i (addressCount + j)) b) furtherCount
+
+abbrev pub furtherRight : (ℕ → Bool) → List ℕ → ℕ → ℕ → Bool
+furtherRight long m n b = allTo (λ i. entriesRight (long i) m n b i) n
+
+-- inode l of the store has an address block; none is locked: it has none
+abbrev pub lockedLong : List ℕ → ℕ → Bool
+lockedLong s l = not (eqb l 0) && isLong s l
+
+-- c blocks of inode l are copied, its address block among them, and the image has none
+abbrev pub addressesLacking : Bool → List ℕ → ℕ → ℕ → ℕ → Bool
+addressesLacking long m n l c = long && (leb addressCount c && eqb (addressBlock m n l) 0)
+
+-- the image's addresses are those that a running copy with the header h may have written
+abbrev pub rowsRight : List ℕ → List ℕ → Desk → Bool
+rowsRight s m h =
+    addressesRight (longBut m (h .locked) (isLong s (h .locked))) m (h .inodes) (h .blocks)
+    && not (addressesLacking (lockedLong s (h .locked)) m (h .inodes) (h .locked) (h .transferred))
+
+-- no refusal 3, beside a store s of n inodes
+abbrev pub notesRight : ℕ → List ℕ → List ℕ → List ℕ → Bool
+notesRight n s m desk = deskFits desk && (eqb (deskOf desk .inodes) n && (not (isRunning desk) || imageFits s m desk))
