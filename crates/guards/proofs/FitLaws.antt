@@ -132,6 +132,12 @@ unfolding imageAllowed
 allowed-read n k b e x q = q ∙ ap (λ (y : ℕ). allowed mostImageBlocks n y k) e
 
 -- ---- the addresses of an image of n inodes: none is above b
+-- where the x-th of the direct ones stands in the row
+pub row-direct : (long : ℕ → Bool) (m : List ℕ) (n x : ℕ) → rowBy long m n (mostBlocks * (x / addressCount) + x % addressCount) ≡ addressOf m n x
+row-direct long m n x =
+    let e : addressIndex (x / 12 + 1) (x % 12) ≡ x = omega arith in
+    row-next long m n (x / 12) (x % 12) (omega arith) ∙ kth-direct (long (x / 12 + 1)) m n (x / 12 + 1) (x % 12) (omega arith) ∙ ap (addressOf m n) e
+
 module _ (long : ℕ → Bool) (m : List ℕ) (n b : ℕ) where
   -- all 44 places of each inode: twelve, and 32
   pub addresses-parts : addressesRight long m n b ≡ directRight m n b && furtherRight long m n b
@@ -141,10 +147,7 @@ module _ (long : ℕ → Bool) (m : List ℕ) (n b : ℕ) where
       (r-and (r-all (addressCount * n) (λ x. r-le (addressOf m n x) b)) (r-all n (λ k. r-all furtherCount (λ j. r-le (kthBy (long (k + 1)) m n (k + 1) (addressCount + j)) b)))))
     where
       direct : ((x : ℕ) → x < 44 * n → rowBy long m n x ≤ b) → (x : ℕ) → x < 12 * n → addressOf m n x ≤ b
-      direct h x l =
-          let e : addressIndex (x / 12 + 1) (x % 12) ≡ x = omega arith in
-          let a = row-next long m n (x / 12) (x % 12) (omega arith) ∙ kth-direct (long (x / 12 + 1)) m n (x / 12 + 1) (x % 12) (omega arith) ∙ ap (addressOf m n) e in
-          subst (λ (v : ℕ). v ≤ b) a (h (44 * (x / 12) + x % 12) (omega arith))
+      direct h x l = subst (λ (v : ℕ). v ≤ b) (row-direct long m n x) (h (44 * (x / 12) + x % 12) (omega arith))
 
       join : ((x : ℕ) → x < 12 * n → addressOf m n x ≤ b) → ((k : ℕ) → k < n → (j : ℕ) → j < 32 → kthBy (long (k + 1)) m n (k + 1) (12 + j) ≤ b) → (x : ℕ) → x < 44 * n → rowBy long m n x ≤ b
       join f g x l = subst (λ (v : ℕ). v ≤ b) (sym a) (go (decLt (x % 44) 12))
