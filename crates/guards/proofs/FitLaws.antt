@@ -139,7 +139,7 @@ row-direct long m n x =
     row-next long m n (x / 12) (x % 12) (omega arith) ∙ kth-direct (long (x / 12 + 1)) m n (x / 12 + 1) (x % 12) (omega arith) ∙ ap (addressOf m n) e
 
 module _ (long : ℕ → Bool) (m : List ℕ) (n b : ℕ) where
-  -- all 44 places of each inode: twelve, and 32
+  -- the places of each inode are its direct addresses and those in its address block
   pub addresses-parts : addressesRight long m n b ≡ directRight m n b && furtherRight long m n b
   addresses-parts =
       reflects-ext (r-all (mostBlocks * n) (λ x. r-le (rowBy long m n x) b))
@@ -164,7 +164,7 @@ module _ (long : ℕ → Bool) (m : List ℕ) (n b : ℕ) where
               let z : 12 + (x % 44 - 12) ≡ x % 44 = omega arith in
               subst (λ (u : ℕ). kthBy (long (x / 44 + 1)) m n (x / 44 + 1) u ≤ b) z (g (x / 44) (omega arith) (x % 44 - 12) (omega arith))
 
--- a twelfth address among the direct ones, of the inode after the first k
+-- the address block's number is a direct address
 pub direct-place : (m : List ℕ) (n b : ℕ) → directRight m n b ≡ true → (k : ℕ) → k < n → addressBlock m n (k + 1) ≤ b
 direct-place m n b h k l = r-all (addressCount * n) (λ x. r-le (addressOf m n x) b) .to h (addressIndex (k + 1) addressPlace) (omega arith)
 

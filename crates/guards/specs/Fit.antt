@@ -22,7 +22,7 @@ blocksRight h = pick (eqb (h .state) idle) (eqb (h .blocks) 0) (leb 1 (h .blocks
 abbrev pub copiedRight : List ℕ → ℕ → Bool
 copiedRight desk n = allTo (λ i. leb (copiedOf desk i) 1) n
 
--- the opposite of "locked inode above N, more than 44 blocks copied, fields 6-9 not zero unless running, steps above 46 × N + 1, or above 46 × N if running"
+-- the opposite of "locked inode above N", more than mostBlocks of its blocks copied, "fields 6-9 not zero unless running", steps above stepsAnInode × N + 1, or above stepsAnInode × N if running
 abbrev pub countsRight : Desk → Bool
 countsRight h =
     leb (h .locked) (h .inodes)
@@ -34,25 +34,26 @@ countsRight h =
 abbrev pub addressesRight : (ℕ → Bool) → List ℕ → ℕ → ℕ → Bool
 addressesRight long m n b = allBelow (λ x. leb (rowBy long m n x) b) (mostBlocks * n)
 
--- the same of the twelve addresses of each inode, and of the 32 that its address block has
+-- the same of the twelve addresses of each inode alone
 abbrev pub directRight : List ℕ → ℕ → ℕ → Bool
 directRight m n b = allBelow (λ x. leb (addressOf m n x) b) (addressCount * n)
 
+-- of those in the address block of inode i, and of all inodes
 abbrev pub entriesRight : Bool → List ℕ → ℕ → ℕ → ℕ → Bool
 entriesRight long m n b i = allBelow (λ j. leb (kthBy long m n i (addressCount + j)) b) furtherCount
 
 abbrev pub furtherRight : (ℕ → Bool) → List ℕ → ℕ → ℕ → Bool
 furtherRight long m n b = allTo (λ i. entriesRight (long i) m n b i) n
 
--- inode l of the store has an address block; none is locked: it has none
+-- "the locked inode by its store size": it has an address block; nothing has where none is locked, l = 0
 abbrev pub lockedLong : List ℕ → ℕ → Bool
 lockedLong s l = not (eqb l 0) && isLong s l
 
--- c blocks of inode l are copied, its address block among them, and the image has none
+-- "12 or more of its blocks are copied and its twelfth image address is 0": of inode l, with c copied
 abbrev pub addressesLacking : Bool → List ℕ → ℕ → ℕ → ℕ → Bool
 addressesLacking long m n l c = long && (leb addressCount c && eqb (addressBlock m n l) 0)
 
--- the image's addresses are those that a running copy with the header h may have written
+-- the image's addresses fit, by the desk's header h: none is above its block count, and the locked inode lacks no address block
 abbrev pub rowsRight : List ℕ → List ℕ → Desk → Bool
 rowsRight s m h =
     addressesRight (longBut m (h .locked) (isLong s (h .locked))) m (h .inodes) (h .blocks)

@@ -182,7 +182,7 @@ fn largest_entry(m: &[u8], n: usize, a: usize) -> u16
     most
 }
 
-// Those in the address block of inode i, if it has one, whose twelfth address is known to be one of the b blocks. Inode l has one as told by long.
+// None in the address block of inode i, if it has one, is above b; its own number is known not to be. Inode l has one as told by long.
 fn entries_fit(m: &[u8], n: usize, b: usize, l: usize, long: bool, i: usize) -> bool
     requires { ⌜ Sized (now m) n b × (1 ≤ i) × (i ≤ n) × (addressBlock (now m) n i ≤ b) ⌝ }
     ensures { λ r. ⌜ r ≡ entriesRight (longBut (now (m .entry)) l long i) (now (m .entry)) n b i ⌝ }
@@ -197,7 +197,7 @@ fn entries_fit(m: &[u8], n: usize, b: usize, l: usize, long: bool, i: usize) -> 
     largest_entry(m, n, a) as usize <= b
 }
 
-// Those in all address blocks, which are read only once the direct addresses are known to fit.
+// None in any address block is: they are read only once the direct addresses are known to fit.
 fn further_fit(m: &[u8], n: usize, b: usize, l: usize, long: bool) -> bool
     requires { ⌜ Sized (now m) n b × (directRight (now m) n b ≡ true) ⌝ }
     ensures { λ r. ⌜ r ≡ furtherRight (longBut (now (m .entry)) l long) (now (m .entry)) n b ⌝ }
