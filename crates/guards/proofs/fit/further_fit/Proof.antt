@@ -1,8 +1,7 @@
 use Prim.Native.Nat.{_≤_, _-_}
-use mathlib.Core.Path.{_≡_, sym, _∙_}
+use mathlib.Core.Path.{_≡_}
 use mathlib.Core.Bool.{true}
 use native.Mathlib.Omega.{arith}
-use denote.Ref.{now}
 use Rattle.bounded.specs.Below.{allTo}
 use Rattle.bounded.proofs.BoolLaws.{chain-on, chain-off}
 use Rattle.bounded.proofs.BelowLaws.{all-none, all-more, all-stopped, all-done}
