@@ -47,7 +47,7 @@ fn inodes_right(v: &View, map: &mut [bool]) -> Option<(usize, usize)> {
             continue;
         }
         let inode = Inode::of(*a);
-        if a[1] != 0 || !attributes_right(inode) || !blocks_right(v, addresses, inode, map) {
+        if a[1] != 0 || !attributes_right(inode) || !blocks_right(v, addresses, inode.size(), map) {
             return None;
         }
         used += inode.blocks();
@@ -64,16 +64,21 @@ fn attributes_right(a: Inode) -> bool {
     }
 }
 
-/// The blocks of an inode: those of its record, then a long file's behind them, and a file's last bytes. (A directory's size is whole blocks.)
-fn blocks_right(v: &View, record: &[u8; 24], a: Inode, map: &mut [bool]) -> bool {
+/// The blocks of a size: those of the record, then those behind the address block, and the last bytes. (A directory's size is whole blocks, at most twelve.)
+fn blocks_right(v: &View, record: &[u8; 24], size: usize, map: &mut [bool]) -> bool {
     let direct = record.as_chunks().0;
-    if !a.is_long() {
-        return addresses_right(direct, a.blocks(), map) && zero_tail(v, direct, a.size(), a.size() / BLOCK);
+    let used = size.div_ceil(BLOCK);
+    if size <= MOST_DIRECT_BYTES {
+        return addresses_right(direct, used, map) && zero_tail(v, direct, size, used);
     }
-    addresses_right(direct, DIRECT, map) && {
-        let further = v.further(record);
-        addresses_right(further, a.blocks() - DIRECT, map) && zero_tail(v, further, a.size(), a.size() / BLOCK - ADDRESS_PLACE)
-    }
+    addresses_right(direct, DIRECT, map) && further_right(v, v.further(record), size, map)
+}
+
+/// The entries of an address block. (Apart, so that the loop over the other inodes stays short.)
+#[inline(never)]
+fn further_right(v: &View, further: &[[u8; 2]], size: usize, map: &mut [bool]) -> bool {
+    let used = size.div_ceil(BLOCK) - ADDRESS_PLACE;
+    addresses_right(further, used, map) && zero_tail(v, further, size, used)
 }
 
 /// The first addresses, as many as used, name blocks that none before them names (0 is in the map from the start); the rest are 0.
@@ -88,9 +93,9 @@ fn addresses_right(addresses: &[[u8; 2]], used: usize, map: &mut [bool]) -> bool
     rest.iter().all(|a| *a == [0; 2])
 }
 
-/// The bytes past a file's size in its last block, whose address stands at place p.
-fn zero_tail(v: &View, addresses: &[[u8; 2]], size: usize, p: usize) -> bool {
-    size % BLOCK == 0 || v.blocks[u16::from_le_bytes(addresses[p]) as usize - 1][size % BLOCK..].iter().all(|&x| x == 0)
+/// The bytes past a file's size in its last block, which the last of the used addresses names.
+fn zero_tail(v: &View, addresses: &[[u8; 2]], size: usize, used: usize) -> bool {
+    size % BLOCK == 0 || v.blocks[u16::from_le_bytes(addresses[used - 1]) as usize - 1][size % BLOCK..].iter().all(|&x| x == 0)
 }
 
 fn entries_right(v: &View, counts: &mut Counts) -> bool {

@@ -120,7 +120,7 @@ impl Inode {
 
     /// A file with an address block.
     pub fn is_long(self) -> bool {
-        self.kind == FILE && self.size() > MOST_DIRECT_BYTES
+        self.size() > MOST_DIRECT_BYTES && self.kind == FILE
     }
 
     pub fn put(self, s: &mut [u8], shape: Shape, i: usize) {
@@ -180,7 +180,9 @@ impl<'a> View<'a> {
     /// The 32 entries of every address block that is one of the blocks.
     pub fn further_addresses(&self) -> impl Iterator<Item = u16> + 'a {
         let v = *self;
-        (1..=v.attributes.len()).filter(move |&i| v.has_further(i)).flat_map(move |i| v.further(&v.addresses[i - 1])).map(|&a| u16::from_le_bytes(a))
+        let long = v.attributes.iter().enumerate().filter(|(_, a)| get16(*a, 4) > MOST_DIRECT_BYTES && a[0] == FILE).map(|(k, _)| k + 1);
+        let locked = v.locked_long.then_some(v.locked);
+        long.filter(move |&i| i != v.locked).chain(locked).flat_map(move |i| v.further(&v.addresses[i - 1])).map(|&a| u16::from_le_bytes(a))
     }
 
     /// Inode i has an address block, once its last address names one.
@@ -196,7 +198,7 @@ impl<'a> View<'a> {
 
     /// An address names block c.
     pub fn names(&self, c: usize) -> bool {
-        self.direct_addresses().fold(false, |named, a| named | (a == c as u16)) || self.further_addresses().fold(false, |named, a| named | (a == c as u16))
+        self.direct_addresses().fold(false, |named, a| named | (a == c as u16)) || self.further_addresses().any(|a| a == c as u16)
     }
 
     /// Which blocks an address names, in one pass; most inodes have none.
