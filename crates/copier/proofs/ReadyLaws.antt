@@ -14,7 +14,6 @@ use Rattle.layout.specs.Sizes.{mostInodes, mostImageBlocks, addressCount, mostB
 use Rattle.layout.specs.Inode.{addressOf, addressIndex}
 use Rattle.blocks.specs.Block.{isLong, addressBlock, kthBy, rowBy}
 use Rattle.blocks.specs.Fits.{Sized, RowsFit, Reaches}
-use Rattle.blocks.proofs.KthLaws.{kth-direct, row-next}
 use Rattle.growth.proofs.ImageLaws.{but-else}
 use Rattle.desk.specs.Sizes.{deskLength, stepsAnInode}
 use Rattle.desk.specs.Desk.{deskOf}
@@ -27,6 +26,7 @@ use Rattle.checkpoint.specs.List.{Ready}
 use Rattle.checkpoint.proofs.Call.LiveLaws.{ready-sound}
 use Rattle.checkpoint.proofs.Copy.FitLaws.{desk-framed-is, desk-fits-is, image-fits-is, notes-fit-is}
 use Rattle.tallies.specs.Addressed.{Addressed}
+use Rattle.transfer.proofs.NamedLaws.{row-direct}
 use Rattle.copier.specs.Held.{Held, Locked, FreeImage, OpenImage}
 
 module _ (s m d : List ℕ) (n : ℕ) (z : Ready (world s m d)) (e : n ≡ inodesIn s) (t : isRunning d ≡ true) where
@@ -84,10 +84,7 @@ module _ (s m d : List ℕ) (n : ℕ) (z : Ready (world s m d)) (e : n ≡ inode
 
   address : (x : ℕ) → x < addressCount * n → addressOf m n x ≤ deskOf d .blocks
   address x u =
-      let e : addressIndex (x / 12 + 1) (x % 12) ≡ x = omega arith in
-      let a = row-next (imageLong s m d) m n (x / 12) (x % 12) (omega arith) in
-      let b = kth-direct (imageLong s m d (x / 12 + 1)) m n (x / 12 + 1) (x % 12) (omega arith) in
-      let c = ap (addressOf m n) e in
+      let a = row-direct (imageLong s m d) m n x u in
       let k = row (44 * (x / 12) + x % 12) (omega arith) in
       omega arith
 

@@ -21,7 +21,6 @@ use Rattle.bounded.proofs.CountLaws.{count-some-is, met, met-at}
 use Rattle.bounded.proofs.ReflectLaws.{r-eq, r-some, r-says, reflects-ext}
 use Rattle.layout.specs.Sizes.{addressCount, furtherCount, addressPlace, blockBytes, mostInodes, mostImageBlocks}
 use Rattle.layout.specs.Inode.{addressOf, addressIndex}
-use Rattle.layout.specs.Fits.{InodeFits}
 use Rattle.blocks.specs.Block.{blockAt, addressBlock, furtherOf, kthBy, kthBlock, rowBy, isLong}
 use Rattle.blocks.specs.Free.{namedBy, lowestBy}
 use Rattle.blocks.specs.Fits.{RowsFit}
@@ -31,40 +30,42 @@ use Rattle.checkpoint.proofs.Copy.LedgerLaws.{named-by}
 use Rattle.transfer.specs.Behind.{behindB}
 
 -- ---- the address block of inode i, as the code finds it
-module _ (long : ℕ → Bool) (m : List ℕ) (n : ℕ) (h : RowsFit long m n) (i : ℕ) (l : 1 ≤ i) (u : i ≤ n) where
-  pub inode-here : InodeFits m n i
-  inode-here = record { low = l; high = u; few = h .few; area = h .area }
+module _ (long : ℕ → Bool) (m : List ℕ) (n : ℕ) (h : RowsFit long m n) (i : ℕ) (l : 1 ≤ i) (u : i ≤ n) (a : ℕ) (e : a ≡ kthBlock m n i addressPlace) where
+  block-is : a ≡ addressBlock m n i
+  block-is = e ∙ kth-direct (isLong m i) m n i 11 (omega arith)
 
-  module _ (a : ℕ) (e : a ≡ kthBlock m n i addressPlace) where
-    block-is : a ≡ addressBlock m n i
-    block-is = e ∙ kth-direct (isLong m i) m n i 11 (omega arith)
+  pub block-reached : 1 ≤ a → long i ≡ true → (n ≤ mostInodes) × (1 ≤ a) × (a ≤ mostImageBlocks) × (blockAt n a + blockBytes ≤ length m)
+  block-reached p q =
+      let f = block-is in
+      let r = row-kth long m n i 11 l (omega arith) ∙ kth-direct (long i) m n i 11 (omega arith) in
+      let k = h .most (44 * (i - 1) + 11) (omega arith) in
+      let w = h .inside i l u q (λ z. omega arith) in
+      (h .few, p, omega arith, omega arith)
 
-    pub block-reached : 1 ≤ a → long i ≡ true → (n ≤ mostInodes) × (1 ≤ a) × (a ≤ mostImageBlocks) × (blockAt n a + blockBytes ≤ length m)
-    block-reached p q =
-        let f = block-is in
-        let r = row-kth long m n i 11 l (omega arith) ∙ kth-direct (long i) m n i 11 (omega arith) in
-        let k = h .most (44 * (i - 1) + 11) (omega arith) in
-        let w = h .inside i l u q (λ z. omega arith) in
-        (h .few, p, omega arith, omega arith)
+  -- what it names
+  module _ (c : ℕ) (some : 1 ≤ c) where
+    none : ((j : ℕ) → j < furtherCount → kthBy (long i) m n i (12 + j) ≡ 0) → false ≡ behindB long m n c i
+    unfolding behindB
+    none f = sym (none-some (λ j. eqb (kthBy (long i) m n i (12 + j)) c) 32 (λ j q. ne-eqb (kthBy (long i) m n i (12 + j)) c (λ z. let y = f j q in omega arith)))
 
-    -- what it names
-    module _ (c : ℕ) (some : 1 ≤ c) where
-      none : ((j : ℕ) → j < furtherCount → kthBy (long i) m n i (12 + j) ≡ 0) → false ≡ behindB long m n c i
-      unfolding behindB
-      none f = sym (none-some (λ j. eqb (kthBy (long i) m n i (12 + j)) c) 32 (λ j q. ne-eqb (kthBy (long i) m n i (12 + j)) c (λ z. let y = f j q in omega arith)))
+    pub behind-bare : a < 1 → false ≡ behindB long m n c i
+    behind-bare p = none (λ j q. let f = block-is in kth-bare (long i) m n i (12 + j) (omega arith) (omega arith) (omega arith))
 
-      pub behind-bare : a < 1 → false ≡ behindB long m n c i
-      behind-bare p = none (λ j q. let f = block-is in kth-bare (long i) m n i (12 + j) (omega arith) (omega arith) (omega arith))
+    pub behind-short : long i ≡ false → false ≡ behindB long m n c i
+    behind-short q = none (λ j _. kth-none (long i) m n i (12 + j) q (omega arith))
 
-      pub behind-short : long i ≡ false → false ≡ behindB long m n c i
-      behind-short q = none (λ j _. kth-none (long i) m n i (12 + j) q (omega arith))
+    pub behind-counted : (r : ℕ) → long i ≡ true → r ≡ tally (furtherOf m n a) furtherCount c → not (eqb r 0) ≡ behindB long m n c i
+    unfolding behindB someBelow
+    behind-counted r q t =
+        ap (λ (x : ℕ). not (eqb x 0)) t
+        ∙ count-some-is (λ j. eqb (furtherOf m n a j) c) 32
+        ∙ ap not (all-ext _ _ 32 (λ j _. ap (λ (x : ℕ). not (eqb x c)) (ap (λ (x : ℕ). furtherOf m n x j) block-is ∙ sym (kth-behind (long i) m n i j q))))
 
-      pub behind-counted : (r : ℕ) → long i ≡ true → r ≡ tally (furtherOf m n a) furtherCount c → not (eqb r 0) ≡ behindB long m n c i
-      unfolding behindB someBelow
-      behind-counted r q t =
-          ap (λ (x : ℕ). not (eqb x 0)) t
-          ∙ count-some-is (λ j. eqb (furtherOf m n a j) c) 32
-          ∙ ap not (all-ext _ _ 32 (λ j _. ap (λ (x : ℕ). not (eqb x c)) (ap (λ (x : ℕ). furtherOf m n x j) block-is ∙ sym (kth-behind (long i) m n i j q))))
+-- address x of all in a row, twelve to an inode, has its place in the row of 44 to an inode
+pub row-direct : (long : ℕ → Bool) (m : List ℕ) (n x : ℕ) → x < addressCount * n → rowBy long m n (44 * (x / 12) + x % 12) ≡ addressOf m n x
+row-direct long m n x l =
+    let e : addressIndex (x / 12 + 1) (x % 12) ≡ x = omega arith in
+    row-next long m n (x / 12) (x % 12) (omega arith) ∙ kth-direct (long (x / 12 + 1)) m n (x / 12 + 1) (x % 12) (omega arith) ∙ ap (addressOf m n) e
 
 module _ (long : ℕ → Bool) (m : List ℕ) (n c : ℕ) where
   behind-is : (i : ℕ) → Reflects (behindB long m n c i) ((j : ℕ) × (j < furtherCount) × (kthBy (long i) m n i (addressCount + j) ≡ c))
@@ -72,15 +73,10 @@ module _ (long : ℕ → Bool) (m : List ℕ) (n c : ℕ) where
   behind-is i = r-some furtherCount (λ j. r-eq (kthBy (long i) m n i (addressCount + j)) c)
 
   -- ---- an address names c, and none does
-  row-direct : (x : ℕ) → x < addressCount * n → rowBy long m n (44 * (x / 12) + x % 12) ≡ addressOf m n x
-  row-direct x l =
-      let e : addressIndex (x / 12 + 1) (x % 12) ≡ x = omega arith in
-      row-next long m n (x / 12) (x % 12) (omega arith) ∙ kth-direct (long (x / 12 + 1)) m n (x / 12 + 1) (x % 12) (omega arith) ∙ ap (addressOf m n) e
-
   pub direct-named : tally (addressOf m n) (addressCount * n) c ≢ 0 → namedBy long m n c ≡ true
   direct-named h =
       let w = met-at (addressOf m n) (12 * n) c (omega arith) in
-      named-by long m n c .from (44 * (w .0 / 12) + w .0 % 12, (let l = w .1 in omega arith), row-direct (w .0) (w .1) ∙ w .2)
+      named-by long m n c .from (44 * (w .0 / 12) + w .0 % 12, (let l = w .1 in omega arith), row-direct long m n (w .0) (w .1) ∙ w .2)
 
   -- then only address blocks can
   pub further-named : tally (addressOf m n) (addressCount * n) c ≡ 0 → someBelow (λ k. behindB long m n c (k + 1)) n ≡ namedBy long m n c

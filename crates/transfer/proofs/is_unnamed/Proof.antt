@@ -19,7 +19,7 @@ times-named-requires : tie.Need-times-named-requires
 times-named-requires c κs = search needs
 
 returns-3 : tie.Need-returns-3
-returns-3 c = let a = c .before .before .before .before .before .args in own-direct (longBut (now (a .m)) (a .l) (a .long)) (now (a .m)) (a .n) (a .c) (a .b) (omega arith) (omega arith) _ (c .before .times-named .ensures) (c .if3 .taken)
+returns-3 c = let a = c .before .before .before .before .before .args in own-direct (longBut (now (a .m)) (a .l) (a .long)) (now (a .m)) (a .n) (a .c) (a .b) (omega arith) (omega arith) _ (c .before .times-named .ensures) (λ e. omega arith)
 
 cast-is-further : tie.Need-cast-is-further
 cast-is-further c = search needs
@@ -28,7 +28,7 @@ is-further-requires : tie.Need-is-further-requires
 is-further-requires c κs = search needs
 
 returns-4 : tie.Need-returns-4
-returns-4 c = let a = c .before .before .before .before .before .before .args in own-further (longBut (now (a .m)) (a .l) (a .long)) (now (a .m)) (a .n) (a .c) (a .b) (omega arith) (omega arith) _ (c .before .before .times-named .ensures) (c .before .if3 .left) _ (c .is-further .ensures)
+returns-4 c = let a = c .before .before .before .before .before .before .args in own-further (longBut (now (a .m)) (a .l) (a .long)) (now (a .m)) (a .n) (a .c) (a .b) (omega arith) (omega arith) _ (c .before .before .times-named .ensures) (omega arith) _ (c .is-further .ensures)
 
 pub is-unnamed-spec : {M : Type 1} → statement M
 is-unnamed-spec =
