@@ -34,7 +34,7 @@ const NAMES: usize = 64;
 const FEW_NAMES: usize = 4;
 
 // At most so many are written, less one: a few more than a file may have. A read's out-buffer.
-pub const MOST_BYTES: usize = 2760;
+const MOST_BYTES: usize = 2760;
 
 pub const OUT_BYTES: usize = 64;
 
@@ -207,9 +207,7 @@ fn draw_offset(b: u64) -> usize {
 }
 
 // Of what is written: mostly a few hundred bytes, else around the edge of 768, around the limit, or anything up to it.
-fn draw_length(b: u64) -> usize
-    ensures { λ r. ⌜ r < 2760 ⌝ }
-{
+fn draw_length(b: u64) -> usize {
     match draw(b, 60, 6) {
         0..=2 => draw(b, 61, 1 + draw(b, 62, 800)),
         3 => 700 + draw(b, 61, 150),
