@@ -48,6 +48,24 @@ fn remember(store: &[u8], moments: &mut [u8; 2097152], m: usize) {
     }
 }
 
+// What is counted at a finish: the entries that it owed, and what has become of blocks and files since the first moment.
+fn count_finish(
+    first: &[u8],
+    store: &[u8],
+    image: &[u8],
+    n: usize,
+    entries: usize,
+    tried: &mut [u64; 26],
+)
+    requires { ⌜ n ≤ 8 ⌝ }
+{
+    tally(&mut *tried, FINISHES, 1);
+    tally(&mut *tried, ENTRIES, entries);
+    tally(&mut *tried, BLOCKS, blocks_again(first, store, n));
+    tally(&mut *tried, CROSSED, files_crossed(first, store, n));
+    tally(&mut *tried, LONG, files_long(image, n));
+}
+
 // The finished copy is a sound image of n inodes, has every entry that it owes, and nothing that is not of its time.
 fn finish_right(
     m: usize,
@@ -62,11 +80,7 @@ fn finish_right(
 {
     let first = moment(moments, 0);
     let owed = kept_entries(first, image, n, taken);
-    tally(&mut *tried, FINISHES, 1);
-    tally(&mut *tried, ENTRIES, owed.entries);
-    tally(&mut *tried, BLOCKS, blocks_again(first, store, n));
-    tally(&mut *tried, CROSSED, files_crossed(first, store, n));
-    tally(&mut *tried, LONG, files_long(image, n));
+    count_finish(first, store, image, n, owed.entries, &mut *tried);
     owed.there
         && byte(image, 0) == n
         && watch::check(Form::Image, image)
