@@ -48,19 +48,10 @@ fn remember(store: &[u8], moments: &mut [u8; 2097152], m: usize) {
     }
 }
 
-// What is counted at a finish: the entries that it owed, and what has become of blocks and files since the first moment.
-fn count_finish(
-    first: &[u8],
-    store: &[u8],
-    image: &[u8],
-    n: usize,
-    entries: usize,
-    tried: &mut [u64; 26],
-)
+// What has become of blocks and files since the first moment, counted at a finish.
+fn count_changes(first: &[u8], store: &[u8], image: &[u8], n: usize, tried: &mut [u64; 26])
     requires { ⌜ n ≤ 8 ⌝ }
 {
-    tally(&mut *tried, FINISHES, 1);
-    tally(&mut *tried, ENTRIES, entries);
     tally(&mut *tried, BLOCKS, blocks_again(first, store, n));
     tally(&mut *tried, CROSSED, files_crossed(first, store, n));
     tally(&mut *tried, LONG, files_long(image, n));
@@ -80,7 +71,9 @@ fn finish_right(
 {
     let first = moment(moments, 0);
     let owed = kept_entries(first, image, n, taken);
-    count_finish(first, store, image, n, owed.entries, &mut *tried);
+    tally(&mut *tried, FINISHES, 1);
+    tally(&mut *tried, ENTRIES, owed.entries);
+    count_changes(first, store, image, n, &mut *tried);
     owed.there
         && byte(image, 0) == n
         && watch::check(Form::Image, image)
