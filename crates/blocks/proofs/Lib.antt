@@ -4,3 +4,4 @@ pub mod View
 pub mod FrameLaws
 pub mod ViewLaws
 pub mod KthLaws
+pub mod LongLaws

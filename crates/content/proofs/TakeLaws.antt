@@ -1,32 +1,29 @@
 -- The free blocks that a growing file takes, as the code finds them in one map. n and b are the counts of inodes and blocks.
-use Prim.Native.Nat.{ℕ, zero, suc, _+_, _*_, _-_, _/_, _%_, _≤_, _<_}
+use Prim.Native.Nat.{ℕ, zero, suc, _+_, _*_, _-_, _≤_, _<_}
 use mathlib.Core.Path.{_≡_, refl, sym, ap, _∙_, subst}
 use mathlib.Core.Logic.{_≢_}
 use mathlib.Core.Bool.{Bool, false, not}
 use mathlib.Core.List.{List}
 use native.Mathlib.Numerals.{add-one}
 use native.Mathlib.Omega.{arith}
-use borrow.Author.Tests.{ne-eqb}
-use lib.Dec.{eqb}
 use lib.ListN.{length, replicate}
-use Rattle.bounded.specs.Below.{someBelow}
 use Rattle.bounded.specs.Count.{countTo}
 use Rattle.bounded.specs.Search.{firstFrom, onFound}
 use Rattle.bounded.specs.declared.Found.{Found}
 use Rattle.bounded.specs.declared.Found.the-variants.{At, Absent}
-use Rattle.bounded.proofs.BelowLaws.{all-ext}
 use Rattle.bounded.proofs.SearchLaws.{first-ext}
 use Rattle.octets.specs.Octets.{zeroed}
 use Rattle.octets.proofs.PartLaws.{length-zeroed}
 use Rattle.layout.specs.Sizes.{mostBlocks, mostImageBlocks, blockBytes}
 use Rattle.layout.specs.Header.{headerOf}
-use Rattle.blocks.specs.Block.{blockAt, zeroBlock, isLong, addressBlock, kthBy, kthBlock, rowBy, rowOf}
+use Rattle.blocks.specs.Block.{blockAt, zeroBlock, isLong, addressBlock, kthBlock}
 use Rattle.blocks.specs.Free.{namedBy, lowestBy, blockNamed, blockFree, freeBlock, longBut}
 use Rattle.blocks.specs.Fits.{RowsFit, Sized}
 use Rattle.blocks.specs.Map.{lacks, Maps}
 use Rattle.blocks.proofs.KthLaws.{kth-direct, row-kth}
 use Rattle.blocks.proofs.MapLaws.{map-free}
 use Rattle.blocks.proofs.FrameLaws.{header-past}
+use Rattle.blocks.proofs.LongLaws.{row-flags, named-flags, long-own}
 use Rattle.ledger.specs.Nth.{lowestFrom, nthFree}
 use Rattle.ledger.proofs.NthLaws.{nth-is}
 use Rattle.ledger.proofs.TallyLaws.{ledger-bound}
@@ -35,18 +32,9 @@ use Rattle.changes.proofs.StoreLaws.{sized-at, ledger-at, rows-most}
 use Rattle.changes.proofs.KeepLaws.{body-of}
 use Rattle.growth.specs.Extend.{zeroBlocks}
 
--- ---- no inode has the number 0, so none is long but by its own size
-pub long-own : (s : List ℕ) (i : ℕ) → 1 ≤ i → longBut s 0 false i ≡ isLong s i
-unfolding longBut
-long-own s i l = rw (ne-eqb i 0 (λ e. omega arith))
-
-row-own : (s : List ℕ) (n x : ℕ) → rowBy (longBut s 0 false) s n x ≡ rowOf s n x
-unfolding rowBy
-row-own s n x = ap (λ (b : Bool). kthBy b s n (x / 44 + 1) (x % 44)) (long-own s (x / 44 + 1) (omega arith))
-
+-- ---- each inode of a store is long by its own size
 named-own : (s : List ℕ) (n c : ℕ) → namedBy (longBut s 0 false) s n c ≡ blockNamed s n c
-unfolding namedBy someBelow
-named-own s n c = ap not (all-ext (λ x. not (eqb (rowBy (longBut s 0 false) s n x) c)) (λ x. not (eqb (rowOf s n x) c)) (mostBlocks * n) (λ x l. ap (λ (y : ℕ). not (eqb y c)) (row-own s n x)))
+named-own s n = named-flags (isLong s) (longBut s 0 false) s n (long-own s false)
 
 pub lowest-own : (s : List ℕ) (n b : ℕ) → lowestBy (longBut s 0 false) s n b ≡ freeBlock s n b
 unfolding lowestBy
@@ -70,7 +58,7 @@ module _ {s : List ℕ} {n b : ℕ} (h : SoundStore s n b) where
       record {
         few = sizes .inodes;
         area = omega arith;
-        most = λ x l. subst (λ (y : ℕ). y ≤ mostImageBlocks) (sym (row-own s n x)) (rows-most h x l);
+        most = λ x l. subst (λ (y : ℕ). y ≤ mostImageBlocks) (sym (row-flags (isLong s) (longBut s 0 false) s n (long-own s false) x)) (rows-most h x l);
         inside = λ i l m _ q. reach i l m q;
       }
 

@@ -2,7 +2,7 @@
 use Prim.Native.Nat.{ℕ, _+_, _*_, _/_, _%_, _≤_, _<_}
 use mathlib.Core.Path.{_≡_, sym, ap, _∙_, subst}
 use mathlib.Core.Logic.{_≢_}
-use mathlib.Core.Bool.{Bool, true, false, not, _&&_}
+use mathlib.Core.Bool.{true, false, not, _&&_}
 use mathlib.Core.List.{List}
 use native.Mathlib.Omega.{arith}
 use borrow.Author.Tests.{eqb-true, eq-eqb, ne-eqb, le-leb}
@@ -12,9 +12,8 @@ use Rattle.bounded.proofs.BoolLaws.{and-true}
 use Rattle.bounded.proofs.ReflectLaws.{r-and, r-le}
 use Rattle.layout.specs.Sizes.{mostInodes, mostImageBlocks, addressCount, mostBlocks}
 use Rattle.layout.specs.Inode.{addressOf, addressIndex}
-use Rattle.blocks.specs.Block.{isLong, addressBlock, kthBy, rowBy}
-use Rattle.blocks.specs.Fits.{Sized, RowsFit, Reaches}
-use Rattle.growth.proofs.ImageLaws.{but-else}
+use Rattle.blocks.specs.Block.{isLong, addressBlock, rowBy}
+use Rattle.blocks.specs.Fits.{Sized, RowsFit}
 use Rattle.desk.specs.Sizes.{deskLength, stepsAnInode}
 use Rattle.desk.specs.Desk.{deskOf}
 use Rattle.desk.specs.declared.Desk.{Desk}
@@ -26,7 +25,7 @@ use Rattle.checkpoint.specs.List.{Ready}
 use Rattle.checkpoint.proofs.Call.LiveLaws.{ready-sound}
 use Rattle.checkpoint.proofs.Copy.FitLaws.{desk-framed-is, desk-fits-is, image-fits-is, notes-fit-is}
 use Rattle.tallies.specs.Addressed.{Addressed}
-use Rattle.transfer.proofs.NamedLaws.{row-direct}
+use Rattle.blocks.proofs.LongLaws.{but-else, row-direct, fit-flags}
 use Rattle.copier.specs.Held.{Held, Locked, FreeImage, OpenImage}
 
 module _ (s m d : List ℕ) (n : ℕ) (z : Ready (world s m d)) (e : n ≡ inodesIn s) (t : isRunning d ≡ true) where
@@ -84,7 +83,7 @@ module _ (s m d : List ℕ) (n : ℕ) (z : Ready (world s m d)) (e : n ≡ inode
 
   address : (x : ℕ) → x < addressCount * n → addressOf m n x ≤ deskOf d .blocks
   address x u =
-      let a = row-direct (imageLong s m d) m n x u in
+      let a = row-direct (imageLong s m d) m n x in
       let k = row (44 * (x / 12) + x % 12) (omega arith) in
       omega arith
 
@@ -119,15 +118,7 @@ module _ (s m d : List ℕ) (n : ℕ) (z : Ready (world s m d)) (e : n ≡ inode
 
   -- with nothing locked each inode is long by its own size
   free-rows : deskOf d .locked ≡ 0 → RowsFit (isLong m) m n
-  unfolding rowBy
-  free-rows v =
-      let own : (i : ℕ) → 1 ≤ i → imageLong s m d i ≡ isLong m i = λ i l. but-else m (deskOf d .locked) (isLong s (deskOf d .locked)) i (λ z. omega arith) in
-      record {
-        few = rows .few;
-        area = rows .area;
-        most = λ x u. subst (λ (b : Bool). kthBy b m n (x / 44 + 1) (x % 44) ≤ mostImageBlocks) (own (x / 44 + 1) (omega arith)) (rows .most x u);
-        inside = λ i a b. subst (λ (y : Bool). Reaches y m n i) (own i a) (rows .inside i a b);
-      }
+  free-rows v = fit-flags (imageLong s m d) (isLong m) m n (λ i l. sym (but-else m (deskOf d .locked) (isLong s (deskOf d .locked)) i (λ z. omega arith))) rows
 
   -- the locked inode has its address block in time
   further : deskOf d .locked ≢ 0 → isLong s (deskOf d .locked) ≡ true → addressCount ≤ deskOf d .transferred → addressBlock m n (deskOf d .locked) ≢ 0

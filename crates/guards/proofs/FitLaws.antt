@@ -21,6 +21,7 @@ use Rattle.layout.specs.Header.{headerOf}
 use Rattle.blocks.specs.Block.{storeLength, allowed, isLong, addressBlock, furtherOf, kthBy, rowBy}
 use Rattle.blocks.specs.Free.{longBut}
 use Rattle.blocks.specs.Fits.{Sized}
+use Rattle.blocks.proofs.LongLaws.{row-direct}
 use Rattle.blocks.proofs.KthLaws.{kth-direct, kth-none, kth-bare, kth-behind, row-next}
 use Rattle.desk.specs.Sizes.{deskHeaderBytes, deskLength, idle, running, stopped, stepsAnInode, deskAllowed}
 use Rattle.desk.specs.declared.Desk.{Desk}
@@ -132,12 +133,6 @@ unfolding imageAllowed
 allowed-read n k b e x q = q ∙ ap (λ (y : ℕ). allowed mostImageBlocks n y k) e
 
 -- ---- the addresses of an image of n inodes: none is above b
--- where the x-th of the direct ones stands in the row
-pub row-direct : (long : ℕ → Bool) (m : List ℕ) (n x : ℕ) → rowBy long m n (mostBlocks * (x / addressCount) + x % addressCount) ≡ addressOf m n x
-row-direct long m n x =
-    let e : addressIndex (x / 12 + 1) (x % 12) ≡ x = omega arith in
-    row-next long m n (x / 12) (x % 12) (omega arith) ∙ kth-direct (long (x / 12 + 1)) m n (x / 12 + 1) (x % 12) (omega arith) ∙ ap (addressOf m n) e
-
 module _ (long : ℕ → Bool) (m : List ℕ) (n b : ℕ) where
   -- the places of each inode are its direct addresses and those in its address block
   pub addresses-parts : addressesRight long m n b ≡ directRight m n b && furtherRight long m n b

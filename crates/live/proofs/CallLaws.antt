@@ -24,7 +24,8 @@ use Rattle.checkpoint.specs.Live.{World, left, refuse, threeGuards, leavesIn}
 use Rattle.checkpoint.proofs.Copy.FitLaws.{desk-framed-is, image-fits-is, notes-fit-is}
 use Rattle.tallies.specs.Addressed.{Addressed}
 use Rattle.guards.proofs.GuardLaws.{passed, desk-passed}
-use Rattle.guards.proofs.FitLaws.{fits-few, row-direct}
+use Rattle.blocks.proofs.LongLaws.{row-direct}
+use Rattle.guards.proofs.FitLaws.{fits-few}
 use Rattle.live.specs.Fits.{Fits, Readable}
 
 -- ---- what the guards let through

@@ -21,14 +21,13 @@ use Rattle.octets.proofs.NumLaws.{length-num}
 use Rattle.layout.specs.Sizes.{mostInodes, mostImageBlocks, mostBlocks, addressCount, isComplete}
 use Rattle.layout.specs.Header.{putFree, putComplete}
 use Rattle.layout.specs.Inode.{kindOf, directoryKind, addressIndex, putLinks, inodeFree}
-use Rattle.blocks.specs.Block.{blockAt, isLong, kthBy, kthBlock, rowBy, rowOf}
+use Rattle.blocks.specs.Block.{blockAt, isLong, kthBlock}
 use Rattle.blocks.specs.Free.{longBut, blockFree}
 use Rattle.blocks.specs.Fits.{RowsFit}
 use Rattle.blocks.specs.Map.{lacks, Maps}
 use Rattle.blocks.proofs.KthLaws.{kth-direct}
 use Rattle.blocks.proofs.MapLaws.{map-count}
-use Rattle.growth.proofs.ImageLaws.{but-else}
-use Rattle.checkpoint.proofs.Copy.LedgerLaws.{rows-named}
+use Rattle.blocks.proofs.LongLaws.{named-flags, fit-flags, long-own}
 use Rattle.names.specs.Entry.{entryInode}
 use Rattle.directory.specs.Slot.{mostSlots, slotAt, entryOf}
 use Rattle.desk.specs.Desk.{copiedOf}
@@ -152,22 +151,13 @@ module _ (d : List ℕ) (n i : ℕ) where
 
 -- ---- nothing is locked: no inode has the number 0, so each is long by its own size
 module _ (m : List ℕ) (n : ℕ) where
-  free-row : (x : ℕ) → rowBy (longBut m 0 false) m n x ≡ rowOf m n x
-  unfolding rowBy
-  free-row x = ap (λ (b : Bool). kthBy b m n (x / 44 + 1) (x % 44)) (but-else m 0 false (x / 44 + 1) (λ z. omega arith))
-
   pub rows-free : RowsFit (isLong m) m n → RowsFit (longBut m 0 false) m n
-  rows-free h = record {
-    few = h .few;
-    area = h .area;
-    most = λ x l. rw (free-row x) (h .most x l);
-    inside = λ i l u. rw (but-else m 0 false i (λ z. omega arith)) (h .inside i l u);
-  }
+  rows-free = fit-flags (isLong m) (longBut m 0 false) m n (long-own m false)
 
   count-free : (map : List ℕ) (b : ℕ) → b ≤ mostImageBlocks → Maps (longBut m 0 false) m n (mostBlocks * n) map → countTo (lacks map) b ≡ countTo (blockFree m n) b
   count-free map b l h =
       map-count (longBut m 0 false) m n map h b l
-      ∙ count-ext _ _ b (λ k _. ap not (rows-named (isLong m) (longBut m 0 false) m m n (λ x _. free-row x) (k + 1)))
+      ∙ count-ext _ _ b (λ k _. ap not (named-flags (isLong m) (longBut m 0 false) m n (long-own m false) (k + 1)))
 
 pub finish-read : (m map t u v : List ℕ) (n b i k : ℕ) → b ≤ mostImageBlocks → Maps (longBut m 0 false) m n (mostBlocks * n) map
     → i ≡ countTo (inodeFree m) n → k ≡ countTo (lacks map) b → t ≡ putCounts m m n n → u ≡ putFree t i k → v ≡ putComplete u isComplete → v ≡ finishImage m n b

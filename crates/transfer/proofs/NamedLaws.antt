@@ -24,6 +24,7 @@ use Rattle.layout.specs.Inode.{addressOf, addressIndex}
 use Rattle.blocks.specs.Block.{blockAt, addressBlock, furtherOf, kthBy, kthBlock, rowBy, isLong}
 use Rattle.blocks.specs.Free.{namedBy, lowestBy}
 use Rattle.blocks.specs.Fits.{RowsFit}
+use Rattle.blocks.proofs.LongLaws.{row-direct}
 use Rattle.blocks.proofs.KthLaws.{kth-direct, kth-none, kth-bare, kth-behind, row-kth, row-next}
 use Rattle.checkpoint.specs.Copier.{targetBlock}
 use Rattle.checkpoint.proofs.Copy.LedgerLaws.{named-by}
@@ -61,12 +62,6 @@ module _ (long : ℕ → Bool) (m : List ℕ) (n : ℕ) (h : RowsFit long m n) (
         ∙ count-some-is (λ j. eqb (furtherOf m n a j) c) 32
         ∙ ap not (all-ext _ _ 32 (λ j _. ap (λ (x : ℕ). not (eqb x c)) (ap (λ (x : ℕ). furtherOf m n x j) block-is ∙ sym (kth-behind (long i) m n i j q))))
 
--- address x of all in a row, twelve to an inode, has its place in the row of 44 to an inode
-pub row-direct : (long : ℕ → Bool) (m : List ℕ) (n x : ℕ) → x < addressCount * n → rowBy long m n (44 * (x / 12) + x % 12) ≡ addressOf m n x
-row-direct long m n x l =
-    let e : addressIndex (x / 12 + 1) (x % 12) ≡ x = omega arith in
-    row-next long m n (x / 12) (x % 12) (omega arith) ∙ kth-direct (long (x / 12 + 1)) m n (x / 12 + 1) (x % 12) (omega arith) ∙ ap (addressOf m n) e
-
 module _ (long : ℕ → Bool) (m : List ℕ) (n c : ℕ) where
   behind-is : (i : ℕ) → Reflects (behindB long m n c i) ((j : ℕ) × (j < furtherCount) × (kthBy (long i) m n i (addressCount + j) ≡ c))
   unfolding behindB
@@ -76,7 +71,7 @@ module _ (long : ℕ → Bool) (m : List ℕ) (n c : ℕ) where
   pub direct-named : tally (addressOf m n) (addressCount * n) c ≢ 0 → namedBy long m n c ≡ true
   direct-named h =
       let w = met-at (addressOf m n) (12 * n) c (omega arith) in
-      named-by long m n c .from (44 * (w .0 / 12) + w .0 % 12, (let l = w .1 in omega arith), row-direct long m n (w .0) (w .1) ∙ w .2)
+      named-by long m n c .from (44 * (w .0 / 12) + w .0 % 12, (let l = w .1 in omega arith), row-direct long m n (w .0) ∙ w .2)
 
   -- then only address blocks can
   pub further-named : tally (addressOf m n) (addressCount * n) c ≡ 0 → someBelow (λ k. behindB long m n c (k + 1)) n ≡ namedBy long m n c

@@ -16,7 +16,7 @@ use Rattle.layout.specs.Sizes.{addressCount, addressPlace, mostBlocks, blockByt
 use Rattle.layout.specs.Inode.{kindOf, sizeOf, freeKind, directoryKind}
 use Rattle.blocks.specs.Block.{blockOf, blocksUsed, isLong, kthBy, kthBlock, rowBy}
 use Rattle.blocks.specs.Free.{longBut}
-use Rattle.growth.proofs.ImageLaws.{but-here, but-else}
+use Rattle.blocks.proofs.LongLaws.{but-here, but-else}
 use Rattle.changes.proofs.SameLaws.{same-long}
 use Rattle.directory.specs.Slot.{mostSlots, slotsInBlock}
 use Rattle.desk.specs.Sizes.{deskLength, running}

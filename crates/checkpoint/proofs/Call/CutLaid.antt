@@ -16,7 +16,7 @@ use Rattle.blocks.specs.Free.{namedBy}
 use Rattle.blocks.proofs.KthLaws.{row-kth}
 use Rattle.bounded.proofs.ReflectLaws.{r-no}
 use Rattle.ledger.proofs.BytesLaws.{place-used, used-limits}
-use Rattle.growth.proofs.ImageLaws.{but-here}
+use Rattle.blocks.proofs.LongLaws.{but-here}
 use Rattle.changes.proofs.SameLaws.{SameBlock}
 use Rattle.checkpoint.specs.Fit.{imageLong}
 use Rattle.checkpoint.proofs.Copy.LedgerLaws.{named-by, rows-named, rows-differ}

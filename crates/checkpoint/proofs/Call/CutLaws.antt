@@ -20,7 +20,7 @@ use Rattle.blocks.specs.Free.{longBut}
 use Rattle.blocks.proofs.KthLaws.{kth-same, kth-direct}
 use Rattle.ledger.proofs.WriteLaws.{NoAddresses}
 use Rattle.ledger.proofs.LedgerLaws.{one-kth, data-none}
-use Rattle.growth.proofs.ImageLaws.{but-else}
+use Rattle.blocks.proofs.LongLaws.{but-else}
 use Rattle.desk.specs.Desk.{deskOf}
 use Rattle.changes.proofs.StoreLaws.{dir-short}
 use Rattle.checkpoint.specs.Fit.{imageLong}

@@ -20,7 +20,8 @@ use Rattle.blocks.specs.Free.{namedBy, blockNamed}
 use Rattle.blocks.proofs.KthLaws.{row-kth}
 use Rattle.ledger.specs.Ledger.{Ledger}
 use Rattle.ledger.proofs.LedgerLaws.{Unnamed}
-use Rattle.growth.proofs.ImageLaws.{imageHave, but-here, but-else}
+use Rattle.blocks.proofs.LongLaws.{but-here, but-else, row-flags}
+use Rattle.growth.proofs.ImageLaws.{imageHave}
 use Rattle.desk.specs.Desk.{deskOf}
 use Rattle.checkpoint.specs.Fit.{imageLong}
 use Rattle.checkpoint.proofs.Copy.Laid.{Laid}
@@ -81,8 +82,7 @@ module _ {n b : ℕ} {s m d : List ℕ} (h : Laid n b s m d) where
   -- with nothing locked each inode is long by its own size
   module _ (none : l ≡ 0) where
     pub free-row : (x : ℕ) → x < mostBlocks * n → rowOf m n x ≡ rowBy (imageLong s m d) m n x
-    unfolding rowBy
-    free-row x q = ap (λ (y : Bool). kthBy y m n (x / 44 + 1) (x % 44)) (sym (but-else m l (isLong s l) (x / 44 + 1) (λ z. omega arith)))
+    free-row x q = row-flags (imageLong s m d) (isLong m) m n (λ i o. sym (but-else m l (isLong s l) i (λ z. omega arith))) x
 
     pub free-named : (c : ℕ) → blockNamed m n c ≡ namedBy (imageLong s m d) m n c
     free-named = rows-named (imageLong s m d) (isLong m) m m n free-row

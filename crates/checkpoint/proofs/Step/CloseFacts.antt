@@ -17,7 +17,7 @@ use Rattle.layout.specs.Sizes.{addressPlace, mostBlocks, blockBytes, mostDirect
 use Rattle.layout.specs.Inode.{kindOf, sizeOf, parentOf, inodeOf, freeKind, fileKind, directoryKind}
 use Rattle.blocks.specs.Block.{blockOf, blocksUsed, bytesPlace, isLong, kthBy, kthBlock, bytesBlock, rowBy}
 use Rattle.ledger.proofs.BytesLaws.{place-used, place-bytes}
-use Rattle.growth.proofs.ImageLaws.{but-here, but-else}
+use Rattle.blocks.proofs.LongLaws.{but-here, but-else}
 use Rattle.checkpoint.specs.Fit.{imageLong}
 use Rattle.layout.specs.Fits.{InodeFits}
 use Rattle.directory.specs.Slot.{slots, entryOf}

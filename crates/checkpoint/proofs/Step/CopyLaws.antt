@@ -20,7 +20,8 @@ use Rattle.ledger.specs.Ledger.{Ledger}
 use Rattle.ledger.proofs.LedgerLaws.{Unnamed, one-kth}
 use Rattle.ledger.proofs.AppendLaws.{Appended}
 use Rattle.ledger.proofs.BytesLaws.{used-limits}
-use Rattle.growth.proofs.ImageLaws.{imageHave, but-here, but-else, copy-ledger}
+use Rattle.blocks.proofs.LongLaws.{but-here, but-else}
+use Rattle.growth.proofs.ImageLaws.{imageHave, copy-ledger}
 use Rattle.directory.specs.Slot.{slots, slotsInBlock}
 use Rattle.desk.specs.declared.Desk.{Desk}
 use Rattle.desk.specs.Desk.{deskOf}

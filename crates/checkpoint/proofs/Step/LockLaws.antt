@@ -13,7 +13,7 @@ use Rattle.layout.specs.Inode.{sizeOf}
 use Rattle.blocks.specs.Block.{blocksUsed, isLong, addressBlock, kthBy, rowBy}
 use Rattle.blocks.specs.Free.{longBut}
 use Rattle.blocks.proofs.KthLaws.{kth-direct, few-alike}
-use Rattle.growth.proofs.ImageLaws.{but-else}
+use Rattle.blocks.proofs.LongLaws.{but-else}
 use Rattle.checkpoint.specs.Fit.{imageLong}
 use Rattle.checkpoint.proofs.Copy.LedgerLaws.{rows-named, rows-differ}
 use Rattle.directory.specs.Slot.{mostSlots}
