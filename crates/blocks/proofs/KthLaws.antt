@@ -11,11 +11,9 @@ use lib.ListN.{getD}
 use Rattle.octets.specs.Octets.{part, numAt}
 use Rattle.octets.proofs.PartLaws.{getD-part}
 use Rattle.octets.proofs.NumLaws.{num-ext}
-use Rattle.layout.specs.Sizes.{addressCount}
+use Rattle.layout.specs.Sizes.{addressCount, furtherCount, mostBlocks}
 use Rattle.layout.specs.Inode.{addressIndex, addressOf}
-use Rattle.blocks.specs.Block.{blockAt, blockOf}
-use Rattle.layout.specs.Sizes.{furtherCount, mostBlocks}
-use Rattle.blocks.specs.Block.{addressBlock, furtherOf, kthBy, rowBy}
+use Rattle.blocks.specs.Block.{blockAt, blockOf, addressBlock, furtherOf, kthBy, rowBy}
 
 -- ---- where it stands
 module _ (long : Bool) (s : List ℕ) (n i k : ℕ) where

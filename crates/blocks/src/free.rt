@@ -1,6 +1,5 @@
 // Which blocks the inodes have, and the lowest that none has. Inode l has an address block as told by long, every other by its own size.
 ghost use mathlib.Core.Path.{_≡_};
-ghost use mathlib.Core.Bool.{Bool};
 ghost use Prim.Native.Nat.{ℕ, _+_, _-_, _*_, _<_, _≤_};
 ghost use lib.ListN.{length};
 ghost use Rattle.layout.specs.Sizes.{addressCount, furtherCount, mostBlocks, blockBytes, mostInodes, mostImageBlocks};

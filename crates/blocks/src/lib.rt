@@ -74,7 +74,7 @@ pub fn blocks_used(size: usize) -> usize
     bytes + 1
 }
 
-// The k-th block of an inode.
+// The k-th address of an inode, which names its k-th block.
 pub fn kth_block(s: &[u8], n: usize, i: usize, k: usize) -> u16
     requires { ⌜ InodeFits (now s) n i × (k < addressCount) ⌝ }
     ensures { λ r. ⌜ r ≡ kthBlock (now (s .entry)) n i k ⌝ }

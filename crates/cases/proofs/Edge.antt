@@ -8,11 +8,11 @@ use Rattle.octets.specs.Octets.{zeroed, part, splice, numAt, toBytes, putNum, w
 use Rattle.marks.specs.Mark.{digit, marked, withMark, withoutMark}
 use Rattle.names.specs.Entry.{entryInode, isEmpty, sameByte, sameName, nameLength, entryName, legalEntry, entryFor}
 use Rattle.names.specs.Name.{plainByte, isDots, legalName}
-use Rattle.blocks.specs.Block.{blockOf, putInBlock, zeroBlock, blocksUsed, bytesPlace, isLong, furtherOf, kthBy, rowBy, putKth, putRow, kthBlock, allowed}
+use Rattle.blocks.specs.Block.{blockOf, putInBlock, zeroBlock, blocksUsed, bytesPlace, isLong, furtherOf, kthBy, rowBy, putKth, putRow, kthBlock, allowed, storeLength}
 use Rattle.blocks.specs.Free.{namedBy, lowestBy, longBut}
 use Rattle.ledger.specs.Change.{across, added, grown, kept}
 use Rattle.ledger.specs.Nth.{lowestFrom, nthFree}
-use Rattle.growth.specs.Extend.{zeroBlocks, putSize, putBlocks, taken, extended, cutBlocks}
+use Rattle.growth.specs.Extend.{zeroBlocks, putSize, putBlocks, taken, extended, cutBlocks, fileByte}
 use Rattle.layout.specs.Header.{headerOf, putFree, putComplete, putHeader, headerRestZero, lessFree, moreFree}
 use Rattle.layout.specs.Inode.{kindOf, spareOf, linksOf, sizeOf, parentOf, putLinks, attributeEntry, putAttributes, addressOf, putAddress, addressesOf, putAddresses, inodeOf, putInode, isKind, zeroInode, freeInode}
 use Rattle.directory.specs.Slot.{slots, slotAt, entryOf, slotHasName, findSlot, slotEmpty, emptySlot, putEntry, clearEntry}
@@ -21,7 +21,7 @@ use Rattle.sound.specs.Entry.{sameNames}
 use Rattle.sound.specs.Place.{isSlot, entryAt, filled, naming}
 use Rattle.sound.specs.Test.{attributesB, addressesB, zeroTailB, inodeB, namingB, newNameB, entryB, countedB, leadB, framedB, headerB, freeCountsB, blankBlockB, blanksB, bodyB, isSound}
 use Rattle.content.specs.Apply.{written}
-use Rattle.content.specs.Content.{putFile, addBlock, zeroRest, cutTo}
+use Rattle.content.specs.Content.{putFile, addBlock, zeroRest, cutTo, fileBytes}
 use Rattle.content.specs.Plan.{writePlan, shortenPlan}
 use Rattle.entries.specs.Apply.{enter, created, dropLink, unlinked, setParent, moved}
 use Rattle.entries.specs.Plan.{createPlan, holdsNone, unlinkPlan, isBelow, renameTo, renamePlan}
@@ -42,15 +42,11 @@ use mathlib.Core.Bool.{true}
 use mathlib.Core.List.{List, [], _∷_, _++_}
 use lib.ListN.{replicate}
 use Rattle.layout.specs.Sizes.{blockBytes}
-use Rattle.blocks.specs.Block.{storeLength}
-use Rattle.content.specs.Content.{fileBytes}
-use Rattle.growth.specs.Extend.{fileByte}
-use Rattle.checkpoint.specs.List.{outcome, next, run, accepted, starts}
+use Rattle.checkpoint.specs.List.{outcome, next, run, accepted, starts, Event, call, advances}
 use Rattle.checkpoint.proofs.Run.Starts.{Opens, opens, opened, opened-runs}
 use Rattle.checkpoint.proofs.Run.Lists.{Going, runs}
 use Rattle.entries.specs.declared.Kind.the-variants.{File}
 use Rattle.files.specs.Effect.{create, write, shorten}
-use Rattle.checkpoint.specs.List.{Event, call, advances}
 use Rattle.cases.specs.Worlds.{fresh, nameA, nameB, overTheEdge}
 use Rattle.cases.proofs.Behind.{behind, behindAll, behind-run}
 

@@ -1,7 +1,7 @@
 -- The track cases that run a list on a concrete store: antt computes them.
 use Rattle.bounded.specs.Below.{allBelow, someBelow}
 use Rattle.bounded.specs.Climb.{leadsB}
-use Rattle.bounded.specs.Count.{count}
+use Rattle.bounded.specs.Count.{count, tally}
 use Rattle.bounded.specs.Search.{firstFrom, first}
 use Rattle.bounded.specs.Table.{table}
 use Rattle.octets.specs.Octets.{zeroed, part, splice, numAt, toBytes, putNum, wordBytes}
@@ -15,7 +15,7 @@ use Rattle.ledger.specs.Nth.{lowestFrom, nthFree}
 use Rattle.growth.specs.Extend.{zeroBlocks, putSize, putBlocks, taken, extended, cutBlocks}
 use Rattle.layout.specs.Header.{headerOf, putFree, putComplete, putHeader, headerRestZero, lessFree, moreFree}
 use Rattle.layout.specs.Inode.{kindOf, spareOf, linksOf, sizeOf, parentOf, putLinks, attributeEntry, putAttributes, addressOf, putAddress, addressesOf, putAddresses, inodeOf, putInode, isKind, zeroInode, freeInode}
-use Rattle.directory.specs.Slot.{slots, slotAt, entryOf, slotHasName, findSlot, slotEmpty, emptySlot, putEntry, clearEntry}
+use Rattle.directory.specs.Slot.{slots, slotAt, entryOf, slotHasName, findSlot, slotEmpty, emptySlot, putEntry, clearEntry, mostSlots}
 use Rattle.desk.specs.Desk.{deskOf, putDesk, copiedOf, putCopied, marksOf, putMarks, markOf, setMark, clearMark, clearNotes}
 use Rattle.sound.specs.Entry.{sameNames}
 use Rattle.sound.specs.Place.{isSlot, entryAt, filled, naming}
@@ -32,7 +32,7 @@ use Rattle.checkpoint.specs.Busy.{isLocked, anyLocked}
 use Rattle.checkpoint.specs.Copier.{startImage, startDesk, nextInode, targetBlock, lockedStep, freeStep, stepOf, copiedEntry, copiedEntries, copiedBlock, putCounts, finishImage}
 use Rattle.checkpoint.specs.Fit.{deskFramed, imageBlocks, imageAllowed, isRunning, blocksFit, deskFits, lacksAddresses, imageFits, notesFit}
 use Rattle.checkpoint.specs.Image.{hasSlot, slotNames, inodeNamed}
-use Rattle.checkpoint.specs.List.{outcome, next, run}
+use Rattle.checkpoint.specs.List.{outcome, next, run, call, advances, starts, Finish, last, more}
 use Rattle.checkpoint.specs.Live.{World, threeGuards, decision, live, started, start, step, startGuards}
 use Rattle.checkpoint.specs.Notes.{isCopied, noteMade, noteTaken, cutsImage, cutImage, cutEntries, clearMarks, setMarks}
 use Rattle.desk.specs.Desk as desk
@@ -40,14 +40,11 @@ use Prim.Native.Nat.{ℕ, _*_}
 use mathlib.Core.Path.{_≡_, refl, ap}
 use mathlib.Core.List.{List, [], _∷_, _++_}
 use lib.ListN.{replicate}
-use Rattle.bounded.specs.Count.{tally}
-use Rattle.directory.specs.Slot.{mostSlots}
 use Rattle.desk.specs.Sizes.{finished, deskAllowed}
 use Rattle.answers.specs.declared.Refusal.the-variants.{IntoItself}
 use Rattle.answers.specs.Told.{told}
 use Rattle.answers.specs.declared.Answer.the-variants.{Done, Refused}
 use Rattle.files.specs.Effect.{rename}
-use Rattle.checkpoint.specs.List.{call, advances, starts, Finish, last, more}
 use Rattle.cases.specs.Worlds.{fresh, nameA, reusedBlock, movedDirectory, unlinkedFile, parentAndChild}
 
 pub three-steps : (outcome advances (run (starts ∷ advances ∷ advances ∷ []) (fresh 1 1)) .answer ≡ told (Done 3))

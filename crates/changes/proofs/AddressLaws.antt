@@ -16,7 +16,7 @@ use Rattle.layout.specs.Sizes.{mostBlocks}
 use Rattle.layout.specs.Inode.{sizeOf}
 use Rattle.blocks.specs.Block.{isLong, blocksUsed, kthBlock, rowBy, rowOf}
 use Rattle.blocks.specs.Free.{namedBy, blockNamed, blockFree}
-use Rattle.ledger.specs.Ledger.{Ledger}
+use Rattle.ledger.proofs.Ledger.{Ledger}
 use Rattle.ledger.proofs.TallyLaws.{ledger-count}
 use Rattle.sound.specs.Inode.{InodeSound}
 use Rattle.sound.proofs.SoundLaws.{size-most}

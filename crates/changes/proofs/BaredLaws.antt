@@ -18,8 +18,7 @@ use Rattle.layout.specs.Header.{headerOf}
 use Rattle.layout.specs.declared.inode.Inode.{Inode}
 use Rattle.layout.specs.Inode.{kindOf, sizeOf, putInode, freeKind, fileKind, directoryKind, inodeFree}
 use Rattle.blocks.specs.Block.{isLong, blocksUsed, kthBlock, bytesBlock, rowOf}
-use Rattle.blocks.proofs.KthLaws.{kth-direct, kth-none}
-use Rattle.blocks.proofs.KthLaws.{few-alike}
+use Rattle.blocks.proofs.KthLaws.{kth-direct, kth-none, few-alike}
 use Rattle.blocks.specs.Free.{blockFree}
 use Rattle.layout.specs.Fits.{InodeFits}
 use Rattle.directory.specs.Slot.{mostSlots, slots}

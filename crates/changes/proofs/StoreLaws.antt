@@ -15,7 +15,7 @@ use Rattle.layout.specs.Fits.{InodeFits}
 use Rattle.blocks.specs.Block.{isLong, blocksUsed, kthBlock, rowOf}
 use Rattle.blocks.specs.Free.{blockNamed}
 use Rattle.blocks.specs.Fits.{Sized, BlocksFit}
-use Rattle.ledger.specs.Ledger.{Ledger}
+use Rattle.ledger.proofs.Ledger.{Ledger}
 use Rattle.blocks.proofs.KthLaws.{row-kth}
 use Rattle.ledger.proofs.WriteLaws.{NoAddresses}
 use Rattle.ledger.proofs.LedgerLaws.{Unnamed, free-none, data-none}

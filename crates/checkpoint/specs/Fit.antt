@@ -39,7 +39,7 @@ allFramed s m desk = bothFramed s desk && imageAllowed (inodesIn s) (length m)
 unfoldable pub isRunning : List ℕ → Bool
 isRunning desk = eqb (deskOf desk .state) running
 
--- the paper's bound on accepted steps: "steps above 46 × N + 1, or above 46 × N if running"
+-- the paper's bound on accepted steps: "steps above 14 × N + 1, or above 14 × N if running" (F-1: 46 × N)
 abbrev pub mostSteps : List ℕ → ℕ
 mostSteps desk = pick (isRunning desk) (stepsAnInode * deskOf desk .inodes) (stepsAnInode * deskOf desk .inodes + 1)
 

@@ -62,7 +62,7 @@ tried (call c ∷ es) = tried es
 tried (asks ∷ es) = tried es
 tried (starts ∷ es) = tried es
 
--- "With 44 × N image blocks or more"
+-- "With 12 × N image blocks or more" (F-1: 44 × N)
 abbrev pub Roomy : World → Type 0
 Roomy w = storeLength (countOf w) (mostBlocks * countOf w) ≤ length (w .image)
 

@@ -53,22 +53,22 @@ module _ (x : Bool) (g : ℕ → ℕ) where
 
 -- a place, as the code turns it
 module _ (x : Bool) (k : ℕ) where
-  pub turned-not : x ≡ false → k ≡ pick x (across k) k
-  turned-not e = rw e
+  pub place-across-not : x ≡ false → k ≡ pick x (across k) k
+  place-across-not e = rw e
 
-  pub turned-back : x ≡ true → k ≡ addressPlace → addressCount ≡ pick x (across k) k
-  turned-back e q = rw e (sym across-11 ∙ ap across (sym q))
+  pub place-across-back : x ≡ true → k ≡ addressPlace → addressCount ≡ pick x (across k) k
+  place-across-back e q = rw e (sym across-11 ∙ ap across (sym q))
 
-  pub turned-front : x ≡ true → k ≡ addressCount → addressPlace ≡ pick x (across k) k
-  turned-front e q = rw e (sym across-12 ∙ ap across (sym q))
+  pub place-across-front : x ≡ true → k ≡ addressCount → addressPlace ≡ pick x (across k) k
+  place-across-front e q = rw e (sym across-12 ∙ ap across (sym q))
 
-  pub turned-else : x ≡ true → k ≢ addressPlace → k ≢ addressCount → k ≡ pick x (across k) k
-  turned-else e q r = rw e (sym (across-else k q r))
+  pub place-across-else : x ≡ true → k ≢ addressPlace → k ≢ addressCount → k ≡ pick x (across k) k
+  place-across-else e q r = rw e (sym (across-else k q r))
 
 -- a place that is kept is one of those that the file has
-pub turned-low : (x : Bool) (k count have : ℕ) → k < count → count ≤ have → (x ≡ true → addressCount < have) → pick x (across k) k < have
-turned-low true k count have l m f = across-low k have (f refl) (omega arith)
-turned-low false k count have l m f = omega arith
+pub place-across-low : (x : Bool) (k count have : ℕ) → k < count → count ≤ have → (x ≡ true → addressCount < have) → pick x (across k) k < have
+place-across-low true k count have l m f = across-low k have (f refl) (omega arith)
+place-across-low false k count have l m f = omega arith
 
 -- ---- and m more, c 0, c 1, ..
 module _ (g c : ℕ → ℕ) (k : ℕ) where
@@ -97,8 +97,8 @@ module _ (g c : ℕ → ℕ) (k : ℕ) where
 
 -- ---- across the edge
 module _ (row : List ℕ) (full : length row ≡ mostBlocks) where
-  pub crossed-not : (x : Bool) → x ≡ false → row ≡ table (λ u. getD row (pick x (across u) u) 0) mostBlocks
-  crossed-not x e = sym (table-list row 44 full) ∙ ap (λ (y : Bool). table (λ u. getD row (pick y (across u) u) 0) 44) (sym e)
+  pub row-across-not : (x : Bool) → x ≡ false → row ≡ table (λ u. getD row (pick x (across u) u) 0) mostBlocks
+  row-across-not x e = sym (table-list row 44 full) ∙ ap (λ (y : Bool). table (λ u. getD row (pick y (across u) u) 0) 44) (sym e)
 
   swapped : set (set row addressPlace (getD row addressCount 0)) addressCount (getD row addressPlace 0) ≡ table (λ u. getD row (across u) 0) mostBlocks
   swapped =
@@ -124,15 +124,15 @@ module _ (row : List ℕ) (full : length row ≡ mostBlocks) where
           ∙ getD-set-other row 11 u (getD row 12 0) 0 p
           ∙ ap (λ (x : ℕ). getD row x 0) (sym (across-else u p q))
 
-  pub crossed-is : (x : Bool) → x ≡ true → set (set row addressPlace (getD row addressCount 0)) addressCount (getD row addressPlace 0) ≡ table (λ u. getD row (pick x (across u) u) 0) mostBlocks
-  crossed-is x e = swapped ∙ ap (λ (y : Bool). table (λ u. getD row (pick y (across u) u) 0) 44) (sym e)
+  pub row-across-is : (x : Bool) → x ≡ true → set (set row addressPlace (getD row addressCount 0)) addressCount (getD row addressPlace 0) ≡ table (λ u. getD row (pick x (across u) u) 0) mostBlocks
+  row-across-is x e = swapped ∙ ap (λ (y : Bool). table (λ u. getD row (pick y (across u) u) 0) 44) (sym e)
 
 -- the row of a file that grows from k blocks
 pub grown-row : (g c : ℕ → ℕ) (k m : ℕ) → 1 ≤ m → (x : Bool) → x ≡ eqb k addressCount → (row r : List ℕ) → row ≡ table (added g k m c) mostBlocks
     → r ≡ table (λ u. getD row (pick x (across u) u) 0) mostBlocks → r ≡ table (grown g k m c) mostBlocks
 unfolding grown
 grown-row g c k m l x e row r d f =
-    f ∙ table-ext (λ u. getD row (pick x (across u) u) 0) (grown g k m c) 44 (λ u b. ap (λ (a : List ℕ). getD a (pick x (across u) u) 0) d ∙ getD-table (added g k m c) 44 (pick x (across u) u) (turned-low x u 44 44 b (omega arith) (λ _. omega arith)) ∙ same u)
+    f ∙ table-ext (λ u. getD row (pick x (across u) u) 0) (grown g k m c) 44 (λ u b. ap (λ (a : List ℕ). getD a (pick x (across u) u) 0) d ∙ getD-table (added g k m c) 44 (pick x (across u) u) (place-across-low x u 44 44 b (omega arith) (λ _. omega arith)) ∙ same u)
   where
     same : (u : ℕ) → added g k m c (pick x (across u) u) ≡ added g k m c (pick (eqb k 12 && ltb 0 m) (across u) u)
     same u = rw (e, lt-ltb 0 m l) (go (eqb k 12))

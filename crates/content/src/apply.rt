@@ -154,7 +154,7 @@ pub fn add_block(s: &mut [u8], n: usize, b: usize, i: usize, c: usize)
 
 // ---- all blocks of a file, in their order
 // The place k, where the address block and the block behind it may change places.
-fn turned(crosses: bool, k: usize) -> usize
+fn place_across(crosses: bool, k: usize) -> usize
     ensures { λ r. ⌜ r ≡ pick crosses (across k) k ⌝ }
 {
     if !crosses {
@@ -176,7 +176,7 @@ fn kept_row(s: &[u8], n: usize, i: usize, crosses: bool, count: usize) -> [u16; 
 {
     let mut row = [0u16; MOST_BLOCKS];
     for k in 0..count {
-        row[k] = kth_used(s, n, i, turned(crosses, k));
+        row[k] = kth_used(s, n, i, place_across(crosses, k));
     }
     row
 }
@@ -205,7 +205,7 @@ fn taken_row(
 }
 
 // The row, with the address block before the block that stood in its place where the file crosses the edge.
-fn crossed(crosses: bool, row: [u16; MOST_BLOCKS]) -> [u16; MOST_BLOCKS]
+fn row_across(crosses: bool, row: [u16; MOST_BLOCKS]) -> [u16; MOST_BLOCKS]
     ensures { λ r. ⌜ r ≡ table (λ u. getD row (pick crosses (across u) u) 0) mostBlocks ⌝ }
 {
     let mut a = row;
@@ -309,7 +309,7 @@ fn grow(s: &mut [u8], n: usize, b: usize, i: usize, m: usize, z: usize)
 {
     let used = blocks_used(inode::size(s, n, i) as usize);
     let row = taken_row(&mut *s, n, b, i, used, m);
-    put_blocks(&mut *s, n, i, z, crossed(used == ADDRESS_COUNT, row));
+    put_blocks(&mut *s, n, i, z, row_across(used == ADDRESS_COUNT, row));
     less_free(&mut *s, 0, m as u16);
 }
 

@@ -17,7 +17,7 @@ use Rattle.layout.specs.Inode.{kindOf, spareOf, linksOf, sizeOf, parentOf, inod
 use Rattle.layout.specs.Fits.{InodeFits}
 use Rattle.blocks.specs.Block.{storeLength, blockOf, blocksUsed, bytesPlace, isLong, kthBy, kthBlock, bytesBlock, rowOf, putRow}
 use Rattle.blocks.proofs.ViewLaws.{inode-fits}
-use Rattle.ledger.specs.Ledger.{Ledger}
+use Rattle.ledger.proofs.Ledger.{Ledger}
 use Rattle.ledger.proofs.LedgerLaws.{one-kth, ledger-same}
 use Rattle.ledger.proofs.ChangeLaws.{Rewritten}
 use Rattle.ledger.proofs.BytesLaws.{bytesBlocks, used-limits, used-short, used-long, place-used, place-bytes}

@@ -28,7 +28,7 @@ use Rattle.desk.specs.declared.Desk.{Desk}
 use Rattle.desk.specs.Desk.{deskOf, deskRestZero}
 use Rattle.checkpoint.specs.Fit.{deskFramed, imageBlocks, imageAllowed, isRunning, blocksFit, deskFits, imageLong, lacksAddresses, imageFits}
 use Rattle.checkpoint.proofs.Copy.FitLaws.{desk-framed-is, desk-fits-is, image-fits-is}
-use Rattle.guards.specs.Fit.{blocksRight, copiedRight, countsRight, addressesRight, directRight, entriesRight, furtherRight, lockedLong, addressesLacking, rowsRight, notesRight}
+use Rattle.guards.specs.Fit.{blocksRight, copiedRight, countsRight, addressesRight, directRight, furtherRightOf, furtherRight, lockedLong, addressesLacking, rowsRight, notesRight}
 
 -- ---- the desk's frame
 pub framed-short : (d : List ℕ) → length d < deskHeaderBytes → false ≡ deskFramed d
@@ -165,14 +165,14 @@ direct-place m n b h k l = r-all (addressCount * n) (λ x. r-le (addressOf m n x
 
 module _ (long : Bool) (m : List ℕ) (n b i : ℕ) where
   -- of an inode with no address block there are no more to look at
-  pub entries-bare : addressBlock m n i ≡ 0 → true ≡ entriesRight long m n b i
+  pub entries-bare : addressBlock m n i ≡ 0 → true ≡ furtherRightOf long m n b i
   entries-bare z = sym (all-of _ furtherCount (λ j l. let e = kth-bare long m n i (12 + j) z (omega arith) (omega arith) in le-leb (kthBy long m n i (12 + j)) b (omega arith)))
 
-  pub entries-short : long ≡ false → true ≡ entriesRight long m n b i
+  pub entries-short : long ≡ false → true ≡ furtherRightOf long m n b i
   entries-short q = sym (all-of _ furtherCount (λ j l. let e = kth-none long m n i (12 + j) q (omega arith) in le-leb (kthBy long m n i (12 + j)) b (omega arith)))
 
   -- of another the largest tells
-  pub entries-most : long ≡ true → (a x : ℕ) → a ≡ addressBlock m n i → x ≡ most (furtherOf m n a) furtherCount → leb x b ≡ entriesRight long m n b i
+  pub entries-most : long ≡ true → (a x : ℕ) → a ≡ addressBlock m n i → x ≡ most (furtherOf m n a) furtherCount → leb x b ≡ furtherRightOf long m n b i
   entries-most q a x e g =
       ap (λ (v : ℕ). leb v b) g
       ∙ most-within (furtherOf m n a) furtherCount b

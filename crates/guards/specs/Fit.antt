@@ -39,11 +39,11 @@ abbrev pub directRight : List ℕ → ℕ → ℕ → Bool
 directRight m n b = allBelow (λ x. leb (addressOf m n x) b) (addressCount * n)
 
 -- of those in the address block of inode i, and of all inodes
-abbrev pub entriesRight : Bool → List ℕ → ℕ → ℕ → ℕ → Bool
-entriesRight long m n b i = allBelow (λ j. leb (kthBy long m n i (addressCount + j)) b) furtherCount
+abbrev pub furtherRightOf : Bool → List ℕ → ℕ → ℕ → ℕ → Bool
+furtherRightOf long m n b i = allBelow (λ j. leb (kthBy long m n i (addressCount + j)) b) furtherCount
 
 abbrev pub furtherRight : (ℕ → Bool) → List ℕ → ℕ → ℕ → Bool
-furtherRight long m n b = allTo (λ i. entriesRight (long i) m n b i) n
+furtherRight long m n b = allTo (λ i. furtherRightOf (long i) m n b i) n
 
 -- "the locked inode by its store size": it has an address block; nothing has where none is locked, l = 0
 abbrev pub lockedLong : List ℕ → ℕ → Bool

@@ -11,7 +11,7 @@ ghost use Rattle.blocks.specs.Fits.{Sized};
 ghost use Rattle.desk.specs.Sizes.{deskHeaderBytes};
 ghost use Rattle.desk.specs.Desk.{deskOf};
 ghost use Rattle.checkpoint.specs.Fit.{deskFramed, deskFits, imageBlocks, imageAllowed, imageFits};
-ghost use Rattle.guards.specs.Fit.{blocksRight, copiedRight, countsRight, addressesRight, directRight, entriesRight, furtherRight, lockedLong, addressesLacking, rowsRight, notesRight};
+ghost use Rattle.guards.specs.Fit.{blocksRight, copiedRight, countsRight, addressesRight, directRight, furtherRightOf, furtherRight, lockedLong, addressesLacking, rowsRight, notesRight};
 use blocks::allowed;
 use blocks::free::long_but;
 use blocks::further;
@@ -171,7 +171,7 @@ fn direct_fit(m: &[u8], n: usize, b: usize) -> bool
 }
 
 // The largest address in the address block a.
-fn largest_entry(m: &[u8], n: usize, a: usize) -> u16
+fn largest_further(m: &[u8], n: usize, a: usize) -> u16
     requires { ⌜ (n ≤ mostInodes) × (1 ≤ a) × (a ≤ mostImageBlocks) × (blockAt n a + blockBytes ≤ length (now m)) ⌝ }
     ensures { λ r. ⌜ (r ≡ most (furtherOf (now (m .entry)) n a) furtherCount) × (r < 65536) ⌝ }
 {
@@ -183,9 +183,9 @@ fn largest_entry(m: &[u8], n: usize, a: usize) -> u16
 }
 
 // None in the address block of inode i, if it has one, is above b; its own number is known not to be. Inode l has one as told by long.
-fn entries_fit(m: &[u8], n: usize, b: usize, l: usize, long: bool, i: usize) -> bool
+fn further_fit_of(m: &[u8], n: usize, b: usize, l: usize, long: bool, i: usize) -> bool
     requires { ⌜ Sized (now m) n b × (1 ≤ i) × (i ≤ n) × (addressBlock (now m) n i ≤ b) ⌝ }
-    ensures { λ r. ⌜ r ≡ entriesRight (longBut (now (m .entry)) l long i) (now (m .entry)) n b i ⌝ }
+    ensures { λ r. ⌜ r ≡ furtherRightOf (longBut (now (m .entry)) l long i) (now (m .entry)) n b i ⌝ }
 {
     let a = inode::address(m, n, ADDRESS_COUNT * (i - 1) + ADDRESS_PLACE) as usize;
     if a < 1 {
@@ -194,7 +194,7 @@ fn entries_fit(m: &[u8], n: usize, b: usize, l: usize, long: bool, i: usize) -> 
     if !long_but(m, n, l, long, i) {
         return true;
     }
-    largest_entry(m, n, a) as usize <= b
+    largest_further(m, n, a) as usize <= b
 }
 
 // None in any address block is: they are read only once the direct addresses are known to fit.
@@ -203,7 +203,7 @@ fn further_fit(m: &[u8], n: usize, b: usize, l: usize, long: bool) -> bool
     ensures { λ r. ⌜ r ≡ furtherRight (longBut (now (m .entry)) l long) (now (m .entry)) n b ⌝ }
 {
     for k in 0..n {
-        if !entries_fit(m, n, b, l, long, k + 1) {
+        if !further_fit_of(m, n, b, l, long, k + 1) {
             return false;
         }
     }

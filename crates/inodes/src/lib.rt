@@ -95,9 +95,9 @@ fn further_right(s: &[u8], n: usize, b: usize, i: usize, size: usize, map: &mut 
     requires { ⌜ (attributesB (now s) i ≡ true) × (mostDirectBytes < size) × (1 ≤ addressBlock (now s) n i) × (addressBlock (now s) n i ≤ b) ⌝ }
     ensures { λ r. ⌜ (r ≡ allBelow (λ j. kthB (now (s .entry)) n b i (addressCount + j)) furtherCount) × (r ≡ true → MapsOf (now (s .entry)) n (rowPlace i mostBlocks) (now (map .exit))) ⌝ }
 {
-    let place = blocks::kth_block(s, n, i, ADDRESS_PLACE) as usize;
+    let address_block = blocks::kth_block(s, n, i, ADDRESS_PLACE) as usize;
     for j in 0..FURTHER_COUNT {
-        let a = blocks::further(s, n, place, j);
+        let a = blocks::further(s, n, address_block, j);
         if !address_right(a, BLOCK_BYTES * (ADDRESS_PLACE + j) < size, b, &mut *map) {
             return false;
         }

@@ -1,4 +1,4 @@
--- The numbers of document 01's "Bytes", each under one name.
+-- The numbers of document 01's "Bytes" and of F-1, each under one name.
 use Prim.Native.Nat.{ℕ, _+_, _*_, _-_}
 
 -- "Header, 16 bytes"

@@ -13,7 +13,7 @@ use Rattle.blocks.specs.Block.{isLong, blocksUsed, kthBlock, rowOf}
 use Rattle.blocks.specs.Free.{namedBy, blockNamed}
 use Rattle.layout.specs.Fits.{InodeFits}
 use Rattle.blocks.specs.Fits.{Sized, BlocksFit}
-use Rattle.ledger.specs.Ledger.{Ledger}
+use Rattle.ledger.proofs.Ledger.{Ledger}
 use Rattle.ledger.proofs.LedgerLaws.{one-kth}
 use Rattle.ledger.proofs.TallyLaws.{ledger-bound}
 use Rattle.directory.specs.Slot.{mostSlots}

@@ -59,7 +59,7 @@ fn times_further(m: &[u8], n: usize, a: usize, c: u16) -> u16
 }
 
 // Block c is named in the address block of inode i. Most inodes have none, so that is asked first.
-fn is_behind(m: &[u8], n: usize, l: usize, long: bool, i: usize, c: u16) -> bool
+fn named_behind(m: &[u8], n: usize, l: usize, long: bool, i: usize, c: u16) -> bool
     requires { ⌜ RowsFit (longBut (now m) l long) (now m) n × (1 ≤ i) × (i ≤ n) × (1 ≤ c) ⌝ }
     ensures { λ r. ⌜ r ≡ behindB (longBut (now (m .entry)) l long) (now (m .entry)) n c i ⌝ }
 {
@@ -74,12 +74,12 @@ fn is_behind(m: &[u8], n: usize, l: usize, long: bool, i: usize, c: u16) -> bool
 }
 
 // Block c is named in some address block.
-fn is_further(m: &[u8], n: usize, l: usize, long: bool, c: u16) -> bool
+fn named_further(m: &[u8], n: usize, l: usize, long: bool, c: u16) -> bool
     requires { ⌜ RowsFit (longBut (now m) l long) (now m) n × (1 ≤ c) ⌝ }
     ensures { λ r. ⌜ r ≡ someBelow (λ k. behindB (longBut (now (m .entry)) l long) (now (m .entry)) n c (k + 1)) n ⌝ }
 {
     for k in 0..n {
-        if is_behind(m, n, l, long, k + 1, c) {
+        if named_behind(m, n, l, long, k + 1, c) {
             return true;
         }
     }
@@ -100,7 +100,7 @@ fn is_unnamed(m: &[u8], n: usize, l: usize, long: bool, b: usize, c: usize) -> b
     if times_named(m, n, c as u16) != 0 {
         return false;
     }
-    !is_further(m, n, l, long, c as u16)
+    !named_further(m, n, l, long, c as u16)
 }
 
 // Where block c of the store goes in an image of b blocks: the map of those named is made only if c is.

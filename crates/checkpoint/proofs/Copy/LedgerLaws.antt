@@ -18,7 +18,7 @@ use Rattle.layout.specs.Inode.{sizeOf}
 use Rattle.blocks.specs.Block.{isLong, kthBy, blocksUsed, rowBy, rowOf}
 use Rattle.blocks.specs.Free.{namedBy, blockNamed}
 use Rattle.blocks.proofs.KthLaws.{row-kth}
-use Rattle.ledger.specs.Ledger.{Ledger}
+use Rattle.ledger.proofs.Ledger.{Ledger}
 use Rattle.ledger.proofs.LedgerLaws.{Unnamed}
 use Rattle.blocks.proofs.LongLaws.{but-here, but-else, row-flags}
 use Rattle.growth.proofs.ImageLaws.{imageHave}

@@ -16,7 +16,7 @@ use Rattle.blocks.specs.Block.{blockAt, blockOf, blocksUsed, isLong, kthBy, kth
 use Rattle.blocks.specs.Free.{namedBy, longBut}
 use Rattle.blocks.specs.Fits.{BlocksFit}
 use Rattle.blocks.proofs.KthLaws.{kth-direct, kth-none}
-use Rattle.ledger.specs.Ledger.{Ledger}
+use Rattle.ledger.proofs.Ledger.{Ledger}
 use Rattle.ledger.proofs.LedgerLaws.{Unnamed, one-kth}
 use Rattle.ledger.proofs.AppendLaws.{Appended}
 use Rattle.ledger.proofs.BytesLaws.{used-limits}

@@ -21,14 +21,14 @@ times-named-requires c κs = search needs
 returns-3 : tie.Need-returns-3
 returns-3 c = let a = c .before .before .before .before .before .args in own-direct (longBut (now (a .m)) (a .l) (a .long)) (now (a .m)) (a .n) (a .c) (a .b) (omega arith) (omega arith) _ (c .before .times-named .ensures) (λ e. omega arith)
 
-cast-is-further : tie.Need-cast-is-further
-cast-is-further c = search needs
+cast-named-further : tie.Need-cast-named-further
+cast-named-further c = search needs
 
-is-further-requires : tie.Need-is-further-requires
-is-further-requires c κs = search needs
+named-further-requires : tie.Need-named-further-requires
+named-further-requires c κs = search needs
 
 returns-4 : tie.Need-returns-4
-returns-4 c = let a = c .before .before .before .before .before .before .args in own-further (longBut (now (a .m)) (a .l) (a .long)) (now (a .m)) (a .n) (a .c) (a .b) (omega arith) (omega arith) _ (c .before .before .times-named .ensures) (omega arith) _ (c .is-further .ensures)
+returns-4 c = let a = c .before .before .before .before .before .before .args in own-further (longBut (now (a .m)) (a .l) (a .long)) (now (a .m)) (a .n) (a .c) (a .b) (omega arith) (omega arith) _ (c .before .before .times-named .ensures) (omega arith) _ (c .named-further .ensures)
 
 pub is-unnamed-spec : {M : Type 1} → statement M
 is-unnamed-spec =
@@ -39,6 +39,6 @@ is-unnamed-spec =
     cast-times-named
     times-named-requires
     returns-3
-    cast-is-further
-    is-further-requires
+    cast-named-further
+    named-further-requires
     returns-4)

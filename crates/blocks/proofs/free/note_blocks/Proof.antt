@@ -1,13 +1,11 @@
 use mathlib.Core.Bool.{true}
 use borrow.Author.Tests.{not-true, not-false}
-use Rattle.layout.specs.Inode.{addressOf}
+use Rattle.layout.specs.Inode.{addressOf, addressIndex}
 use Rattle.blocks.specs.Block.{kthBy, furtherOf, addressBlock}
 use Prim.Native.Nat.{ℕ, _+_, _≤_}
-use mathlib.Core.Path.{subst}
+use mathlib.Core.Path.{subst, _≡_, sym, ap, _∙_}
 use native.Mathlib.Omega.{arith}
-use mathlib.Core.Path.{_≡_, sym, ap, _∙_}
 use denote.Ref.{now}
-use Rattle.layout.specs.Inode.{addressIndex}
 use Rattle.layout.proofs.InodeLaws.{addresses-none}
 use Rattle.blocks.proofs.KthLaws.{kth-direct, kth-none, kth-bare, bare-all, kth-behind}
 use Rattle.blocks.proofs.MapLaws.{notes-none, notes-pass, notes-same, notes-then}

@@ -24,11 +24,11 @@ use Rattle.content.proofs.apply.grow.Tie as tie
 used : (c : tie.After-blocks-used) → c .blocks-used .result ≡ blocksUsed (sizeOf (now (c .before .before .before .before .args .s)) (c .before .before .before .before .args .i))
 used c = c .blocks-used .ensures ∙ ap blocksUsed (c .before .size .ensures)
 
-row : (c : tie.After-crossed) → let a = c .before .before .before .before .before .before .before .before .before .before .args in let s = now (a .s) in c .crossed .result ≡ table (grown (kthBlock s (a .n) (a .i)) (blocksUsed (sizeOf s (a .i))) (a .m) (nthFree (blockFree s (a .n)) (a .b))) 44
+row : (c : tie.After-row-across) → let a = c .before .before .before .before .before .before .before .before .before .before .args in let s = now (a .s) in c .row-across .result ≡ table (grown (kthBlock s (a .n) (a .i)) (blocksUsed (sizeOf s (a .i))) (a .m) (nthFree (blockFree s (a .n)) (a .b))) 44
 row c =
     let a = c .before .before .before .before .before .before .before .before .before .before .args in
     let s = now (a .s) in
-    grown-row (kthBlock s (a .n) (a .i)) (nthFree (blockFree s (a .n)) (a .b)) _ (a .m) (c .before .before .before .before .before .before .before .before .before .before .pre .1 .0) _ refl _ _ (c .before .before .before .before .taken-row .ensures .1) (c .crossed .ensures)
+    grown-row (kthBlock s (a .n) (a .i)) (nthFree (blockFree s (a .n)) (a .b)) _ (a .m) (c .before .before .before .before .before .before .before .before .before .before .pre .1 .0) _ refl _ _ (c .before .before .before .before .taken-row .ensures .1) (c .row-across .ensures)
     ∙ ap (λ (k : ℕ). table (grown (kthBlock s (a .n) (a .i)) k (a .m) (nthFree (blockFree s (a .n)) (a .b))) 44) (used (c .before .before .before .before .before .before))
 
 size-requires : tie.Need-size-requires
@@ -50,8 +50,8 @@ taken-row-requires c κs =
     let w = used-limits _ .0 (p .3) in
     (p .0, kind-some _ _ _ _ (p .1), kind-most _ _ _ _ (p .1), e, omega arith, y)
 
-crossed-requires : tie.Need-crossed-requires
-crossed-requires c κs = search needs
+row-across-requires : tie.Need-row-across-requires
+row-across-requires c κs = search needs
 
 put-blocks-requires : tie.Need-put-blocks-requires
 put-blocks-requires c κs =
@@ -88,7 +88,7 @@ grow-spec =
     cast-blocks-used
     blocks-used-requires
     taken-row-requires
-    crossed-requires
+    row-across-requires
     put-blocks-requires
     cast-less-free
     less-free-requires

@@ -4,8 +4,8 @@ use Rattle.bounded.proofs.BoolLaws.{chain-on, chain-off}
 use Rattle.blocks.specs.Free.{longBut}
 use Rattle.transfer.proofs.NamedLaws.{block-reached, behind-bare, behind-short, behind-counted}
 use borrow.Author.Needs.{needs}
-use Rattle.transfer.proofs.is_behind.Statement.{statement}
-use Rattle.transfer.proofs.is_behind.Tie as tie
+use Rattle.transfer.proofs.named_behind.Statement.{statement}
+use Rattle.transfer.proofs.named_behind.Tie as tie
 
 kth-block-requires : tie.Need-kth-block-requires
 kth-block-requires c κs = search needs
@@ -44,8 +44,8 @@ returns-3 c =
     let p = z .pre in
     behind-counted (longBut (now (a .m)) (a .l) (a .long)) (now (a .m)) (a .n) (p .0) (a .i) (p .1) (p .2) _ (c .before .before .before .before .kth-block .ensures) (a .c) (p .3) _ (chain-on _ _ (c .before .before .long-but .ensures) (c .before .if2 .left)) (c .times-further .ensures)
 
-pub is-behind-spec : {M : Type 1} → statement M
-is-behind-spec =
+pub named-behind-spec : {M : Type 1} → statement M
+named-behind-spec =
     tie.close
     (tie.spec
     kth-block-requires

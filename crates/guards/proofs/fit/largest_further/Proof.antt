@@ -7,8 +7,8 @@ use Rattle.bounded.proofs.MostLaws.{most-none, most-more}
 use Rattle.layout.specs.Sizes.{furtherCount}
 use Rattle.blocks.specs.Block.{furtherOf}
 use borrow.Author.Needs.{needs}
-use Rattle.guards.proofs.fit.largest_entry.Statement.{statement}
-use Rattle.guards.proofs.fit.largest_entry.Tie as tie
+use Rattle.guards.proofs.fit.largest_further.Statement.{statement}
+use Rattle.guards.proofs.fit.largest_further.Tie as tie
 
 abbrev Inv-loop : tie.InvT-loop
 Inv-loop m n a most₀ j₀ top j = (j ≤ furtherCount) × (top ≡ most (furtherOf m n a) j) × (top < 65536)
@@ -43,8 +43,8 @@ returns c =
     let e : l .j ≡ furtherCount = omega arith in
     (l .inv .1 ∙ ap (most (furtherOf (now (a .m)) (a .n) (a .a))) e, l .inv .2)
 
-pub largest-entry-spec : {M : Type 1} → statement M
-largest-entry-spec =
+pub largest-further-spec : {M : Type 1} → statement M
+largest-further-spec =
     tie.close
     (tie.spec
     Inv-loop

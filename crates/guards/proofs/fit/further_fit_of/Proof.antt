@@ -3,8 +3,8 @@ use native.Mathlib.Omega.{arith}
 use Rattle.bounded.proofs.BoolLaws.{chain-on, chain-off}
 use Rattle.guards.proofs.FitLaws.{entries-bare, entries-short, entries-most}
 use borrow.Author.Needs.{needs}
-use Rattle.guards.proofs.fit.entries_fit.Statement.{statement}
-use Rattle.guards.proofs.fit.entries_fit.Tie as tie
+use Rattle.guards.proofs.fit.further_fit_of.Statement.{statement}
+use Rattle.guards.proofs.fit.further_fit_of.Tie as tie
 
 sub-address : tie.Need-sub-address
 sub-address c = search needs
@@ -30,17 +30,17 @@ long-but-requires c κs = search needs
 returns-2 : tie.Need-returns-2
 returns-2 c = entries-short _ _ _ _ _ (chain-off _ _ (c .before .long-but .ensures) (c .if2 .taken))
 
-largest-entry-requires : tie.Need-largest-entry-requires
-largest-entry-requires c κs = search needs
+largest-further-requires : tie.Need-largest-further-requires
+largest-further-requires c κs = search needs
 
 cast-result : tie.Need-cast-result
 cast-result c = search needs
 
 returns-3 : tie.Need-returns-3
-returns-3 c = entries-most _ _ _ _ _ (chain-on _ _ (c .before .before .long-but .ensures) (c .before .if2 .left)) _ _ (c .before .before .before .before .address .ensures) (c .largest-entry .ensures .0)
+returns-3 c = entries-most _ _ _ _ _ (chain-on _ _ (c .before .before .long-but .ensures) (c .before .if2 .left)) _ _ (c .before .before .before .before .address .ensures) (c .largest-further .ensures .0)
 
-pub entries-fit-spec : {M : Type 1} → statement M
-entries-fit-spec =
+pub further-fit-of-spec : {M : Type 1} → statement M
+further-fit-of-spec =
     tie.close
     (tie.spec
     sub-address
@@ -51,6 +51,6 @@ entries-fit-spec =
     returns
     long-but-requires
     returns-2
-    largest-entry-requires
+    largest-further-requires
     cast-result
     returns-3)
