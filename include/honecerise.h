@@ -58,7 +58,7 @@ extern "C" {
 
 /*
  * The deepest stack of any call, below its caller's frame, with room to spare. By the frames in the
- * disassembly along the deepest path of calls, step takes about 10,500 bytes, write 10,000 and every
+ * disassembly along the deepest path of calls, step takes about 10,600 bytes, write 10,000 and every
  * other call less than 6,000; memset, memcpy and strlen come on top. bindings/c/stack.c paints a
  * stack, makes all calls on it and looks how far they came.
  */
@@ -73,7 +73,7 @@ extern "C" {
 /* With this many blocks in the image a copy always finishes: 16 never comes. With fewer it depends
  * on how many blocks the files and directories have when they are copied. From 94 inodes on it is
  * more than HONECERISE_MAX_IMAGE. A store that nothing changes while it is copied needs no more
- * blocks than it has itself. */
+ * blocks than it has itself (by counting them; this is not proved). */
 #define HONECERISE_ENOUGH_IMAGE(inodes)         (44u * (inodes))
 
 /* A copy finishes, or is stopped by 16, within this many steps. */

@@ -43,7 +43,7 @@ pub const fn desk_len(inodes: usize) -> usize {
 
 /// So many blocks in the image let every copy finish: [`ImageFull`](crate::Refusal::ImageFull) never comes. From
 /// 94 inodes on that is more than [`MAX_IMAGE`], and it depends on the files; a store that nothing changes while it is copied
-/// needs no more blocks than it has itself.
+/// needs no more blocks than it has itself (by counting them; this is not proved).
 pub const fn enough_image(inodes: usize) -> usize {
     44 * inodes
 }
