@@ -24,8 +24,8 @@ abbrev μ-loop : tie.MeasureT-loop
 kth-block-requires : tie.Need-kth-block-requires Inv-loop μ-loop
 kth-block-requires c κs = search needs
 
-cast-place : tie.Need-cast-place Inv-loop μ-loop
-cast-place c = search needs
+cast-address-block : tie.Need-cast-address-block Inv-loop μ-loop
+cast-address-block c = search needs
 
 loop-holds : tie.Need-loop-holds Inv-loop μ-loop
 loop-holds c = (omega arith, c .kth-block .ensures ∙ kth-direct _ _ _ _ 11 (omega arith), all-none _, c .before .before .before .pre .0 .3)
@@ -83,7 +83,7 @@ further-right-spec =
     Inv-loop
     μ-loop
     kth-block-requires
-    cast-place
+    cast-address-block
     loop-holds
     further-requires
     add-address-right
