@@ -53,12 +53,12 @@ extern "C" {
 #define HONECERISE_MAX_BLOCKS    1024u /* of a store: 1 to 1,024                                */
 #define HONECERISE_MAX_IMAGE     4096u /* blocks of an image: 1 to 4,096                        */
 #define HONECERISE_MAX_NAME        14u /* bytes of a name: 1 to 14, none 0 or '/', not . or ..  */
-#define HONECERISE_MAX_FILE       768u /* bytes of a file                                       */
+#define HONECERISE_MAX_FILE      2752u /* bytes of a file                                       */
 #define HONECERISE_MAX_SLOTS       48u /* entries of a directory                                */
 
 /*
  * The deepest stack of any call, below its caller's frame, with room to spare. By the frames in the
- * disassembly along the deepest path of calls, step takes about 10,500 bytes, write 10,000 and every
+ * disassembly along the deepest path of calls, step takes about 10,600 bytes, write 10,000 and every
  * other call less than 6,000; memset, memcpy and strlen come on top. bindings/c/stack.c paints a
  * stack, makes all calls on it and looks how far they came.
  */
@@ -71,11 +71,13 @@ extern "C" {
 #define HONECERISE_DESK_LENGTH(inodes)          (16u + 9u * (inodes))
 
 /* With this many blocks in the image a copy always finishes: 16 never comes. With fewer it depends
- * on how many blocks the files and directories have when they are copied. */
-#define HONECERISE_ENOUGH_IMAGE(inodes)         (12u * (inodes))
+ * on how many blocks the files and directories have when they are copied. From 94 inodes on it is
+ * more than HONECERISE_MAX_IMAGE. A store that nothing changes while it is copied needs no more
+ * blocks than it has itself (by counting them; this is not proved). */
+#define HONECERISE_ENOUGH_IMAGE(inodes)         (44u * (inodes))
 
 /* A copy finishes, or is stopped by 16, within this many steps. */
-#define HONECERISE_MOST_STEPS(inodes)           (14u * (inodes) + 1u)
+#define HONECERISE_MOST_STEPS(inodes)           (46u * (inodes) + 1u)
 
 /* ---- refusals, by who causes them ----------------------------------------------------------
  * Where several apply, the lowest is answered. A call answers one when, and only when, its
@@ -88,20 +90,22 @@ enum honecerise_refusal {
     HONECERISE_UNSOUND_STORE =  2, /* the store is not sound: something else wrote to it              */
     HONECERISE_BAD_DESK      =  3, /* the desk breaks its layout or is of another inode count; or,
                                       while a copy runs, the image's length or counts are not the
-                                      desk's, its root is not 1, its byte 8 is not 0, or an address is
-                                      above its block count. Another image that passes these is not
-                                      noticed, and spoils the copy                                    */
+                                      desk's, its root is not 1, its byte 8 is not 0, an address is
+                                      above its block count, or the locked file lacks its block of
+                                      addresses. Another image that passes these is not noticed, and
+                                      spoils the copy                                                 */
     /* the app that names things */
     HONECERISE_ILLEGAL_NAME  =  4, /* not 1 to 14 bytes, a byte that is 0 or '/', or . or ..          */
     HONECERISE_WRONG_INODE   =  5, /* a number that is not the file or directory needed               */
     HONECERISE_NAME_ABSENT   =  6, /* no entry of that name                                           */
     HONECERISE_NAME_TAKEN    =  7, /* the new name is another entry's                                 */
     HONECERISE_NOT_EMPTY     =  8, /* a directory to be unlinked has entries                          */
-    HONECERISE_PAST_END      =  9, /* offset or new length past the size, or a write ending past 768  */
+    HONECERISE_PAST_END      =  9, /* offset or new length past the size, or a write ending past 2752 */
     HONECERISE_INTO_ITSELF   = 10, /* a directory moved into itself or below                          */
     /* a full watch */
     HONECERISE_NO_INODE      = 11, /* no free inode                                                   */
-    HONECERISE_NO_BLOCKS     = 12, /* too few free blocks                                             */
+    HONECERISE_NO_BLOCKS     = 12, /* too few free blocks; above 768 bytes a file takes one for
+                                      addresses, too                                                  */
     HONECERISE_NO_SLOT       = 13, /* all 48 slots of the directory are used                          */
     /* the copy's timing */
     HONECERISE_BUSY          = 14, /* a write or shortening of the inode that the copier has locked; a

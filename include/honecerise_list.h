@@ -74,12 +74,24 @@ static inline unsigned honecerise_size_of(const uint8_t *bytes, size_t inode)
     return honecerise_number(honecerise_attributes(bytes, (unsigned)inode) + 4);
 }
 
-/* The 64 bytes of an inode's block at place 0 to 11; the place lies inside the inode's size. */
+/* The block whose number stands at an address. */
+static inline const uint8_t *honecerise_block_named(const uint8_t *bytes, const uint8_t *address)
+{
+    const size_t inodes = honecerise_inodes(bytes);
+    return bytes + 16 + 32 * inodes + 64 * (size_t)(honecerise_number(address) - 1);
+}
+
+/* The 64 bytes of a file's or directory's block at place 0 to 42; the place lies inside its size. A
+ * file above 768 bytes has eleven addresses of its own, and the block that its twelfth names has the
+ * others. */
 static inline const uint8_t *honecerise_block(const uint8_t *bytes, unsigned inode, size_t place)
 {
     const size_t inodes = honecerise_inodes(bytes);
-    const uint8_t *addresses = bytes + 16 + 8 * inodes + 24 * (size_t)(inode - 1);
-    return bytes + 16 + 32 * inodes + 64 * (size_t)(honecerise_number(addresses + 2 * place) - 1);
+    const uint8_t *addresses = bytes + 16 + 8 * inodes + 24 * (size_t)(inode - 1), *further;
+    if (place < 11 || honecerise_size_of(bytes, inode) <= 768)
+        return honecerise_block_named(bytes, addresses + 2 * place);
+    further = honecerise_block_named(bytes, addresses + 2 * 11);
+    return honecerise_block_named(bytes, further + 2 * (place - 11));
 }
 
 /* Slots are counted from 0 up to this number; 0 if it is no directory. */

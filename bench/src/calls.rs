@@ -12,10 +12,10 @@ const CYCLES: usize = 10;
 
 enum Call<'a> {
     LookUp(usize, &'a [u8]),
-    Read(usize),
+    Read(usize, usize),
     Create(usize, &'a [u8]),
-    Write(usize, &'a [u8]),
-    Shorten(usize),
+    Write(usize, usize, &'a [u8]),
+    Shorten(usize, usize),
     Link(usize, &'a [u8], usize),
     Unlink(usize, &'a [u8]),
     Rename(usize, &'a [u8], usize, &'a [u8]),
@@ -24,10 +24,10 @@ enum Call<'a> {
 fn make<S: Side>(call: &Call, w: &mut Buffers, out: &mut [u8]) -> Answer {
     match *call {
         Call::LookUp(d, name) => S::look_up(&w.store, d, name),
-        Call::Read(i) => S::read(&w.store, i, 0, out),
+        Call::Read(i, length) => S::read(&w.store, i, 0, &mut out[..length]),
         Call::Create(d, name) => S::create_file(w, d, name),
-        Call::Write(i, bytes) => S::write(w, i, 0, bytes),
-        Call::Shorten(i) => S::shorten(w, i, 0),
+        Call::Write(i, offset, bytes) => S::write(w, i, offset, bytes),
+        Call::Shorten(i, length) => S::shorten(w, i, length),
         Call::Link(d, name, i) => S::link(w, d, name, i),
         Call::Unlink(d, name) => S::unlink(w, d, name),
         Call::Rename(d, name, e, other) => S::rename(w, d, name, e, other),
@@ -48,22 +48,37 @@ fn cycle<'a>(calls: Vec<(&'static str, Call<'a>)>) -> Cycle<'a> {
 fn reading(s: &Scene) -> Vec<Cycle<'_>> {
     vec![
         cycle(vec![("look up", Call::LookUp(s.directory, &s.entry))]),
-        cycle(vec![("read 768", Call::Read(s.long))]),
+        cycle(vec![("read 768", Call::Read(s.long, 768))]),
     ]
 }
 
 /// The calls that write, each undone by the one after it.
-fn writing<'a>(s: &'a Scene, bytes: &'a [u8; 768]) -> Vec<Cycle<'a>> {
+fn writing<'a>(s: &'a Scene, bytes: &'a [u8]) -> Vec<Cycle<'a>> {
     let (d, e, name, free) = (s.directory, s.other, &s.entry[..], &s.free_name[..]);
     vec![
         cycle(vec![("create (undone: unlink)", Call::Create(d, free)), ("unlink (of the created)", Call::Unlink(d, free))]),
-        cycle(vec![("write 64 (undone: shorten)", Call::Write(s.fresh, &bytes[..64])), ("shorten 64 to 0", Call::Shorten(s.fresh))]),
-        cycle(vec![("write 768 (undone: shorten)", Call::Write(s.fresh, bytes)), ("shorten 768 to 0", Call::Shorten(s.fresh))]),
-        cycle(vec![("write 64 over (same bytes)", Call::Write(s.long, &bytes[..64]))]),
-        cycle(vec![("write 768 over (same bytes)", Call::Write(s.long, bytes))]),
+        cycle(vec![("write 64 (undone: shorten)", Call::Write(s.fresh, 0, &bytes[..64])), ("shorten 64 to 0", Call::Shorten(s.fresh, 0))]),
+        cycle(vec![("write 768 (undone: shorten)", Call::Write(s.fresh, 0, &bytes[..768])), ("shorten 768 to 0", Call::Shorten(s.fresh, 0))]),
+        cycle(vec![("write 64 over (same bytes)", Call::Write(s.long, 0, &bytes[..64]))]),
+        cycle(vec![("write 768 over (same bytes)", Call::Write(s.long, 0, &bytes[..768]))]),
         cycle(vec![("link (undone: unlink)", Call::Link(d, free, s.long)), ("unlink (of the link)", Call::Unlink(d, free))]),
         cycle(vec![("rename (undone: back)", Call::Rename(d, name, d, free)), ("rename back", Call::Rename(d, free, d, name))]),
         cycle(vec![("move (undone: back)", Call::Rename(d, name, e, free)), ("move back", Call::Rename(e, free, d, name))]),
+    ]
+}
+
+/// A file of 768 bytes takes a block more and its address block, and gives both back.
+fn crossing<'a>(s: &'a Scene, bytes: &'a [u8]) -> Cycle<'a> {
+    cycle(vec![("write 768 to 832 (undone: shorten)", Call::Write(s.long, 768, &bytes[..64])), ("shorten 832 to 768", Call::Shorten(s.long, 768))])
+}
+
+/// Reads and writes of the longest file, where the scene has one.
+fn longest<'a>(s: &'a Scene, bytes: &'a [u8]) -> Vec<Cycle<'a>> {
+    let Some(longest) = s.longest else { return vec![] };
+    vec![
+        cycle(vec![("read 2,752", Call::Read(longest, 2752))]),
+        cycle(vec![("write 2,752 (undone: shorten)", Call::Write(s.fresh, 0, bytes)), ("shorten 2,752 to 0", Call::Shorten(s.fresh, 0))]),
+        cycle(vec![("write 2,752 over (same bytes)", Call::Write(longest, 0, bytes))]),
     ]
 }
 
@@ -76,12 +91,12 @@ fn growing(s: &Scene) -> Cycle<'_> {
 #[derive(Clone, PartialEq)]
 struct Lent {
     w: Buffers,
-    out: [u8; 768],
+    out: [u8; 2752],
 }
 
 impl Lent {
     fn of(s: &Scene) -> Lent {
-        Lent { w: s.buffers.clone(), out: [0; 768] }
+        Lent { w: s.buffers.clone(), out: [0; 2752] }
     }
 
     fn restore(&mut self, c: &Cycle, s: &Scene) {
@@ -174,9 +189,10 @@ fn running(mut s: Scene, name: &'static str) -> Scene {
 
 /// The table of calls; the largest ratio.
 pub fn run() -> f64 {
-    let bytes = std::array::from_fn(|k| k as u8 | 1);
+    let bytes: [u8; 2752] = std::array::from_fn(|k| k as u8 | 1);
     let idle = [scenes::typical_scene(), scenes::full_scene()];
     let copying = [running(scenes::typical_scene(), "typical, copying"), running(scenes::full_scene(), "full, copying")];
+    let long = [scenes::long_scene(), running(scenes::long_scene(), "long, copying")];
     let mut jobs = vec![];
     for s in &idle {
         jobs.extend(reading(s).into_iter().chain(writing(s, &bytes)).map(|c| Job::new(c, s)));
@@ -184,6 +200,9 @@ pub fn run() -> f64 {
     jobs.push(Job::new(growing(&idle[0]), &idle[0]));
     for s in &copying {
         jobs.extend(writing(s, &bytes).into_iter().map(|c| Job::new(c, s)));
+    }
+    for s in idle.iter().chain(&copying).chain(&long) {
+        jobs.extend(longest(s, &bytes).into_iter().chain([crossing(s, &bytes)]).map(|c| Job::new(c, s)));
     }
     let clock = clock();
     for _ in 0..PASSES {

@@ -1,6 +1,6 @@
 //! The proved check beside a plain Rust check of the same conditions: the ratio of their times, and both answer alike on damaged stores.
 use crate::random::Random;
-use crate::stores::{chain, cycle, empty, full, Build};
+use crate::stores::{chain, cycle, empty, full, long, Build};
 use crate::timing::{each, shown, TO_RUST};
 use bench::plain::check as plain;
 use bench::proved::Proved;
@@ -53,6 +53,7 @@ pub fn run() -> f64 {
         ("chain of 255 directories", chain(false), false, true),
         ("the same, numbered upward", chain(true), false, true),
         ("image of 4,096 blocks", full(4096), true, true),
+        ("store of long files", long(), false, true),
         ("full store, a link count wrong", cut, false, false),
         ("two directories in a circle", cycle(), false, false),
         ("image, its last byte not zero", late, true, false),

@@ -1,4 +1,4 @@
-//! Whole copies, start to finish and step by step, of an empty, a typical and a full store: proved and plain,
+//! Whole copies, start to finish and step by step, of an empty, a typical and a full store and one of long files: proved and plain,
 //! beside the checks that their calls must make, a copy of the store's bytes and the zeroing of the image.
 use crate::scenes;
 use crate::timing::{each, shown, TO_CHECKS, TO_RUST};
@@ -85,7 +85,8 @@ pub fn run() -> (f64, f64) {
         "copy of", "calls", "proved ns", "Rust ns", "ratio", "checks ns", "to checks", "memcpy ns", "to memcpy", "zero image"
     );
     let mut worst = (0.0f64, 0.0f64);
-    for (name, start, rounds) in [("an empty", scenes::empty(), 1000), ("a typical", scenes::typical(), 200), ("a full store", scenes::full(), 40)] {
+    let cases = [("an empty", scenes::empty(), 1000), ("a typical", scenes::typical(), 200), ("a full store", scenes::full(), 40), ("long files", scenes::long(), 40)];
+    for (name, start, rounds) in cases {
         let expected = compare(&start, name);
         let (calls, t) = (expected.answers.len(), time(&expected, rounds));
         let (to_plain, to_checks) = (t.proved / t.plain, t.proved / t.checks);

@@ -24,10 +24,10 @@ struct Call {
 impl Call {
     /// Inode numbers up to one past n, the root more often; offsets and lengths up to and past a file's largest; mostly legal names.
     fn any(r: &mut Random, n: usize) -> Call {
-        let length = [r.next(5), r.next(70), r.next(780)][r.next(3)];
+        let length = [r.next(5), r.next(70), r.next(780), r.next(2760)][r.next(4)];
         Call {
             kind: r.next(19),
-            numbers: [[1, r.next(n + 2)][r.next(2)], [0, r.next(65), r.next(780), usize::MAX][r.next(4)], r.next(n + 2)],
+            numbers: [[1, r.next(n + 2)][r.next(2)], [0, r.next(65), r.next(780), r.next(2760), usize::MAX][r.next(5)], r.next(n + 2)],
             names: [any_name(r), any_name(r)],
             bytes: (0..length).map(|k| (k + 1) as u8).collect(),
         }
@@ -80,7 +80,8 @@ fn mend(w: &mut Buffers, (which, o, old): (usize, usize, u8)) {
 
 /// One list; how often each refusal came, and at 0 how many calls were accepted.
 fn list(r: &mut Random, tally: &mut [usize; 17]) {
-    let (n, b, image) = (1 + r.next(7), 1 + r.next(12), 1 + r.next(20));
+    // few blocks, or room for some long files
+    let (n, b, image) = (1 + r.next(7), [1 + r.next(12), 20 + r.next(100)][r.next(2)], [1 + r.next(20), 20 + r.next(150)][r.next(2)]);
     let (mut w, mut v) = (fresh::<Proved>(n, b, image), fresh::<Plain>(n, b, image));
     for _ in 0..CALLS {
         let call = Call::any(r, n);

@@ -18,6 +18,8 @@ pub struct Scene {
     /// A file of 768 bytes, and an empty one.
     pub long: usize,
     pub fresh: usize,
+    /// A file of 2,752 bytes, where there is room for one more.
+    pub longest: Option<usize>,
 }
 
 fn beside(store: Vec<u8>) -> Buffers {
@@ -32,6 +34,10 @@ pub fn empty() -> Buffers {
 
 pub fn full() -> Buffers {
     beside(stores::full(1024))
+}
+
+pub fn long() -> Buffers {
+    beside(stores::long())
 }
 
 /// Twenty runs of a few hundred bytes in four folders, the first of each folder of 768.
@@ -60,7 +66,7 @@ pub fn typical_scene() -> Scene {
     let other = Plain::look_up(&buffers.store, 1, b"week-0").unwrap();
     let long = Plain::look_up(&buffers.store, last, b"run-3-0.lap").unwrap();
     let fresh = create(&mut buffers, last, b"run-3-5.lap", Kind::File);
-    Scene { name: "typical", buffers, directory: last, entry: b"run-3-4.lap".to_vec(), free_name: b"run-3-6.lap".to_vec(), other, long, fresh }
+    Scene { name: "typical", buffers, directory: last, entry: b"run-3-4.lap".to_vec(), free_name: b"run-3-6.lap".to_vec(), other, long, fresh, longest: None }
 }
 
 /// The full store without the last entry of a full directory and with one file cut to nothing: a file more takes the last inode, and 768 bytes the last blocks. The other directory has one empty slot.
@@ -69,5 +75,14 @@ pub fn full_scene() -> Scene {
     let name = |i: usize| format!("run-{i:05}-lap").into_bytes();
     Plain::unlink(&mut buffers, 2, &name(97)).unwrap();
     Plain::shorten(&mut buffers, 8, 0).unwrap();
-    Scene { name: "full", buffers, directory: 2, entry: name(96), free_name: name(0), other: 6, long: 7, fresh: 8 }
+    Scene { name: "full", buffers, directory: 2, entry: name(96), free_name: name(0), other: 6, long: 7, fresh: 8, longest: None }
+}
+
+/// The store of long files with one cut to 768 bytes and one to nothing, which then has room for 2,752 bytes again.
+pub fn long_scene() -> Scene {
+    let mut buffers = long();
+    let name = |i: usize| format!("run-{i:05}-lap").into_bytes();
+    Plain::shorten(&mut buffers, 7, 768).unwrap();
+    Plain::shorten(&mut buffers, 8, 0).unwrap();
+    Scene { name: "long files", buffers, directory: 2, entry: name(4), free_name: name(0), other: 3, long: 7, fresh: 8, longest: Some(10) }
 }

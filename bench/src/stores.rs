@@ -28,13 +28,35 @@ impl Build {
     fn size(&self, i: usize) -> usize {
         self.get16(16 + 8 * (i - 1) + 4)
     }
+    /// Where the address of the k-th block of inode i stands: the twelfth names the block that has those behind it.
+    fn kth(&self, i: usize, k: usize) -> usize {
+        let record = 16 + 8 * self.n + 24 * (i - 1);
+        if k < 12 { record + 2 * k } else { self.block(self.get16(record + 22)) + 2 * (k - 12) }
+    }
+    fn block(&self, c: usize) -> usize {
+        16 + 32 * self.n + 64 * (c - 1)
+    }
+    /// More blocks, up to 768 bytes or in one go from none.
     fn grow(&mut self, i: usize, size: usize) {
-        for k in self.size(i).div_ceil(64)..size.div_ceil(64) {
-            let c = self.next_block;
+        for k in blocks(self.size(i))..blocks(size) {
+            let (at, c) = (self.kth(i, k), self.next_block);
             self.next_block += 1;
-            self.put16(16 + 8 * self.n + 24 * (i - 1) + 2 * k, c);
+            self.put16(at, c);
         }
         self.put16(16 + 8 * (i - 1) + 4, size);
+    }
+    /// Bytes in all blocks of file i, which are full; every third file then ends mid-block.
+    fn fill(&mut self, i: usize) {
+        let size = self.size(i);
+        for p in 0..size / 64 {
+            let c = self.get16(self.kth(i, p + (size > 768 && p > 10) as usize));
+            let o = self.block(c);
+            let end = if i % 3 == 0 && p + 1 == size / 64 { 40 } else { 64 };
+            self.s[o..o + end].fill(c as u8 | 1);
+        }
+        if i % 3 == 0 && size > 0 {
+            self.put16(16 + 8 * (i - 1) + 4, size - 24);
+        }
     }
     /// A new inode in directory d, under a name made of its number.
     fn add(&mut self, d: usize, kind: u8, slot: usize) -> usize {
@@ -44,8 +66,7 @@ impl Build {
             let z = self.size(d) + 64;
             self.grow(d, z);
         }
-        let c = self.get16(16 + 8 * self.n + 24 * (d - 1) + 2 * (slot / 4));
-        let o = 16 + 32 * self.n + 64 * (c - 1) + 16 * (slot % 4);
+        let o = self.block(self.get16(self.kth(d, slot / 4))) + 16 * (slot % 4);
         self.put16(o, i);
         let name = format!("run-{:05}-lap", i);
         self.s[o + 2..o + 2 + name.len()].copy_from_slice(name.as_bytes());
@@ -63,6 +84,11 @@ impl Build {
         self.put16(6, c);
         self.s
     }
+}
+
+/// The blocks that a size uses, an address block included.
+fn blocks(size: usize) -> usize {
+    size.div_ceil(64) + (size > 768) as usize
 }
 
 pub fn empty() -> Vec<u8> {
@@ -98,19 +124,21 @@ pub fn full(b: usize) -> Vec<u8> {
         }
     }
     for i in 2..=256 {
-        let size = w.size(i);
-        if w.s[16 + 8 * (i - 1)] != 1 {
-            continue;
+        if w.s[16 + 8 * (i - 1)] == 1 {
+            w.fill(i);
         }
-        for k in 0..size / 64 {
-            let c = w.get16(16 + 8 * w.n + 24 * (i - 1) + 2 * k);
-            let o = 16 + 32 * w.n + 64 * (c - 1);
-            let end = if i % 3 == 0 && k + 1 == size / 64 { 40 } else { 64 };
-            w.s[o..o + end].fill(c as u8 | 1);
-        }
-        if i % 3 == 0 && size > 0 {
-            w.put16(16 + 8 * (i - 1) + 4, size - 24);
-        }
+    }
+    w.done()
+}
+
+/// 256 inodes and 1,024 blocks, of which 23 files of 2,752 bytes in two directories leave five. Every third file ends mid-block.
+pub fn long() -> Vec<u8> {
+    let mut w = Build::new(256, 1024);
+    let directories = [w.add(1, 2, 0), w.add(1, 2, 1)];
+    for k in 0..23 {
+        let i = w.add(directories[k % 2], 1, k / 2);
+        w.grow(i, 2752);
+        w.fill(i);
     }
     w.done()
 }

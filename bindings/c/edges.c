@@ -161,31 +161,35 @@ static void lend(size_t inodes, size_t blocks, size_t image_blocks, int at_end)
     desk = fenced(desk_length, at_end);
 }
 
-/* Files until the store is full, in the root and a folder, then a copy with changes in between. */
+/* Files until the store is full, in the root and a folder, then a copy with changes in between:
+ * files grow to the limit and are cut, past the edge of 768 bytes both ways. */
 static void copy_all(size_t inodes, size_t blocks)
 {
-    uint8_t *name = fenced(14, 1), *bytes = fenced(768, 1), *out = fenced(768, 1);
-    size_t n[3], i, folder = 1;
+    const size_t most = HONECERISE_MAX_FILE;
+    uint8_t *name = fenced(14, 1), *bytes = fenced(most, 1), *out = fenced(most, 1);
+    size_t n[3], i, length, folder = 1;
     int32_t made;
-    memset(bytes, 'b', 768);
+    memset(bytes, 'b', most);
     TAKEN(honecerise_lay_out_store(STORE, inodes, blocks));
     TAKEN(honecerise_lay_out_desk(DESK, inodes));
     for (i = 0; i < inodes; i++) {
         memcpy(name, "run 0000000000", 14);
         name[12] = (uint8_t)('A' + i / 16);
         name[13] = (uint8_t)('A' + i % 16);
+        length = 1 + 192 * i % most;
         made = i % 20 == 0 ? honecerise_create_directory(STORE, IMAGE, DESK, 1, name, 14)
                            : honecerise_create_file(STORE, IMAGE, DESK, folder, name, 14);
         if (made > 0 && i % 20 == 0)
             folder = (size_t)made;
         else if (made > 0)
-            honecerise_write(STORE, IMAGE, DESK, (size_t)made, 0, bytes, 1 + 48 * i % 768);
+            honecerise_write(STORE, IMAGE, DESK, (size_t)made, 0, bytes + most - length, length);
     }
     TAKEN(honecerise_start(STORE, IMAGE, DESK));
     for (i = 0; honecerise_step(STORE, IMAGE, DESK) > 0; i++) {
         honecerise_rename(STORE, IMAGE, DESK, folder, name, 14, 1, NAME("moved"));
-        honecerise_write(STORE, IMAGE, DESK, 1 + i % inodes, 0, bytes, 768);
-        honecerise_read(STORE, 1 + i % inodes, 0, out, 768);
+        honecerise_write(STORE, IMAGE, DESK, 1 + i % inodes, 0, bytes, most);
+        honecerise_read(STORE, 1 + i % inodes, 0, out, most);
+        honecerise_shorten(STORE, IMAGE, DESK, 1 + (i + 1) % inodes, 700 + i % 70);
         honecerise_rename(STORE, IMAGE, DESK, 1, NAME("moved"), folder, name, 14);
     }
     IS(0, honecerise_state(STORE, IMAGE, DESK, n, n + 1, n + 2));
@@ -200,11 +204,11 @@ int main(void)
     for (at_end = 0; at_end < 2; at_end++) {
         lend(1, 1, 1, at_end);
         copy_all(1, 1);
-        lend(21, 100, 252, at_end);
+        lend(21, 100, HONECERISE_ENOUGH_IMAGE(21), at_end);
         copy_all(21, 100);
         lend(256, 1024, 4096, at_end);
         copy_all(256, 1024);
-        lend(16, 64, 192, at_end);
+        lend(16, 64, 704, at_end);
         nulls();
     }
     printf("edges: %u answers as expected\n", tried);

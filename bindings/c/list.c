@@ -9,7 +9,7 @@
 #include "honecerise.h"
 #include "honecerise_list.h"
 
-enum { INODES = 40, BLOCKS = 300, IMAGE_BLOCKS = HONECERISE_ENOUGH_IMAGE(INODES) };
+enum { INODES = 40, BLOCKS = 900, IMAGE_BLOCKS = HONECERISE_ENOUGH_IMAGE(INODES) };
 
 static uint8_t store[HONECERISE_STORE_LENGTH(INODES, BLOCKS)];
 static uint8_t image[HONECERISE_IMAGE_LENGTH(INODES, IMAGE_BLOCKS)];
@@ -25,12 +25,12 @@ static void expect(const char *what, int holds)
     }
 }
 
-/* Directories and files of all sizes, with a gap among the slots. */
+/* Directories and files of all sizes, long ones among them, with a gap among the slots. */
 static void fill(void)
 {
     uint8_t bytes[HONECERISE_MAX_FILE];
     char name[] = "fourteen bytes";
-    size_t k, directory = HONECERISE_ROOT;
+    size_t k, size, directory = HONECERISE_ROOT;
     for (k = 0; k < sizeof bytes; k++)
         bytes[k] = (uint8_t)(k * 7 + 1);
     expect("lay out", honecerise_lay_out_store(store, sizeof store, INODES, BLOCKS) == 0);
@@ -46,7 +46,10 @@ static void fill(void)
         } else {
             made = honecerise_create_file(WATCH, directory, at, 14 - k % 14);
             expect("create", made > 0);
-            expect("write", honecerise_write(WATCH, (size_t)made, 0, bytes, k * 61 % 769) >= 0);
+            size = k * 67 % 769;
+            expect("write", honecerise_write(WATCH, (size_t)made, 0, bytes, size) >= 0);
+            if (k % 2) /* half of them grow on */
+                expect("write", honecerise_write(WATCH, (size_t)made, size, bytes, k * 317 % 1985) >= 0);
         }
     }
     name[0] = 'C';
@@ -55,7 +58,7 @@ static void fill(void)
 
 static unsigned compare(const uint8_t *bytes)
 {
-    uint8_t listed[800], read[800];
+    uint8_t listed[HONECERISE_MAX_FILE + 32], read[HONECERISE_MAX_FILE + 32];
     struct honecerise_entry e;
     size_t directory, slot, offset, count = 0;
     expect("counts", honecerise_inodes(bytes) == INODES && honecerise_free_inodes(bytes) == 1);

@@ -8,12 +8,12 @@
 
 #include "honecerise.h"
 
-enum { INODES = 16, BLOCKS = 64, IMAGE_BLOCKS = 192, STACK = 1 << 18, PAINT = 0xa5 };
+enum { INODES = 16, BLOCKS = 128, IMAGE_BLOCKS = 704, STACK = 1 << 18, PAINT = 0xa5 };
 
 static uint8_t store[HONECERISE_STORE_LENGTH(INODES, BLOCKS)];
 static uint8_t image[HONECERISE_IMAGE_LENGTH(INODES, IMAGE_BLOCKS)];
 static uint8_t desk[HONECERISE_DESK_LENGTH(INODES)];
-static const uint8_t laps[200] = "71.2 70.8 72.0 69.9";
+static const uint8_t laps[2000] = "71.2 70.8 72.0 69.9";
 
 #define WATCH store, sizeof store, image, sizeof image, desk, sizeof desk
 #define NAME(text) (const uint8_t *)(text), strlen(text)
@@ -22,7 +22,8 @@ static uint8_t stack[STACK];
 static ucontext_t here, there;
 static int copied;
 
-/* Each call where it goes deepest: past its guards, on a store with files that end inside a block. */
+/* Each call where it goes deepest: past its guards, on a store with files that end inside a block, a
+ * long one among them that goes past 768 bytes and back. */
 static void calls(void)
 {
     static uint8_t out[16];
@@ -37,7 +38,9 @@ static void calls(void)
     honecerise_read(store, sizeof store, 2, 0, out, sizeof out);
     honecerise_create_file(WATCH, 1, NAME("f"));
     honecerise_create_directory(WATCH, 1, NAME("g"));
-    honecerise_write(WATCH, 4, 0, laps, sizeof laps);
+    honecerise_write(WATCH, 4, 0, laps, 750);
+    honecerise_write(WATCH, 4, 750, laps, 1000);
+    honecerise_shorten(WATCH, 4, 1000);
     honecerise_shorten(WATCH, 4, 10);
     honecerise_link(WATCH, 3, NAME("l"), 4);
     honecerise_rename(WATCH, 3, NAME("l"), 1, NAME("m"));
@@ -76,7 +79,7 @@ int main(void)
     honecerise_lay_out_store(store, sizeof store, INODES, BLOCKS);
     honecerise_lay_out_desk(desk, sizeof desk, INODES);
     honecerise_create_file(WATCH, 1, NAME("a"));
-    honecerise_write(WATCH, 2, 0, laps, 70);
+    honecerise_write(WATCH, 2, 0, laps, sizeof laps);
     honecerise_create_directory(WATCH, 1, NAME("d"));
     calls(); /* the loader looks up memset on the first call: not on the painted stack */
     for (copied = 0; copied < 2; copied++) {

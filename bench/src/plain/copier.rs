@@ -4,7 +4,7 @@ use super::format::put_header;
 use super::guards;
 use super::image::{finish, next_inode, target};
 use super::refusal::{BAD_BUFFER, IMAGE_FULL, WRONG_STATE};
-use super::view::{get16, put16, Inode, Shape, View, BLOCK, DIRECTORY, MOST_IMAGE_BLOCKS};
+use super::view::{get16, put16, Inode, Shape, View, ADDRESS_PLACE, BLOCK, DIRECTORY, MOST_IMAGE_BLOCKS};
 use super::{desk as notes_of, Answer};
 
 pub fn state(store: &[u8], image: &[u8], desk: &[u8]) -> Result<(u8, u16, u32), u8> {
@@ -70,15 +70,20 @@ fn locked_step(store: &[u8], shape: Shape, image: &mut [u8], desk: &mut [u8], no
         desk[15 + i] = 1;
         return Some(Desk { locked: 0, copied: 0, ..notes });
     }
-    let own = get16(store, shape.addresses(i) + 2 * k);
-    let c = target(&View::of(image, copy), own)?;
+    let own = get16(store, shape.kth(store, i, k));
+    let c = target(&View::of_copy(image, copy, i, inode.is_long()), own)?;
     let (from, to) = (shape.block(own), copy.block(c));
     let block = &mut image[to..to + BLOCK];
-    block.copy_from_slice(&store[from..from + BLOCK]);
+    if inode.is_long() && k == ADDRESS_PLACE {
+        block.fill(0);
+    } else {
+        block.copy_from_slice(&store[from..from + BLOCK]);
+    }
     if inode.kind == DIRECTORY {
         drop_marked(block, desk, shape.n, marks(desk, shape.n, i) >> (4 * k));
     }
-    put16(image, copy.addresses(i) + 2 * k, c);
+    let at = copy.kth(image, i, k);
+    put16(image, at, c);
     Some(Desk { copied: k + 1, ..notes })
 }
 

@@ -1,5 +1,5 @@
 //! The desk: its header by value, its copied bytes and its mark words.
-use super::view::{get16, put16, MOST_IMAGE_BLOCKS, MOST_INODES};
+use super::view::{get16, put16, MOST_BLOCKS, MOST_IMAGE_BLOCKS, MOST_INODES};
 
 pub const IDLE: u8 = 0;
 pub const RUNNING: u8 = 1;
@@ -63,9 +63,9 @@ impl Desk {
     }
 
     fn counts_fit(self) -> bool {
-        let most = 14 * self.n as u32;
+        let most = ((MOST_BLOCKS + 2) * self.n) as u32;
         if self.running() {
-            return self.locked <= self.n && self.copied <= 12 && self.steps <= most;
+            return self.locked <= self.n && self.copied <= MOST_BLOCKS && self.steps <= most;
         }
         self.locked == 0 && self.copied == 0 && self.steps <= most + 1
     }

@@ -45,7 +45,7 @@ pub fn next_inode(v: &View, desk: &[u8], n: usize) -> Option<usize> {
 /// Where the store's block c goes: its own number if that is an unnamed block, else the lowest such.
 pub fn target(v: &View, c: usize) -> Option<usize> {
     let b = v.blocks.len();
-    if c <= b && !v.all_addresses().fold(false, |named, a| named | (a == c as u16)) {
+    if c <= b && !v.names(c) {
         return Some(c);
     }
     v.named()[1..=b].iter().position(|&named| !named).map(|k| k + 1)

@@ -1,4 +1,4 @@
-//! Document 01's calls in plain Rust: the same checks and the same order of refusals as the proved library, over lent buffers, without a heap and without `unsafe`.
+//! The papers' calls in plain Rust, with files above 768 bytes: the same checks and the same order of refusals as the proved library, over lent buffers, without a heap and without `unsafe`.
 mod content;
 mod copier;
 mod desk;

@@ -2,7 +2,7 @@
 use super::content::take_block;
 use super::names::{entry, split};
 use super::refusal::{NO_BLOCKS, NO_SLOT};
-use super::view::{free_blocks, free_inodes, get16, put_free, Inode, Shape, View, BLOCK, MOST_BYTES};
+use super::view::{free_blocks, free_inodes, get16, put_free, Inode, Shape, View, BLOCK, MOST_DIRECT_BYTES};
 
 /// What one pass over a directory's slots finds: the slot of the name and its inode, and the lowest empty slot.
 pub struct Found {
@@ -37,7 +37,7 @@ pub fn room(store: &[u8], v: &View, dir: Inode, empty: Option<usize>) -> Result<
     if let Some(slot) = empty {
         return Ok(Room { slot, block: None });
     }
-    if dir.size() == MOST_BYTES {
+    if dir.size() == MOST_DIRECT_BYTES {
         return Err(NO_SLOT);
     }
     if free_blocks(store) == 0 {

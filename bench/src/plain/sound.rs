@@ -1,6 +1,6 @@
 //! Document 01's "A sound store": one pass over inodes and addresses, one over entries, then links, parents and free counts.
 use super::names::{legal_word, split};
-use super::view::{free_blocks, free_inodes, get16, Inode, Map, Shape, View, BLOCK, DIRECTORY, FILE, FREE, MOST_BYTES, MOST_IMAGE_BLOCKS, MOST_INODES, MOST_STORE_BLOCKS};
+use super::view::{free_blocks, free_inodes, get16, Inode, Map, Shape, View, ADDRESS_PLACE, BLOCK, DIRECT, DIRECTORY, FILE, FREE, MOST_BYTES, MOST_DIRECT_BYTES, MOST_IMAGE_BLOCKS, MOST_INODES, MOST_STORE_BLOCKS};
 
 /// How many entries name each inode.
 type Counts = [u16; MOST_INODES + 1];
@@ -47,10 +47,7 @@ fn inodes_right(v: &View, map: &mut [bool]) -> Option<(usize, usize)> {
             continue;
         }
         let inode = Inode::of(*a);
-        if a[1] != 0 || !attributes_right(inode) || !addresses_right(addresses, inode.blocks(), map) {
-            return None;
-        }
-        if inode.kind == FILE && !zero_tail(v, addresses, inode.size()) {
+        if a[1] != 0 || !attributes_right(inode) || !blocks_right(v, addresses, inode.size(), map) {
             return None;
         }
         used += inode.blocks();
@@ -62,14 +59,31 @@ fn inodes_right(v: &View, map: &mut [bool]) -> Option<(usize, usize)> {
 fn attributes_right(a: Inode) -> bool {
     match a.kind {
         FILE => a.size() <= MOST_BYTES && a.parent == 0,
-        DIRECTORY => a.size() <= MOST_BYTES && a.size() % BLOCK == 0,
+        DIRECTORY => a.size() <= MOST_DIRECT_BYTES && a.size() % BLOCK == 0,
         _ => false,
     }
 }
 
+/// The blocks of a size: those of the record, then those behind the address block, and the last bytes. (A directory's size is whole blocks, at most twelve.)
+fn blocks_right(v: &View, record: &[u8; 24], size: usize, map: &mut [bool]) -> bool {
+    let direct = record.as_chunks().0;
+    let used = size.div_ceil(BLOCK);
+    if size <= MOST_DIRECT_BYTES {
+        return addresses_right(direct, used, map) && zero_tail(v, direct, size, used);
+    }
+    addresses_right(direct, DIRECT, map) && further_right(v, v.further(record), size, map)
+}
+
+/// The entries of an address block. (Apart, so that the loop over the other inodes stays short.)
+#[inline(never)]
+fn further_right(v: &View, further: &[[u8; 2]], size: usize, map: &mut [bool]) -> bool {
+    let used = size.div_ceil(BLOCK) - ADDRESS_PLACE;
+    addresses_right(further, used, map) && zero_tail(v, further, size, used)
+}
+
 /// The first addresses, as many as used, name blocks that none before them names (0 is in the map from the start); the rest are 0.
-fn addresses_right(addresses: &[u8; 24], used: usize, map: &mut [bool]) -> bool {
-    let (named, rest) = addresses.as_chunks::<2>().0.split_at(used);
+fn addresses_right(addresses: &[[u8; 2]], used: usize, map: &mut [bool]) -> bool {
+    let (named, rest) = addresses.split_at(used);
     for a in named {
         match map.get_mut(u16::from_le_bytes(*a) as usize) {
             Some(seen) if !*seen => *seen = true,
@@ -79,9 +93,9 @@ fn addresses_right(addresses: &[u8; 24], used: usize, map: &mut [bool]) -> bool 
     rest.iter().all(|a| *a == [0; 2])
 }
 
-/// The bytes past a file's size in its last block.
-fn zero_tail(v: &View, addresses: &[u8; 24], size: usize) -> bool {
-    size % BLOCK == 0 || v.blocks[get16(addresses, 2 * (size / BLOCK)) - 1][size % BLOCK..].iter().all(|&x| x == 0)
+/// The bytes past a file's size in its last block, which the last of the used addresses names.
+fn zero_tail(v: &View, addresses: &[[u8; 2]], size: usize, used: usize) -> bool {
+    size % BLOCK == 0 || v.blocks[u16::from_le_bytes(addresses[used - 1]) as usize - 1][size % BLOCK..].iter().all(|&x| x == 0)
 }
 
 fn entries_right(v: &View, counts: &mut Counts) -> bool {

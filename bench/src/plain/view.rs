@@ -4,7 +4,14 @@ pub const FREE: u8 = 0;
 pub const FILE: u8 = 1;
 pub const DIRECTORY: u8 = 2;
 pub const BLOCK: usize = 64;
-pub const MOST_BYTES: usize = 768;
+/// The most bytes of a directory, and of a file without an address block.
+pub const MOST_DIRECT_BYTES: usize = 768;
+pub const MOST_BYTES: usize = 2752;
+/// The addresses of an inode, and the place of a long file's address block among its blocks.
+pub const DIRECT: usize = 12;
+pub const ADDRESS_PLACE: usize = DIRECT - 1;
+/// The most blocks of an inode: twelve and the 32 that an address block names.
+pub const MOST_BLOCKS: usize = DIRECT + BLOCK / 2;
 pub const MOST_INODES: usize = 256;
 pub const MOST_STORE_BLOCKS: usize = 1024;
 pub const MOST_IMAGE_BLOCKS: usize = 4096;
@@ -52,6 +59,35 @@ impl Shape {
     pub fn block(self, c: usize) -> usize {
         16 + 32 * self.n + BLOCK * (c - 1)
     }
+
+    /// Where the address of the k-th block of inode i stands, in the order of taking and copying: behind the twelve, in the address block.
+    pub fn kth(self, s: &[u8], i: usize, k: usize) -> usize {
+        if k < DIRECT {
+            return self.addresses(i) + 2 * k;
+        }
+        self.block(get16(s, self.addresses(i) + 2 * ADDRESS_PLACE)) + 2 * (k - DIRECT)
+    }
+}
+
+/// The addresses of a file's blocks of bytes: the first in its record, the rest of a long file's in its address block.
+#[derive(Clone, Copy)]
+pub struct Places {
+    record: usize,
+    further: Option<usize>,
+}
+
+impl Places {
+    pub fn of(s: &[u8], shape: Shape, i: usize, file: Inode) -> Places {
+        Places { record: shape.addresses(i), further: file.is_long().then(|| shape.kth(s, i, DIRECT)) }
+    }
+
+    /// Where the address of the p-th block of bytes stands.
+    pub fn at(self, p: usize) -> usize {
+        match self.further {
+            Some(further) if p >= ADDRESS_PLACE => further + 2 * (p - ADDRESS_PLACE),
+            _ => self.record + 2 * p,
+        }
+    }
 }
 
 /// An inode's attributes.
@@ -77,8 +113,14 @@ impl Inode {
         self.size as usize
     }
 
+    /// Blocks of the inode, an address block included.
     pub fn blocks(self) -> usize {
-        self.size().div_ceil(BLOCK)
+        self.size().div_ceil(BLOCK) + (self.size() > MOST_DIRECT_BYTES) as usize
+    }
+
+    /// A file with an address block.
+    pub fn is_long(self) -> bool {
+        self.size() > MOST_DIRECT_BYTES && self.kind == FILE
     }
 
     pub fn put(self, s: &mut [u8], shape: Shape, i: usize) {
@@ -87,9 +129,11 @@ impl Inode {
     }
 }
 
-/// The parts of a framed store or image.
+/// The parts of a framed store or image. An inode has an address block by its own kind and size, the locked one of a running copy by the store's.
 #[derive(Clone, Copy)]
 pub struct View<'a> {
+    locked: usize,
+    locked_long: bool,
     pub attributes: &'a [[u8; 8]],
     pub addresses: &'a [[u8; 24]],
     pub blocks: &'a [[u8; 64]],
@@ -99,7 +143,12 @@ impl<'a> View<'a> {
     pub fn of(s: &'a [u8], shape: Shape) -> View<'a> {
         let (attributes, rest) = s[16..].split_at(8 * shape.n);
         let (addresses, blocks) = rest.split_at(24 * shape.n);
-        View { attributes: attributes.as_chunks().0, addresses: addresses.as_chunks().0, blocks: blocks.as_chunks().0 }
+        View { locked: 0, locked_long: false, attributes: attributes.as_chunks().0, addresses: addresses.as_chunks().0, blocks: blocks.as_chunks().0 }
+    }
+
+    /// Of the image of a running copy; `long`: the locked inode, if there is one, is a long file of the store.
+    pub fn of_copy(image: &'a [u8], shape: Shape, locked: usize, long: bool) -> View<'a> {
+        View { locked, locked_long: long, ..View::of(image, shape) }
     }
 
     pub fn inode(&self, i: usize) -> Inode {
@@ -123,20 +172,51 @@ impl<'a> View<'a> {
         self.addresses_of(i)[..k].iter().map(move |&a| &blocks[u16::from_le_bytes(a) as usize - 1])
     }
 
-    /// All addresses of all inodes.
-    pub fn all_addresses(&self) -> impl Iterator<Item = u16> + 'a {
+    /// The twelve addresses of each inode.
+    pub fn direct_addresses(&self) -> impl Iterator<Item = u16> + 'a {
         self.addresses.as_flattened().as_chunks().0.iter().map(|&a| u16::from_le_bytes(a))
+    }
+
+    /// The 32 entries of every address block that is one of the blocks.
+    pub fn further_addresses(&self) -> impl Iterator<Item = u16> + 'a {
+        let v = *self;
+        let long = v.attributes.iter().enumerate().filter(|(_, a)| get16(*a, 4) > MOST_DIRECT_BYTES && a[0] == FILE).map(|(k, _)| k + 1);
+        let locked = v.locked_long.then_some(v.locked);
+        long.filter(move |&i| i != v.locked).chain(locked).flat_map(move |i| v.further(&v.addresses[i - 1])).map(|&a| u16::from_le_bytes(a))
+    }
+
+    /// Inode i has an address block, once its last address names one.
+    pub fn has_further(&self, i: usize) -> bool {
+        if i == self.locked { self.locked_long } else { self.inode(i).is_long() }
+    }
+
+    /// The block that the last of an inode's addresses names, as addresses; none if it names none.
+    pub fn further(&self, addresses: &[u8; 24]) -> &'a [[u8; 2]] {
+        let c = get16(addresses, 2 * ADDRESS_PLACE);
+        self.blocks.get(c.wrapping_sub(1)).map_or(&[], |block| block.as_chunks().0)
+    }
+
+    /// An address names block c.
+    pub fn names(&self, c: usize) -> bool {
+        self.direct_addresses().fold(false, |named, a| named | (a == c as u16)) || self.further_addresses().any(|a| a == c as u16)
     }
 
     /// Which blocks an address names, in one pass; most inodes have none.
     pub fn named(&self) -> Map {
         let mut map = [false; MOST_IMAGE_BLOCKS + 1];
-        for addresses in self.addresses.iter().filter(|addresses| **addresses != [0; 24]) {
-            for a in addresses.as_chunks().0 {
-                map[u16::from_le_bytes(*a) as usize] = true;
+        for (k, addresses) in self.addresses.iter().enumerate().filter(|(_, addresses)| **addresses != [0; 24]) {
+            note(&mut map, addresses.as_chunks().0);
+            if self.has_further(k + 1) {
+                note(&mut map, self.further(addresses));
             }
         }
         map
+    }
+}
+
+fn note(map: &mut Map, addresses: &[[u8; 2]]) {
+    for a in addresses {
+        map[u16::from_le_bytes(*a) as usize] = true;
     }
 }
 

@@ -13,7 +13,7 @@ use std::os::unix::ffi::OsStrExt;
 use std::path::Path;
 
 use honecerise::{CopyState, Files, Inode, Kind, MAX_BLOCKS, MAX_FILE, MAX_INODES, MAX_NAME, Watch};
-use honecerise::{desk_len, enough_image, image_len, store_len};
+use honecerise::{desk_len, image_len, store_len};
 
 type Outcome<T = ()> = Result<T, Box<dyn Error>>;
 
@@ -37,7 +37,8 @@ fn at<E: std::fmt::Display>(path: &Path) -> impl Fn(E) -> Box<dyn Error> + '_ {
 
 fn pack(directory: &Path, image_path: &Path) -> Outcome {
     let mut store = vec![0; store_len(MAX_INODES, MAX_BLOCKS)];
-    let mut image = vec![0; image_len(MAX_INODES, enough_image(MAX_INODES))];
+    // nothing changes while it is copied, so the image needs no more blocks than the store
+    let mut image = vec![0; image_len(MAX_INODES, MAX_BLOCKS)];
     let mut desk = vec![0; desk_len(MAX_INODES)];
     let mut watch = Watch::lay_out(&mut store, &mut image, &mut desk, MAX_INODES, MAX_BLOCKS)?;
     take_in(&mut watch, Inode::ROOT, directory)?;

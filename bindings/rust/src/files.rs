@@ -9,6 +9,9 @@ const ATTRIBUTES: usize = 8;
 const ADDRESSES: usize = 24;
 pub(crate) const BLOCK: usize = 64;
 const ENTRY: usize = 16;
+/// A file above so many bytes is long: its twelfth address names a block of further ones.
+const MAX_DIRECT: usize = 768;
+const ADDRESS_PLACE: usize = 11;
 const SLOTS_IN_BLOCK: usize = BLOCK / ENTRY;
 
 /// The files and directories of a sound store or finished image. Files of an image are read here:
@@ -16,7 +19,7 @@ const SLOTS_IN_BLOCK: usize = BLOCK / ENTRY;
 ///
 /// ```
 /// # use honecerise::{desk_len, image_len, store_len, Files, Inode, Refusal, Watch};
-/// # let (mut store, mut image, mut desk) = ([0; store_len(8, 8)], [0; image_len(8, 96)], [0; desk_len(8)]);
+/// # let (mut store, mut image, mut desk) = ([0; store_len(8, 8)], [0; image_len(8, 8)], [0; desk_len(8)]);
 /// # let mut watch = Watch::lay_out(&mut store, &mut image, &mut desk, 8, 8)?;
 /// # let laps = watch.create_directory(Inode::ROOT, "laps")?;
 /// # let run = watch.create_file(laps, "run1")?;
@@ -114,11 +117,20 @@ impl<'a> Files<'a> {
         }
     }
 
+    /// Where a block stands whose number stands at a place.
+    fn block_named(&self, at: usize) -> usize {
+        HEADER + (ATTRIBUTES + ADDRESSES) * self.inodes() + BLOCK * (self.number(at) - 1)
+    }
+
     /// The block at a place inside an inode's size.
     pub(crate) fn block(&self, inode: Inode, place: usize) -> &'a [u8] {
-        let inodes = self.inodes();
-        let address = self.number(HEADER + ATTRIBUTES * inodes + ADDRESSES * (inode.0 - 1) + 2 * place);
-        let at = HEADER + (ATTRIBUTES + ADDRESSES) * inodes + BLOCK * (address - 1);
+        let size = self.number(HEADER + ATTRIBUTES * (inode.0 - 1) + 4);
+        let addresses = HEADER + ATTRIBUTES * self.inodes() + ADDRESSES * (inode.0 - 1);
+        let at = if size > MAX_DIRECT && place >= ADDRESS_PLACE {
+            self.block_named(self.block_named(addresses + 2 * ADDRESS_PLACE) + 2 * (place - ADDRESS_PLACE))
+        } else {
+            self.block_named(addresses + 2 * place)
+        };
         &self.bytes[at..at + BLOCK]
     }
 

@@ -13,7 +13,7 @@
 //!
 //! // 16 inodes, 64 blocks, and in the image as many blocks as always suffice
 //! let mut store = [0; store_len(16, 64)];
-//! let mut image = [0; image_len(16, 192)];
+//! let mut image = [0; image_len(16, 704)];
 //! let mut desk = [0; desk_len(16)];
 //! let mut watch = Watch::lay_out(&mut store, &mut image, &mut desk, 16, 64)?;
 //!

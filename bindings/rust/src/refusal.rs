@@ -17,7 +17,8 @@ pub enum Refusal {
     /// Wiring: the store is not sound; something else wrote to it.
     UnsoundStore = 2,
     /// Wiring: the desk breaks its layout or is of another inode count; or, while a copy runs, the image's length or counts are not
-    /// the desk's, its root is not 1, its byte 8 is not 0, or an address is above its block count.
+    /// the desk's, its root is not 1, its byte 8 is not 0, an address is above its block count, or the locked file lacks its
+    /// block of addresses.
     BadDesk = 3,
     /// Naming: not 1 to 14 bytes, a byte that is 0 or `/`, or `.` or `..`.
     IllegalName = 4,
@@ -29,13 +30,13 @@ pub enum Refusal {
     NameTaken = 7,
     /// Naming: a directory to be unlinked has entries.
     NotEmpty = 8,
-    /// Naming: offset or new length past the size, or a write that ends past 768.
+    /// Naming: offset or new length past the size, or a write that ends past [`MAX_FILE`](crate::MAX_FILE).
     PastEnd = 9,
     /// Naming: a directory moved into itself or below.
     IntoItself = 10,
     /// A full watch: no free inode.
     NoInode = 11,
-    /// A full watch: too few free blocks.
+    /// A full watch: too few free blocks; a file above 768 bytes takes one for addresses, too.
     NoBlocks = 12,
     /// A full watch: all 48 slots of the directory are used.
     NoSlot = 13,
@@ -92,7 +93,7 @@ impl Refusal {
             Refusal::NameAbsent => "there is no entry of that name",
             Refusal::NameTaken => "the new name is taken by another entry",
             Refusal::NotEmpty => "the directory is not empty",
-            Refusal::PastEnd => "it lies past the size, or ends past 768 bytes",
+            Refusal::PastEnd => "it lies past the size, or ends past 2752 bytes",
             Refusal::IntoItself => "a directory cannot move into itself or below",
             Refusal::NoInode => "no inode is free",
             Refusal::NoBlocks => "too few blocks are free",

@@ -9,7 +9,7 @@ pub const MAX_IMAGE: usize = 4096;
 /// The most bytes of a name. None is 0 or `/`, and the name is not `.` or `..`.
 pub const MAX_NAME: usize = 14;
 /// The most bytes of a file.
-pub const MAX_FILE: usize = 768;
+pub const MAX_FILE: usize = 2752;
 /// The most entries of a directory.
 pub const MAX_SLOTS: usize = 48;
 
@@ -26,7 +26,7 @@ pub const fn store_len(inodes: usize, blocks: usize) -> usize {
 /// The length of an image of so many inodes, which are the store's, and blocks (1 to [`MAX_IMAGE`]).
 ///
 /// ```
-/// assert_eq!(honecerise::image_len(16, honecerise::enough_image(16)), 12816);
+/// assert_eq!(honecerise::image_len(16, honecerise::enough_image(16)), 45584);
 /// ```
 pub const fn image_len(inodes: usize, blocks: usize) -> usize {
     16 + 32 * inodes + 64 * blocks
@@ -41,12 +41,14 @@ pub const fn desk_len(inodes: usize) -> usize {
     16 + 9 * inodes
 }
 
-/// So many blocks in the image let every copy finish: [`ImageFull`](crate::Refusal::ImageFull) never comes.
+/// So many blocks in the image let every copy finish: [`ImageFull`](crate::Refusal::ImageFull) never comes. From
+/// 94 inodes on that is more than [`MAX_IMAGE`], and it depends on the files; a store that nothing changes while it is copied
+/// needs no more blocks than it has itself (by counting them; this is not proved).
 pub const fn enough_image(inodes: usize) -> usize {
-    12 * inodes
+    44 * inodes
 }
 
 /// A copy is finished, or stopped by [`ImageFull`](crate::Refusal::ImageFull), within so many steps.
 pub const fn most_steps(inodes: usize) -> usize {
-    14 * inodes + 1
+    46 * inodes + 1
 }

@@ -85,7 +85,7 @@ fn bytes() {
     let f = w.create_file(Inode::ROOT, "f").unwrap();
     let all: Vec<u8> = (0..768).map(|i| i as u8).collect();
     assert_eq!(w.write(f, 0, &all), Ok(768));
-    assert_eq!(w.write(f, 768, b"x"), Err(Refusal::PastEnd));
+    assert_eq!(w.write(f, 769, b"x"), Err(Refusal::PastEnd));
     assert_eq!(w.write(f, 768, &[]), Ok(768));
     assert_eq!(w.shorten(f, 769), Err(Refusal::PastEnd));
     let steps = copied(&mut w);
@@ -102,6 +102,41 @@ fn bytes() {
     assert_eq!(copy.read(Inode::ROOT, 0, &mut []), Err(Refusal::WrongInode));
     assert_eq!(w.shorten(f, 70), Ok(70));
     assert_eq!(w.files().unwrap().contents(f).unwrap().map(<[u8]>::len).collect::<Vec<_>>(), [64, 6]);
+}
+
+#[test]
+fn a_long_file() {
+    // the root's block, 43 blocks of bytes and one of addresses
+    let mut buffers = Buffers::new(4, 45, enough_image(4));
+    let mut w = buffers.lay_out(4, 45);
+    let f = w.create_file(Inode::ROOT, "f").unwrap();
+    let all: Vec<u8> = (0..MAX_FILE).map(|i| (i * 7 / 5) as u8).collect();
+    assert_eq!(w.write(f, 0, &all[..768]), Ok(768));
+    assert_eq!(w.write(f, 0, &[0; 2753]), Err(Refusal::PastEnd));
+    assert_eq!(w.write(f, 768, &all[768..]), Ok(2752));
+    assert_eq!(w.files().unwrap().free_blocks(), 0);
+    assert_eq!(w.write(f, 2752, b"x"), Err(Refusal::PastEnd));
+    assert_eq!(copied(&mut w), 50); // the root in 3 steps, the file in 46, the finish
+    let copy = w.copy().unwrap();
+    assert_eq!(copy.contents(f).unwrap().len(), 43);
+    assert_eq!(copy.contents(f).unwrap().collect::<Vec<_>>().concat(), all);
+    for (offset, room) in [(0, 2752), (0, 3000), (700, 100), (703, 2), (704, 64), (767, 2), (768, 64), (2688, 65), (2751, 9)] {
+        let (mut live, mut kept) = (vec![0xaa; room], vec![0xaa; room]);
+        assert_eq!(w.read(f, offset, &mut live), copy.read(f, offset, &mut kept), "read at {offset} into {room}");
+        assert_eq!(live, kept);
+    }
+    // back over the edge and over it again: the address block is freed, and wanted again
+    for (length, free) in [(769, 30), (768, 32), (704, 33)] {
+        assert_eq!(w.shorten(f, length), Ok(length));
+        let files = w.files().unwrap();
+        assert_eq!(files.free_blocks(), free);
+        assert_eq!(files.contents(f).unwrap().collect::<Vec<_>>().concat(), all[..length]);
+    }
+    let g = w.create_file(Inode::ROOT, "g").unwrap();
+    assert_eq!(w.write(g, 0, &all[..64 * 31]), Ok(1984));
+    assert_eq!(w.write(f, 704, &all[704..769]), Err(Refusal::NoBlocks));
+    assert_eq!(w.write(f, 704, &all[704..768]), Ok(768));
+    assert_eq!(w.files().unwrap().free_blocks(), 0);
 }
 
 #[test]

@@ -9,7 +9,7 @@ refusalNumber BadBuffer = 1
 refusalNumber UnsoundStore = 2
 refusalNumber BadDesk = 3
 -- "The app that names things": illegal name; not the file or directory needed; name absent; new name taken by another entry; directory not empty;
--- offset or new length past the size, or write ending past 768; directory moved into itself or below
+-- offset or new length past the size, or write ending past the most bytes of a file; directory moved into itself or below
 refusalNumber IllegalName = 4
 refusalNumber WrongInode = 5
 refusalNumber NameAbsent = 6

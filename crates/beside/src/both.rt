@@ -111,7 +111,7 @@ pub fn do_both(
 ) -> Both
     requires { ⌜ n ≤ 8 ⌝ }
 {
-    let mut name = [fill; 800];
+    let mut name = [fill; 2760];
     let mut other = [0u8; 2];
     let mut out = [FILLER; 64];
     let f = put_first(e, &mut name);

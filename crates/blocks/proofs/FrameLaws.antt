@@ -10,8 +10,7 @@ use Rattle.octets.proofs.NumLaws.{num-apart, num-in, length-num}
 use Rattle.layout.specs.declared.header.Header.{Header}
 use Rattle.layout.specs.declared.inode.Inode.{Inode}
 use Rattle.layout.specs.Header.{headerOf, putHeader, putFree, putComplete}
-use Rattle.layout.specs.Inode.{attributesAt, addressAt, addressIndex, kindOf, spareOf, linksOf, sizeOf, parentOf, addressOf, attributeEntry, putAttributes, putAddresses, putInode, putAddress}
-use Rattle.blocks.specs.Block.{putInBlock}
+use Rattle.layout.specs.Inode.{attributesAt, addressAt, addressIndex, kindOf, spareOf, linksOf, sizeOf, parentOf, addressOf, attributeEntry, putAttributes, putAddresses, putInode}
 
 -- ---- lengths
 pub length-free : (s : List ℕ) (i b : ℕ) → length (putFree s i b) ≡ length s
@@ -30,10 +29,6 @@ pub length-attributes : (s : List ℕ) (i : ℕ) (v : Inode) → length (putAttr
 unfolding putAttributes
 length-attributes s i v = length-splice s (attributesAt i) (attributeEntry v)
 
-pub length-address : (s : List ℕ) (n x b : ℕ) → length (putAddress s n x b) ≡ length s
-unfolding putAddress
-length-address s n x b = length-num 2 s (addressAt n x) b
-
 pub length-addresses : (s : List ℕ) (n i : ℕ) (vs : List ℕ) → length (putAddresses s n i vs) ≡ length s
 unfolding putAddresses
 length-addresses s n i vs = length-splice s (addressAt n (addressIndex i 0)) (wordBytes vs)
@@ -41,10 +36,6 @@ length-addresses s n i vs = length-splice s (addressAt n (addressIndex i 0)) (wo
 pub length-inode : (s : List ℕ) (n i : ℕ) (v : Inode) → length (putInode s n i v) ≡ length s
 unfolding putInode
 length-inode s n i v = simp (length-addresses, length-attributes)
-
-pub length-in-block : (s : List ℕ) (n b o : ℕ) (xs : List ℕ) → length (putInBlock s n b o xs) ≡ length s
-unfolding putInBlock
-length-in-block s n b o xs = length-splice s _ xs
 
 -- ---- fields that a splice does not touch
 module _ (s : List ℕ) (p : ℕ) (xs : List ℕ) where

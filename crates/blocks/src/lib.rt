@@ -3,16 +3,22 @@ pub mod free;
 pub mod map;
 
 ghost use mathlib.Core.Path.{_≡_};
-ghost use Prim.Native.Nat.{_<_, _≤_};
-ghost use Rattle.layout.specs.Sizes.{addressCount, mostInodes, mostImageBlocks};
-ghost use Rattle.blocks.specs.Block.{storeLength, allowed, blockAt, zeroBlock, blocksUsed, kthBlock};
+ghost use Prim.Native.Nat.{_+_, _<_, _≤_};
+ghost use lib.ListN.{length};
+ghost use Rattle.layout.specs.Sizes.{addressCount, furtherCount, mostBlocks, blockBytes, mostInodes, mostImageBlocks};
+ghost use Rattle.blocks.specs.Block.{storeLength, allowed, blockAt, zeroBlock, blocksUsed, isLong, addressBlock, furtherOf, kthBlock, putKth};
 ghost use Rattle.layout.specs.Fits.{InodeFits};
-ghost use Rattle.blocks.specs.Fits.{Sized};
+ghost use Rattle.blocks.specs.Fits.{Sized, BlockFits};
+use layout::inode;
 use layout::inode::address;
+use layout::inode::put_address;
 use layout::sizes::ADDRESS_COUNT;
+use layout::sizes::ADDRESS_PLACE;
 use layout::sizes::BLOCK_BYTES;
+use layout::sizes::FILE;
 use layout::sizes::HEADER_BYTES;
 use layout::sizes::INODE_BYTES;
+use layout::sizes::MOST_DIRECT_BYTES;
 use layout::sizes::MOST_INODES;
 
 pub fn store_length(n: usize, b: usize) -> usize
@@ -61,13 +67,50 @@ pub fn blocks_used(size: usize) -> usize
     requires { ⌜ size < 65536 ⌝ }
     ensures { λ r. ⌜ r ≡ blocksUsed size ⌝ }
 {
-    (size + (BLOCK_BYTES - 1)) / BLOCK_BYTES
+    let bytes = (size + (BLOCK_BYTES - 1)) / BLOCK_BYTES;
+    if size <= MOST_DIRECT_BYTES {
+        return bytes;
+    }
+    bytes + 1
 }
 
-// The k-th block of an inode.
+// The k-th address of an inode, which names its k-th block.
 pub fn kth_block(s: &[u8], n: usize, i: usize, k: usize) -> u16
     requires { ⌜ InodeFits (now s) n i × (k < addressCount) ⌝ }
     ensures { λ r. ⌜ r ≡ kthBlock (now (s .entry)) n i k ⌝ }
 {
     address(s, n, ADDRESS_COUNT * (i - 1) + k)
+}
+
+// Inode i has an address block: a file of more than 768 bytes.
+pub fn is_long(s: &[u8], n: usize, i: usize) -> bool
+    requires { ⌜ InodeFits (now s) n i ⌝ }
+    ensures { λ r. ⌜ r ≡ isLong (now (s .entry)) i ⌝ }
+{
+    if inode::kind(s, n, i) != FILE {
+        return false;
+    }
+    MOST_DIRECT_BYTES < inode::size(s, n, i) as usize
+}
+
+// Address j of the address block a.
+pub fn further(s: &[u8], n: usize, a: usize, j: usize) -> u16
+    requires { ⌜ (n ≤ mostInodes) × (1 ≤ a) × (a ≤ mostImageBlocks) × (blockAt n a + blockBytes ≤ length (now s)) × (j < furtherCount) ⌝ }
+    ensures { λ r. ⌜ r ≡ furtherOf (now (s .entry)) n a j ⌝ }
+{
+    octets::get_16(s, block_at(n, a) + 2 * j)
+}
+
+// Block c is the k-th of inode i: its address goes into the inode, or into its address block.
+pub fn put_kth(s: &mut [u8], n: usize, i: usize, k: usize, c: u16)
+    requires { ⌜ InodeFits (now s) n i × (k < mostBlocks) × (addressCount ≤ k → BlockFits (now s) n (addressBlock (now s) n i)) ⌝ }
+    ensures { λ _. ⌜ now (s .exit) ≡ putKth (now (s .entry)) n i k c ⌝ }
+{
+    let x = ADDRESS_COUNT * (i - 1);
+    if k < ADDRESS_COUNT {
+        put_address(&mut *s, n, x + k, c);
+        return;
+    }
+    let a = address(s, n, x + ADDRESS_PLACE) as usize;
+    octets::put_16(&mut *s, block_at(n, a) + 2 * (k - ADDRESS_COUNT), c);
 }

@@ -35,6 +35,7 @@ use Rattle.checkpoint.proofs.TableLaws.{create-table, write-table}
 use Rattle.checkpoint.proofs.CopierTables.{start-table}
 use Rattle.cases.specs.Cases.{TrackCases, Writes, Creates, inodes}
 use Rattle.cases.proofs.Runs.{three-steps, finish, reused-block, moved-directory, unlinked-file, into-child}
+use Rattle.cases.proofs.Edge.{over-the-edge}
 use Rattle.checkpoint.proofs.Run.Calls.{image-allowed}
 
 -- a create of a legal name in an empty slot
@@ -72,8 +73,8 @@ fourteen : (w : World) (d t : ℕ) (name : List ℕ) (k : Kind) (c : Creates w d
 fourteen w d t name k c e h u = created w d name k c t (fourteen-legal name e h) u
 
 -- ---- writes
--- "at most 768 bytes"
-file-size : (w : World) (i : ℕ) → Ready w → isFile (w .store) (inodes w) i ≡ true → sizeOf (w .store) i ≤ 768
+-- "the limit becomes 2,752 bytes"
+file-size : (w : World) (i : ℕ) → Ready w → isFile (w .store) (inodes w) i ≡ true → sizeOf (w .store) i ≤ mostFileBytes
 unfolding isKind
 file-size w i r f =
     let s = w .store in
@@ -83,11 +84,11 @@ file-size w i r f =
     size-most (is-sound Store s .to (r .sound) .inodes i (leb-true 1 i a) (leb-true i n b))
 
 module _ (w : World) (i o : ℕ) (xs : List ℕ) (h : Writes w i o xs) where
-  write-done : o ≤ sizeOf (w .store) i → o + length xs ≤ 768 → live (write i o xs) w .answer ≡ Done (max (sizeOf (w .store) i) (o + length xs))
+  write-done : o ≤ sizeOf (w .store) i → o + length xs ≤ mostFileBytes → live (write i o xs) w .answer ≡ Done (max (sizeOf (w .store) i) (o + length xs))
   unfolding writeTable anyLocked
   write-done a b =
       let r = h .ready in
-      let z : sizeOf (w .store) i ≤ 768 = file-size w i r (h .file) in
+      let z : sizeOf (w .store) i ≤ mostFileBytes = file-size w i r (h .file) in
       let f = h .free (max (sizeOf (w .store) i) (o + length xs)) (omega arith) in
       write-table w i o xs
       ∙ rw (
@@ -109,15 +110,15 @@ module _ (w : World) (i o : ℕ) (xs : List ℕ) (h : Writes w i o xs) where
       write-table w i o xs
       ∙ rw (r .framed, r .desk, r .sound, r .notes, h .file, q)
 
-  to-768 : o ≤ sizeOf (w .store) i → o + length xs ≡ 768 → live (write i o xs) w .answer ≡ Done 768
-  to-768 a b =
-      let z : sizeOf (w .store) i ≤ 768 = file-size w i (h .ready) (h .file) in
+  to-2752 : o ≤ sizeOf (w .store) i → o + length xs ≡ mostFileBytes → live (write i o xs) w .answer ≡ Done mostFileBytes
+  to-2752 a b =
+      let z : sizeOf (w .store) i ≤ mostFileBytes = file-size w i (h .ready) (h .file) in
       write-done a (omega arith) ∙ ap Done (omega arith)
 
-  to-769 : o + length xs ≡ 769 → live (write i o xs) w .answer ≡ Refused PastEnd
-  to-769 b = write-refused (or-r (ltb (sizeOf (w .store) i) o) (ltb mostFileBytes (o + length xs)) (lt-ltb mostFileBytes (o + length xs) (omega arith)))
+  to-2753 : o + length xs ≡ mostFileBytes + 1 → live (write i o xs) w .answer ≡ Refused PastEnd
+  to-2753 b = write-refused (or-r (ltb (sizeOf (w .store) i) o) (ltb mostFileBytes (o + length xs)) (lt-ltb mostFileBytes (o + length xs) (omega arith)))
 
-  at-size : o ≡ sizeOf (w .store) i → o + length xs ≤ 768 → live (write i o xs) w .answer ≡ Done (o + length xs)
+  at-size : o ≡ sizeOf (w .store) i → o + length xs ≤ mostFileBytes → live (write i o xs) w .answer ≡ Done (o + length xs)
   at-size a b = write-done (omega arith) b ∙ ap Done (omega arith)
 
   past-size : o ≡ sizeOf (w .store) i + 1 → live (write i o xs) w .answer ≡ Refused PastEnd
@@ -166,7 +167,7 @@ allowed w r h =
     let a : deskFits d ≡ true = and-left _ _ (r .notes) in
     let b = and-right (deskFits d) _ (r .notes) in
     let c : deskOf d .inodes ≡ inodes w = eqb-true _ _ (and-left (eqb (deskOf d .inodes) (inodes w)) _ b) in
-    let e : imageFits (w .image) d ≡ true = or-right (not (isRunning d)) (imageFits (w .image) d) (ap not h) (and-right (eqb (deskOf d .inodes) (inodes w)) _ b) in
+    let e : imageFits (w .store) (w .image) d ≡ true = or-right (not (isRunning d)) (imageFits (w .store) (w .image) d) (ap not h) (and-right (eqb (deskOf d .inodes) (inodes w)) _ b) in
     let f : length (w .image) ≡ storeLength (deskOf d .inodes) (deskOf d .blocks) = eqb-true _ _ (and-left (eqb (length (w .image)) (storeLength (deskOf d .inodes) (deskOf d .blocks))) _ e) in
     let g : blocksFit d ≡ true = and-left (blocksFit d) _ (and-right (leb (deskOf d .state) 3) _ a) in
     let k = blocks-allowed d h g in
@@ -185,14 +186,16 @@ track-cases = record {
   finish = finish;
   fourteen = λ w d t name k c l h u. ap told (fourteen w d t name k c l h u);
   fifteen = λ w d name k r e. ap told (fifteen w d name k r e);
-  to-768 = λ w i o xs h l e. ap told (to-768 w i o xs h l e);
-  to-769 = λ w i o xs h e. ap told (to-769 w i o xs h e);
+  to-2752 = λ w i o xs h l e. ap told (to-2752 w i o xs h l e);
+  to-2753 = λ w i o xs h e. ap told (to-2753 w i o xs h e);
   at-size = λ w i o xs h e l. ap told (at-size w i o xs h e l);
   past-size = λ w i o xs h e. ap told (past-size w i o xs h e);
   last-slot = λ w d t name k c l a b e. ap told (last-slot w d name k c l a t b e);
   no-slot = λ w d name k c l a h. ap told (no-slot w d name k c l a h);
   reused-block = reused-block .1;
   reused-block-done = reused-block .0;
+  over-the-edge = over-the-edge .1;
+  over-the-edge-done = over-the-edge .0;
   moved-directory = moved-directory .1;
   moved-directory-done = moved-directory .0;
   unlinked-file = unlinked-file .1;

@@ -5,6 +5,7 @@ use mathlib.Core.Bool.{true, false}
 use mathlib.Core.List.{List, [], _∷_, _++_}
 use lib.ListN.{length, getD, replicate}
 use Rattle.bounded.specs.Count.{tally}
+use Rattle.bounded.specs.Table.{table}
 use Rattle.bounded.specs.declared.Found.the-variants.{At, Absent}
 use Rattle.layout.specs.Sizes.{mostFileBytes}
 use Rattle.layout.specs.Header.{headerOf}
@@ -19,13 +20,14 @@ use Rattle.answers.specs.Told.{told}
 use Rattle.answers.specs.declared.Answer.the-variants.{Done, Refused}
 use Rattle.sound.specs.Sound.{inodesIn, blocksIn}
 use Rattle.sound.specs.Place.{naming}
+use Rattle.content.specs.Content.{fileBytes}
 use Rattle.entries.specs.declared.Kind.{Kind}
 use Rattle.files.specs.Effect.{create, write, rename}
 use Rattle.checkpoint.specs.Fit.{isRunning}
 use Rattle.checkpoint.specs.Busy.{isLocked}
 use Rattle.checkpoint.specs.Live.{World}
 use Rattle.checkpoint.specs.List.{Ready, call, advances, starts, outcome, next, run, Finish}
-use Rattle.cases.specs.Worlds.{fresh, nameA, reusedBlock, movedDirectory, unlinkedFile, parentAndChild}
+use Rattle.cases.specs.Worlds.{fresh, nameA, reusedBlock, overTheEdge, movedDirectory, unlinkedFile, parentAndChild}
 
 -- the counts of the world's store
 abbrev pub inodes : World → ℕ
@@ -63,10 +65,10 @@ pub record TrackCases : Type 0 where
       → outcome (call (create d name k)) w .answer ≡ told (Done (c .inode))
   pub fifteen : (w : World) (d : ℕ) (name : List ℕ) (k : Kind) → Ready w → length name ≡ nameBytes + 1
       → outcome (call (create d name k)) w .answer ≡ told (Refused IllegalName)
-  -- "Write ending at 768 passes, 769 gives 9."
-  pub to-768 : (w : World) (i o : ℕ) (xs : List ℕ) → Writes w i o xs → o ≤ sizeOf (w .store) i → o + length xs ≡ mostFileBytes
+  -- F-1: "the ★ case of a write's end is now 2,752 and 2,753"
+  pub to-2752 : (w : World) (i o : ℕ) (xs : List ℕ) → Writes w i o xs → o ≤ sizeOf (w .store) i → o + length xs ≡ mostFileBytes
       → outcome (call (write i o xs)) w .answer ≡ told (Done mostFileBytes)
-  pub to-769 : (w : World) (i o : ℕ) (xs : List ℕ) → Writes w i o xs → o + length xs ≡ mostFileBytes + 1
+  pub to-2753 : (w : World) (i o : ℕ) (xs : List ℕ) → Writes w i o xs → o + length xs ≡ mostFileBytes + 1
       → outcome (call (write i o xs)) w .answer ≡ told (Refused PastEnd)
   -- "Write at the size passes, one past gives 9."
   pub at-size : (w : World) (i o : ℕ) (xs : List ℕ) → Writes w i o xs → o ≡ sizeOf (w .store) i → o + length xs ≤ mostFileBytes
@@ -88,6 +90,13 @@ pub record TrackCases : Type 0 where
       × ((blockOf (run reusedBlock (fresh 3 3) .image) 3 3 ≡ replicate 10 5 ++ replicate 54 0)
       × (sizeOf (run reusedBlock (fresh 3 3) .image) 3 ≡ 10)))))
   pub reused-block-done : deskOf (run reusedBlock (fresh 3 3) .desk) .state ≡ finished
+  -- F-1: of 2 the twelfth block, 13, keeps its number behind the address block, 28; of 3 the first block of its address block is the twelfth again, and what it gave back, 25 and 27, is free in the copy
+  pub over-the-edge : (table (kthBlock (run (starts ∷ overTheEdge) (fresh 3 29) .image) 3 2) 15 ≡ 2 ∷ 3 ∷ 4 ∷ 5 ∷ 6 ∷ 7 ∷ 8 ∷ 9 ∷ 10 ∷ 11 ∷ 12 ∷ 28 ∷ 13 ∷ 29 ∷ 0 ∷ [])
+      × ((table (kthBlock (run (starts ∷ overTheEdge) (fresh 3 29) .image) 3 3) 13 ≡ 14 ∷ 15 ∷ 16 ∷ 17 ∷ 18 ∷ 19 ∷ 20 ∷ 21 ∷ 22 ∷ 23 ∷ 24 ∷ 26 ∷ 0 ∷ [])
+      × ((fileBytes (run (starts ∷ overTheEdge) (fresh 3 29) .image) 3 2 0 832 ≡ replicate 768 7 ++ replicate 64 6)
+      × ((fileBytes (run (starts ∷ overTheEdge) (fresh 3 29) .image) 3 3 0 768 ≡ replicate 768 5)
+      × (headerOf (run (starts ∷ overTheEdge) (fresh 3 29) .image) .«free_blocks» ≡ 2))))
+  pub over-the-edge-done : deskOf (run (starts ∷ overTheEdge) (fresh 3 29) .desk) .state ≡ finished
   -- "Copied directory moved to an uncopied one: one image entry, the old."
   pub moved-directory : (tally (naming (run movedDirectory (fresh 3 3) .image) 3) (mostSlots * 3) 2 ≡ 1)
       × (naming (run movedDirectory (fresh 3 3) .image) 3 0 ≡ 2)

@@ -1,6 +1,6 @@
 -- The concrete stores and lists of the track cases.
 use Prim.Native.Nat.{ℕ}
-use mathlib.Core.List.{List, [], _∷_}
+use mathlib.Core.List.{List, [], _∷_, _++_}
 use lib.ListN.{replicate}
 use Rattle.blocks.specs.Block.{storeLength}
 use Rattle.format.specs.Format.{freshStore, freshDesk}
@@ -43,3 +43,11 @@ unlinkedFile = call (create 1 nameA File) ∷ starts ∷ advances ∷ advances �
 -- a directory and a child of it
 unfoldable pub parentAndChild : List Event
 parentAndChild = call (create 1 nameA Directory) ∷ call (create 2 nameB Directory) ∷ []
+
+-- F-1, "Growing and shortening cross the edge both ways and free what they no longer use.": file 2 has 768 bytes in blocks 2 to 13, file 3 has 832 in blocks 14 to 27, of which 25 is its address block. With the root copied, 2 gets 64 bytes more; when
+-- twelve of its blocks are copied, 3 is cut to 768.
+unfoldable pub overTheEdge : List Event
+overTheEdge =
+    call (create 1 nameA File) ∷ call (create 1 nameB File) ∷ call (write 2 0 (replicate 768 7)) ∷ call (write 3 0 (replicate 832 5))
+    ∷ advances ∷ advances ∷ advances ∷ call (write 2 768 (replicate 64 6))
+    ∷ advances ∷ (replicate 12 advances ++ (call (shorten 3 768) ∷ replicate 18 advances))

@@ -5,6 +5,6 @@ use Rattle.chance.specs.declared.event.Shape.{Shape}
 pub record Small (s : Shape) : Type 0 where
   pub some-inodes : 1 ≤ s .inodes
   pub few-inodes : s .inodes ≤ 8
-  pub few-blocks : s .blocks ≤ 24
-  pub few-in-image : s .image ≤ 96
+  pub few-blocks : s .blocks ≤ 59
+  pub few-in-image : s .image ≤ 352
   pub few-in-trunk : s .trunk ≤ 4

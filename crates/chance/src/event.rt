@@ -33,8 +33,8 @@ const NAMES: usize = 64;
 
 const FEW_NAMES: usize = 4;
 
-// At most so many are written, less one; a read's out-buffer.
-const MOST_BYTES: usize = 800;
+// At most so many are written, less one: a few more than a file may have. A read's out-buffer.
+const MOST_BYTES: usize = 2760;
 
 pub const OUT_BYTES: usize = 64;
 
@@ -86,24 +86,29 @@ fn draw_low(base: u64, field: u64, n: usize) -> usize
     1 + draw(base, field, 1 + draw(base, field + 1, n))
 }
 
+// Half of the stores that are not wide have room for a long file, or a few.
 fn draw_blocks(b: u64, wide: bool) -> usize
-    ensures { λ r. ⌜ r ≤ 24 ⌝ }
+    ensures { λ r. ⌜ r ≤ 59 ⌝ }
 {
     if wide {
         return 14 + draw(b, 10, 11);
     }
+    if draw(b, 19, 2) == 0 {
+        return 59 - draw(b, 11, 45);
+    }
     24 - draw(b, 11, 1 + draw(b, 12, 24))
 }
 
-// A third of the images may be too small.
+// A third of the images may be too small, half of those for long files alone; the others have the room that always suffices.
 fn draw_image(b: u64, inodes: usize) -> usize
     requires { ⌜ inodes ≤ 8 ⌝ }
-    ensures { λ r. ⌜ r ≤ 96 ⌝ }
+    ensures { λ r. ⌜ r ≤ 352 ⌝ }
 {
-    if draw(b, 13, 3) == 0 {
-        return 1 + draw(b, 14, 12);
+    match draw(b, 13, 6) {
+        0 => 1 + draw(b, 14, 12),
+        1 => 13 + draw(b, 14, 48),
+        _ => 44 * inodes,
     }
-    12 * inodes
 }
 
 fn draw_trunk(b: u64, wide: bool) -> usize
@@ -191,11 +196,24 @@ fn draw_name(b: u64, field: u64, wide: bool) -> usize
     draw(b, field + 1, names(wide))
 }
 
+// Where a write starts and what a file is cut to: nothing, a few bytes, around the edge of 768, or anywhere.
 fn draw_offset(b: u64) -> usize {
-    if draw(b, 3, 2) == 0 {
-        return 0;
+    match draw(b, 3, 8) {
+        0..=3 => 0,
+        4..=5 => draw(b, 4, 140),
+        6 => 700 + draw(b, 4, 80),
+        _ => draw(b, 4, MOST_BYTES),
     }
-    draw(b, 4, 140)
+}
+
+// Of what is written: mostly a few hundred bytes, else around the edge of 768, around the limit, or anything up to it.
+fn draw_length(b: u64) -> usize {
+    match draw(b, 60, 6) {
+        0..=2 => draw(b, 61, 1 + draw(b, 62, 800)),
+        3 => 700 + draw(b, 61, 150),
+        4 => 2748 + draw(b, 61, 10),
+        _ => draw(b, 61, MOST_BYTES),
+    }
 }
 
 // A directory, in one of those made before it.
@@ -225,7 +243,7 @@ fn later_event(b: u64, wide: bool, n: usize) -> Event
         other: draw_name(b, 40, wide),
         inode: draw_inode(b, wide, n),
         offset: draw_offset(b),
-        length: draw(b, 60, 1 + draw(b, 61, MOST_BYTES)),
+        length: draw_length(b),
     }
 }
 

@@ -1,9 +1,9 @@
 -- An inode is written with no blocks: a new one, or one that is freed. What that keeps. n and b are the counts of inodes and blocks.
 use Prim.Native.Nat.{ℕ, _+_, _-_, _*_, _/_, _%_, _≤_, _<_}
-use mathlib.Core.Path.{_≡_, sym, ap, _∙_}
+use mathlib.Core.Path.{_≡_, refl, sym, ap, _∙_}
 use mathlib.Core.Bool.{false}
 use mathlib.Core.List.{List}
-use native.Mathlib.Decide.{ℕ-discrete}
+use native.Mathlib.Decide.{ℕ-discrete, decLt}
 use native.Mathlib.Omega.{arith}
 use lib.Dec.{eqb}
 use lib.ListN.{length, getD, replicate, getD-replicate, length-replicate}
@@ -13,11 +13,12 @@ use Rattle.bounded.proofs.ReflectLaws.{r-fails}
 use Rattle.bounded.proofs.CaseLaws.{each-else}
 use Rattle.bounded.proofs.DifferLaws.{differ-less}
 use Rattle.bounded.proofs.TallyLaws.{count-but}
-use Rattle.layout.specs.Sizes.{addressCount, blockBytes}
+use Rattle.layout.specs.Sizes.{addressCount, mostBlocks, blockBytes}
 use Rattle.layout.specs.Header.{headerOf}
 use Rattle.layout.specs.declared.inode.Inode.{Inode}
-use Rattle.layout.specs.Inode.{kindOf, sizeOf, addressOf, putInode, freeKind, fileKind, directoryKind, inodeFree}
-use Rattle.blocks.specs.Block.{blocksUsed, kthBlock}
+use Rattle.layout.specs.Inode.{kindOf, sizeOf, putInode, freeKind, fileKind, directoryKind, inodeFree}
+use Rattle.blocks.specs.Block.{isLong, blocksUsed, kthBlock, bytesBlock, rowOf}
+use Rattle.blocks.proofs.KthLaws.{kth-direct, kth-none, few-alike}
 use Rattle.blocks.specs.Free.{blockFree}
 use Rattle.layout.specs.Fits.{InodeFits}
 use Rattle.directory.specs.Slot.{mostSlots, slots}
@@ -26,7 +27,7 @@ use Rattle.sound.specs.Inode.{InodeSound}
 use Rattle.sound.proofs.PlaceLaws.{slot-is, filled-is, naming-filled}
 use Rattle.changes.proofs.SameLaws.{OtherInodes, SameFrame, SameBlock, same-body, NewInode, InCounts, frame-then, inode-then, put-inode, inode-new, inode-blocks}
 use Rattle.changes.proofs.KeepLaws.{SamePlace, place-kept, inode-kept}
-use Rattle.changes.proofs.AddressLaws.{address-kth, unnamed-change}
+use Rattle.changes.proofs.AddressLaws.{row-at, unnamed-change}
 use Rattle.changes.proofs.StockLaws.{Stock}
 
 -- inode i is v, which has no blocks; the other inodes and the bytes of blocks stay
@@ -35,7 +36,7 @@ pub record Bared (s t : List ℕ) (n i : ℕ) (v : Inode) : Type 0 where
   pub others : OtherInodes s t n i
   pub bytes : (c : ℕ) → SameBlock s t n c
   pub new : NewInode t i v
-  pub none : (k : ℕ) → k < addressCount → kthBlock t n i k ≡ 0
+  pub none : (k : ℕ) → k < mostBlocks → kthBlock t n i k ≡ 0
 
 -- the inode is written, and then the free counts
 pub put-bared : (s t : List ℕ) (n i a c : ℕ) (v : Inode) → InodeFits s n i → v .addresses ≡ replicate addressCount 0 → InCounts (putInode s n i v) t n a c → Bared s t n i v
@@ -49,8 +50,18 @@ put-bared s t n i a c v f e r =
       others = λ j y z o. inode-then (p .others j y z o) (r .inodes j y z);
       bytes = λ g. r .bytes g ∙ p .bytes g;
       new = record { kind = q .kind ∙ w .kind; spare = q .spare ∙ w .spare; links = q .links ∙ w .links; size = q .size ∙ w .size; parent = q .parent ∙ w .parent };
-      none = λ k o. q .blocks k o ∙ inode-blocks s n i f v l k o ∙ ap (λ (g : List ℕ). getD g k 0) e ∙ getD-replicate addressCount k 0 0 o;
+      none = λ k o. at k o (decLt k 12);
     }
+  where
+    twelve : (k : ℕ) → k < 12 → kthBlock t n i k ≡ 0
+    twelve k o =
+        let l : length (v .addresses) ≡ addressCount = ap length e ∙ length-replicate {A = ℕ} addressCount 0 in
+        r .inodes i (f .low) (f .high) .blocks k (omega arith) ∙ inode-blocks s n i f v l k o ∙ ap (λ (g : List ℕ). getD g k 0) e ∙ getD-replicate addressCount k 0 0 o
+
+    -- with no address block there is nothing behind it
+    at : (k : ℕ) → k < mostBlocks → Dec (k < 12) → kthBlock t n i k ≡ 0
+    at k o (yes m) = twelve k m
+    at k o (no m) = few-alike t n i k (isLong t i) false (sym (kth-direct (isLong t i) t n i 11 (omega arith)) ∙ twelve 11 (omega arith)) o ∙ kth-none false t n i k refl (omega arith)
 
 -- an inode of size 0 has no slots
 no-slots : (s : List ℕ) (q : ℕ) → sizeOf s (dirOf q) ≡ 0 → isSlot s q ≡ false
@@ -88,7 +99,7 @@ module _ (s t : List ℕ) (n i : ℕ) (v : Inode) (a : Bared s t n i v) (empty :
   module _ (b : ℕ) (low : 1 ≤ i) (high : i ≤ n) (h : Stock s n b) (kind : v .kind ≤ directoryKind)
       (free : v .kind ≡ freeKind → (v .links ≡ 0) × (v .parent ≡ 0)) (file : v .kind ≡ fileKind → v .parent ≡ 0) where
     new-inode : InodeSound t n b i
-    unfolding blocksUsed kthBlock
+    unfolding blocksUsed
     new-inode =
         let r = a .new in
         let z = size-none in
@@ -106,22 +117,22 @@ module _ (s t : List ℕ) (n i : ℕ) (v : Inode) (a : Bared s t n i v) (empty :
 
     inodes : (j : ℕ) → 1 ≤ j → j ≤ n → InodeSound t n b j
     inodes j l m = each-else (InodeSound t n b) i j new-inode
-        (λ z. inode-kept s t n b j (a .others j l m z) (λ _ _. a .bytes (kthBlock s n j (sizeOf s j / blockBytes))) (h .inodes j l m))
+        (λ z. inode-kept s t n b j (a .others j l m z) (λ _ _. a .bytes (bytesBlock s n j (sizeOf s j / blockBytes))) (h .inodes j l m))
 
-    once : Differ (addressOf t n) (addressCount * n)
-    once = differ-less (addressOf s n) (addressOf t n) (addressCount * n) (h .once) (λ y l o. at y l o (ℕ-discrete (y / 12 + 1) i))
+    once : Differ (rowOf t n) (mostBlocks * n)
+    once = differ-less (rowOf s n) (rowOf t n) (mostBlocks * n) (h .once) (λ y l o. at y l o (ℕ-discrete (y / 44 + 1) i))
       where
-        at : (y : ℕ) → y < addressCount * n → 0 < addressOf t n y → Dec (y / 12 + 1 ≡ i) → addressOf t n y ≡ addressOf s n y
+        at : (y : ℕ) → y < mostBlocks * n → 0 < rowOf t n y → Dec (y / 44 + 1 ≡ i) → rowOf t n y ≡ rowOf s n y
         at y l o (yes e) =
-            let z : addressOf t n y ≡ 0 = address-kth t n y ∙ ap (λ (j : ℕ). kthBlock t n j (y % 12)) e ∙ a .none (y % 12) (omega arith) in
+            let z : rowOf t n y ≡ 0 = row-at t n y ∙ ap (λ (j : ℕ). kthBlock t n j (y % 44)) e ∙ a .none (y % 44) (omega arith) in
             absurd (omega arith)
         at y l o (no e) =
-            address-kth t n y ∙ a .others (y / 12 + 1) (omega arith) (omega arith) e .blocks (y % 12) (omega arith) ∙ sym (address-kth s n y)
+            row-at t n y ∙ a .others (y / 44 + 1) (omega arith) (omega arith) e .blocks (y % 44) (omega arith) ∙ sym (row-at s n y)
 
     -- the blocks that i had are unnamed
     pub bared-unnamed : countTo (blockFree t n) b ≡ countTo (blockFree s n) b + blocksUsed (sizeOf s i)
     bared-unnamed =
-        let c = unnamed-change s t n b i low high (h .inodes) inodes (h .once) once (λ j l m z. a .others j l m z .blocks) in
+        let c = unnamed-change s t n b i low high (h .inodes) inodes (h .once) once (λ j l m z. a .others j l m z .size) in
         let z = no-blocks (sizeOf t i) size-none in
         omega arith
 

@@ -11,19 +11,21 @@ use Rattle.bounded.proofs.BoolLaws.{clash, fails}
 use Rattle.octets.specs.Octets.{Apart}
 use Rattle.layout.specs.Header.{headerOf}
 use Rattle.layout.specs.Inode.{kindOf, sizeOf, fileKind, directoryKind, isDirectory}
-use Rattle.blocks.specs.Block.{blocksUsed, kthBlock}
+use Rattle.blocks.specs.Block.{isLong, blocksUsed, kthBlock}
 use Rattle.blocks.proofs.ViewLaws.{inode-fits}
 use Rattle.names.specs.Entry.{entryInode, entryFor, isEmpty}
 use Rattle.names.proofs.EntryLaws.{entry-inode, empty-inode, empty-zeros, filled-not-empty}
 use Rattle.directory.specs.Slot.{mostSlots, slots, slotAt, entryOf, putEntry, clearEntry}
 use Rattle.directory.proofs.SlotLaws.{few-slots, slot-fits, apart-blocks, apart-slots, entry-put, entry-put-other, entry-clear, entry-clear-other}
 use Rattle.directory.specs.Fits.{DirFits}
-use Rattle.sound.specs.Place.{dirOf, slotOf, isSlot, entryAt, filled, placeOf}
+use Rattle.sound.specs.Place.{IsDir, dirOf, slotOf, isSlot, entryAt, filled, placeOf}
 use Rattle.sound.specs.Counted.{SoundStore}
 use Rattle.sound.proofs.PlaceLaws.{slot-is, filled-is, naming-entry, entry-place, slot-place}
-use Rattle.changes.proofs.SameLaws.{SameFrame, SameInode, SameBlock, InBlock, frame-stays, frame-then, inode-then, inode-stays, put-entry, clear-entry}
+use Rattle.changes.proofs.SameLaws.{SameFrame, SameInode, same-long, SameBlock, InBlock, frame-stays, frame-then, inode-then, inode-stays, put-entry, clear-entry}
 use Rattle.changes.proofs.KeepLaws.{place-slot, slot-kept, same-slots}
-use Rattle.changes.proofs.StoreLaws.{one-at, dir-of, kind-some, kind-most, kind-is}
+use Rattle.changes.proofs.StoreLaws.{one-at, blocks-of, dir-of, kind-dir, data-at, dir-short, kind-some, kind-most, kind-is}
+use Rattle.blocks.proofs.KthLaws.{kth-direct}
+use Rattle.ledger.proofs.WriteLaws.{NoAddresses}
 use Rattle.changes.proofs.ChangeLaws.{OtherPlaces, Emptied, Filled}
 
 -- entries alone change: the header, all inodes and the bytes of files stay
@@ -58,7 +60,7 @@ pub slot-in : {s : List ℕ} {n b : ℕ} → SoundStore s n b → (d t : ℕ) �
 slot-in {s} {n} h d t e l =
     let a = kind-some s n directoryKind d e in
     let c = kind-most s n directoryKind d e in
-    let f = few-slots s n d (dir-of h d a c) in
+    let f = few-slots s n d (kind-dir h d e) in
     record { low = a; high = c; dir = kind-is s n directoryKind d e; inside = l; small = omega arith }
 
 pub place-below : {s : List ℕ} {n d t : ℕ} → SlotIn s n d t → placeOf d t < mostSlots * n
@@ -72,6 +74,9 @@ module _ {s m : List ℕ} {n b d t : ℕ} (h : SoundStore s n b) (a : EntriesAlo
   high : d ≤ n
   high = slot .high
 
+  whole : IsDir s n d
+  whole = record { low = slot .low; high = slot .high; kind = slot .dir }
+
   abbrev here : ℕ
   here = kthBlock m n d (t / 4)
 
@@ -79,17 +84,17 @@ module _ {s m : List ℕ} {n b d t : ℕ} (h : SoundStore s n b) (a : EntriesAlo
   used = slot-block s d t (slot .inside)
 
   few : blocksUsed (sizeOf s d) ≤ 12
-  few = dir-of h d low high .few
+  few = dir-of h d whole .few
 
   same-block : here ≡ kthBlock s n d (t / 4)
   same-block = let f = few in let u = used in a .inodes d low high .blocks (t / 4) (omega arith)
 
   block-low : 1 ≤ here
-  block-low = let e = same-block in let f = dir-of h d low high .blocks (t / 4) used .low in omega arith
+  block-low = let e = same-block in let f = dir-of h d whole .blocks (t / 4) used .low in omega arith
 
   pub dir-there : DirFits m n d
   dir-there =
-      let f = dir-of h d low high in
+      let f = dir-of h d whole in
       let e = a .inodes d low high in
       let z = e .size in
       let g = a .frame .long in
@@ -108,6 +113,13 @@ module _ {s m : List ℕ} {n b d t : ℕ} (h : SoundStore s n b) (a : EntriesAlo
 
   pub slot-there : slotAt m n d t + 16 ≤ length m
   slot-there = slot-fits m n d dir-there t slots-there
+
+  -- its block holds no addresses
+  plain : NoAddresses (isLong m) m n here
+  plain j l o e z =
+      let g = a .inodes j l o in
+      data-at h d (t / 4) low high used (λ y. absurd (clash (isLong s d) y (dir-short s d (slot .dir)))) j l o (sym (same-long s m j (g .kind) (g .size)) ∙ e)
+      (sym (kth-direct (isLong s j) s n j 11 (omega arith)) ∙ sym (g .blocks 11 (omega arith)) ∙ kth-direct (isLong m j) m n j 11 (omega arith) ∙ z ∙ same-block)
 
   -- the slot of another place
   apart-place : (q : ℕ) → q < mostSlots * n → q ≢ placeOf d t → isSlot m q ≡ true → Apart (slotAt m n (dirOf q) (slotOf q)) 16 (slotAt m n d t) 16
@@ -131,7 +143,7 @@ module _ {s m : List ℕ} {n b d t : ℕ} (h : SoundStore s n b) (a : EntriesAlo
           let f : dirOf q ≡ d = r .0 in
           apart-slots m n (dirOf q) (slotOf q) d t f (r .1) (λ g. z (omega arith))
       go (no e) =
-          let r = dir-of h (dirOf q) (omega arith) (omega arith) .blocks (slotOf q / 4) taken .low in
+          let r = blocks-of h (dirOf q) (omega arith) (omega arith) .blocks (slotOf q / 4) taken .low in
           apart-blocks m n (dirOf q) (slotOf q) d t e (let b = block in omega arith) block-low
 
   -- a write in the block of the slot
@@ -142,7 +154,7 @@ module _ {s m : List ℕ} {n b d t : ℕ} (h : SoundStore s n b) (a : EntriesAlo
       header = i .header ∙ a .header;
       inodes = λ j l o. inode-then (a .inodes j l o) (i .inodes j l o);
       files = λ j k l o e u.
-          let g = dir-of h j l o .blocks k u .low in
+          let g = blocks-of h j l o .blocks k u .low in
           i .others (kthBlock s n j k) g
           (λ z. let r = one-at h j k d (t / 4) l o low high u used (z ∙ same-block) .0 in let y = sym (ap (kindOf s) r) ∙ e in omega arith)
           ∙ a .files j k l o e u;
@@ -166,7 +178,7 @@ module _ {s m : List ℕ} {n b d t : ℕ} (h : SoundStore s n b) (a : EntriesAlo
   -- ---- an entry put, for an inode i
   module _ (i : ℕ) (name : List ℕ) (some : 1 ≤ i) where
     put-in : InBlock m (putEntry m n d t i name) n here
-    put-in = put-entry m n d t block-low i name
+    put-in = put-entry m n d t block-low plain i name
 
     pub put-alone : EntriesAlone s (putEntry m n d t i name) n
     put-alone = write-alone (putEntry m n d t i name) put-in
@@ -185,7 +197,7 @@ module _ {s m : List ℕ} {n b d t : ℕ} (h : SoundStore s n b) (a : EntriesAlo
 
   -- ---- an entry cleared
   clear-in : InBlock m (clearEntry m n d t) n here
-  clear-in = clear-entry m n d t block-low
+  clear-in = clear-entry m n d t block-low plain
 
   pub clear-alone : EntriesAlone s (clearEntry m n d t) n
   clear-alone = write-alone (clearEntry m n d t) clear-in

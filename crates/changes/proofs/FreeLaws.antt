@@ -13,7 +13,7 @@ use Rattle.bounded.proofs.SearchLaws.{found-lowest, lowest-of, lowest-found}
 use Rattle.layout.specs.Sizes.{mostInodes, mostStoreBlocks}
 use Rattle.layout.specs.Header.{headerOf}
 use Rattle.layout.specs.Inode.{kindOf, freeKind, inodeFree, freeInode}
-use Rattle.blocks.specs.Free.{blockNamed, freeBlock, blockFree}
+use Rattle.blocks.specs.Free.{lowestBy, blockNamed, freeBlock, blockFree}
 use Rattle.sound.specs.Sound.{Sound, inodesIn, blocksIn}
 use Rattle.sound.specs.declared.Form.the-variants.{Store}
 
@@ -54,7 +54,7 @@ module _ (s : List ℕ) (n b : ℕ) where
 
   -- the lowest one
   pub free-block : (c : ℕ) → freeBlock s n b ≡ At c → FreeBlock c
-  unfolding freeBlock
+  unfolding lowestBy
   free-block c e =
       let r = found-lowest (λ a. not (blockNamed s n a)) 1 b c e in
       let l = r .below in
@@ -71,7 +71,7 @@ module _ (s : List ℕ) (n b : ℕ) where
 
   -- and where one is counted, one is found
   pub block-found : 1 ≤ countTo (blockFree s n) b → (c : ℕ) × (freeBlock s n b ≡ At c)
-  unfolding freeBlock
+  unfolding lowestBy
   block-found l =
       let f : ℕ → Bool = λ a. not (blockNamed s n a) in
       let r = count-some (λ k. blockFree s n (k + 1)) b l in

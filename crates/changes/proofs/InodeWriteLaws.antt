@@ -1,15 +1,16 @@
 -- What the writers of an inode leave of it, of the others and of the places. n is the inode count.
 use Prim.Native.Nat.{ℕ, _*_, _≤_, _<_}
-use mathlib.Core.Path.{_≡_, sym, _∙_}
+use mathlib.Core.Path.{_≡_, sym, ap, _∙_}
+use mathlib.Core.Bool.{Bool}
 use mathlib.Core.List.{List}
 use native.Mathlib.Omega.{arith}
 use Rattle.bounded.proofs.CaseLaws.{each-else}
 use Rattle.layout.specs.Inode.{spareOf, linksOf, parentOf, inodeOf, putAttributes, putLinks, withParent}
-use Rattle.blocks.specs.Block.{kthBlock}
+use Rattle.blocks.specs.Block.{isLong, kthBy, kthBlock}
 use Rattle.layout.specs.Fits.{InodeFits}
 use Rattle.directory.specs.Slot.{mostSlots}
 use Rattle.sound.specs.Place.{dirOf}
-use Rattle.changes.proofs.SameLaws.{SameBody, InInode, same-body, put-links, links-body, put-attributes, attributes-blocks, attributes-new}
+use Rattle.changes.proofs.SameLaws.{SameBody, InInode, same-body, same-long, put-links, links-body, put-attributes, attributes-blocks, attributes-new}
 use Rattle.changes.proofs.KeepLaws.{SamePlace, place-kept}
 
 -- inode i alone changes, in its links or its parent
@@ -39,7 +40,7 @@ module _ (s : List ℕ) (n i : ℕ) (f : InodeFits s n i) where
         let r = attributes-new s n i f (withParent (inodeOf s n i) e) in
         record {
           inode = put-attributes s n i f (withParent (inodeOf s n i) e);
-          body = record { kind = r .kind; spare = r .spare ∙ sym zero; size = r .size; blocks = attributes-blocks s n i f (withParent (inodeOf s n i) e) };
+          body = record { kind = r .kind; spare = r .spare ∙ sym zero; size = r .size; blocks = λ k l. ap (λ (x : Bool). kthBy x v n i k) (same-long s v i (r .kind) (r .size)) ∙ attributes-blocks s n i f (withParent (inodeOf s n i) e) (isLong s i) k l };
         }
 
     pub parent-links : linksOf v i ≡ linksOf s i

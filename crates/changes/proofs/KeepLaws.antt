@@ -16,10 +16,11 @@ use Rattle.bounded.proofs.CountLaws.{count-ext}
 use Rattle.bounded.proofs.ClimbLaws.{leads-kept}
 use Rattle.octets.specs.Octets.{part}
 use Rattle.octets.proofs.PartLaws.{part-part}
-use Rattle.layout.specs.Sizes.{addressCount, blockBytes, rootInode}
+use Rattle.layout.specs.Sizes.{mostBlocks, mostFileBytes, blockBytes, rootInode}
+use Rattle.ledger.proofs.BytesLaws.{place-used, used-limits}
 use Rattle.layout.specs.Header.{headerOf}
-use Rattle.layout.specs.Inode.{kindOf, linksOf, sizeOf, parentOf, addressOf, freeKind, fileKind, directoryKind, inodeFree}
-use Rattle.blocks.specs.Block.{blockAt, blockOf, blocksUsed, kthBlock}
+use Rattle.layout.specs.Inode.{kindOf, linksOf, sizeOf, parentOf, freeKind, fileKind, directoryKind, inodeFree}
+use Rattle.blocks.specs.Block.{blockAt, blockOf, blocksUsed, kthBlock, bytesPlace, bytesBlock, rowOf}
 use Rattle.blocks.specs.Free.{blockFree}
 use Rattle.names.specs.Entry.{isEmpty, legalEntry}
 use Rattle.names.proofs.EntryLaws.{empty-inode}
@@ -44,7 +45,6 @@ ZeroTail s n i = kindOf s i ≡ fileKind → (sizeOf s i % blockBytes ≡ 0 → 
 -- its links and parent may change where they do not count
 pub inode-like : (s t : List ℕ) (n b i : ℕ) → SameBody s t n i → (kindOf s i ≡ freeKind → (linksOf t i ≡ linksOf s i) × (parentOf t i ≡ parentOf s i)) → (kindOf s i ≡ fileKind → parentOf t i ≡ parentOf s i)
     → ZeroTail t n i → InodeSound s n b i → InodeSound t n b i
-unfolding kthBlock
 inode-like s t n b i e bare file g h =
     let z = e .size in
     let u : blocksUsed (sizeOf t i) ≡ blocksUsed (sizeOf s i) = ap blocksUsed z in
@@ -60,9 +60,13 @@ inode-like s t n b i e bare file g h =
       parent = λ k. let k′ = sym (e .kind) ∙ k in file k′ ∙ h .parent k′;
     }
 
+-- the block that a size ends in
+tail-place : (z : ℕ) → z ≤ mostFileBytes → (z % blockBytes ≡ 0 → ⊥) → bytesPlace z (z / blockBytes) < mostBlocks
+tail-place z l h = let u = place-used z (z / 64) (omega arith) in let w = used-limits z .0 l in omega arith
+
 -- the bytes of the block that its size ends in stay, where they count
 pub tail-kept : (s t : List ℕ) (n b i : ℕ) → SameBody s t n i
-    → (kindOf s i ≡ fileKind → (sizeOf s i % blockBytes ≡ 0 → ⊥) → SameBlock s t n (kthBlock s n i (sizeOf s i / blockBytes)))
+    → (kindOf s i ≡ fileKind → (sizeOf s i % blockBytes ≡ 0 → ⊥) → SameBlock s t n (bytesBlock s n i (sizeOf s i / blockBytes)))
     → InodeSound s n b i → ZeroTail t n i
 tail-kept s t n b i e g h k q o l w =
     let z = e .size in
@@ -70,11 +74,11 @@ tail-kept s t n b i e g h k q o l w =
     let m = size-most h in
     let k′ = sym (e .kind) ∙ k in
     let q′ : sizeOf s i % blockBytes ≡ 0 → ⊥ = λ x. q (r ∙ x) in
-    let c : kthBlock t n i (sizeOf t i / blockBytes) ≡ kthBlock s n i (sizeOf s i / blockBytes) = ap (λ (x : ℕ). kthBlock t n i (x / blockBytes)) z ∙ e .blocks (sizeOf s i / blockBytes) (omega arith) in
+    let c : bytesBlock t n i (sizeOf t i / blockBytes) ≡ bytesBlock s n i (sizeOf s i / blockBytes) = ap (λ (x : ℕ). kthBlock t n i (bytesPlace x (x / blockBytes))) z ∙ e .blocks (bytesPlace (sizeOf s i) (sizeOf s i / blockBytes)) (tail-place (sizeOf s i) (size-most h) q′) in
     ap (λ (x : ℕ). getD (blockOf t n x) o 0) c ∙ ap (λ (x : List ℕ). getD x o 0) (g k′ q′) ∙ h .tail k′ q′ o l (omega arith)
 
 pub inode-kept : (s t : List ℕ) (n b i : ℕ) → SameInode s t n i
-    → (kindOf s i ≡ fileKind → (sizeOf s i % blockBytes ≡ 0 → ⊥) → SameBlock s t n (kthBlock s n i (sizeOf s i / blockBytes)))
+    → (kindOf s i ≡ fileKind → (sizeOf s i % blockBytes ≡ 0 → ⊥) → SameBlock s t n (bytesBlock s n i (sizeOf s i / blockBytes)))
     → InodeSound s n b i → InodeSound t n b i
 inode-kept s t n b i e g h = inode-like s t n b i (same-body e) (λ _. (e .links, e .parent)) (λ _. e .parent) (tail-kept s t n b i (same-body e) g h) h
 
@@ -132,7 +136,7 @@ place-kept s t n p e f =
     place-slot s t n p (slot-kept s t p (e .kind) (λ _. ap (λ (z : ℕ). 4 * blocksUsed z) (e .size)))
     (λ q.
     let r = slot-is s p .to q in
-    let l : slotOf p / 4 < 12 = omega arith in
+    let l : slotOf p / 4 < mostBlocks = omega arith in
     entry-kept s t n (dirOf p) (slotOf p) (e .blocks (slotOf p / 4) l) (f (slotOf p / 4) (r .0) (unfold slots in (let m = r .1 in omega arith))))
 
 -- ---- the tree: kinds, links, parents and what stands at each place
@@ -219,7 +223,7 @@ module _ (s t : List ℕ) (n : ℕ) (e : SameTree s t n) where
 -- what is left to show of a store with the frame of a sound one
 pub record Body (t : List ℕ) (n b : ℕ) : Type 0 where
   pub inodes : (i : ℕ) → 1 ≤ i → i ≤ n → InodeSound t n b i
-  pub once : Differ (addressOf t n) (addressCount * n)
+  pub once : Differ (rowOf t n) (mostBlocks * n)
   pub root : kindOf t rootInode ≡ directoryKind
   pub root-parent : parentOf t rootInode ≡ 0
   pub entries : (p : ℕ) → p < mostSlots * n → filled t n p ≡ true → EntrySound t n p
@@ -279,7 +283,7 @@ module _ {s t : List ℕ} {n b : ℕ} (h : SoundStore s n b) (f : SameFrame s t)
   sound-of r = body-sound (subst (λ (z : ℕ). Body t z (blocksIn t)) (h .inodes ∙ sym (f .inodes)) (subst (Body t n) (h .blocks ∙ sym (f .blocks)) r))
 
   -- the tree stays, and so do the free inodes
-  pub sound-kept : SameTree s t n → ((i : ℕ) → 1 ≤ i → i ≤ n → InodeSound t n b i) → Differ (addressOf t n) (addressCount * n)
+  pub sound-kept : SameTree s t n → ((i : ℕ) → 1 ≤ i → i ≤ n → InodeSound t n b i) → Differ (rowOf t n) (mostBlocks * n)
       → headerOf t .«free_inodes» ≡ headerOf s .«free_inodes» → headerOf t .«free_blocks» ≡ countTo (blockFree t n) b → Sound Store t
   sound-kept e inodes once free-inodes free-blocks =
       let x = h .inodes in

@@ -12,10 +12,10 @@ use Rattle.octets.proofs.WordLaws.{length-words}
 use Rattle.layout.specs.declared.inode.Inode.{Inode}
 use Rattle.layout.specs.Header.{headerOf, putFree, lessFree}
 use Rattle.layout.specs.Inode.{attributesAt, addressAt, addressIndex, sizeOf, addressOf, addressesOf, attributeEntry, inodeOf, putAttributes, putAddresses, putInode}
-use Rattle.blocks.specs.Block.{blocksUsed, kthBlock}
+use Rattle.blocks.specs.Block.{blocksUsed}
 use Rattle.blocks.proofs.FrameLaws.{length-inode, length-entry, header-past}
-use Rattle.blocks.proofs.ViewLaws.{header-free}
 use Rattle.layout.specs.Fits.{InodeFits}
+use Rattle.blocks.proofs.KthLaws.{kth-direct}
 use Rattle.changes.proofs.SameLaws.{less-free, inode-new, inode-blocks}
 
 -- ---- the free counts
@@ -38,16 +38,6 @@ unfolding putFree
 free-twice s a b c d =
     ap (λ (t : List ℕ). putNum 2 t 6 d) (num-comm 2 2 (putNum 2 s 4 a) 6 4 b c (omega arith) ∙ ap (λ (t : List ℕ). putNum 2 t 6 b) (num-twice 2 s 4 a c))
     ∙ num-twice 2 (putNum 2 s 4 c) 6 b d
-
--- j blocks fewer, and then m
-pub less-less : (s : List ℕ) (j m : ℕ) → 16 ≤ length s → lessFree (lessFree s 0 j) 0 m ≡ lessFree s 0 (j + m)
-unfolding lessFree
-less-less s j m f =
-    let a = headerOf s .«free_inodes» in
-    let b = headerOf s .«free_blocks» in
-    let x : a - 0 - 0 ≡ a - 0 = omega arith in
-    let y : b - j - m ≡ b - (j + m) = omega arith in
-    rw (header-free s f (a - 0) (b - j)) (free-twice s (a - 0) (b - j) (a - 0 - 0) (b - j - m) ∙ ap₂ (putFree s) x y)
 
 -- ---- an inode's record
 -- as it was read
@@ -98,25 +88,10 @@ module _ (s : List ℕ) (n i : ℕ) (l : 1 ≤ i) (m : i ≤ n) (v : Inode) wher
       splice-comm (splice s (attributesAt i) (attributeEntry v)) (addressAt n (addressIndex i 0)) (wordBytes (v .addresses)) (attributesAt i) (attributeEntry w) (omega arith)
       ∙ ap₂ (λ (t : List ℕ) (ws : List ℕ). splice t (addressAt n (addressIndex i 0)) (wordBytes ws)) (splice-twice s (attributesAt i) (attributeEntry v) (attributeEntry w) (a ∙ sym c)) q
 
--- twice: the second counts
-pub inode-twice : (s : List ℕ) (n i : ℕ) → 1 ≤ i → i ≤ n → (v w : Inode) → length (v .addresses) ≡ 12 → length (w .addresses) ≡ 12 → putInode (putInode s n i v) n i w ≡ putInode s n i w
-unfolding putInode putAttributes putAddresses
-inode-twice s n i l m v w e g =
-    let o : ℕ = attributesAt i in
-    let p : ℕ = addressAt n (addressIndex i 0) in
-    let vs : List ℕ = wordBytes (v .addresses) in
-    let ws : List ℕ = wordBytes (w .addresses) in
-    let a = length-entry v in
-    let c = length-entry w in
-    let b : length vs ≡ 24 = length-words (v .addresses) ∙ omega arith in
-    let d : length ws ≡ 24 = length-words (w .addresses) ∙ omega arith in
-    ap (λ (t : List ℕ). splice t p ws) (splice-comm (splice s o (attributeEntry v)) p vs o (attributeEntry w) (omega arith) ∙ ap (λ (t : List ℕ). splice t p vs) (splice-twice s o (attributeEntry v) (attributeEntry w) (a ∙ sym c)))
-    ∙ splice-twice (splice s o (attributeEntry w)) p vs ws (b ∙ sym d)
-
 -- ---- what is read after a record and the free counts were put
 module _ (s : List ℕ) (n i : ℕ) (f : InodeFits s n i) (v : Inode) (e : length (v .addresses) ≡ 12) (x y : ℕ) where
   pub inode-read : inodeOf (lessFree (putInode s n i v) x y) n i ≡ v
-  unfolding inodeOf addressesOf kthBlock
+  unfolding inodeOf addressesOf
   inode-read =
       let t = putInode s n i v in
       let o = length-inode s n i v in
@@ -128,5 +103,5 @@ module _ (s : List ℕ) (n i : ℕ) (f : InodeFits s n i) (v : Inode) (e : lengt
         links = (a .links ∙ g .links) k;
         size = (a .size ∙ g .size) k;
         parent = (a .parent ∙ g .parent) k;
-        addresses = (table-ext (λ j. addressOf (lessFree t x y) n (addressIndex i j)) (λ j. getD (v .addresses) j 0) 12 (λ j l. a .blocks j l ∙ inode-blocks s n i f v e j l) ∙ table-list (v .addresses) 12 e) k;
+        addresses = (table-ext (λ j. addressOf (lessFree t x y) n (addressIndex i j)) (λ j. getD (v .addresses) j 0) 12 (λ j l. sym (kth-direct _ (lessFree t x y) n i j l) ∙ a .blocks j (omega arith) ∙ inode-blocks s n i f v e j l) ∙ table-list (v .addresses) 12 e) k;
       }

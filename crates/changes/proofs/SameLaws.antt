@@ -2,10 +2,10 @@
 use Prim.Native.Nat.{ℕ, _+_, _-_, _*_, _/_, _≤_, _<_}
 use mathlib.Core.Path.{_≡_, refl, sym, ap, ap₂, _∙_, subst}
 use mathlib.Core.Logic.{_≢_}
-use mathlib.Core.Bool.{_&&_}
+use mathlib.Core.Bool.{Bool, true, _&&_}
 use mathlib.Core.List.{List}
 use native.Mathlib.Omega.{arith}
-use lib.Dec.{eqb}
+use lib.Dec.{eqb, ltb}
 use lib.ListN.{length, getD, replicate, length-replicate}
 use Rattle.bounded.proofs.RangeLaws.{below, below-in}
 use Rattle.octets.specs.Octets.{splice, Apart, putNum, toBytes, wordBytes, zeroed}
@@ -13,12 +13,14 @@ use Rattle.octets.proofs.PartLaws.{length-splice, getD-part, splice-in, splice-
 use Rattle.octets.proofs.NumLaws.{num-apart, num-other, num-same, length-toBytes}
 use Rattle.octets.proofs.WordLaws.{length-words}
 use Rattle.octets.proofs.OverlayLaws.{overlay-in}
-use Rattle.layout.specs.Sizes.{headerBytes, addressCount, blockBytes}
+use Rattle.layout.specs.Sizes.{headerBytes, addressCount, blockBytes, mostBlocks, mostDirectBytes}
 use Rattle.layout.specs.declared.header.Header.{Header}
 use Rattle.layout.specs.declared.inode.Inode.{Inode}
 use Rattle.layout.specs.Header.{headerOf, putFree, headerRestZero, lessFree, moreFree}
-use Rattle.layout.specs.Inode.{attributesAt, addressAt, addressIndex, kindOf, spareOf, linksOf, sizeOf, parentOf, addressOf, attributeEntry, putAttributes, putAddresses, putInode, putLinks}
-use Rattle.blocks.specs.Block.{blockAt, blockOf, putInBlock, zeroBlock, kthBlock}
+use Rattle.layout.specs.Inode.{attributesAt, addressAt, addressIndex, kindOf, spareOf, linksOf, sizeOf, parentOf, fileKind, addressOf, attributeEntry, putAttributes, putAddresses, putInode, putLinks}
+use Rattle.blocks.specs.Block.{blockAt, blockOf, putInBlock, zeroBlock, isLong, addressBlock, kthBy, kthBlock}
+use Rattle.blocks.proofs.KthLaws.{kth-direct, kth-same}
+use Rattle.ledger.proofs.WriteLaws.{NoAddresses}
 use Rattle.blocks.proofs.View.{View, viewOf, freeCounts}
 use Rattle.blocks.proofs.FrameLaws.{length-free, length-entry, header-past, kind-apart, spare-apart, links-apart, size-apart, parent-apart, address-apart, kind-put, spare-put, links-put, size-put, parent-put}
 use Rattle.blocks.proofs.ViewLaws.{header-free, view-inode}
@@ -45,7 +47,7 @@ pub record SameInode (s t : List ℕ) (n i : ℕ) : Type 0 where
   pub links : linksOf t i ≡ linksOf s i
   pub size : sizeOf t i ≡ sizeOf s i
   pub parent : parentOf t i ≡ parentOf s i
-  pub blocks : (k : ℕ) → k < addressCount → kthBlock t n i k ≡ kthBlock s n i k
+  pub blocks : (k : ℕ) → k < mostBlocks → kthBlock t n i k ≡ kthBlock s n i k
 
 -- of every inode but i
 abbrev pub OtherInodes : List ℕ → List ℕ → ℕ → ℕ → Type 0
@@ -56,14 +58,26 @@ pub record SameBody (s t : List ℕ) (n i : ℕ) : Type 0 where
   pub kind : kindOf t i ≡ kindOf s i
   pub spare : spareOf t i ≡ spareOf s i
   pub size : sizeOf t i ≡ sizeOf s i
-  pub blocks : (k : ℕ) → k < addressCount → kthBlock t n i k ≡ kthBlock s n i k
+  pub blocks : (k : ℕ) → k < mostBlocks → kthBlock t n i k ≡ kthBlock s n i k
 
 pub same-body : {s t : List ℕ} {n i : ℕ} → SameInode s t n i → SameBody s t n i
 same-body e = record { kind = e .kind; spare = e .spare; size = e .size; blocks = e .blocks }
 
+-- an inode of the same kind and size is long as it was
+pub same-long : (s t : List ℕ) (i : ℕ) → kindOf t i ≡ kindOf s i → sizeOf t i ≡ sizeOf s i → isLong t i ≡ isLong s i
+unfolding isLong
+same-long s t i e f = ap₂ (λ (k z : ℕ). eqb k fileKind && ltb mostDirectBytes z) e f
+
 -- the bytes of block c
 abbrev pub SameBlock : List ℕ → List ℕ → ℕ → ℕ → Type 0
 SameBlock s t n c = blockOf t n c ≡ blockOf s n c
+
+-- its blocks stay where kind, size, the twelve addresses and the bytes of its address block do
+abbrev pub SameDirect : List ℕ → List ℕ → ℕ → ℕ → Type 0
+SameDirect s t n i = (k : ℕ) → k < addressCount → addressOf t n (addressIndex i k) ≡ addressOf s n (addressIndex i k)
+
+pub same-blocks : (s t : List ℕ) (n i : ℕ) → kindOf t i ≡ kindOf s i → sizeOf t i ≡ sizeOf s i → SameDirect s t n i → (isLong s i ≡ true → addressBlock s n i ≢ 0 → SameBlock s t n (addressBlock s n i)) → (k : ℕ) → k < mostBlocks → kthBlock t n i k ≡ kthBlock s n i k
+same-blocks s t n i e f d g k l = ap (λ (b : Bool). kthBy b t n i k) (same-long s t i e f) ∙ kth-same (isLong s i) s t n i k d g l
 
 -- ---- one after the other
 pub frame-then : {s t u : List ℕ} → SameFrame s t → SameFrame t u → SameFrame s u
@@ -139,7 +153,7 @@ module _ (s : List ℕ) (p : ℕ) (xs : List ℕ) where
   unfolding headerRestZero
   reserved-past h = ap₂ (λ (a b : ℕ). eqb a 0 && eqb b 0) (num-apart 1 s 9 p xs (omega arith)) (num-apart 4 s 12 p xs (omega arith))
 
-  frame-past : headerBytes ≤ p → SameFrame s (splice s p xs)
+  pub frame-past : headerBytes ≤ p → SameFrame s (splice s p xs)
   frame-past h =
       let e = header-past s p xs h in
       record {
@@ -151,40 +165,40 @@ module _ (s : List ℕ) (p : ℕ) (xs : List ℕ) where
         reserved = reserved-past h;
       }
 
-  inode-apart : (n j : ℕ) → Apart (attributesAt j) 8 p (length xs) → Apart (addressAt n (addressIndex j 0)) 24 p (length xs) → SameInode s (splice s p xs) n j
-  unfolding kthBlock
-  inode-apart n j a b = record {
+  inode-apart : (n j : ℕ) → Apart (attributesAt j) 8 p (length xs) → Apart (addressAt n (addressIndex j 0)) 24 p (length xs) → (isLong s j ≡ true → addressBlock s n j ≢ 0 → SameBlock s (splice s p xs) n (addressBlock s n j)) → SameInode s (splice s p xs) n j
+  inode-apart n j a b g = record {
     kind = kind-apart s p xs j a;
     spare = spare-apart s p xs j a;
     links = links-apart s p xs j a;
     size = size-apart s p xs j a;
     parent = parent-apart s p xs j a;
-    blocks = λ k l.
-        address-apart s p xs n (addressIndex j k) (subst (λ (o : ℕ). Apart o 2 p (length xs)) (address-row n j k) (address-among (addressAt n (addressIndex j 0)) p (length xs) k b l));
+    blocks = same-blocks s (splice s p xs) n j (kind-apart s p xs j a) (size-apart s p xs j a)
+        (λ k l. address-apart s p xs n (addressIndex j k) (subst (λ (o : ℕ). Apart o 2 p (length xs)) (address-row n j k) (address-among (addressAt n (addressIndex j 0)) p (length xs) k b l)))
+        g;
   }
 
   block-apart : (n c : ℕ) → Apart (blockAt n c) 64 p (length xs) → SameBlock s (splice s p xs) n c
   unfolding blockOf
   block-apart n c a = part-apart s (blockAt n c) 64 p xs a
 
-  -- inside of block c
-  splice-block : (n c : ℕ) → 1 ≤ c → blockAt n c ≤ p → p + length xs ≤ blockAt n c + 64 → InBlock s (splice s p xs) n c
-  splice-block n c o l m = record {
+  -- inside of block c, which holds no addresses
+  splice-block : (n c : ℕ) → 1 ≤ c → NoAddresses (isLong s) s n c → blockAt n c ≤ p → p + length xs ≤ blockAt n c + 64 → InBlock s (splice s p xs) n c
+  splice-block n c o none l m = record {
     frame = frame-past (omega arith);
     header = header-past s p xs (omega arith);
-    inodes = λ j a b. inode-apart n j (omega arith) (omega arith);
+    inodes = λ j a b. inode-apart n j (omega arith) (omega arith) (λ e z. let q = none j a b e in block-apart n (addressBlock s n j) (omega arith));
     others = λ a q r. block-apart n a (omega arith);
   }
 
 -- ---- bytes in a block
-module _ (s : List ℕ) (n c : ℕ) (l : 1 ≤ c) where
+module _ (s : List ℕ) (n c : ℕ) (l : 1 ≤ c) (none : NoAddresses (isLong s) s n c) where
   pub put-in-block : (o : ℕ) (xs : List ℕ) → o + length xs ≤ blockBytes → InBlock s (putInBlock s n c o xs) n c
   unfolding putInBlock
-  put-in-block o xs m = splice-block s (blockAt n c + o) xs n c l (omega arith) (omega arith)
+  put-in-block o xs m = splice-block s (blockAt n c + o) xs n c l none (omega arith) (omega arith)
 
   pub zero-block : InBlock s (zeroBlock s n c) n c
   unfolding zeroBlock zeroed
-  zero-block = let e : length (replicate {A = ℕ} 64 0) ≡ 64 = length-replicate {A = ℕ} 64 0 in splice-block s (blockAt n c) (replicate 64 0) n c l (omega arith) (omega arith)
+  zero-block = let e : length (replicate {A = ℕ} 64 0) ≡ 64 = length-replicate {A = ℕ} 64 0 in splice-block s (blockAt n c) (replicate 64 0) n c l none (omega arith) (omega arith)
 
   pub zero-block-is : blockAt n c + blockBytes ≤ length s → blockOf (zeroBlock s n c) n c ≡ replicate blockBytes 0
   unfolding zeroBlock zeroed blockOf
@@ -205,18 +219,18 @@ module _ (s : List ℕ) (n c o : ℕ) (xs : List ℕ) (r : ℕ) (l : r < blockBy
       ∙ ap (λ (q : ℕ). getD (splice s (blockAt n c + o) xs) q 0) e ∙ splice-in s (blockAt n c + o) xs (r - o) f (omega arith)
 
 -- an entry of directory d, in block c
-module _ (s : List ℕ) (n d t : ℕ) (l : 1 ≤ kthBlock s n d (t / 4)) where
+module _ (s : List ℕ) (n d t : ℕ) (l : 1 ≤ kthBlock s n d (t / 4)) (none : NoAddresses (isLong s) s n (kthBlock s n d (t / 4))) where
   pub put-entry : (i : ℕ) (name : List ℕ) → InBlock s (putEntry s n d t i name) n (kthBlock s n d (t / 4))
   unfolding putEntry slotAt
   put-entry i name =
       let e = length-named i name in
-      splice-block s (slotAt s n d t) (entryFor i name) n (kthBlock s n d (t / 4)) l (omega arith) (omega arith)
+      splice-block s (slotAt s n d t) (entryFor i name) n (kthBlock s n d (t / 4)) l none (omega arith) (omega arith)
 
   pub clear-entry : InBlock s (clearEntry s n d t) n (kthBlock s n d (t / 4))
   unfolding clearEntry slotAt
   clear-entry =
       let e : length (replicate {A = ℕ} 16 0) ≡ 16 = length-replicate {A = ℕ} 16 0 in
-      splice-block s (slotAt s n d t) (replicate 16 0) n (kthBlock s n d (t / 4)) l (omega arith) (omega arith)
+      splice-block s (slotAt s n d t) (replicate 16 0) n (kthBlock s n d (t / 4)) l none (omega arith) (omega arith)
 
 -- ---- an inode
 module _ (s : List ℕ) (n i : ℕ) (f : InodeFits s n i) where
@@ -229,7 +243,7 @@ module _ (s : List ℕ) (n i : ℕ) (f : InodeFits s n i) where
       record {
         frame = frame-past s (attributesAt i) (attributeEntry v) (omega arith);
         header = header-past s (attributesAt i) (attributeEntry v) (omega arith);
-        others = λ j l m q. inode-apart s (attributesAt i) (attributeEntry v) n j (omega arith) (omega arith);
+        others = λ j l m q. inode-apart s (attributesAt i) (attributeEntry v) n j (omega arith) (omega arith) (λ _ _. block-apart s (attributesAt i) (attributeEntry v) n (addressBlock s n j) (omega arith));
         bytes = λ c. block-apart s (attributesAt i) (attributeEntry v) n c (omega arith);
       }
 
@@ -242,7 +256,7 @@ module _ (s : List ℕ) (n i : ℕ) (f : InodeFits s n i) where
       record {
         frame = frame-past s (attributesAt i + 2) (toBytes 2 v) (omega arith);
         header = header-past s (attributesAt i + 2) (toBytes 2 v) (omega arith);
-        others = λ j l m q. inode-apart s (attributesAt i + 2) (toBytes 2 v) n j (omega arith) (omega arith);
+        others = λ j l m q. inode-apart s (attributesAt i + 2) (toBytes 2 v) n j (omega arith) (omega arith) (λ _ _. block-apart s (attributesAt i + 2) (toBytes 2 v) n (addressBlock s n j) (omega arith));
         bytes = λ c. block-apart s (attributesAt i + 2) (toBytes 2 v) n c (omega arith);
       }
 
@@ -251,13 +265,14 @@ module _ (s : List ℕ) (n i : ℕ) (f : InodeFits s n i) where
     fits : attributesAt i + 8 ≤ length s
     fits = let a = f .low in let b = f .high in let c = f .area in omega arith
 
-    pub attributes-blocks : (k : ℕ) → k < addressCount → kthBlock (putAttributes s i v) n i k ≡ kthBlock s n i k
-    unfolding putAttributes kthBlock
-    attributes-blocks k l =
+    pub attributes-blocks : (b : Bool) (k : ℕ) → k < mostBlocks → kthBy b (putAttributes s i v) n i k ≡ kthBy b s n i k
+    unfolding putAttributes
+    attributes-blocks x k l =
         let e = length-entry v in
         let a = f .low in
         let b = f .high in
-        address-apart s (attributesAt i) (attributeEntry v) n (addressIndex i k) (omega arith)
+        kth-same x s (splice s (attributesAt i) (attributeEntry v)) n i k (λ j m. address-apart s (attributesAt i) (attributeEntry v) n (addressIndex i j) (omega arith))
+        (λ _ _. block-apart s (attributesAt i) (attributeEntry v) n (addressBlock s n i) (omega arith)) l
 
     pub attributes-new : NewInode (putAttributes s i v) i v
     attributes-new = record { kind = kind-put s i v fits; spare = spare-put s i v fits; links = links-put s i v fits; size = size-put s i v fits; parent = parent-put s i v fits }
@@ -279,7 +294,7 @@ module _ (s : List ℕ) (n i : ℕ) (f : InodeFits s n i) where
           record {
             frame = frame-past t start (wordBytes (v .addresses)) (omega arith);
             header = header-past t start (wordBytes (v .addresses)) (omega arith);
-            others = λ j l m q. inode-apart t start (wordBytes (v .addresses)) n j (omega arith) (omega arith);
+            others = λ j l m q. inode-apart t start (wordBytes (v .addresses)) n j (omega arith) (omega arith) (λ _ _. block-apart t start (wordBytes (v .addresses)) n (addressBlock t n j) (omega arith));
             bytes = λ c. block-apart t start (wordBytes (v .addresses)) n c (omega arith);
           }
 
@@ -295,12 +310,13 @@ module _ (s : List ℕ) (n i : ℕ) (f : InodeFits s n i) where
           }
 
       pub inode-blocks : (k : ℕ) → k < addressCount → kthBlock (putInode s n i v) n i k ≡ getD (v .addresses) k 0
-      unfolding kthBlock viewOf
+      unfolding viewOf
       inode-blocks k l =
           let a = f .low in
           let b = f .high in
           let d : addressIndex i k - addressIndex i 0 ≡ k = omega arith in
-          sym (below-in (12 * n) (addressOf (putInode s n i v) n) (addressIndex i k) (omega arith))
+          kth-direct _ (putInode s n i v) n i k l
+          ∙ sym (below-in (12 * n) (addressOf (putInode s n i v) n) (addressIndex i k) (omega arith))
           ∙ ap (λ (w : View). w .address (addressIndex i k)) (view-inode n s i v f e)
           ∙ overlay-in (below (12 * n) (addressOf s n)) (addressIndex i 0) (v .addresses) (addressIndex i k) (omega arith) (omega arith)
           ∙ ap (λ (x : ℕ). getD (v .addresses) x 0) d
@@ -328,16 +344,27 @@ module _ (s : List ℕ) (n i : ℕ) (f : InodeFits s n i) (v : ℕ) where
   unfolding linksOf putLinks
   links-new = let a = f .low in let b = f .high in let c = f .area in num-same 2 s (attributesAt i + 2) v (omega arith) (omega arith)
 
+  links-kind : kindOf (putLinks s i v) i ≡ kindOf s i
+  unfolding putLinks kindOf
+  links-kind = num-other 1 2 s (attributesAt i) (attributesAt i + 2) v (omega arith)
+
+  links-size : sizeOf (putLinks s i v) i ≡ sizeOf s i
+  unfolding putLinks sizeOf
+  links-size = num-other 2 2 s (attributesAt i + 4) (attributesAt i + 2) v (omega arith)
+
   pub links-body : SameBody s (putLinks s i v) n i
-  unfolding putLinks kindOf spareOf sizeOf kthBlock addressOf
+  unfolding putLinks putNum kindOf spareOf sizeOf addressOf
   links-body =
       let a = f .low in
       let b = f .high in
+      let e = length-toBytes 2 v in
       record {
-        kind = num-other 1 2 s (attributesAt i) (attributesAt i + 2) v (omega arith);
-        spare = num-other 1 2 s (attributesAt i + 1) (attributesAt i + 2) v (omega arith);
-        size = num-other 2 2 s (attributesAt i + 4) (attributesAt i + 2) v (omega arith);
-        blocks = λ k l. num-other 2 2 s (addressAt n (addressIndex i k)) (attributesAt i + 2) v (omega arith);
+        kind = links-kind;
+        spare = num-apart 1 s (attributesAt i + 1) (attributesAt i + 2) (toBytes 2 v) (omega arith);
+        size = links-size;
+        blocks = same-blocks s (putLinks s i v) n i links-kind links-size
+            (λ k l. num-apart 2 s (addressAt n (addressIndex i k)) (attributesAt i + 2) (toBytes 2 v) (omega arith))
+            (λ _ _. block-apart s (attributesAt i + 2) (toBytes 2 v) n (addressBlock s n i) (omega arith));
       }
 
   pub links-parent : parentOf (putLinks s i v) i ≡ parentOf s i
@@ -356,7 +383,7 @@ module _ (s : List ℕ) (n : ℕ) (f : headerBytes ≤ length s) where
   -- one of the two numbers
   number-inode : (t : List ℕ) (o v j : ℕ) → o + 2 ≤ 16 → SameInode t (putNum 2 t o v) n j
   unfolding putNum
-  number-inode t o v j l = let e = length-toBytes 2 v in inode-apart t o (toBytes 2 v) n j (omega arith) (omega arith)
+  number-inode t o v j l = let e = length-toBytes 2 v in inode-apart t o (toBytes 2 v) n j (omega arith) (omega arith) (λ _ _. block-apart t o (toBytes 2 v) n (addressBlock t n j) (omega arith))
 
   number-block : (t : List ℕ) (o v c : ℕ) → o + 2 ≤ 16 → SameBlock t (putNum 2 t o v) n c
   unfolding putNum

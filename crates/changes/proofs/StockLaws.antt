@@ -5,11 +5,12 @@ use mathlib.Core.List.{List}
 use native.Mathlib.Omega.{arith}
 use Rattle.bounded.specs.Count.{Differ, countTo}
 use Rattle.bounded.proofs.CaseLaws.{each-else}
-use Rattle.layout.specs.Sizes.{addressCount, blockBytes}
+use Rattle.layout.specs.Sizes.{mostBlocks, blockBytes}
 use Rattle.layout.specs.Header.{headerOf}
 use Rattle.layout.specs.declared.header.Header.{Header}
-use Rattle.layout.specs.Inode.{kindOf, sizeOf, parentOf, addressOf, freeKind, fileKind, inodeFree}
-use Rattle.blocks.specs.Block.{blocksUsed, kthBlock}
+use Rattle.layout.specs.Inode.{kindOf, sizeOf, parentOf, freeKind, fileKind, inodeFree}
+use Rattle.blocks.specs.Block.{blocksUsed, bytesPlace, bytesBlock, rowOf}
+use Rattle.ledger.proofs.BytesLaws.{place-used}
 use Rattle.blocks.specs.Free.{blockFree}
 use Rattle.sound.specs.Inode.{InodeSound}
 use Rattle.sound.specs.Sound.{Sound}
@@ -28,19 +29,18 @@ use Rattle.changes.proofs.InodeWriteLaws.{Relinked, body-all}
 -- inodes are sound by themselves, no block is named twice, and the free counts are true
 pub record Stock (t : List ℕ) (n b : ℕ) : Type 0 where
   pub inodes : (i : ℕ) → 1 ≤ i → i ≤ n → InodeSound t n b i
-  pub once : Differ (addressOf t n) (addressCount * n)
+  pub once : Differ (rowOf t n) (mostBlocks * n)
   pub free-inodes : headerOf t .«free_inodes» ≡ countTo (inodeFree t) n
   pub free-blocks : headerOf t .«free_blocks» ≡ countTo (blockFree t n) b
 
 -- the block that a size ends in is one that it uses
-last-used : (z : ℕ) → (z % blockBytes ≡ 0 → ⊥) → z / blockBytes < blocksUsed z
-unfolding blocksUsed
-last-used z h = omega arith
+last-used : (z : ℕ) → (z % blockBytes ≡ 0 → ⊥) → bytesPlace z (z / blockBytes) < blocksUsed z
+last-used z h = place-used z (z / 64) (omega arith)
 
 -- ---- entries alone change
 pub entries-stock : (s t : List ℕ) (n b : ℕ) → Body s n b → EntriesAlone s t n → Stock t n b
 entries-stock s t n b h a = record {
-  inodes = λ i l m. inode-kept s t n b i (a .inodes i l m) (λ k z. a .files i (sizeOf s i / blockBytes) l m k (last-used (sizeOf s i) z)) (h .inodes i l m);
+  inodes = λ i l m. inode-kept s t n b i (a .inodes i l m) (λ k z. a .files i (bytesPlace (sizeOf s i) (sizeOf s i / blockBytes)) l m k (last-used (sizeOf s i) z)) (h .inodes i l m);
   once = same-differ s t n (λ j l m. a .inodes j l m .blocks) (h .once);
   free-inodes = ap (λ (v : Header). v .«free_inodes») (a .header) ∙ h .free-inodes ∙ sym (same-free s t n (λ j l m. a .inodes j l m .kind));
   free-blocks = ap (λ (v : Header). v .«free_blocks») (a .header) ∙ h .free-blocks ∙ sym (same-unnamed s t n (λ j l m. a .inodes j l m .blocks) b);
@@ -65,7 +65,7 @@ stock-sound {t = t} {n} h f k a r =
 module _ (s t : List ℕ) (n b i : ℕ) (e : SameBody s t n i) (g : (c : ℕ) → SameBlock s t n c)
     (used : kindOf s i ≡ freeKind → ⊥) (file : kindOf s i ≡ fileKind → parentOf t i ≡ parentOf s i) where
   inode-relinked : InodeSound s n b i → InodeSound t n b i
-  inode-relinked h = inode-like s t n b i e (λ k. absurd (used k)) file (tail-kept s t n b i e (λ _ _. g (kthBlock s n i (sizeOf s i / blockBytes))) h) h
+  inode-relinked h = inode-like s t n b i e (λ k. absurd (used k)) file (tail-kept s t n b i e (λ _ _. g (bytesBlock s n i (sizeOf s i / blockBytes))) h) h
 
 module _ (s t : List ℕ) (n b i : ℕ) (a : Relinked s t n i)
     (used : kindOf s i ≡ freeKind → ⊥) (file : kindOf s i ≡ fileKind → parentOf t i ≡ parentOf s i) where
@@ -75,7 +75,7 @@ module _ (s t : List ℕ) (n b i : ℕ) (a : Relinked s t n i)
       let e = body-all a in
       record {
         inodes = λ j l m. each-else (InodeSound t n b) i j (inode-relinked s t n b i (a .body) (o .bytes) used file (h .inodes i low high))
-            (λ z. inode-kept s t n b j (o .others j l m z) (λ _ _. o .bytes (kthBlock s n j (sizeOf s j / blockBytes))) (h .inodes j l m));
+            (λ z. inode-kept s t n b j (o .others j l m z) (λ _ _. o .bytes (bytesBlock s n j (sizeOf s j / blockBytes))) (h .inodes j l m));
         once = same-differ s t n (λ j l m. e j l m .blocks) (h .once);
         free-inodes = ap (λ (v : Header). v .«free_inodes») (o .header) ∙ h .free-inodes ∙ sym (same-free s t n (λ j l m. e j l m .kind));
         free-blocks = ap (λ (v : Header). v .«free_blocks») (o .header) ∙ h .free-blocks ∙ sym (same-unnamed s t n (λ j l m. e j l m .blocks) b);

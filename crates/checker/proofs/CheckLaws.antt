@@ -12,14 +12,14 @@ use Rattle.bounded.specs.Count.{differB, countTo}
 use Rattle.bounded.specs.Climb.{Closed}
 use Rattle.bounded.proofs.BoolLaws.{fails, and-false-l, chain-end}
 use Rattle.bounded.proofs.ReflectLaws.{r-all, r-to}
-use Rattle.layout.specs.Sizes.{rootInode, addressCount, mostImageBlocks}
+use Rattle.layout.specs.Sizes.{rootInode, mostBlocks, mostImageBlocks}
 use Rattle.layout.specs.Header.{headerOf, headerRestZero}
-use Rattle.layout.specs.Inode.{kindOf, parentOf, addressOf, directoryKind, inodeFree}
-use Rattle.blocks.specs.Block.{blocksUsed, allowed}
+use Rattle.layout.specs.Inode.{kindOf, parentOf, directoryKind, inodeFree}
+use Rattle.blocks.specs.Block.{isLong, blocksUsed, rowOf, allowed}
 use Rattle.directory.specs.Slot.{mostSlots}
 use Rattle.directory.specs.Fits.{DirFits}
 use Rattle.blocks.specs.Free.{blockFree}
-use Rattle.blocks.specs.Map.{lacks, Maps}
+use Rattle.blocks.specs.Map.{lacks}
 use Rattle.blocks.proofs.MapLaws.{map-count}
 use Rattle.layout.specs.declared.header.Header.{Header}
 use Rattle.layout.specs.Fits.{InodeFits}
@@ -28,8 +28,9 @@ use Rattle.sound.specs.Inode.{InodeSound}
 use Rattle.sound.specs.Place.{IsDir}
 use Rattle.sound.specs.Sound.{inodesIn, blocksIn, Framed, limitOf, blankOf}
 use Rattle.sound.proofs.FactLaws.{limit-few}
-use Rattle.sound.proofs.SoundLaws.{framed, inode-sound, size-most, entry-sound, counted-is, climbs}
+use Rattle.sound.proofs.SoundLaws.{framed, inode-sound, size-directory, entry-sound, counted-is, climbs}
 use Rattle.sound.specs.Test.{inodeB, entryB, countedB, leadB, framedB, headerB, freeCountsB, blankBlockB, blanksB, bodyB, isSound}
+use Rattle.inodes.specs.Pass.{MapsOf}
 use Rattle.sound.specs.declared.Form.the-variants.{Image}
 use Rattle.sound.specs.declared.Form.{Form}
 
@@ -79,12 +80,12 @@ module _ (s : List ℕ) (h : Header) (e : h ≡ headerOf s) (x : ℕ) (f : x ≡
   unfolding freeCountsB
   counts-1 q = sym (and-false-l _ _ (ne-eqb (headerOf s .«free_inodes») (countTo (inodeFree s) (inodesIn s)) (λ z. q (ap (λ (y : Header). y .«free_inodes») e ∙ z ∙ sym f))))
 
-  pub counts-2 : (b y : ℕ) (l : List ℕ) → h .«free_inodes» ≡ x → Maps s (inodesIn s) (addressCount * inodesIn s) l → b ≡ blocksIn s → b ≤ mostImageBlocks
+  pub counts-2 : (b y : ℕ) (l : List ℕ) → h .«free_inodes» ≡ x → MapsOf s (inodesIn s) (mostBlocks * inodesIn s) l → b ≡ blocksIn s → b ≤ mostImageBlocks
       → y ≡ countTo (lacks l) b → eqb (h .«free_blocks») y ≡ freeCountsB s
   unfolding freeCountsB
   counts-2 b y l q m g i z =
       chain-end _ _ _ (eq-eqb (headerOf s .«free_inodes») (countTo (inodeFree s) (inodesIn s)) (sym (ap (λ (w : Header). w .«free_inodes») e) ∙ q ∙ f))
-      (ap₂ eqb (ap (λ (w : Header). w .«free_blocks») e) (z ∙ map-count s (inodesIn s) l m b i ∙ ap (countTo (blockFree s (inodesIn s))) g))
+      (ap₂ eqb (ap (λ (w : Header). w .«free_blocks») e) (z ∙ map-count (isLong s) s (inodesIn s) l m b i ∙ ap (countTo (blockFree s (inodesIn s))) g))
 
 -- ---- the body: n and b are the counts that the code has read
 abbrev pub inodesRight : List ℕ → ℕ → ℕ → Bool
@@ -113,7 +114,7 @@ abbrev pub afterInodes : Form → List ℕ → ℕ → ℕ → Bool
 afterInodes f s n b = entriesRight s n && afterEntries f s n b
 
 abbrev pub afterHeader : Form → List ℕ → ℕ → ℕ → Bool
-afterHeader f s n b = (inodesRight s n b && differB (addressOf s n) (addressCount * n)) && afterInodes f s n b
+afterHeader f s n b = (inodesRight s n b && differB (rowOf s n) (mostBlocks * n)) && afterInodes f s n b
 
 abbrev pub bodyAs : Form → List ℕ → ℕ → ℕ → Bool
 bodyAs f s n b = headerB s && afterHeader f s n b
@@ -123,7 +124,7 @@ unfolding bodyB blanksB
 body-as f s {n} {b} e g =
     ap₂ (bodyAs f s) e g
     ∙ ap (λ (x : Bool). headerB s && x)
-    (and-assoc (inodesRight s (inodesIn s) (blocksIn s)) (differB (addressOf s (inodesIn s)) (addressCount * inodesIn s)) (afterInodes f s (inodesIn s) (blocksIn s)))
+    (and-assoc (inodesRight s (inodesIn s) (blocksIn s)) (differB (rowOf s (inodesIn s)) (mostBlocks * inodesIn s)) (afterInodes f s (inodesIn s) (blocksIn s)))
 
 -- ---- what the passes need of each other
 module _ (s : List ℕ) {n b : ℕ} (f : Framed Image s) (e : n ≡ inodesIn s) (g : b ≡ blocksIn s) where
@@ -147,14 +148,14 @@ module _ (s : List ℕ) {n b : ℕ} (f : Framed Image s) (e : n ≡ inodesIn s) 
     each : (i : ℕ) → 1 ≤ i → i ≤ n → InodeSound s n b i
     each = r-to n (λ i l m. inode-sound s n b i) .to t
 
-    pub dir-fits : (d : ℕ) → 1 ≤ d → d ≤ n → DirFits s n d
+    pub dir-fits : (d : ℕ) → IsDir s n d → DirFits s n d
     unfolding blocksUsed
-    dir-fits d l m =
-        let h = each d l m in
-        let z = size-most h in
+    dir-fits d x =
+        let h = each d (x .low) (x .high) in
+        let z = size-directory h (x .kind) in
         let w = f .long in
         record {
-          inode = frame-fits d l m;
+          inode = frame-fits d (x .low) (x .high);
           few = omega arith;
           blocks = λ k u. let v = h .used k (omega arith) u in record { low = v .0; inside = let p = v .1 in omega arith };
         }

@@ -334,7 +334,7 @@ module _ (s : List ℕ) (n d k : ℕ) where
       passed-at (4 * k + j) (4 * k + 4) (placeOf d (4 * k + j)) e (ap (placeOf d) e)
 
 -- ---- directory_right
-module _ (s : List ℕ) (n d : ℕ) (f : DirFits s n d) where
+module _ (s : List ℕ) (n d : ℕ) (some : 1 ≤ d) where
   abbrev pub rightAt : ℕ → Bool
   rightAt t = entryB s n (placeOf d t)
 
@@ -343,7 +343,7 @@ module _ (s : List ℕ) (n d : ℕ) (f : DirFits s n d) where
       → allBelow rightAt u ≡ true → Tallied (naming s n) 1 257 (placeOf d u) counts
       → (true ≡ allBelow rightAt mostSlots) × (true ≡ true → Tallied (naming s n) 1 257 (mostSlots * d) counts)
   rest-right counts u l h a y =
-      let e : placeOf d u + (mostSlots - u) ≡ mostSlots * d = omega (arith, f .inode .low) in (
+      let e : placeOf d u + (mostSlots - u) ≡ mostSlots * d = omega arith in (
         sym (all-of rightAt mostSlots (λ t m. go t m (decLt t u))),
         λ q. subst (λ (p : ℕ). Tallied (naming s n) 1 257 p counts) e (tally-skips (naming s n) 1 257 (placeOf d u) (mostSlots - u) counts (λ j m. none j m) y),
       )
@@ -364,7 +364,7 @@ module _ (s : List ℕ) (n d : ℕ) (f : DirFits s n d) where
   pub other-inode : (counts : List ℕ) (k : ℕ) → k ≡ kindOf s d → (k ≡ directoryKind → ⊥) → Tallied (naming s n) 1 257 (mostSlots * (d - 1)) counts
       → (true ≡ allBelow rightAt mostSlots) × (true ≡ true → Tallied (naming s n) 1 257 (mostSlots * d) counts)
   other-inode counts k e h y =
-      rest-right counts 0 (omega arith) (λ t l m. r-fails (slot-place s n d t (f .inode .low) m) (λ w. h (e ∙ w .0))) (all-none rightAt)
+      rest-right counts 0 (omega arith) (λ t l m. r-fails (slot-place s n d t some m) (λ w. h (e ∙ w .0))) (all-none rightAt)
       (first-place counts y)
 
   -- before the first block, a block that is right, one that is not, and after the last
@@ -383,21 +383,21 @@ module _ (s : List ℕ) (n d : ℕ) (f : DirFits s n d) where
       let e : 4 * k + 4 ≡ 4 * (k + 1) = omega arith in
       passed-at s n d k (4 * k + 4) (4 * (k + 1)) (placeOf d (4 * k + 4)) e (ap (placeOf d) e)
 
-  pub dir-stop : {A : Type 0} (k : ℕ) (r : Bool) → 4 * k < slots s d → r ≡ allBelow (λ j. rightAt (4 * k + j)) 4 → not r ≡ true → (false ≡ allBelow rightAt mostSlots) × (false ≡ true → A)
-  dir-stop k r l b c =
+  pub dir-stop : {A : Type 0} (k : ℕ) (r : Bool) → DirFits s n d → 4 * k < slots s d → r ≡ allBelow (λ j. rightAt (4 * k + j)) 4 → not r ≡ true → (false ≡ allBelow rightAt mostSlots) × (false ≡ true → A)
+  dir-stop k r f l b c =
       let w = few-slots s n d f in
       let x = all-fail (λ j. rightAt (4 * k + j)) 4 (sym b ∙ not-true r c) in
       let y = slot-inside s n d k l (x .0) (x .1) in
       (sym (all-stop rightAt mostSlots (4 * k + x .0) (omega arith) (x .2)), never)
 
-  pub dir-done : {low high counts : List ℕ} (k m : ℕ) → m ≡ slots s d → k ≤ m / 4 → m / 4 ≤ k → allBelow rightAt (4 * k) ≡ true → Passed s n d (4 * k) (placeOf d (4 * k)) low high counts
+  pub dir-done : {low high counts : List ℕ} (k m : ℕ) → DirFits s n d → m ≡ slots s d → k ≤ m / 4 → m / 4 ≤ k → allBelow rightAt (4 * k) ≡ true → Passed s n d (4 * k) (placeOf d (4 * k)) low high counts
       → (true ≡ allBelow rightAt mostSlots) × (true ≡ true → Tallied (naming s n) 1 257 (mostSlots * d) counts)
   unfolding slots
-  dir-done {low} {high} {counts} k m e p q a y =
+  dir-done {low} {high} {counts} k m f e p q a y =
       let w = f .few in
       let z : 4 * k ≡ slots s d = omega arith in
       rest-right counts (4 * k) (omega arith)
-      (λ t l m. r-fails (slot-place s n d t (f .inode .low) m) (λ w. let v = w .1 in omega arith)) a (y .counted)
+      (λ t l m. r-fails (slot-place s n d t some m) (λ w. let v = w .1 in omega arith)) a (y .counted)
 
 -- ---- entries_right: directory k + 1
 module _ (s : List ℕ) (n : ℕ) where

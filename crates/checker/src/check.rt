@@ -1,11 +1,11 @@
 // The check of a store or an image: any bytes, yes or no.
 ghost use mathlib.Core.Path.{_≡_};
 ghost use Prim.Native.Nat.{_*_, _≤_};
-ghost use Rattle.layout.specs.Sizes.{mostImageBlocks, addressCount, rootInode};
+ghost use Rattle.layout.specs.Sizes.{mostImageBlocks, mostBlocks, rootInode};
 ghost use Rattle.layout.specs.Fits.{InodeFits};
-ghost use Rattle.blocks.specs.Map.{Maps};
 ghost use Rattle.sound.specs.Sound.{inodesIn, blocksIn, Framed, limitOf};
 ghost use Rattle.sound.specs.Test.{framedB, headerB, freeCountsB, bodyB, isSound};
+ghost use Rattle.inodes.specs.Pass.{MapsOf};
 ghost use Rattle.sound.specs.declared.Form.the-variants.{Image};
 use crate::entries;
 use crate::links;
@@ -73,7 +73,7 @@ fn header_right(s: &[u8], n: usize) -> bool
 
 // The free counts are true.
 fn counts_right(s: &[u8], n: usize, b: usize, map: &[u8]) -> bool
-    requires { ⌜ Framed Image (now s) × (n ≡ inodesIn (now s)) × (b ≡ blocksIn (now s)) × Maps (now s) n (addressCount * n) (now map) ⌝ }
+    requires { ⌜ Framed Image (now s) × (n ≡ inodesIn (now s)) × (b ≡ blocksIn (now s)) × MapsOf (now s) n (mostBlocks * n) (now map) ⌝ }
     ensures { λ r. ⌜ r ≡ freeCountsB (now (s .entry)) ⌝ }
 {
     let h = Header::read(s);

@@ -6,11 +6,12 @@ ghost use lib.Dec.{eqb};
 ghost use lib.ListN.{length, getD, replicate};
 ghost use Rattle.bounded.specs.Below.{allBelow};
 ghost use Rattle.bounded.specs.Count.{Tallied};
-ghost use Rattle.layout.specs.Sizes.{mostInodes};
+ghost use Rattle.layout.specs.Sizes.{headerBytes, mostInodes, inodeBytes};
 ghost use Rattle.layout.specs.Inode.{kindOf, directoryKind};
+ghost use Rattle.layout.specs.Fits.{InodeFits};
 ghost use Rattle.directory.specs.Slot.{slotsInBlock, mostSlots, slots, slotAt};
 ghost use Rattle.directory.specs.Fits.{DirFits};
-ghost use Rattle.sound.specs.Place.{naming, placeOf};
+ghost use Rattle.sound.specs.Place.{IsDir, naming, placeOf};
 ghost use Rattle.sound.specs.Test.{namingB, entryB};
 ghost use Rattle.checker.specs.Pass.{Passed};
 use directory::MOST_SLOTS;
@@ -138,7 +139,8 @@ fn directory_right(
     high: &mut [u64],
     counts: &mut [u16],
 ) -> bool
-    requires { ⌜ DirFits (now s) n d × (length (now low) ≡ mostSlots) × (length (now high) ≡ mostSlots) × Tallied (naming (now s) n) 1 (mostInodes + 1) (mostSlots * (d - 1)) (now counts) ⌝ }
+    requires { ⌜ InodeFits (now s) n d × (kindOf (now s) d ≡ directoryKind → DirFits (now s) n d) ⌝ }
+    requires { ⌜ (length (now low) ≡ mostSlots) × (length (now high) ≡ mostSlots) × Tallied (naming (now s) n) 1 (mostInodes + 1) (mostSlots * (d - 1)) (now counts) ⌝ }
     ensures { λ r. ⌜ (r ≡ allBelow (λ t. entryB (now (s .entry)) n (placeOf d t)) mostSlots) × (r ≡ true → Tallied (naming (now (s .entry)) n) 1 (mostInodes + 1) (mostSlots * d) (now (counts .exit))) ⌝ }
 {
     if inode::kind(s, n, d) != DIRECTORY {
@@ -155,7 +157,7 @@ fn directory_right(
 
 // Every entry is right; counts, which comes in zero, then has how often each inode is named.
 pub fn entries_right(s: &[u8], n: usize, counts: &mut [u16]) -> bool
-    requires { ⌜ (n ≤ mostInodes) × ((d : ℕ) → 1 ≤ d → d ≤ n → DirFits (now s) n d) × (now counts ≡ replicate (mostInodes + 1) 0) ⌝ }
+    requires { ⌜ (n ≤ mostInodes) × (headerBytes + inodeBytes * n ≤ length (now s)) × ((d : ℕ) → IsDir (now s) n d → DirFits (now s) n d) × (now counts ≡ replicate (mostInodes + 1) 0) ⌝ }
     ensures { λ r. ⌜ (r ≡ allBelow (entryB (now (s .entry)) n) (mostSlots * n)) × (r ≡ true → Tallied (naming (now (s .entry)) n) 1 (mostInodes + 1) (mostSlots * n) (now (counts .exit))) ⌝ }
 {
     let mut low = [0u64; MOST_SLOTS];

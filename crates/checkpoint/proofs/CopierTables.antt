@@ -15,8 +15,8 @@ use Rattle.bounded.specs.declared.Found.the-variants.{At, Absent}
 use Rattle.bounded.specs.Below.{allTo}
 use Rattle.layout.specs.Sizes.{rootInode}
 use Rattle.layout.specs.Inode.{sizeOf}
-use Rattle.blocks.specs.Block.{blocksUsed, kthBlock}
-use Rattle.blocks.specs.Free.{blockNamed, freeBlock}
+use Rattle.blocks.specs.Block.{blocksUsed, isLong, kthBlock}
+use Rattle.blocks.specs.Free.{namedBy, lowestBy, longBut}
 use Rattle.desk.specs.Desk.{deskOf}
 use Rattle.sound.specs.Sound.{inodesIn}
 use Rattle.answers.specs.declared.Refusal.the-variants.{WrongState, ImageFull}
@@ -37,26 +37,26 @@ no-place c true f h = absurd (true≢false (sym h))
 no-place c false (At j) h = absurd (true≢false (sym h))
 no-place c false Absent h = refl
 
-pub full-image : (m : List ℕ) (n b c : ℕ) → not (found (targetBlock m n b c)) ≡ allTo (blockNamed m n) b
-unfolding targetBlock freeBlock
-full-image m n b c = same-test (not (found (targetBlock m n b c))) (allTo (blockNamed m n) b) there back
+pub full-image : (long : ℕ → Bool) (m : List ℕ) (n b c : ℕ) → not (found (targetBlock long m n b c)) ≡ allTo (namedBy long m n) b
+unfolding targetBlock lowestBy
+full-image long m n b c = same-test (not (found (targetBlock long m n b c))) (allTo (namedBy long m n) b) there back
   where
-    there : not (found (targetBlock m n b c)) ≡ true → allTo (blockNamed m n) b ≡ true
+    there : not (found (targetBlock long m n b c)) ≡ true → allTo (namedBy long m n) b ≡ true
     there h =
-        let e : firstFrom (λ j. not (blockNamed m n j)) 1 b ≡ Absent = no-place c (leb 1 c && (leb c b && not (blockNamed m n c))) (freeBlock m n b) h in
-        to-of (blockNamed m n) b (λ j l k. not-false (blockNamed m n j) (none-below (λ i. not (blockNamed m n i)) 1 b e j (omega arith) (omega arith)))
+        let e : firstFrom (λ j. not (namedBy long m n j)) 1 b ≡ Absent = no-place c (leb 1 c && (leb c b && not (namedBy long m n c))) (lowestBy long m n b) h in
+        to-of (namedBy long m n) b (λ j l k. not-false (namedBy long m n j) (none-below (λ i. not (namedBy long m n i)) 1 b e j (omega arith) (omega arith)))
 
-    own : allTo (blockNamed m n) b ≡ true → leb 1 c && (leb c b && not (blockNamed m n c)) ≡ true → ⊥
+    own : allTo (namedBy long m n) b ≡ true → leb 1 c && (leb c b && not (namedBy long m n c)) ≡ true → ⊥
     own h w =
-        let r : leb c b && not (blockNamed m n c) ≡ true = and-right (leb 1 c) (leb c b && not (blockNamed m n c)) w in
-        let l : 1 ≤ c = leb-true 1 c (and-left (leb 1 c) (leb c b && not (blockNamed m n c)) w) in
-        let k : c ≤ b = leb-true c b (and-left (leb c b) (not (blockNamed m n c)) r) in
-        clash (blockNamed m n c) (to-at (blockNamed m n) b h c l k) (not-true (blockNamed m n c) (and-right (leb c b) (not (blockNamed m n c)) r))
+        let r : leb c b && not (namedBy long m n c) ≡ true = and-right (leb 1 c) (leb c b && not (namedBy long m n c)) w in
+        let l : 1 ≤ c = leb-true 1 c (and-left (leb 1 c) (leb c b && not (namedBy long m n c)) w) in
+        let k : c ≤ b = leb-true c b (and-left (leb c b) (not (namedBy long m n c)) r) in
+        clash (namedBy long m n c) (to-at (namedBy long m n) b h c l k) (not-true (namedBy long m n c) (and-right (leb c b) (not (namedBy long m n c)) r))
 
-    back : allTo (blockNamed m n) b ≡ true → not (found (targetBlock m n b c)) ≡ true
+    back : allTo (namedBy long m n) b ≡ true → not (found (targetBlock long m n b c)) ≡ true
     back h =
-        let none : freeBlock m n b ≡ Absent = absent-of (λ j. not (blockNamed m n j)) 1 b (λ j l k. ap not (to-at (blockNamed m n) b h j (omega arith) (omega arith))) in
-        ap₂ (λ (t : Bool) (f : Found). not (found (pick t (At c) f))) (fails (leb 1 c && (leb c b && not (blockNamed m n c))) (own h)) none
+        let none : lowestBy long m n b ≡ Absent = absent-of (λ j. not (namedBy long m n j)) 1 b (λ j l k. ap not (to-at (namedBy long m n) b h j (omega arith) (omega arith))) in
+        ap₂ (λ (t : Bool) (f : Found). not (found (pick t (At c) f))) (fails (leb 1 c && (leb c b && not (namedBy long m n c))) (own h)) none
 
 -- ---- start, step and state
 module _ (s m d : List ℕ) where
@@ -91,8 +91,8 @@ module _ (s m d : List ℕ) where
       let k : ℕ = deskOf d .transferred in
       give _ (stepTable s m d) _
       (by-guards s m d _
-      (by-full i k (isRunning d) (eqb i 0) (ltb k (blocksUsed (sizeOf s i))) (targetBlock m (inodesIn s) (deskOf d .blocks) (kthBlock s (inodesIn s) i k))
-      (isCopied d (inodesIn s) rootInode) (nextInode m d (inodesIn s)) _ (full-image m (inodesIn s) (deskOf d .blocks) (kthBlock s (inodesIn s) i k))))
+      (by-full i k (isRunning d) (eqb i 0) (ltb k (blocksUsed (sizeOf s i))) (targetBlock (longBut m i (isLong s i)) m (inodesIn s) (deskOf d .blocks) (kthBlock s (inodesIn s) i k))
+      (isCopied d (inodesIn s) rootInode) (nextInode m d (inodesIn s)) _ (full-image (longBut m i (isLong s i)) m (inodesIn s) (deskOf d .blocks) (kthBlock s (inodesIn s) i k))))
 
   pub status-table : status s m d ≡ asStatus (firstOf (liveRows s m d) (Done 0)) d
   status-table = status-is s m d ∙ ap (λ (a : Answer). asStatus a d) (give _ (liveRows s m d) _ (by-guards s m d (left (Done 0) s m d) by-none))

@@ -1,6 +1,7 @@
 pub mod ChosenLaws
 pub mod FitLaws
 pub mod Laid
+pub mod LedgerLaws
 pub mod NamingLaws
 pub mod NoteLaws
 pub mod RoomLaws

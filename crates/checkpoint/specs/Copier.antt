@@ -1,6 +1,6 @@
 -- "The copier": start, and the five things that a step does. s is the store, m the image, n the inode count.
 use Prim.Native.Nat.{ℕ, zero, suc, _+_, _*_}
-use mathlib.Core.Bool.{not, _&&_}
+use mathlib.Core.Bool.{Bool, not, _&&_}
 use mathlib.Core.List.{List}
 use lib.Dec.{eqb, leb, ltb}
 use lib.ListN.{replicate}
@@ -9,11 +9,11 @@ use Rattle.bounded.specs.Count.{tally, countTo}
 use Rattle.bounded.specs.declared.Found.{Found}
 use Rattle.bounded.specs.declared.Found.the-variants.{At}
 use Rattle.octets.specs.Octets.{part, splice}
-use Rattle.layout.specs.Sizes.{rootInode, isComplete, notComplete}
+use Rattle.layout.specs.Sizes.{rootInode, isComplete, notComplete, addressPlace, blockBytes}
 use Rattle.layout.specs.Header.{putHeader, putFree, putComplete}
-use Rattle.layout.specs.Inode.{kindOf, sizeOf, inodeOf, putAttributes, putLinks, putAddress, addressIndex, directoryKind, withLinks, inodeFree}
-use Rattle.blocks.specs.Block.{blockOf, putInBlock, blocksUsed, kthBlock}
-use Rattle.blocks.specs.Free.{blockNamed, freeBlock, blockFree}
+use Rattle.layout.specs.Inode.{kindOf, sizeOf, inodeOf, putAttributes, putLinks, directoryKind, withLinks, inodeFree}
+use Rattle.blocks.specs.Block.{blockOf, putInBlock, blocksUsed, isLong, kthBlock, putKth}
+use Rattle.blocks.specs.Free.{namedBy, lowestBy, longBut, blockFree}
 use Rattle.layout.specs.declared.inode.Inode.{Inode}
 use Rattle.names.specs.Entry.{entryBytes, entryInode}
 use Rattle.directory.specs.Slot.{mostSlots, slotsInBlock}
@@ -45,14 +45,15 @@ unfoldable pub nextInode : List ℕ → List ℕ → ℕ → Found
 nextInode m desk n = firstFrom (λ i. not (isCopied desk n i) && inodeNamed m n i) 1 n
 
 -- 3: "It goes to the image block of its own number if that exists and no image address names it, else to the lowest block unnamed"
-unfoldable pub targetBlock : List ℕ → ℕ → ℕ → ℕ → Found
-targetBlock m n b c = pick (leb 1 c && (leb c b && not (blockNamed m n c))) (At c) (freeBlock m n b)
+-- long tells which inodes of the image have an address block
+unfoldable pub targetBlock : (ℕ → Bool) → List ℕ → ℕ → ℕ → ℕ → Found
+targetBlock long m n b c = pick (leb 1 c && (leb c b && not (namedBy long m n c))) (At c) (lowestBy long m n b)
 
 -- 3 and 4: inode i is locked, k of its blocks are copied; 16 where every image block is named
 unfoldable pub lockedStep : List ℕ → List ℕ → ℕ → ℕ → ℕ → ℕ → Step
 lockedStep s m n b i k =
     pick (ltb k (blocksUsed (sizeOf s i)))
-    (onFound (targetBlock m n b (kthBlock s n i k)) (λ c. copy i k c) full)
+    (onFound (targetBlock (longBut m i (isLong s i)) m n b (kthBlock s n i k)) (λ c. copy i k c) full)
     (close i)
 
 -- 1, 2 and 5: nothing is locked
@@ -74,11 +75,11 @@ unfoldable pub copiedEntries : List ℕ → ℕ → ℕ → ℕ → List ℕ →
 copiedEntries desk n i k x zero = x
 copiedEntries desk n i k x (suc j) = copiedEntry desk n i k (copiedEntries desk n i k x j) j
 
--- the block as it is copied
+-- the block as it is copied; of an address block: "it starts zeroed in the image and gains each image address as that block is copied"
 unfoldable pub copiedBlock : List ℕ → List ℕ → ℕ → ℕ → ℕ → List ℕ
 copiedBlock s desk n i k =
     let x = blockOf s n (kthBlock s n i k) in
-    pick (eqb (kindOf s i) directoryKind) (copiedEntries desk n i k x slotsInBlock) x
+    pick (isLong s i && eqb k addressPlace) (replicate blockBytes 0) (pick (eqb (kindOf s i) directoryKind) (copiedEntries desk n i k x slotsInBlock) x)
 
 -- 4: "the image attributes, which are the store's with link count 0"
 abbrev pub unlinkedInode : Inode → Inode
@@ -94,7 +95,7 @@ finishImage m n b = putComplete (putFree (putCounts m m n n) (countTo (inodeFree
 
 abbrev pub stepImage : List ℕ → List ℕ → List ℕ → ℕ → Step → List ℕ
 stepImage s m desk n (lock i) = m
-stepImage s m desk n (copy i k c) = putAddress (putInBlock m n c 0 (copiedBlock s desk n i k)) n (addressIndex i k) c
+stepImage s m desk n (copy i k c) = putKth (putInBlock m n c 0 (copiedBlock s desk n i k)) n i k c
 stepImage s m desk n (close i) = putAttributes m i (unlinkedInode (inodeOf s n i))
 stepImage s m desk n finish = finishImage m n (deskOf desk .blocks)
 stepImage s m desk n full = m

@@ -36,7 +36,7 @@ pub record Takes (e : Event) (w : World) (p : ℕ) : Type 0 where
   pub stands : takes e w p ≡ false → filled (w .store) (countOf w) p ≡ true
       → (filled (next e w .store) (countOf w) p ≡ true) × (naming (next e w .store) (countOf w) p ≡ naming (w .store) (countOf w) p)
 
--- "the copy's accepted steps are the number that the state question reports, and at most 14 times the inode count, plus 1"; the state that it reports is the one that the answers tell, and so is byte 8
+-- "the copy's accepted steps are the number that the state question reports, and at most 14 times the inode count, plus 1" (F-1: 46 times); the state that it reports is the one that the answers tell, and so is byte 8
 pub record Reported (es : List Event) (w : World) : Type 0 where
   pub reports : outcome asks (run es w) .answer ≡ toldStatus (Is (stateAfter es w running) (deskOf (run es w .desk) .locked) (acceptedSteps es w 0))
   pub bound : acceptedSteps es w 0 ≤ stepsAnInode * countOf w + 1
@@ -63,7 +63,7 @@ pub record Demand (es : List Event) (w : World) : Type 0 where
   pub progress : Progress (run es w)
   pub done : GetsDone es w
   pub stays : Stays es w
-  -- "With 12 × N image blocks or more, 16 never comes in a run."
+  -- "With 12 × N image blocks or more, 16 never comes in a run." (F-1: 44 × N)
   pub never-full : Roomy w → refusalOf advances (run es w) ≡ refusalNumber ImageFull → ⊥
   -- "step the steps so far"
   pub step-answer : accepted advances (run es w) ≡ true → outcome advances (run es w) .answer ≡ told (Done (acceptedSteps es w 0 + 1))

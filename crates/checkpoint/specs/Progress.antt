@@ -10,7 +10,7 @@ use Rattle.layout.specs.Sizes.{isComplete, mostBlocks}
 use Rattle.layout.specs.Header.{headerOf}
 use Rattle.layout.specs.Inode.{sizeOf}
 use Rattle.blocks.specs.Block.{storeLength, blocksUsed}
-use Rattle.blocks.specs.Free.{blockNamed}
+use Rattle.blocks.specs.Free.{namedBy}
 use Rattle.desk.specs.Sizes.{finished, stopped, stepsAnInode}
 use Rattle.desk.specs.Desk.{deskOf}
 use Rattle.answers.specs.declared.Refusal.the-variants.{Busy, WrongState, ImageFull}
@@ -23,7 +23,7 @@ use Rattle.entries.specs.declared.Kind.{Kind}
 use Rattle.entries.specs.Plan.{lookUpPlan}
 use Rattle.files.specs.Effect.{Call, create, write, shorten, link, unlink, rename, given}
 use Rattle.files.specs.Plain.{plain}
-use Rattle.checkpoint.specs.Fit.{isRunning, imageAllowed}
+use Rattle.checkpoint.specs.Fit.{isRunning, imageAllowed, imageLong}
 use Rattle.checkpoint.specs.Live.{World, outOf}
 use Rattle.checkpoint.specs.Shown.{numberOf}
 use Rattle.checkpoint.specs.List.{Ready, Event, call, advances, asks, starts, outcome, next, refusalOf, accepted, restarts, completes, run, Finish}
@@ -34,7 +34,7 @@ use Rattle.checkpoint.specs.Finished.{countOf}
 pub record ImageTaken (w : World) : Type 0 where
   pub locked : 1 ≤ deskOf (w .desk) .locked
   pub more : deskOf (w .desk) .transferred < blocksUsed (sizeOf (w .store) (deskOf (w .desk) .locked))
-  pub taken : (c : ℕ) → 1 ≤ c → storeLength (countOf w) c ≤ length (w .image) → blockNamed (w .image) (countOf w) c ≡ true
+  pub taken : (c : ℕ) → 1 ≤ c → storeLength (countOf w) c ≤ length (w .image) → namedBy (imageLong (w .store) (w .image) (w .desk)) (w .image) (countOf w) c ≡ true
 
 -- what a finish leaves: "state finished", and one step more in bytes 12 to 15; byte 4 has the state. v is the world after it, and a desk is bytes
 pub record Ended (w v : World) : Type 0 where
@@ -62,11 +62,11 @@ tried (call c ∷ es) = tried es
 tried (asks ∷ es) = tried es
 tried (starts ∷ es) = tried es
 
--- "With 12 × N image blocks or more"
+-- "With 12 × N image blocks or more" (F-1: 44 × N)
 abbrev pub Roomy : World → Type 0
 Roomy w = storeLength (countOf w) (mostBlocks * countOf w) ≤ length (w .image)
 
--- after as many steps as a copy can take, whatever calls fall between, it is finished or stopped; with 12 × N image blocks it is finished. w is the world just after the start
+-- after as many steps as a copy can take, whatever calls fall between, it is finished or stopped; with 44 × N image blocks it is finished. w is the world just after the start
 pub record GetsDone (es : List Event) (w : World) : Type 0 where
   pub ended : noRestart es w ≡ true → stepsAnInode * countOf w + 1 ≤ tried es → (deskOf (run es w .desk) .state ≡ finished) ⊎ (deskOf (run es w .desk) .state ≡ stopped)
   pub complete : Roomy w → noRestart es w ≡ true → stepsAnInode * countOf w + 1 ≤ tried es → (deskOf (run es w .desk) .state ≡ finished) × (headerOf (run es w .image) .complete ≡ isComplete)

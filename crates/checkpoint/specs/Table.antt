@@ -12,8 +12,8 @@ use Rattle.bounded.specs.declared.Found.the-variants.{At, Absent}
 use Rattle.layout.specs.Sizes.{mostFileBytes, mostDirectoryBlocks}
 use Rattle.layout.specs.Header.{headerOf}
 use Rattle.layout.specs.Inode.{kindOf, sizeOf, directoryKind, isFile, isDirectory, freeInode}
-use Rattle.blocks.specs.Block.{blocksUsed}
-use Rattle.blocks.specs.Free.{blockNamed, freeBlock}
+use Rattle.blocks.specs.Block.{blocksUsed, isLong}
+use Rattle.blocks.specs.Free.{namedBy, longBut, freeBlock}
 use Rattle.names.specs.Name.{legalName}
 use Rattle.directory.specs.Slot.{findSlot, emptySlot, inodeAt}
 use Rattle.desk.specs.Desk.{deskOf}
@@ -153,5 +153,5 @@ stepTable s m desk =
     let k = deskOf desk .transferred in
     liveRows s m desk
     ++ (row (not (isRunning desk)) WrongState
-    ∷ row (not (eqb i 0) && (ltb k (blocksUsed (sizeOf s i)) && allTo (blockNamed m (inodesIn s)) (deskOf desk .blocks))) ImageFull
+    ∷ row (not (eqb i 0) && (ltb k (blocksUsed (sizeOf s i)) && allTo (namedBy (longBut m i (isLong s i)) m (inodesIn s)) (deskOf desk .blocks))) ImageFull
     ∷ [])

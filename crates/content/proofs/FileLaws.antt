@@ -1,29 +1,32 @@
--- The bytes and the size of a file change, and a sound store stays sound. n and b are the counts of inodes and blocks, i is a file.
-use Prim.Native.Nat.{ℕ, _+_, _-_, _*_, _/_, _%_, _≤_, _<_}
+-- The bytes of a file change, and a sound store stays sound. n and b are the counts of inodes and blocks, i is a file.
+use Prim.Native.Nat.{ℕ, _+_, _*_, _/_, _%_, _≤_, _<_}
 use mathlib.Core.Path.{_≡_, sym, ap, ap₂, _∙_, subst}
 use mathlib.Core.Logic.{_≢_}
+use mathlib.Core.Bool.{true, false}
 use mathlib.Core.List.{List}
-use native.Mathlib.Decide.{ℕ-discrete, decLt}
 use native.Mathlib.Omega.{arith}
+use borrow.Author.Tests.{eq-eqb, lt-ltb, le-ltb, ltb-true}
+use lib.Dec.{eqb, ltb}
 use lib.ListN.{getD}
-use Rattle.bounded.specs.Count.{Differ}
+use Rattle.bounded.proofs.BoolLaws.{and-right, and-true, chain-end}
 use Rattle.bounded.proofs.CaseLaws.{each-else}
-use Rattle.bounded.proofs.DifferLaws.{differ-less}
-use Rattle.layout.specs.Sizes.{addressCount, blockBytes}
+use Rattle.layout.specs.Sizes.{blockBytes, mostBlocks, mostDirectBytes}
 use Rattle.layout.specs.declared.header.Header.{Header}
-use Rattle.layout.specs.Header.{headerOf}
-use Rattle.layout.specs.Inode.{kindOf, spareOf, linksOf, sizeOf, parentOf, addressOf, fileKind, directoryKind}
-use Rattle.blocks.specs.Block.{blockOf, blocksUsed, kthBlock}
+use Rattle.layout.specs.Inode.{kindOf, sizeOf, fileKind, directoryKind, isFile}
+use Rattle.blocks.specs.Block.{blockOf, blocksUsed, bytesPlace, isLong, kthBlock, bytesBlock}
+use Rattle.blocks.specs.Fits.{BlockFits}
+use Rattle.ledger.proofs.WriteLaws.{NoAddresses}
+use Rattle.ledger.proofs.BytesLaws.{bytesBlocks, place-used, place-bytes, place-one}
 use Rattle.sound.specs.Inode.{InodeSound}
 use Rattle.sound.specs.Sound.{Sound}
 use Rattle.sound.specs.Counted.{SoundStore}
-use Rattle.sound.proofs.SoundLaws.{most-file, size-most}
 use Rattle.sound.specs.declared.Form.the-variants.{Store}
-use Rattle.changes.proofs.StoreLaws.{one-at, dir-of}
-use Rattle.changes.proofs.SameLaws.{OtherInodes, same-body, SameFrame, SameBlock, InBlock}
-use Rattle.changes.proofs.KeepLaws.{ZeroTail, Body, body-of, inode-like, inode-kept, file-tree, sound-kept}
-use Rattle.changes.proofs.AddressLaws.{address-kth, same-differ, same-unnamed, unnamed-change}
-use Rattle.content.specs.Content.{fileByte}
+use Rattle.changes.proofs.StoreLaws.{one-at, blocks-of, data-at, kind-some, kind-most, kind-is, kind-of}
+use Rattle.changes.proofs.SameLaws.{same-body, SameInode, SameBlock, InBlock}
+use Rattle.changes.proofs.KeepLaws.{ZeroTail, body-of, inode-like, inode-kept, file-tree, sound-kept}
+use Rattle.changes.proofs.AddressLaws.{same-differ, same-unnamed}
+use Rattle.growth.specs.Extend.{fileByte}
+use Rattle.growth.proofs.FileFrame.{InFile}
 
 -- ---- a sound store with a file i of o bytes or more
 pub record Holds (s : List ℕ) (n b i o : ℕ) : Type 0 where
@@ -36,134 +39,109 @@ pub record Holds (s : List ℕ) (n b i o : ℕ) : Type 0 where
 pub holds-less : {s : List ℕ} {n b i o : ℕ} (a : ℕ) → a ≤ o → Holds s n b i o → Holds s n b i a
 holds-less a l h = record { sound = h .sound; low = h .low; high = h .high; kind = h .kind; size = let z = h .size in omega arith }
 
+pub holds-of : {s : List ℕ} {n b i o : ℕ} → SoundStore s n b → isFile s n i ≡ true → o ≤ sizeOf s i → Holds s n b i o
+holds-of {s} {n} {b} {i} h f l = record { sound = h; low = kind-some s n fileKind i f; high = kind-most s n fileKind i f; kind = kind-is s n fileKind i f; size = l }
+
+pub holds-file : {s : List ℕ} {n b i o : ℕ} → Holds s n b i o → isFile s n i ≡ true
+holds-file {s} {n} {b} {i} h = kind-of s n fileKind i (h .low) (h .high) (h .kind)
+
+-- ---- a file is long by its size
+module _ (s : List ℕ) (i : ℕ) where
+  pub long-over : isLong s i ≡ true → mostDirectBytes < sizeOf s i
+  unfolding isLong
+  long-over e = ltb-true mostDirectBytes (sizeOf s i) (and-right (eqb (kindOf s i) fileKind) (ltb mostDirectBytes (sizeOf s i)) e)
+
+  module _ (k : kindOf s i ≡ fileKind) where
+    pub over-long : mostDirectBytes < sizeOf s i → isLong s i ≡ true
+    unfolding isLong
+    over-long l = and-true _ _ (eq-eqb (kindOf s i) fileKind k) (lt-ltb mostDirectBytes (sizeOf s i) l)
+
+    pub under-short : sizeOf s i ≤ mostDirectBytes → isLong s i ≡ false
+    unfolding isLong
+    under-short l = sym (chain-end _ _ _ (eq-eqb (kindOf s i) fileKind k) (sym (le-ltb mostDirectBytes (sizeOf s i) l)))
+
+-- ---- the p-th block of bytes
+module _ {s : List ℕ} {n b i o : ℕ} (h : Holds s n b i o) (p : ℕ) (u : blockBytes * p < sizeOf s i) where
+  pub byte-place : bytesPlace (sizeOf s i) p < blocksUsed (sizeOf s i)
+  byte-place = place-used (sizeOf s i) p (omega arith)
+
+  pub byte-few : bytesPlace (sizeOf s i) p < mostBlocks
+  byte-few = let l = byte-place in let f = blocks-of (h .sound) i (h .low) (h .high) .few in omega arith
+
+  pub byte-fits : BlockFits s n (bytesBlock s n i p)
+  byte-fits = blocks-of (h .sound) i (h .low) (h .high) .blocks (bytesPlace (sizeOf s i) p) byte-place
+
+  -- it is no address block
+  pub byte-none : NoAddresses (isLong s) s n (bytesBlock s n i p)
+  byte-none = data-at (h .sound) i (bytesPlace (sizeOf s i) p) (h .low) (h .high) byte-place (λ e. place-bytes (sizeOf s i) p (long-over s i e))
+
+-- where the inode stays
+pub same-bytes : {s t : List ℕ} {n i : ℕ} → SameInode s t n i → (p : ℕ) → bytesPlace (sizeOf s i) p < mostBlocks → bytesBlock t n i p ≡ bytesBlock s n i p
+same-bytes {s} {t} {n} {i} e p l = ap (λ (z : ℕ). kthBlock t n i (bytesPlace z p)) (e .size) ∙ e .blocks (bytesPlace (sizeOf s i) p) l
+
 -- ---- the bytes past a size
 -- from z on, up to the end of the blocks in use
 abbrev pub ZeroPast : List ℕ → ℕ → ℕ → ℕ → Type 0
-ZeroPast s n i z = (x : ℕ) → z ≤ x → x < blockBytes * blocksUsed z → fileByte s n i x ≡ 0
+ZeroPast s n i z = (x : ℕ) → z ≤ x → x < blockBytes * bytesBlocks z → fileByte s n i x ≡ 0
 
 module _ (s : List ℕ) (n i : ℕ) where
   pub tail-past : ZeroTail s n i → kindOf s i ≡ fileKind → ZeroPast s n i (sizeOf s i)
-  unfolding fileByte blocksUsed
+  unfolding fileByte
   tail-past h k x l m =
       let q : x / 64 ≡ sizeOf s i / 64 = omega arith in
-      ap (λ (a : ℕ). getD (blockOf s n (kthBlock s n i a)) (x % 64) 0) q ∙ h k (λ e. omega arith) (x % 64) (omega arith) (omega arith)
+      ap (λ (a : ℕ). getD (blockOf s n (bytesBlock s n i a)) (x % 64) 0) q ∙ h k (λ e. omega arith) (x % 64) (omega arith) (omega arith)
 
   pub past-tail : ZeroPast s n i (sizeOf s i) → ZeroTail s n i
-  unfolding fileByte blocksUsed
+  unfolding fileByte
   past-tail h k q o l m =
       let x : ℕ = 64 * (sizeOf s i / 64) + o in
       let a : sizeOf s i / 64 ≡ x / 64 = omega arith in
       let c : o ≡ x % 64 = omega arith in
-      ap₂ (λ (j r : ℕ). getD (blockOf s n (kthBlock s n i j)) r 0) a c ∙ h x (omega arith) (omega arith)
+      ap₂ (λ (j r : ℕ). getD (blockOf s n (bytesBlock s n i j)) r 0) a c ∙ h x (omega arith) (omega arith)
 
--- ---- bytes of the k-th block of a file
-module _ (s t : List ℕ) (n b i k : ℕ) (h : SoundStore s n b)
-    (l : 1 ≤ i) (m : i ≤ n) (v : kindOf s i ≡ fileKind) (u : k < blocksUsed (sizeOf s i)) (g : InBlock s t n (kthBlock s n i k)) where
+-- ---- bytes of the p-th block of bytes change
+module _ {s : List ℕ} (t : List ℕ) {n b i o : ℕ} (h : Holds s n b i o) (p : ℕ) (u : blockBytes * p < sizeOf s i) (g : InBlock s t n (bytesBlock s n i p)) where
+  abbrev place : ℕ
+  place = bytesPlace (sizeOf s i) p
+
   -- the other blocks in use stay
-  pub other-block : (j a : ℕ) → 1 ≤ j → j ≤ n → a < blocksUsed (sizeOf s j) → (j ≡ i → a ≡ k → ⊥) → SameBlock s t n (kthBlock s n j a)
-  other-block j a p q w e =
-      g .others (kthBlock s n j a) (dir-of h j p q .blocks a w .low)
-      (λ z. e (one-at h j a i k p q l m w u z .0) (one-at h j a i k p q l m w u z .1))
+  other-block : (j a : ℕ) → 1 ≤ j → j ≤ n → a < blocksUsed (sizeOf s j) → (j ≡ i → a ≡ place → ⊥) → SameBlock s t n (kthBlock s n j a)
+  other-block j a l m w e =
+      g .others (kthBlock s n j a) (blocks-of (h .sound) j l m .blocks a w .low)
+      (λ z. let r = one-at (h .sound) j a i place l m (h .low) (h .high) w (byte-place h p u) z in e (r .0) (r .1))
 
   -- and so do the bytes of the file in them
-  pub other-byte : (o : ℕ) → o < blockBytes * blocksUsed (sizeOf s i) → o / blockBytes ≢ k → o / blockBytes < addressCount → fileByte t n i o ≡ fileByte s n i o
+  pub other-byte : (x : ℕ) → x < blockBytes * bytesBlocks (sizeOf s i) → x / blockBytes ≢ p → fileByte t n i x ≡ fileByte s n i x
   unfolding fileByte
-  other-byte o p q r =
-      ap (λ (c : ℕ). getD (blockOf t n c) (o % 64) 0) (g .inodes i l m .blocks (o / 64) r)
-      ∙ ap (λ (z : List ℕ). getD z (o % 64) 0) (other-block i (o / 64) l m (omega arith) (λ _. q))
+  other-byte x l q =
+      let v : blockBytes * (x / 64) < sizeOf s i = omega arith in
+      ap (λ (c : ℕ). getD (blockOf t n c) (x % 64) 0) (same-bytes (g .inodes i (h .low) (h .high)) (x / 64) (byte-few h (x / 64) v))
+      ∙ ap (λ (z : List ℕ). getD z (x % 64) 0) (other-block i (bytesPlace (sizeOf s i) (x / 64)) (h .low) (h .high) (byte-place h (x / 64) v) (λ _ e. q (place-one (sizeOf s i) (x / 64) p e)))
+
+  pub content-file : InFile s t n i (sizeOf s i)
+  content-file =
+      let e = g .inodes i (h .low) (h .high) in
+      record {
+        frame = g .frame;
+        others = λ j l m _. g .inodes j l m;
+        kind = e .kind;
+        links = e .links;
+        parent = e .parent;
+        size = e .size;
+        bytes = λ j a l m q w. other-block j a l m w (λ z _. q z);
+      }
 
   pub content-sound : ZeroPast t n i (sizeOf s i) → Sound Store t
   content-sound w =
-      let r = body-of h in
-      let e : (j : ℕ) → 1 ≤ j → j ≤ n → (a : ℕ) → a < addressCount → kthBlock t n j a ≡ kthBlock s n j a = λ j p q. g .inodes j p q .blocks in
-      let o = g .inodes i l m in
-      sound-kept h (g .frame)
-      (file-tree s t n i (λ j p q _. g .inodes j p q) (o .kind) (o .links) (o .parent) (λ z. omega arith)
-      (λ d a p q z f. other-block d a p q f (λ a′ _. let c : directoryKind ≡ fileKind = sym z ∙ ap (kindOf s) a′ ∙ v in omega arith)))
-      (λ j p q.
+      let r = body-of (h .sound) in
+      let v = h .kind in
+      let e : (j : ℕ) → 1 ≤ j → j ≤ n → (a : ℕ) → a < mostBlocks → kthBlock t n j a ≡ kthBlock s n j a = λ j l m. g .inodes j l m .blocks in
+      let d = g .inodes i (h .low) (h .high) in
+      sound-kept (h .sound) (g .frame)
+      (file-tree s t n i (λ j l m _. g .inodes j l m) (d .kind) (d .links) (d .parent) (λ z. omega arith)
+      (λ c a l m z f. other-block c a l m f (λ a′ _. let x : directoryKind ≡ fileKind = sym z ∙ ap (kindOf s) a′ ∙ v in omega arith)))
+      (λ j l m.
       each-else (InodeSound t n b) i j
-      (inode-like s t n b i (same-body o) (λ _. (o .links, o .parent)) (λ _. o .parent) (past-tail t n i (subst (ZeroPast t n i) (sym (o .size)) w)) (r .inodes i l m))
-      (λ z. inode-kept s t n b j (g .inodes j p q) (λ _ f. other-block j (sizeOf s j / blockBytes) p q (unfold blocksUsed in omega arith) (λ a _. z a)) (r .inodes j p q)))
+      (inode-like s t n b i (same-body d) (λ _. (d .links, d .parent)) (λ _. d .parent) (past-tail t n i (subst (ZeroPast t n i) (sym (d .size)) w)) (r .inodes i (h .low) (h .high)))
+      (λ z. inode-kept s t n b j (g .inodes j l m) (λ _ f. other-block j (bytesPlace (sizeOf s j) (sizeOf s j / blockBytes)) l m (place-used (sizeOf s j) (sizeOf s j / 64) (omega arith)) (λ a _. z a)) (r .inodes j l m)))
       (same-differ s t n e (r .once)) (ap (λ (z : Header). z .«free_inodes») (g .header)) (ap (λ (z : Header). z .«free_blocks») (g .header) ∙ r .free-blocks ∙ sym (same-unnamed s t n e b))
-
--- ---- a file of another size, on the first of its blocks
--- t has the size z for i, and gives back the blocks that it does not need
-pub record Resized (s t : List ℕ) (n i z : ℕ) : Type 0 where
-  pub frame : SameFrame s t
-  pub others : OtherInodes s t n i
-  pub kind : kindOf t i ≡ kindOf s i
-  pub spare : spareOf t i ≡ 0
-  pub links : linksOf t i ≡ linksOf s i
-  pub size : sizeOf t i ≡ z
-  pub parent : parentOf t i ≡ parentOf s i
-  pub kept : (k : ℕ) → k < addressCount → k < blocksUsed z → kthBlock t n i k ≡ kthBlock s n i k
-  pub rest : (k : ℕ) → k < addressCount → blocksUsed z ≤ k → kthBlock t n i k ≡ 0
-  pub bytes : (c : ℕ) → SameBlock s t n c
-  pub free-inodes : headerOf t .«free_inodes» ≡ headerOf s .«free_inodes»
-  pub free-blocks : headerOf t .«free_blocks» ≡ headerOf s .«free_blocks» + (blocksUsed (sizeOf s i) - blocksUsed z)
-
-module _ (s t : List ℕ) (n b i z : ℕ) (h : SoundStore s n b)
-    (l : 1 ≤ i) (m : i ≤ n) (v : kindOf s i ≡ fileKind) (g : Resized s t n i z) (u : blocksUsed z ≤ blocksUsed (sizeOf s i)) (w : ZeroPast s n i z) where
-  body : Body s n b
-  body = body-of h
-
-  few : blocksUsed (sizeOf s i) ≤ addressCount
-  few = dir-of h i l m .few
-
-  -- the bytes that are left are the same
-  pub resized-byte : (o : ℕ) → o < blockBytes * blocksUsed z → fileByte t n i o ≡ fileByte s n i o
-  unfolding fileByte
-  resized-byte o p =
-      let f = few in
-      ap (λ (c : ℕ). getD (blockOf t n c) (o % 64) 0) (g .kept (o / 64) (omega arith) (omega arith))
-      ∙ ap (λ (c : List ℕ). getD c (o % 64) 0) (g .bytes (kthBlock s n i (o / 64)))
-
-  resized-past : ZeroPast t n i (sizeOf t i)
-  resized-past = subst (ZeroPast t n i) (sym (g .size)) (λ o p q. resized-byte o q ∙ w o p q)
-
-  resized-block : (k : ℕ) → k < addressCount → k < blocksUsed z → (1 ≤ kthBlock t n i k) × (kthBlock t n i k ≤ b)
-  resized-block k a d = rw (g .kept k a d) (body .inodes i l m .used k a (omega arith))
-
-  resized-inode : InodeSound t n b i
-  unfolding kthBlock blocksUsed
-  resized-inode =
-      let f = few in
-      let r = body .inodes i l m in
-      let e = g .size in
-      let q : kindOf t i ≡ fileKind = g .kind ∙ v in
-      record {
-        kind = omega arith;
-        spare = g .spare;
-        free = λ k. absurd (omega arith);
-        size = omega (arith, size-most r, most-file (kindOf t i) q);
-        used = λ k a d. resized-block k a (omega arith);
-        rest = λ k a d. g .rest k a (omega arith);
-        directory = λ k. absurd (omega arith);
-        tail = past-tail t n i resized-past;
-        parent = λ k. g .parent ∙ r .parent v;
-      }
-
-  resized-inodes : (j : ℕ) → 1 ≤ j → j ≤ n → InodeSound t n b j
-  resized-inodes j p q = each-else (InodeSound t n b) i j resized-inode (λ e. inode-kept s t n b j (g .others j p q e) (λ _ _. g .bytes _) (body .inodes j p q))
-
-  resized-differ : Differ (addressOf t n) (addressCount * n)
-  resized-differ =
-      differ-less (addressOf s n) (addressOf t n) (addressCount * n) (body .once)
-      (λ a p q. address-kth t n a ∙ at a p (ℕ-discrete (a / 12 + 1) i) (decLt (a % 12) (blocksUsed z)) (rw (address-kth t n a) at q) ∙ sym (address-kth s n a))
-    where
-      at : (a : ℕ) → a < addressCount * n → Dec (a / 12 + 1 ≡ i) → Dec (a % 12 < blocksUsed z) → 0 < kthBlock t n (a / 12 + 1) (a % 12) → kthBlock t n (a / 12 + 1) (a % 12) ≡ kthBlock s n (a / 12 + 1) (a % 12)
-      at a p (no e) o q = g .others (a / 12 + 1) (omega arith) (omega arith) e .blocks (a % 12) (omega arith)
-      at a p (yes e) (yes o) q = subst (λ (j : ℕ). kthBlock t n j (a % 12) ≡ kthBlock s n j (a % 12)) (sym e) (g .kept (a % 12) (omega arith) o)
-      at a p (yes e) (no o) q =
-          let c : kthBlock t n (a / 12 + 1) (a % 12) ≡ 0 = ap (λ (j : ℕ). kthBlock t n j (a % 12)) e ∙ g .rest (a % 12) (omega arith) (omega arith) in
-          absurd (omega arith)
-
-  pub resized-sound : Sound Store t
-  resized-sound =
-      let c = unnamed-change s t n b i l m (body .inodes) resized-inodes (body .once) resized-differ (λ j p q e k. g .others j p q e .blocks k) in
-      let e : blocksUsed (sizeOf t i) ≡ blocksUsed z = ap blocksUsed (g .size) in
-      let p = body .free-blocks in
-      let q = g .free-blocks in
-      sound-kept h (g .frame)
-      (file-tree s t n i (g .others) (g .kind) (g .links) (g .parent) (λ a. omega arith) (λ d k _ _ _ _. g .bytes _))
-      resized-inodes resized-differ (g .free-inodes) (omega arith)

@@ -1,11 +1,14 @@
-pub mod CutLaws
+pub mod CodeLaws
 pub mod FileLaws
-pub mod GrowCodeLaws
 pub mod GrowLaws
+pub mod PlaceLaws
 pub mod PlanFacts
 pub mod PlanLaws
 pub mod PutLaws
 pub mod ReadLaws
+pub mod RowLaws
 pub mod ShortenLaws
+pub mod SizeLaws
 pub mod SizePlanLaws
+pub mod TakeLaws
 pub mod WriteLaws

@@ -16,7 +16,7 @@ use Rattle.content.specs.Plan.{writePlan}
 
 -- ---- a write of k bytes at o to the file i
 module _ (s : List ℕ) (n i o k : ℕ) (f : isFile s n i ≡ true) where
-  -- "Writing starts at most at the size", and ends at 768 at most
+  -- "Writing starts at most at the size", and ends at the limit at most
   pub write-passes : o ≤ sizeOf s i → o + k ≤ mostFileBytes → blocksUsed (max (sizeOf s i) (o + k)) - blocksUsed (sizeOf s i) ≤ headerOf s .«free_blocks»
       → writePlan s n i o k ≡ To (max (sizeOf s i) (o + k))
   unfolding writePlan

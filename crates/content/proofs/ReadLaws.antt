@@ -1,7 +1,7 @@
 -- Files that fit, and their bytes read block by block. n is the inode count, i the file.
-use Prim.Native.Nat.{ℕ, _+_, _-_, _/_, _%_, _≤_, _<_}
-use mathlib.Core.Path.{_≡_, refl, sym, ap, _∙_}
-use mathlib.Core.Bool.{true}
+use Prim.Native.Nat.{ℕ, _+_, _-_, _*_, _/_, _%_, _≤_, _<_}
+use mathlib.Core.Path.{_≡_, refl, sym, ap, _∙_, subst}
+use mathlib.Core.Bool.{Bool, true, false}
 use mathlib.Core.List.{List, _++_}
 use native.Mathlib.Nat.{zero-add}
 use native.Mathlib.Omega.{arith}
@@ -11,44 +11,78 @@ use Rattle.bounded.specs.Table.{table}
 use Rattle.bounded.proofs.TableLaws.{length-table, getD-table, table-ext, table-append}
 use Rattle.octets.specs.Octets.{part, splice, pasted}
 use Rattle.octets.proofs.PartLaws.{length-inside, getD-part, splice-append}
-use Rattle.layout.specs.Inode.{sizeOf, fileKind, isKind}
-use Rattle.blocks.specs.Block.{blockAt, blockOf, blocksUsed, kthBlock}
-use Rattle.sound.specs.Counted.{SoundStore}
-use Rattle.changes.proofs.StoreLaws.{kind-of, kind-dir, kind-size}
+use Rattle.layout.specs.Sizes.{addressCount, addressPlace, blockBytes, mostBlocks, mostFileBytes}
+use Rattle.layout.specs.Inode.{sizeOf, fileKind}
+use Rattle.layout.specs.Fits.{InodeFits}
+use Rattle.blocks.specs.Block.{blockAt, blockOf, blocksUsed, isLong, kthBlock, bytesBlock}
+use Rattle.ledger.proofs.BytesLaws.{place-high}
+use Rattle.sound.specs.Sound.{blocksIn}
+use Rattle.changes.proofs.StoreLaws.{uncounted, kind-fits, kind-size}
+use Rattle.growth.specs.Extend.{fileByte}
 use Rattle.content.specs.Fits.{byteAt, FileFits}
-use Rattle.content.specs.Content.{fileByte, fileBytes}
-use Rattle.content.proofs.FileLaws.{Holds}
+use Rattle.content.specs.Content.{fileBytes}
+use Rattle.content.proofs.FileLaws.{Holds, holds-of, holds-file, long-over, byte-place, byte-fits}
+use Rattle.content.proofs.PlaceLaws.{bytes-short, bytes-high, short-under}
 
 -- ---- files that fit
--- the first z bytes of an inode of a sound store
-pub file-fits : {s : List ℕ} {n b : ℕ} → SoundStore s n b → (k i : ℕ) → isKind s n k i ≡ true → (z : ℕ) → z ≤ sizeOf s i → FileFits s n i z
-unfolding blocksUsed
-file-fits h k i t z l =
-    let d = kind-dir h k i t in
-    let m = kind-size h k i t in
-    record { inode = d .inode; most = omega arith; blocks = λ j b. d .blocks j (omega arith) }
+pub fits-holds : {s : List ℕ} {n i z : ℕ} → FileFits s n i z → Holds s n (blocksIn s) i z
+fits-holds f = holds-of (f .sound) (f .file) (f .size)
 
-pub holds-fits : (s : List ℕ) (n b i z : ℕ) → Holds s n b i z → FileFits s n i z
-holds-fits s n b i z h = file-fits (h .sound) fileKind i (kind-of s n fileKind i (h .low) (h .high) (h .kind)) z (h .size)
+pub holds-fits : {s : List ℕ} {n b i z : ℕ} → Holds s n b i z → FileFits s n i z
+holds-fits h = record { sound = uncounted (h .sound); file = holds-file h; size = h .size }
 
-module _ (s : List ℕ) (n i z : ℕ) (f : FileFits s n i z) where
-  -- byte x below z: its block, and the bytes from it on in the block
-  module _ (x : ℕ) (l : x < z) where
-    pub byte-block : 1 ≤ kthBlock s n i (x / 64)
-    byte-block = f .blocks (x / 64) (omega arith) .low
+pub fits-less : {s : List ℕ} {n i z : ℕ} (y : ℕ) → y ≤ z → FileFits s n i z → FileFits s n i y
+fits-less y l f = record { sound = f .sound; file = f .file; size = let w = f .size in omega arith }
 
-    pub byte-inside : (m : ℕ) → m ≤ 64 - x % 64 → byteAt s n i x + m ≤ length s
-    unfolding byteAt
-    byte-inside m h = let b = f .blocks (x / 64) (omega arith) in omega arith
+pub fits-inode : {s : List ℕ} {n i z : ℕ} → FileFits s n i z → InodeFits s n i
+fits-inode f = kind-fits (f .sound) fileKind _ (f .file)
 
-  -- the rest of the block that z falls in
-  module _ (h : z % 64 ≡ 0 → ⊥) where
-    pub edge-block : 1 ≤ kthBlock s n i (z / 64)
-    edge-block = f .blocks (z / 64) (omega arith) .low
+pub fits-most : {s : List ℕ} {n i z : ℕ} → FileFits s n i z → z ≤ mostFileBytes
+fits-most f = let a = kind-size (f .sound) fileKind _ (f .file) in let b = f .size in omega arith
 
-    pub edge-inside : byteAt s n i z + (64 - z % 64) ≤ length s
-    unfolding byteAt
-    edge-inside = let b = f .blocks (z / 64) (omega arith) in omega arith
+-- byte x below z: its block, and the bytes from it on in the block
+module _ {s : List ℕ} {n i z : ℕ} (f : FileFits s n i z) (x : ℕ) (l : blockBytes * (x / blockBytes) < z) where
+  pub byte-in : FileFits s n i (blockBytes * (x / blockBytes) + 1)
+  byte-in = fits-less (blockBytes * (x / blockBytes) + 1) (omega arith) f
+
+  pub byte-inside : (m : ℕ) → m ≤ blockBytes - x % blockBytes → byteAt s n i x + m ≤ length s
+  unfolding byteAt
+  byte-inside m h =
+      let w = f .size in
+      let b = byte-fits (fits-holds f) (x / 64) (omega arith) in
+      let c = b .low in
+      let d = b .inside in
+      omega arith
+
+-- the p-th block of bytes, where the code looks for it
+module _ {s : List ℕ} {n i : ℕ} (p : ℕ) (f : FileFits s n i (blockBytes * p + 1)) where
+  inside : blockBytes * p < sizeOf s i
+  inside = let z = f .size in omega arith
+
+  pub block-short : (long : Bool) → long ≡ isLong s i → long ≡ false → (p < addressCount) × (kthBlock s n i p ≡ bytesBlock s n i p)
+  block-short long e d =
+      let q = sym e ∙ d in
+      let k = fits-holds f .kind in
+      let u = short-under s n i p k q in
+      let w = inside in
+      (omega arith, bytes-short s n i p k q)
+
+  pub block-high : (long : Bool) → long ≡ isLong s i → long ≡ true → addressPlace ≤ p → (p + 1 < blocksUsed (sizeOf s i)) × (kthBlock s n i (p + 1) ≡ bytesBlock s n i p)
+  block-high long e d l =
+      let q = sym e ∙ d in
+      let u = place-high (sizeOf s i) p (long-over s i q) l in
+      let w = byte-place (fits-holds f) p inside in
+      (omega arith, bytes-high s n i p q l)
+
+  pub block-few : p < mostBlocks
+  block-few = let m = fits-most f in omega arith
+
+  pub block-some : (c : ℕ) → c ≡ bytesBlock s n i p → 1 ≤ c
+  block-some c e = subst (λ (a : ℕ). 1 ≤ a) (sym e) (byte-fits (fits-holds f) p inside .low)
+
+pub byte-is : (s : List ℕ) (n i x c r : ℕ) → c ≡ bytesBlock s n i (x / blockBytes) → r ≡ blockAt n c → r + x % blockBytes ≡ byteAt s n i x
+unfolding byteAt
+byte-is s n i x c r e d = omega arith
 
 -- ---- bytes of a file
 module _ (s : List ℕ) (n i : ℕ) where
@@ -74,9 +108,9 @@ module _ (s : List ℕ) (n i : ℕ) where
       let l : j < m = omega arith in
       let d : (x + j) / 64 ≡ x / 64 = omega arith in
       let r : (x + j) % 64 ≡ x % 64 + j = omega arith in
-      let p : blockAt n (kthBlock s n i (x / 64)) + (x % 64 + j) ≡ byteAt s n i x + j = omega arith in
+      let p : blockAt n (bytesBlock s n i (x / 64)) + (x % 64 + j) ≡ byteAt s n i x + j = omega arith in
       getD-table (λ k. fileByte s n i (x + k)) m j l
-      ∙ rw (d, r) (getD-part s (blockAt n (kthBlock s n i (x / 64))) 64 (x % 64 + j) (omega arith))
+      ∙ rw (d, r) (getD-part s (blockAt n (bytesBlock s n i (x / 64))) 64 (x % 64 + j) (omega arith))
       ∙ ap (λ (q : ℕ). getD s q 0) p
       ∙ sym (getD-part s (byteAt s n i x) m j l))
 

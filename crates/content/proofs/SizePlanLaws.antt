@@ -44,10 +44,6 @@ module _ (s : List ℕ) (n i z : ℕ) where
   shorten-done x f e l = rw (f, le-ltb (sizeOf s i) z (omega arith))
 
 -- ---- write of k bytes at o
-pub used-more : (a b : ℕ) → a ≤ b → blocksUsed a ≤ blocksUsed b
-unfolding blocksUsed
-used-more a b l = omega arith
-
 module _ (s : List ℕ) (n i o k : ℕ) where
   pub write-wrong : isFile s n i ≡ false → NoNumber WrongInode ≡ writePlan s n i o k
   unfolding writePlan
@@ -57,11 +53,11 @@ module _ (s : List ℕ) (n i o k : ℕ) where
     pub write-off : x < o → NoNumber PastEnd ≡ writePlan s n i o k
     write-off l = sym (write-past s n i o k f (omega arith))
 
-    pub write-long : 768 - o < k → NoNumber PastEnd ≡ writePlan s n i o k
+    pub write-long : mostFileBytes - o < k → NoNumber PastEnd ≡ writePlan s n i o k
     write-long l = sym (write-beyond s n i o k f (omega arith))
 
     -- z is the new size, q the header, u and v the blocks that z and x use
-    module _ (z u v : ℕ) (q : Header) (l : o ≤ x) (m : k ≤ 768 - o) (w : x ≤ 768) (a : z ≡ max x (o + k)) (b : u ≡ blocksUsed z) (c : v ≡ blocksUsed x) (g : q ≡ headerOf s) where
+    module _ (z u v : ℕ) (q : Header) (l : o ≤ x) (m : k ≤ mostFileBytes - o) (w : x ≤ mostFileBytes) (a : z ≡ max x (o + k)) (b : u ≡ blocksUsed z) (c : v ≡ blocksUsed x) (g : q ≡ headerOf s) where
       new-size : z ≡ max (sizeOf s i) (o + k)
       new-size = a ∙ ap (λ (y : ℕ). max y (o + k)) e
 

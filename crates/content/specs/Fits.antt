@@ -1,17 +1,20 @@
--- Where the bytes of a file stand, and which lie inside of the store. n is the inode count.
-use Prim.Native.Nat.{ℕ, _+_, _*_, _/_, _%_, _≤_, _<_}
+-- Where the bytes of a file stand. n is the inode count.
+use Prim.Native.Nat.{ℕ, _+_, _/_, _%_, _≤_}
+use mathlib.Core.Path.{_≡_}
+use mathlib.Core.Bool.{true}
 use mathlib.Core.List.{List}
-use Rattle.blocks.specs.Fits.{BlockFits}
-use Rattle.layout.specs.Sizes.{blockBytes, mostFileBytes}
-use Rattle.blocks.specs.Block.{blockAt, kthBlock}
-use Rattle.layout.specs.Fits.{InodeFits}
+use Rattle.layout.specs.Sizes.{blockBytes}
+use Rattle.layout.specs.Inode.{sizeOf, isFile}
+use Rattle.blocks.specs.Block.{blockAt, bytesBlock}
+use Rattle.sound.specs.Sound.{blocksIn}
+use Rattle.sound.specs.Counted.{SoundStore}
 
--- where byte x of inode i stands
+-- where byte x of file i stands
 unfoldable pub byteAt : List ℕ → ℕ → ℕ → ℕ → ℕ
-byteAt s n i x = blockAt n (kthBlock s n i (x / blockBytes)) + x % blockBytes
+byteAt s n i x = blockAt n (bytesBlock s n i (x / blockBytes)) + x % blockBytes
 
--- the blocks of the first z bytes of inode i lie inside of s
+-- s is a sound store with a file i of z bytes or more
 pub record FileFits (s : List ℕ) (n i z : ℕ) : Type 0 where
-  pub inode : InodeFits s n i
-  pub most : z ≤ mostFileBytes
-  pub blocks : (k : ℕ) → blockBytes * k < z → BlockFits s n (kthBlock s n i k)
+  pub sound : SoundStore s n (blocksIn s)
+  pub file : isFile s n i ≡ true
+  pub size : z ≤ sizeOf s i

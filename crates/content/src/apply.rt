@@ -1,41 +1,86 @@
 // The bytes of a file: read and written block by block, made more and fewer. n and b are the store's counts.
 ghost use mathlib.Core.Path.{_≡_};
-ghost use mathlib.Core.Bool.{true};
-ghost use Prim.Native.Nat.{_+_, _-_, _/_, _%_, _<_, _≤_, min};
-ghost use lib.ListN.{length};
-ghost use Rattle.octets.specs.Octets.{splice};
-ghost use Rattle.layout.specs.Sizes.{headerBytes, addressCount, blockBytes, mostFileBytes};
+ghost use mathlib.Core.Bool.{true, _&&_};
+ghost use Prim.Native.Nat.{_+_, _-_, _*_, _/_, _%_, _<_, _≤_, min};
+ghost use lib.Dec.{leb};
+ghost use lib.ListN.{length, getD, take, drop};
+ghost use Rattle.bounded.specs.Search.{pick};
+ghost use Rattle.bounded.specs.Table.{table};
+ghost use Rattle.octets.specs.Octets.{splice, wordBytes};
+ghost use Rattle.layout.specs.Sizes.{headerBytes, addressCount, addressPlace, blockBytes, mostBlocks, mostDirectBytes, mostFileBytes, mostImageBlocks};
 ghost use Rattle.layout.specs.Header.{headerOf, lessFree, moreFree};
-ghost use Rattle.layout.specs.Inode.{sizeOf, inodeOf, isFile};
+ghost use Rattle.layout.specs.Inode.{sizeOf, isFile};
 ghost use Rattle.layout.specs.Fits.{InodeFits};
-ghost use Rattle.blocks.specs.Block.{blocksUsed, kthBlock};
+ghost use Rattle.blocks.specs.Block.{blockAt, blocksUsed, isLong, kthBlock, bytesBlock};
+ghost use Rattle.blocks.specs.Free.{blockFree};
 ghost use Rattle.blocks.specs.Fits.{Sized};
+ghost use Rattle.ledger.specs.Change.{across, added, kept};
+ghost use Rattle.ledger.specs.Nth.{nthFree};
 ghost use Rattle.sound.specs.Sound.{blocksIn};
 ghost use Rattle.sound.specs.Counted.{SoundStore};
+ghost use Rattle.growth.specs.Extend.{zeroBlocks, putSize, putBlocks, taken, extended, cutBlocks};
 ghost use Rattle.content.specs.declared.NumberPlan.the-variants.{To};
 ghost use Rattle.content.specs.Fits.{byteAt, FileFits};
-ghost use Rattle.content.specs.Content.{fileBytes, putFile, addBlock, addBlocks, putSize, zeroRest, keepFirst};
+ghost use Rattle.content.specs.Content.{fileBytes, putFile, addBlock, zeroRest};
 ghost use Rattle.content.specs.Plan.{writePlan};
 ghost use Rattle.content.specs.Apply.{written, shortened};
 use crate::plan::lesser;
 use blocks::block_at;
 use blocks::blocks_used;
 use blocks::free::named_blocks;
+use blocks::further;
+use blocks::is_long;
 use blocks::kth_block;
 use blocks::map;
 use blocks::zero_block;
 use layout::header::Header;
 use layout::header::put_free;
+use layout::inode;
 use layout::inode::Inode;
 use layout::sizes::ADDRESS_COUNT;
+use layout::sizes::ADDRESS_PLACE;
 use layout::sizes::BLOCK_BYTES;
+use layout::sizes::FURTHER_COUNT;
+use layout::sizes::MOST_BLOCKS;
+use layout::sizes::MOST_DIRECT_BYTES;
 
-// Where byte x of the inode stands.
-fn byte_at(s: &[u8], n: usize, i: usize, x: usize) -> usize
-    requires { ⌜ InodeFits (now s) n i × (x < mostFileBytes) × (1 ≤ kthBlock (now s) n i (x / blockBytes)) ⌝ }
+// ---- where bytes stand
+// The k-th block of inode i, one that its size uses.
+pub fn kth_used(s: &[u8], n: usize, i: usize, k: usize) -> u16
+    requires { ⌜ SoundStore (now s) n (blocksIn (now s)) × (1 ≤ i) × (i ≤ n) × (k < blocksUsed (sizeOf (now s) i)) ⌝ }
+    ensures { λ r. ⌜ r ≡ kthBlock (now (s .entry)) n i k ⌝ }
+{
+    if k < ADDRESS_COUNT {
+        return kth_block(s, n, i, k);
+    }
+    further(
+        s,
+        n,
+        kth_block(s, n, i, ADDRESS_PLACE) as usize,
+        k - ADDRESS_COUNT,
+    )
+}
+
+// The p-th block of bytes of file i; long: it has an address block, which is passed over. A short file costs the first test alone.
+fn bytes_block(s: &[u8], n: usize, i: usize, long: bool, p: usize) -> u16
+    requires { ⌜ FileFits (now s) n i (blockBytes * p + 1) × (long ≡ isLong (now s) i) ⌝ }
+    ensures { λ r. ⌜ r ≡ bytesBlock (now (s .entry)) n i p ⌝ }
+{
+    if !long {
+        return kth_block(s, n, i, p);
+    }
+    if p < ADDRESS_PLACE {
+        return kth_block(s, n, i, p);
+    }
+    kth_used(s, n, i, p + 1)
+}
+
+// Where byte x of file i stands.
+fn byte_at(s: &[u8], n: usize, i: usize, long: bool, x: usize) -> usize
+    requires { ⌜ FileFits (now s) n i (blockBytes * (x / blockBytes) + 1) × (long ≡ isLong (now s) i) ⌝ }
     ensures { λ r. ⌜ r ≡ byteAt (now (s .entry)) n i x ⌝ }
 {
-    block_at(n, kth_block(s, n, i, x / BLOCK_BYTES) as usize) + x % BLOCK_BYTES
+    block_at(n, bytes_block(s, n, i, long, x / BLOCK_BYTES) as usize) + x % BLOCK_BYTES
 }
 
 // How many of the k bytes from x on stand in one block.
@@ -50,29 +95,32 @@ pub fn read_file(s: &[u8], n: usize, i: usize, o: usize, k: usize, out: &mut [u8
     requires { ⌜ SoundStore (now s) n (blocksIn (now s)) × (isFile (now s) n i ≡ true) × (o + k ≤ sizeOf (now s) i) × (k ≤ length (now out)) ⌝ }
     ensures { λ _. ⌜ now (out .exit) ≡ splice (now (out .entry)) 0 (fileBytes (now (s .entry)) n i o k) ⌝ }
 {
+    let long = is_long(s, n, i);
     let mut j = 0;
     while j < k {
         let count = run(o + j, k - j);
-        octets::copy_range(&mut *out, j, s, byte_at(s, n, i, o + j), count);
+        octets::copy_range(&mut *out, j, s, byte_at(s, n, i, long, o + j), count);
         j = j + count;
     }
 }
 
-// The bytes xs, from byte o of inode i on.
+// The bytes xs, from byte o of file i on.
 fn put_file(s: &mut [u8], n: usize, i: usize, o: usize, xs: &[u8])
     requires { ⌜ FileFits (now s) n i (o + length (now xs)) ⌝ }
     ensures { λ _. ⌜ now (s .exit) ≡ putFile (now (s .entry)) n i o (now (xs .entry)) ⌝ }
 {
+    let long = is_long(s, n, i);
     let k = xs.len();
     let mut j = 0;
     while j < k {
         let count = run(o + j, k - j);
-        let p = byte_at(s, n, i, o + j);
+        let p = byte_at(s, n, i, long, o + j);
         octets::copy_range(&mut *s, p, xs, j, count);
         j = j + count;
     }
 }
 
+// ---- free counts
 pub fn more_free(s: &mut [u8], inodes: u16, blocks: u16)
     requires { ⌜ (headerBytes ≤ length (now s)) × (headerOf (now s) .«free_inodes» + inodes < 65536) × (headerOf (now s) .«free_blocks» + blocks < 65536) ⌝ }
     ensures { λ _. ⌜ now (s .exit) ≡ moreFree (now (s .entry)) inodes blocks ⌝ }
@@ -89,46 +137,7 @@ pub fn less_free(s: &mut [u8], inodes: u16, blocks: u16)
     put_free(&mut *s, h.free_inodes - inodes, h.free_blocks - blocks);
 }
 
-// Zeroes the rest of the block that the size z ends in.
-fn zero_rest(s: &mut [u8], n: usize, i: usize, z: usize)
-    requires { ⌜ FileFits (now s) n i z ⌝ }
-    ensures { λ _. ⌜ now (s .exit) ≡ zeroRest (now (s .entry)) n i z ⌝ }
-{
-    let x = z % BLOCK_BYTES;
-    if x == 0 {
-        return;
-    }
-    let p = byte_at(s, n, i, z);
-    octets::zero_range(&mut *s, p, BLOCK_BYTES - x);
-}
-
-// The first k addresses, 0 for the rest.
-fn keep_first(a: [u16; ADDRESS_COUNT], k: usize) -> [u16; ADDRESS_COUNT]
-    requires { ⌜ k ≤ addressCount ⌝ }
-    ensures { λ r. ⌜ r ≡ keepFirst a k ⌝ }
-{
-    let mut kept = [0u16; ADDRESS_COUNT];
-    for j in 0..k {
-        kept[j] = a[j];
-    }
-    kept
-}
-
-// Leaves the first z bytes of inode i: the blocks past them are free again.
-pub fn shorten_file(s: &mut [u8], n: usize, i: usize, z: usize)
-    requires { ⌜ SoundStore (now s) n (blocksIn (now s)) × (isFile (now s) n i ≡ true) × (z ≤ sizeOf (now s) i) ⌝ }
-    ensures { λ _. ⌜ now (s .exit) ≡ shortened (now (s .entry)) n i z ⌝ }
-{
-    let old = Inode::read(s, n, i);
-    let kept = blocks_used(z);
-    let freed = blocks_used(old.size as usize) - kept;
-    let a = old.addresses;
-    zero_rest(&mut *s, n, i, z);
-    old.with_blocks(z, keep_first(a, kept)).write(&mut *s, n, i);
-    more_free(&mut *s, 0, freed as u16);
-}
-
-// Block c becomes the next of inode i, zeroed first.
+// Block c becomes the next of directory i, zeroed first.
 pub fn add_block(s: &mut [u8], n: usize, b: usize, i: usize, c: usize)
     requires { ⌜ InodeFits (now s) n i × Sized (now s) n b × (1 ≤ c) × (c ≤ b) × (blocksUsed (sizeOf (now s) i) < addressCount) × (1 ≤ headerOf (now s) .«free_blocks») ⌝ }
     ensures { λ _. ⌜ now (s .exit) ≡ addBlock (now (s .entry)) n i c ⌝ }
@@ -143,46 +152,188 @@ pub fn add_block(s: &mut [u8], n: usize, b: usize, i: usize, c: usize)
     less_free(&mut *s, 0, 1);
 }
 
-// The m lowest free blocks, each zeroed first, are the next of inode i, whose record is old; z is its size. One map tells them all, for a block that was taken is below those that are left.
-fn grow(s: &mut [u8], n: usize, b: usize, i: usize, old: Inode, m: usize, z: usize)
-    requires { ⌜ SoundStore (now s) n b × (isFile (now s) n i ≡ true) × (old ≡ inodeOf (now s) n i) ⌝ }
-    requires { ⌜ (1 ≤ m) × (blocksUsed (sizeOf (now s) i) + m ≤ addressCount) × (m ≤ headerOf (now s) .«free_blocks») × (z ≤ mostFileBytes) ⌝ }
-    ensures { λ _. ⌜ now (s .exit) ≡ putSize (addBlocks (now (s .entry)) n b i m) n i z ⌝ }
+// ---- all blocks of a file, in their order
+// The place k, where the address block and the block behind it may change places.
+fn place_across(crosses: bool, k: usize) -> usize
+    ensures { λ r. ⌜ r ≡ pick crosses (across k) k ⌝ }
 {
-    let used = blocks_used(old.size as usize);
-    let map = named_blocks(s, n);
-    let mut a = old.addresses;
+    if !crosses {
+        return k;
+    }
+    if k == ADDRESS_PLACE {
+        return ADDRESS_COUNT;
+    }
+    if k == ADDRESS_COUNT {
+        return ADDRESS_PLACE;
+    }
+    k
+}
+
+// The first count blocks of inode i, 0 for the rest; crosses: its address block is left out.
+fn kept_row(s: &[u8], n: usize, i: usize, crosses: bool, count: usize) -> [u16; MOST_BLOCKS]
+    requires { ⌜ SoundStore (now s) n (blocksIn (now s)) × (1 ≤ i) × (i ≤ n) × (count ≤ blocksUsed (sizeOf (now s) i)) × (crosses ≡ true → addressCount < blocksUsed (sizeOf (now s) i)) ⌝ }
+    ensures { λ r. ⌜ r ≡ table (kept crosses (kthBlock (now (s .entry)) n i) count) mostBlocks ⌝ }
+{
+    let mut row = [0u16; MOST_BLOCKS];
+    for k in 0..count {
+        row[k] = kth_used(s, n, i, place_across(crosses, k));
+    }
+    row
+}
+
+// The used blocks of inode i, and behind them the m lowest free ones, each zeroed first. One map tells them all, for a block that was taken is below those that are left.
+fn taken_row(
+    s: &mut [u8],
+    n: usize,
+    b: usize,
+    i: usize,
+    used: usize,
+    m: usize,
+) -> [u16; MOST_BLOCKS]
+    requires { ⌜ SoundStore (now s) n b × (1 ≤ i) × (i ≤ n) × (used ≡ blocksUsed (sizeOf (now s) i)) × (used + m ≤ mostBlocks) × (m ≤ headerOf (now s) .«free_blocks») ⌝ }
+    ensures { λ r. ⌜ (now (s .exit) ≡ zeroBlocks (now (s .entry)) n (nthFree (blockFree (now (s .entry)) n) b) m) × (r ≡ table (added (kthBlock (now (s .entry)) n i) used m (nthFree (blockFree (now (s .entry)) n) b)) mostBlocks) ⌝ }
+{
+    let map = named_blocks(s, n, 0, false);
+    let mut row = kept_row(s, n, i, false, used);
     let mut taken = 0;
     for j in 0..m {
         taken = map::next(&map, taken + 1, b);
         zero_block(&mut *s, n, b, taken);
-        a[used + j] = taken as u16;
+        row[used + j] = taken as u16;
     }
-    old.with_blocks(z, a).write(&mut *s, n, i);
+    row
+}
+
+// The row, with the address block before the block that stood in its place where the file crosses the edge.
+fn row_across(crosses: bool, row: [u16; MOST_BLOCKS]) -> [u16; MOST_BLOCKS]
+    ensures { λ r. ⌜ r ≡ table (λ u. getD row (pick crosses (across u) u) 0) mostBlocks ⌝ }
+{
+    let mut a = row;
+    if !crosses {
+        return a;
+    }
+    a[ADDRESS_PLACE] = row[ADDRESS_COUNT];
+    a[ADDRESS_COUNT] = row[ADDRESS_PLACE];
+    a
+}
+
+// The twelve addresses of the row that stand in the record.
+fn direct(row: [u16; MOST_BLOCKS]) -> [u16; ADDRESS_COUNT]
+    ensures { λ r. ⌜ r ≡ take addressCount row ⌝ }
+{
+    let mut a = [0u16; ADDRESS_COUNT];
+    for k in 0..ADDRESS_COUNT {
+        a[k] = row[k];
+    }
+    a
+}
+
+// The others, from o on.
+fn put_further(s: &mut [u8], o: usize, row: [u16; MOST_BLOCKS])
+    requires { ⌜ o + blockBytes ≤ length (now s) ⌝ }
+    ensures { λ _. ⌜ now (s .exit) ≡ splice (now (s .entry)) o (wordBytes (drop addressCount row)) ⌝ }
+{
+    for k in 0..FURTHER_COUNT {
+        octets::put_16(&mut *s, o + 2 * k, row[ADDRESS_COUNT + k]);
+    }
+}
+
+// The size z and the blocks of the row. The record is read here, changed by value and written once.
+fn put_blocks(s: &mut [u8], n: usize, i: usize, z: usize, row: [u16; MOST_BLOCKS])
+    requires { ⌜ InodeFits (now s) n i × (z ≤ mostFileBytes) × (mostDirectBytes < z → (1 ≤ getD row addressPlace 0) × (getD row addressPlace 0 ≤ mostImageBlocks) × (blockAt n (getD row addressPlace 0) + blockBytes ≤ length (now s))) ⌝ }
+    ensures { λ _. ⌜ now (s .exit) ≡ putBlocks (now (s .entry)) n i z row ⌝ }
+{
+    let old = Inode::read(s, n, i);
+    let a = row[ADDRESS_PLACE] as usize;
+    old.with_blocks(z, direct(row)).write(&mut *s, n, i);
+    if z <= MOST_DIRECT_BYTES {
+        return;
+    }
+    put_further(&mut *s, block_at(n, a), row);
+}
+
+// ---- fewer bytes
+// Zeroes the rest of the block that the size z ends in.
+fn zero_rest(s: &mut [u8], n: usize, i: usize, z: usize)
+    requires { ⌜ FileFits (now s) n i z ⌝ }
+    ensures { λ _. ⌜ now (s .exit) ≡ zeroRest (now (s .entry)) n i z ⌝ }
+{
+    let x = z % BLOCK_BYTES;
+    if x == 0 {
+        return;
+    }
+    let long = is_long(s, n, i);
+    let p = byte_at(s, n, i, long, z);
+    octets::zero_range(&mut *s, p, BLOCK_BYTES - x);
+}
+
+// With z bytes the inode has an address block no longer.
+fn crosses_down(s: &[u8], n: usize, i: usize, z: usize) -> bool
+    requires { ⌜ InodeFits (now s) n i ⌝ }
+    ensures { λ r. ⌜ r ≡ isLong (now (s .entry)) i && leb z mostDirectBytes ⌝ }
+{
+    if !is_long(s, n, i) {
+        return false;
+    }
+    z <= MOST_DIRECT_BYTES
+}
+
+// Leaves the blocks of the first z bytes of file i: those past them are free again.
+fn cut_blocks(s: &mut [u8], n: usize, i: usize, z: usize)
+    requires { ⌜ FileFits (now s) n i z ⌝ }
+    ensures { λ _. ⌜ now (s .exit) ≡ cutBlocks (now (s .entry)) n i z ⌝ }
+{
+    let kept = blocks_used(z);
+    let freed = blocks_used(inode::size(s, n, i) as usize) - kept;
+    let crosses = crosses_down(s, n, i, z);
+    let row = kept_row(s, n, i, crosses, kept);
+    put_blocks(&mut *s, n, i, z, row);
+    more_free(&mut *s, 0, freed as u16);
+}
+
+// Leaves the first z bytes of file i.
+pub fn shorten_file(s: &mut [u8], n: usize, i: usize, z: usize)
+    requires { ⌜ SoundStore (now s) n (blocksIn (now s)) × (isFile (now s) n i ≡ true) × (z ≤ sizeOf (now s) i) ⌝ }
+    ensures { λ _. ⌜ now (s .exit) ≡ shortened (now (s .entry)) n i z ⌝ }
+{
+    zero_rest(&mut *s, n, i, z);
+    cut_blocks(&mut *s, n, i, z);
+}
+
+// ---- more bytes
+// The size z for file i, with m blocks more.
+fn grow(s: &mut [u8], n: usize, b: usize, i: usize, m: usize, z: usize)
+    requires { ⌜ SoundStore (now s) n b × (isFile (now s) n i ≡ true) × (sizeOf (now s) i ≤ z) × (z ≤ mostFileBytes) ⌝ }
+    requires { ⌜ (1 ≤ m) × (blocksUsed z ≡ blocksUsed (sizeOf (now s) i) + m) × (m ≤ headerOf (now s) .«free_blocks») ⌝ }
+    ensures { λ _. ⌜ now (s .exit) ≡ taken (now (s .entry)) n b i z m ⌝ }
+{
+    let used = blocks_used(inode::size(s, n, i) as usize);
+    let row = taken_row(&mut *s, n, b, i, used, m);
+    put_blocks(&mut *s, n, i, z, row_across(used == ADDRESS_COUNT, row));
     less_free(&mut *s, 0, m as u16);
 }
 
-// The size z for inode i, whose record is old; its addresses stay.
-fn put_size(s: &mut [u8], n: usize, i: usize, old: Inode, z: usize)
-    requires { ⌜ InodeFits (now s) n i × (old ≡ inodeOf (now s) n i) × (z ≤ mostFileBytes) ⌝ }
+// The size z for inode i; its addresses stay.
+fn put_size(s: &mut [u8], n: usize, i: usize, z: usize)
+    requires { ⌜ InodeFits (now s) n i × (z ≤ mostFileBytes) ⌝ }
     ensures { λ _. ⌜ now (s .exit) ≡ putSize (now (s .entry)) n i z ⌝ }
 {
+    let old = Inode::read(s, n, i);
     old.with_size(z).write_attributes(&mut *s, n, i);
 }
 
-// The size z with the blocks that it needs. The record is read here alone, changed by value and written once.
+// The size z with the blocks that it needs.
 fn extend(s: &mut [u8], n: usize, b: usize, i: usize, z: usize)
     requires { ⌜ SoundStore (now s) n b × (isFile (now s) n i ≡ true) ⌝ }
     requires { ⌜ (sizeOf (now s) i ≤ z) × (z ≤ mostFileBytes) × (blocksUsed z - blocksUsed (sizeOf (now s) i) ≤ headerOf (now s) .«free_blocks») ⌝ }
-    ensures { λ _. ⌜ now (s .exit) ≡ putSize (addBlocks (now (s .entry)) n b i (blocksUsed z - blocksUsed (sizeOf (now (s .entry)) i))) n i z ⌝ }
+    ensures { λ _. ⌜ now (s .exit) ≡ extended (now (s .entry)) n b i z ⌝ }
 {
-    let old = Inode::read(s, n, i);
-    let more = blocks_used(z) - blocks_used(old.size as usize);
+    let more = blocks_used(z) - blocks_used(inode::size(s, n, i) as usize);
     if more == 0 {
-        put_size(&mut *s, n, i, old, z);
+        put_size(&mut *s, n, i, z);
         return;
     }
-    grow(&mut *s, n, b, i, old, more, z);
+    grow(&mut *s, n, b, i, more, z);
 }
 
 // The bytes xs from o on, as planned: z is the new size.

@@ -9,15 +9,23 @@ use lib.ListN.{length}
 use Rattle.bounded.specs.Search.{pick, onFound}
 use Rattle.bounded.specs.declared.Found.{Found}
 use Rattle.bounded.specs.declared.Found.the-variants.{At, Absent}
+use Rattle.bounded.proofs.BoolLaws.{holds}
 use Rattle.bounded.proofs.SearchLaws.{found-lowest}
-use Rattle.layout.specs.Sizes.{rootInode, mostImageBlocks, blockBytes}
-use Rattle.layout.specs.Inode.{sizeOf, inodeOf, putAttributes}
-use Rattle.blocks.specs.Block.{blockAt, blocksUsed, kthBlock}
+use Rattle.layout.specs.Sizes.{rootInode, addressCount, mostBlocks, blockBytes}
+use Rattle.layout.specs.Inode.{sizeOf, inodeOf, putAttributes, addressIndex}
+use Rattle.layout.specs.Fits.{InodeFits}
 use Rattle.layout.specs.declared.inode.Inode.{Inode}
-use Rattle.blocks.specs.Fits.{Sized}
+use Rattle.blocks.specs.Block.{putInBlock, blocksUsed, isLong, addressBlock, kthBlock}
+use Rattle.blocks.specs.Free.{longBut}
+use Rattle.blocks.specs.Fits.{BlockFits}
+use Rattle.blocks.proofs.KthLaws.{kth-none}
+use Rattle.ledger.proofs.WriteLaws.{Within, put-within}
 use Rattle.desk.specs.Desk.{deskOf, putDesk, putCopied}
 use Rattle.desk.specs.Next.{locking, copyingOne, unlocking, finishing, stopping}
 use Rattle.desk.specs.declared.Desk.{Desk}
+use Rattle.sound.specs.Sound.{blocksIn}
+use Rattle.sound.specs.Counted.{SoundStore}
+use Rattle.changes.proofs.StoreLaws.{blocks-of}
 use Rattle.answers.specs.declared.Answer.{Answer}
 use Rattle.answers.specs.declared.Answer.the-variants.{Done, Refused}
 use Rattle.answers.specs.declared.Refusal.the-variants.{ImageFull}
@@ -26,6 +34,7 @@ use Rattle.checkpoint.specs.Notes.{isCopied}
 use Rattle.checkpoint.specs.Copier.{Step, lock, copy, close, finish, full, nextInode, targetBlock, unlinkedInode, finishImage, freeStep, lockedStep, stepOf, stepImage, stepDesk}
 use Rattle.checkpoint.specs.Live.{Outcome, left, doStep}
 use Rattle.checkpoint.proofs.Copy.TargetLaws.{target-at}
+use Rattle.copier.specs.Held.{Locked, Target, OpenImage}
 
 -- ---- nothing is locked
 module _ (m d : List ℕ) (n : ℕ) (r : Bool) (e : r ≡ isCopied d n rootInode) where
@@ -48,25 +57,28 @@ module _ (m d : List ℕ) (n : ℕ) (r : Bool) (e : r ≡ isCopied d n rootInode
 
 -- ---- inode i is locked
 module _ (s m : List ℕ) (n b i k u : ℕ) (e : u ≡ blocksUsed (sizeOf s i)) where
+  abbrev long : ℕ → Bool
+  long = longBut m i (isLong s i)
+
   abbrev copyOr : Step
-  copyOr = onFound (targetBlock m n b (kthBlock s n i k)) (λ c. copy i k c) full
+  copyOr = onFound (targetBlock long m n b (kthBlock s n i k)) (λ c. copy i k c) full
 
   pub locked-close : u ≤ k → lockedStep s m n b i k ≡ close i
   unfolding lockedStep
   locked-close h = ap (λ (t : Bool). pick t copyOr (close i)) (le-ltb k (blocksUsed (sizeOf s i)) (omega arith))
 
-  module _ (h : k < u) (a : ℕ) (p : a ≡ kthBlock s n i k) (f : Found) (g : f ≡ targetBlock m n b a) where
+  module _ (h : k < u) (l : Bool) (q : l ≡ isLong s i) (a : ℕ) (p : a ≡ kthBlock s n i k) (f : Found) (g : f ≡ targetBlock (longBut m i l) m n b a) where
     locked-block : lockedStep s m n b i k ≡ onFound f (λ c. copy i k c) full
     unfolding lockedStep
     locked-block =
         ap (λ (t : Bool). pick t copyOr (close i)) (lt-ltb k (blocksUsed (sizeOf s i)) (omega arith))
-        ∙ ap (λ (y : Found). onFound y (λ c. copy i k c) full) (sym (g ∙ ap (targetBlock m n b) p))
+        ∙ ap (λ (y : Found). onFound y (λ c. copy i k c) full) (sym (g ∙ ap₂ (λ (x : Bool) (y : ℕ). targetBlock (longBut m i x) m n b y) q p))
 
     pub locked-copy : (c : ℕ) → f ≡ At c → lockedStep s m n b i k ≡ copy i k c
-    locked-copy c q = locked-block ∙ ap (λ (y : Found). onFound y (λ c. copy i k c) full) q
+    locked-copy c e = locked-block ∙ ap (λ (y : Found). onFound y (λ c. copy i k c) full) e
 
     pub locked-full : f ≡ Absent → lockedStep s m n b i k ≡ full
-    locked-full q = locked-block ∙ ap (λ (y : Found). onFound y (λ c. copy i k c) full) q
+    locked-full e = locked-block ∙ ap (λ (y : Found). onFound y (λ c. copy i k c) full) e
 
 -- ---- both
 module _ (s m d : List ℕ) (n : ℕ) (h : Desk) (e : h ≡ deskOf d) where
@@ -122,11 +134,48 @@ pub next-few : (m d : List ℕ) (n i : ℕ) (f : Found) → f ≡ nextInode m d 
 unfolding nextInode
 next-few m d n i f g h = let l = found-lowest (λ i. not (isCopied d n i) && inodeNamed m n i) 1 n i (sym g ∙ h) .below in omega arith
 
-pub target-inside : (m : List ℕ) (n b x c : ℕ) (f : Found) → Sized m n b → f ≡ targetBlock m n b x → f ≡ At c → (1 ≤ c) × (c ≤ mostImageBlocks) × (blockAt n c + blockBytes ≤ length m)
-target-inside m n b x c f z g h =
-    let t = target-at m n b x c (sym g ∙ h) in
-    let l = t .low in
-    let u = t .high in
-    let k = z .blocks in
-    let w = z .long in
-    (l, omega arith, omega arith)
+-- ---- the block that a block step takes
+pub locked-few : {s : List ℕ} {n : ℕ} {h : Desk} → Locked s n h → h .transferred < blocksUsed (sizeOf s (h .locked)) → h .transferred < mostBlocks
+locked-few {s} {n} {h} l q = let w = blocks-of (l .store) (h .locked) (l .low) (l .high) .few in omega arith
+
+-- behind twelve blocks an inode of a sound store is long
+used-long : {s : List ℕ} {n : ℕ} → SoundStore s n (blocksIn s) → (i k : ℕ) → 1 ≤ i → i ≤ n → k < blocksUsed (sizeOf s i) → addressCount ≤ k → isLong s i ≡ true
+used-long {s} {n} f i k l u q b =
+    holds (isLong s i) (λ e. let w = blocks-of f i l u .blocks k q .low in let z = kth-none (isLong s i) s n i k e b in omega arith)
+
+pub target-inside : {s m : List ℕ} {n : ℕ} {h : Desk} → Locked s n h → OpenImage s m n h → h .transferred < blocksUsed (sizeOf s (h .locked))
+    → (long : ℕ → Bool) (x c : ℕ) (f : Found) → f ≡ targetBlock long m n (h .blocks) x → f ≡ At c → Target m n h c
+target-inside {s} {m} {n} {h} l o q long x c f g e =
+    let t = target-at long m n (h .blocks) x c (sym g ∙ e) in
+    let a = t .low in
+    let b = t .high in
+    let k = o .sized .blocks in
+    let w = o .sized .long in
+    record {
+      few = o .sized .inodes;
+      most = omega arith;
+      block = record { low = a; inside = omega arith };
+      further = λ r. record {
+        low = let y = o .further (used-long (l .store) (h .locked) (h .transferred) (l .low) (l .high) q r) r in omega arith;
+        inside = let y = l .low in let z = l .high in o .addressed .inside (addressIndex (h .locked) 11) (omega arith);
+      };
+    }
+
+-- where its address goes, once its bytes are written
+module _ {m : List ℕ} {n c : ℕ} {h : Desk} (t : Target m n h c) (l : 1 ≤ h .locked) (u : h .locked ≤ n) (xs y : List ℕ) (e : length xs ≡ blockBytes) (f : y ≡ putInBlock m n c 0 xs) where
+  written : Within m y n c
+  written = rw f (put-within m n c 0 xs (t .block .low) (omega arith))
+
+  pub address-fits : InodeFits y n (h .locked)
+  address-fits =
+      let w = written .long in
+      let a = t .block .low in
+      let b = t .block .inside in
+      record { low = l; high = u; few = t .few; area = omega arith }
+
+  pub further-fits : addressCount ≤ h .transferred → BlockFits y n (addressBlock y n (h .locked))
+  further-fits r =
+      let b = t .further r in
+      let i = b .inside in
+      let w = written .long in
+      rw (written .direct (addressIndex (h .locked) 11) (omega arith)) (record { low = b .low; inside = omega arith })

@@ -4,11 +4,8 @@ ghost use mathlib.Core.Bool.{true};
 ghost use mathlib.Core.List.{List};
 ghost use Prim.Native.Nat.{ℕ, _+_, _<_, _≤_};
 ghost use lib.ListN.{length};
-ghost use Rattle.directory.specs.Fits.{DirFits};
-ghost use Rattle.layout.specs.Sizes.{mostImageBlocks, blockBytes};
 ghost use Rattle.layout.specs.Inode.{sizeOf};
-ghost use Rattle.blocks.specs.Block.{blockAt, blocksUsed};
-ghost use Rattle.blocks.specs.Fits.{Sized};
+ghost use Rattle.blocks.specs.Block.{blocksUsed};
 ghost use Rattle.desk.specs.Sizes.{deskHeaderBytes};
 ghost use Rattle.desk.specs.Desk.{deskOf};
 ghost use Rattle.sound.specs.Sound.{inodesIn};
@@ -20,16 +17,17 @@ ghost use Rattle.checkpoint.specs.Live.{left, doStep};
 ghost use Rattle.checkpoint.specs.Shown.{world};
 ghost use Rattle.checkpoint.specs.List.{Ready};
 ghost use Rattle.tallies.specs.Addressed.{Addressed};
-ghost use Rattle.copier.specs.Held.{Held};
+ghost use Rattle.copier.specs.Held.{Held, Locked, Target, FreeImage, OpenImage};
 use answers::Answer;
 use answers::Refusal;
 use bounded::Found;
+use content::apply::kth_used;
 use desk::Desk;
 use layout::inode;
 use layout::inode::Inode;
-use layout::sizes::ADDRESS_COUNT;
 use layout::sizes::BLOCK_BYTES;
 use layout::sizes::ROOT;
+use transfer::target_block;
 
 // 1 and 2: inode i is locked.
 fn lock(d: &mut [u8], h: Desk, i: usize) -> Answer
@@ -42,24 +40,23 @@ fn lock(d: &mut [u8], h: Desk, i: usize) -> Answer
 }
 
 // 3: the next block of the locked inode goes to image block c.
-fn copy(s: &[u8], m: &mut [u8], d: &mut [u8], h: Desk, n: usize, c: usize) -> Answer
-    requires { ⌜ Held (now d) n h × DirFits (now s) n (h .locked) × (h .transferred < blocksUsed (sizeOf (now s) (h .locked))) ⌝ }
-    requires { ⌜ (1 ≤ c) × (c ≤ mostImageBlocks) × (blockAt n c + blockBytes ≤ length (now m)) ⌝ }
+pub fn copy(s: &[u8], m: &mut [u8], d: &mut [u8], h: Desk, n: usize, c: usize) -> Answer
+    requires { ⌜ Held (now d) n h × Locked (now s) n h × (h .transferred < blocksUsed (sizeOf (now s) (h .locked))) × Target (now m) n h c ⌝ }
     ensures { λ r. ⌜ left r (now (s .entry)) (now (m .exit)) (now (d .exit)) ≡ doStep (now (s .entry)) (now (m .entry)) (now (d .entry)) n (copy (h .locked) (h .transferred) c) ⌝ }
 {
     let i = h.locked as usize;
     let k = h.transferred as usize;
     let o = blocks::block_at(n, c);
     transfer::copy_block(&mut m[o..o + BLOCK_BYTES], s, &*d, n, i, k);
-    inode::put_address(&mut *m, n, ADDRESS_COUNT * (i - 1) + k, c as u16);
+    blocks::put_kth(&mut *m, n, i, k, c as u16);
     let grown = h.copied_one_more();
     grown.write(&mut *d);
     Answer::Done(grown.steps as usize)
 }
 
 // 4: the locked inode is copied.
-fn close(s: &[u8], m: &mut [u8], d: &mut [u8], h: Desk, n: usize) -> Answer
-    requires { ⌜ Held (now d) n h × DirFits (now s) n (h .locked) × Addressed (now m) n ⌝ }
+pub fn close(s: &[u8], m: &mut [u8], d: &mut [u8], h: Desk, n: usize) -> Answer
+    requires { ⌜ Held (now d) n h × Locked (now s) n h × Addressed (now m) n ⌝ }
     ensures { λ r. ⌜ left r (now (s .entry)) (now (m .exit)) (now (d .exit)) ≡ doStep (now (s .entry)) (now (m .entry)) (now (d .entry)) n (close (h .locked)) ⌝ }
 {
     let i = h.locked as usize;
@@ -74,7 +71,7 @@ fn close(s: &[u8], m: &mut [u8], d: &mut [u8], h: Desk, n: usize) -> Answer
 
 // 5: nothing is left to copy.
 fn finish(m: &mut [u8], d: &mut [u8], h: Desk, n: usize) -> Answer
-    requires { ⌜ Held (now d) n h × Addressed (now m) n × (h .blocks ≤ mostImageBlocks) ⌝ }
+    requires { ⌜ Held (now d) n h × FreeImage (now m) n h ⌝ }
     ensures { λ r. ⌜ ((s : List ℕ) → left r s (now (m .exit)) (now (d .exit)) ≡ doStep s (now (m .entry)) (now (d .entry)) n finish) ⌝ }
 {
     tallies::finish_image(&mut *m, n, h.blocks as usize);
@@ -84,7 +81,7 @@ fn finish(m: &mut [u8], d: &mut [u8], h: Desk, n: usize) -> Answer
 }
 
 // 16: every image block is named.
-fn stop(d: &mut [u8], h: Desk) -> Answer
+pub fn stop(d: &mut [u8], h: Desk) -> Answer
     requires { ⌜ (h ≡ deskOf (now d)) × (deskHeaderBytes ≤ length (now d)) ⌝ }
     ensures { λ r. ⌜ (r ≡ Refused ImageFull) × (now (d .exit) ≡ stepDesk (now (d .entry)) full) ⌝ }
 {
@@ -93,8 +90,8 @@ fn stop(d: &mut [u8], h: Desk) -> Answer
 }
 
 // Nothing is locked.
-fn free_step(m: &mut [u8], d: &mut [u8], h: Desk, n: usize) -> Answer
-    requires { ⌜ Held (now d) n h × Addressed (now m) n × (h .blocks ≤ mostImageBlocks) ⌝ }
+pub fn free_step(m: &mut [u8], d: &mut [u8], h: Desk, n: usize) -> Answer
+    requires { ⌜ Held (now d) n h × FreeImage (now m) n h ⌝ }
     ensures { λ r. ⌜ ((s : List ℕ) → left r s (now (m .exit)) (now (d .exit)) ≡ doStep s (now (m .entry)) (now (d .entry)) n (freeStep (now (m .entry)) (now (d .entry)) n)) ⌝ }
 {
     if !tallies::is_copied(&*d, n, ROOT) {
@@ -108,7 +105,7 @@ fn free_step(m: &mut [u8], d: &mut [u8], h: Desk, n: usize) -> Answer
 
 // An inode is locked.
 fn locked_step(s: &[u8], m: &mut [u8], d: &mut [u8], h: Desk, n: usize) -> Answer
-    requires { ⌜ Held (now d) n h × DirFits (now s) n (h .locked) × Addressed (now m) n × Sized (now m) n (h .blocks) ⌝ }
+    requires { ⌜ Held (now d) n h × Locked (now s) n h × OpenImage (now s) (now m) n h ⌝ }
     ensures { λ r. ⌜ left r (now (s .entry)) (now (m .exit)) (now (d .exit)) ≡ doStep (now (s .entry)) (now (m .entry)) (now (d .entry)) n (lockedStep (now (s .entry)) (now (m .entry)) n (h .blocks) (h .locked) (h .transferred)) ⌝ }
 {
     let i = h.locked as usize;
@@ -116,8 +113,9 @@ fn locked_step(s: &[u8], m: &mut [u8], d: &mut [u8], h: Desk, n: usize) -> Answe
     if blocks::blocks_used(inode::size(s, n, i) as usize) <= k {
         return close(s, &mut *m, &mut *d, h, n);
     }
-    let own = blocks::kth_block(s, n, i, k) as usize;
-    let Found::At(c) = transfer::target_block(&*m, n, h.blocks as usize, own) else {
+    let long = blocks::is_long(s, n, i);
+    let own = kth_used(s, n, i, k) as usize;
+    let Found::At(c) = target_block(&*m, n, i, long, h.blocks as usize, own) else {
         return stop(&mut *d, h);
     };
     copy(s, &mut *m, &mut *d, h, n, c)

@@ -21,7 +21,7 @@ deskLength n = deskHeaderBytes + deskInodeBytes * n
 unfoldable pub deskAllowed : ℕ → ℕ → Bool
 deskAllowed n k = leb 1 n && (leb n mostInodes && eqb k (deskLength n))
 
--- "steps above 14 × N + 1": a lock, a step for each block and a close
+-- F-1, "46 times the inode count": a lock, a step for each block and a close
 abbrev pub stepsAnInode : ℕ
 stepsAnInode = mostBlocks + 2
 

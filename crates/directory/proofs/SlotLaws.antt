@@ -15,6 +15,7 @@ use Rattle.octets.proofs.PartLaws.{length-splice, cut, part-part, part-apart, p
 use Rattle.octets.proofs.OverlayLaws.{overlay}
 use Rattle.layout.specs.Inode.{sizeOf, addressIndex}
 use Rattle.blocks.specs.Block.{blockAt, blocksUsed, kthBlock, putInBlock}
+use Rattle.blocks.proofs.KthLaws.{kth-direct}
 use Rattle.blocks.proofs.View.{viewOf, withContent}
 use Rattle.blocks.proofs.FrameLaws.{size-apart, address-apart}
 use Rattle.blocks.proofs.ViewLaws.{inode-fits, view-in-block}
@@ -169,8 +170,7 @@ module _ (s : List ℕ) (n p : ℕ) (xs : List ℕ) (h : 16 + 32 * n ≤ p) wher
     slots-past = rw size-past
 
     pub block-past : (k : ℕ) → k < 12 → kthBlock (splice s p xs) n e k ≡ kthBlock s n e k
-    unfolding kthBlock
-    block-past k b = address-apart s p xs n (addressIndex e k) (omega arith)
+    block-past k b = kth-direct _ (splice s p xs) n e k b ∙ address-apart s p xs n (addressIndex e k) (omega arith) ∙ sym (kth-direct _ s n e k b)
 
     pub slot-past : (u : ℕ) → u < 48 → slotAt (splice s p xs) n e u ≡ slotAt s n e u
     unfolding slotAt

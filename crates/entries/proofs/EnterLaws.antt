@@ -10,24 +10,26 @@ use borrow.Author.Tests.{eq-eqb, ne-eqb, le-leb, lt-leb}
 use lib.ListN.{length}
 use Rattle.bounded.specs.declared.Found.the-variants.{At}
 use Rattle.bounded.proofs.CountLaws.{tally-le}
+use Rattle.bounded.proofs.BoolLaws.{clash}
 use Rattle.layout.specs.Sizes.{headerBytes, mostInodes, mostStoreBlocks, addressCount}
 use Rattle.layout.specs.declared.header.Header.{Header}
 use Rattle.layout.specs.declared.inode.Inode.{Inode}
 use Rattle.layout.specs.Header.{headerOf, moreFree}
 use Rattle.layout.specs.Inode.{kindOf, linksOf, sizeOf, inodeOf, putInode, putLinks, putAttributes, directoryKind, isDirectory, zeroInode, withParent, freeInode}
-use Rattle.blocks.specs.Block.{blocksUsed, kthBlock}
+use Rattle.blocks.specs.Block.{blocksUsed, isLong, kthBlock}
+use Rattle.ledger.proofs.WriteLaws.{NoAddresses}
 use Rattle.blocks.proofs.ViewLaws.{inode-fits}
 use Rattle.blocks.proofs.FrameLaws.{length-inode}
 use Rattle.layout.specs.Fits.{InodeFits}
 use Rattle.blocks.specs.Fits.{Sized}
 use Rattle.directory.specs.Slot.{slots, putEntry, clearEntry}
-use Rattle.directory.proofs.SlotLaws.{block-fits, length-put, fits-clear, slots-clear, length-clear}
+use Rattle.directory.proofs.SlotLaws.{length-put, fits-clear, slots-clear, length-clear}
 use Rattle.directory.specs.Fits.{DirFits}
 use Rattle.sound.specs.Sound.{Sound, inodesIn}
 use Rattle.sound.specs.Counted.{SoundStore}
-use Rattle.sound.specs.Place.{naming}
+use Rattle.sound.specs.Place.{naming, IsDir}
 use Rattle.sound.specs.declared.Form.the-variants.{Store}
-use Rattle.changes.proofs.StoreLaws.{same-counts, sized-at, fits, dir-of, kind-some, kind-most, kind-dir, kind-fits}
+use Rattle.changes.proofs.StoreLaws.{same-counts, sized-at, fits, is-dir, dir-of, dir-short, data-at, kind-some, kind-most, kind-fits}
 use Rattle.changes.proofs.SameLaws.{SameInode, put-entry, clear-entry}
 use Rattle.changes.proofs.KeepLaws.{same-slots, body-of}
 use Rattle.changes.proofs.FreeLaws.{free-inode, inode-counted, free-block, block-counted, few-free-inodes, few-free-blocks}
@@ -82,10 +84,18 @@ module _ (s : List ℕ) (n b d : ℕ) (r : Room) (h : SoundStore s n b) (k : isD
     pub roomed : Roomed s t n d (r .slot)
     roomed = subst (λ (z : List ℕ). Roomed s z n d (r .slot)) (sym q) (make-room s n b d h k r e)
 
+    pub roomed-sound : SoundStore t n b
+    roomed-sound = same-counts h (roomed .frame) (roomed .sound)
+
     -- a directory of s
     module _ (f : ℕ) (j : isDirectory s n f ≡ true) where
+      pub roomed-is : IsDir t n f
+      roomed-is =
+          let w = is-dir s n f j in
+          record { low = w .low; high = w .high; kind = roomed .tree .kinds f (w .low) (w .high) ∙ w .kind }
+
       pub roomed-dir : DirFits t n f
-      roomed-dir = dir-of (same-counts h (roomed .frame) (roomed .sound)) f (kind-some s n directoryKind f j) (kind-most s n directoryKind f j)
+      roomed-dir = dir-of roomed-sound f roomed-is
 
       pub roomed-slot : (v : ℕ) → v < slots s f → v < slots t f
       roomed-slot v l = go (ℕ-discrete f d)
@@ -95,18 +105,25 @@ module _ (s : List ℕ) (n b d : ℕ) (r : Room) (h : SoundStore s n b) (k : isD
           go (no z) = let a = same-slots (roomed .others f (kind-some s n directoryKind f j) (kind-most s n directoryKind f j) z) in omega arith
 
 -- ---- an entry put in slot v of d, or taken out
-module _ (s : List ℕ) (n d v : ℕ) (f : DirFits s n d) (l : v < slots s d) where
+module _ (s : List ℕ) (n d v : ℕ) {b : ℕ} (h : SoundStore s n b) (k : IsDir s n d) (l : v < slots s d) where
+  used : v / 4 < blocksUsed (sizeOf s d)
+  used = unfold slots in (let m = l in omega arith)
+
   in-block : 1 ≤ kthBlock s n d (v / 4)
-  in-block = block-fits s n d f (v / 4) (omega arith) .low
+  in-block = dir-of h d k .blocks (v / 4) used .low
+
+  -- a block of entries holds no addresses
+  none : NoAddresses (isLong s) s n (kthBlock s n d (v / 4))
+  none = data-at h d (v / 4) (k .low) (k .high) used (λ e. absurd (clash (isLong s d) e (dir-short s d (k .kind))))
 
   pub put-header : (i : ℕ) (name : List ℕ) → headerOf (putEntry s n d v i name) ≡ headerOf s
-  put-header i name = put-entry s n d v in-block i name .header
+  put-header i name = put-entry s n d v in-block none i name .header
 
   pub put-inodes : (i : ℕ) (name : List ℕ) (j : ℕ) → 1 ≤ j → j ≤ n → SameInode s (putEntry s n d v i name) n j
-  put-inodes i name = put-entry s n d v in-block i name .inodes
+  put-inodes i name = put-entry s n d v in-block none i name .inodes
 
   pub clear-header : headerOf (clearEntry s n d v) ≡ headerOf s
-  clear-header = clear-entry s n d v in-block .header
+  clear-header = clear-entry s n d v in-block none .header
 
 -- ---- t is the sound store s with the entry in its room
 module _ (s : List ℕ) (n b d : ℕ) (r : Room) (h : SoundStore s n b) (k : isDirectory s n d ≡ true) (e : roomIn s n b d ≡ Has r) (i : ℕ) (name : List ℕ) (t : List ℕ) (q : t ≡ enter s n d r i name) where
@@ -118,7 +135,7 @@ module _ (s : List ℕ) (n b d : ℕ) (r : Room) (h : SoundStore s n b) (k : isD
 
   entered-header : headerOf t ≡ headerOf grown
   unfolding enter
-  entered-header = ap headerOf q ∙ put-header grown n d (r .slot) (roomed-dir s n b d r h k e grown refl d k) (grown-is .slot) i name
+  entered-header = ap headerOf q ∙ put-header grown n d (r .slot) (roomed-sound s n b d r h k e grown refl) (roomed-is s n b d r h k e grown refl d k) (grown-is .slot) i name
 
   entered-length : length t ≡ length s
   unfolding enter
@@ -134,7 +151,7 @@ module _ (s : List ℕ) (n b d : ℕ) (r : Room) (h : SoundStore s n b) (k : isD
   unfolding enter
   entered-links j l m =
       ap (λ (z : List ℕ). linksOf z j) q
-      ∙ put-inodes grown n d (r .slot) (roomed-dir s n b d r h k e grown refl d k) (grown-is .slot) i name j l m .links
+      ∙ put-inodes grown n d (r .slot) (roomed-sound s n b d r h k e grown refl) (roomed-is s n b d r h k e grown refl d k) (grown-is .slot) i name j l m .links
       ∙ grown-is .tree .links j l m
 
 -- ---- one link less
@@ -205,7 +222,7 @@ module _ {s : List ℕ} {n b : ℕ} (h : SoundStore s n b) (d v : ℕ) (k : isDi
 
   pub cleared : (i : ℕ) → 1 ≤ i → i ≤ n → Cleared i
   cleared i a b =
-      let c = ap headerOf q ∙ clear-header s n d v (kind-dir h directoryKind d k) l in
+      let c = ap headerOf q ∙ clear-header s n d v h (is-dir s n d k) l in
       let e = ap (λ (z : Header). z .«free_inodes») c in
       let f = ap (λ (z : Header). z .«free_blocks») c in
       let g = few-free-inodes s (h .sound) in
@@ -222,7 +239,7 @@ module _ (t : List ℕ) (n i : ℕ) (f : InodeFits t n i) (a : headerOf t .«fre
   freed-header = ap headerOf q ∙ header-inode t n i (f .low) (f .high) v
 
   -- the counts have room for what is freed: m blocks
-  pub freed-counts : (m : ℕ) → m ≤ mostStoreBlocks → (headerBytes ≤ length u) × (headerOf u .«free_inodes» + 1 < 65536) × (headerOf u .«free_blocks» + m < 65536)
+  pub freed-counts : (m : ℕ) → m ≤ mostStoreBlocks + 1 → (headerBytes ≤ length u) × (headerOf u .«free_inodes» + 1 < 65536) × (headerOf u .«free_blocks» + m < 65536)
   freed-counts m l =
       let c = ap (λ (z : Header). z .«free_inodes») freed-header in
       let d = ap (λ (z : Header). z .«free_blocks») freed-header in
@@ -230,6 +247,6 @@ module _ (t : List ℕ) (n i : ℕ) (f : InodeFits t n i) (a : headerOf t .«fre
       let k = f .area in
       (omega arith, omega arith, omega arith)
 
-pub used-bound : (z : ℕ) → z < 65536 → blocksUsed z ≤ mostStoreBlocks
+pub used-bound : (z : ℕ) → z < 65536 → blocksUsed z ≤ mostStoreBlocks + 1
 unfolding blocksUsed
 used-bound z l = omega arith

@@ -1,7 +1,6 @@
 -- Room for an entry: a directory with an empty slot, or with a block more. n and b are the counts of inodes and blocks.
 use Prim.Native.Nat.{ℕ, _+_, _-_, _≤_, _<_}
 use mathlib.Core.Path.{_≡_, refl, sym, ap, _∙_}
-use mathlib.Core.Logic.{_≢_}
 use mathlib.Core.Bool.{Bool, true, false}
 use mathlib.Core.List.{List}
 use native.Mathlib.Decide.{decLt}
@@ -75,8 +74,8 @@ module _ (s : List ℕ) (n b d : ℕ) (h : SoundStore s n b) (k : isDirectory s 
   high : d ≤ n
   high = kind-most s n directoryKind d k
 
-  in-use : kindOf s d ≢ freeKind
-  in-use e = let q = kind-is s n directoryKind d k in omega arith
+  dir : IsDir s n d
+  dir = record { low = low; high = high; kind = kind-is s n directoryKind d k }
 
   room-slot : (t : ℕ) → emptySlot s n d ≡ At t → Roomed s s n d t
   room-slot t e = record {
@@ -95,17 +94,17 @@ module _ (s : List ℕ) (n b d : ℕ) (h : SoundStore s n b) (k : isDirectory s 
   room-block : (c : ℕ) → blocksUsed (sizeOf s d) < mostDirectoryBlocks → FreeBlock s n b c → Roomed s (addBlock s n d c) n d (slots s d)
   room-block c u w =
       let t = addBlock s n d c in
-      let g = block-added s n b d c h low high u w in
-      let z = grown-slots s t n d c g in
-      let e = grown-empty s t n d c g in
+      let g = block-added s n b d c h dir u w in
+      let z = grown-slots s t n d c g u in
+      let e = grown-empty s t n d c g u in
       record {
-        sound = add-block-sound s n b d c h low high u w in-use;
+        sound = add-block-sound s n b d c h dir u w;
         frame = g .frame;
-        tree = grown-tree s t n b d c h g low high in-use u (w .low) (w .high) (w .free);
+        tree = grown-tree s t n b d c h g dir u w;
         others = g .others;
         free-inodes = g .free-inodes;
         more = omega arith;
-        entries = grown-entry s t n b d c h g low high in-use u (w .low) (w .high) (w .free);
+        entries = grown-entry s t n b d c h g dir u w;
         new = unfold slotEmpty in e;
         slot = omega arith;
         empty = unfold slotEmpty in e (slots s d) (omega arith) (omega arith);

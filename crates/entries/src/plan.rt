@@ -56,7 +56,7 @@ fn room_in(s: &[u8], n: usize, b: usize, d: usize) -> RoomPlan
     if directory::MOST_SLOTS <= slots {
         return RoomPlan::NoRoom(Refusal::NoSlot);
     }
-    let Found::At(c) = free::free_block(s, n, b) else {
+    let Found::At(c) = free::free_block(s, n, 0, false, b) else {
         return RoomPlan::NoRoom(Refusal::NoBlocks);
     };
     RoomPlan::Has(Room {

@@ -16,7 +16,6 @@ use Rattle.sound.specs.Sound.{Sound}
 use Rattle.sound.specs.Counted.{SoundStore}
 use Rattle.sound.proofs.PlaceLaws.{filled-is, entry-place}
 use Rattle.sound.specs.declared.Form.the-variants.{Store}
-use Rattle.changes.proofs.SameLaws.{put-entry}
 use Rattle.changes.proofs.StoreLaws.{is-dir, kind-fits, fits}
 use Rattle.changes.proofs.FreeLaws.{free-inode}
 use Rattle.changes.proofs.EntryWriteLaws.{SlotIn, place-below}
@@ -38,7 +37,7 @@ use Rattle.entries.proofs.CreateKeeps.{create-filled, new-addresses}
 use Rattle.entries.proofs.PlanKeeps.{linked-sound, created-sound}
 use Rattle.files.specs.Effect.{entry, changes, doCreate, doLink, planned, create, link}
 use Rattle.files.proofs.Lawful.{Stands, SameNaming, Lawful, Each}
-use Rattle.files.proofs.LawfulSteady.{blocks-of, slot-low, Steady, steady-then, put-steady, links-steady, new-steady, roomed, room-steady, room-sound, room-dir, room-slot}
+use Rattle.files.proofs.LawfulSteady.{store-blocks, put-slot, Steady, steady-then, put-steady, links-steady, new-steady, roomed, room-steady, room-sound, room-dir, room-slot}
 
 -- ---- an entry made in the room: link and create. m is the store with room, w the store after
 pub made-stands : (m w : List ℕ) (n d t i : ℕ) (name : List ℕ) → SlotIn m n d t → Filled m w n (placeOf d t) i name → Stands w n (entry d t i)
@@ -79,7 +78,7 @@ module _ (s : List ℕ) (n b d : ℕ) (name : List ℕ) (r : Room) (h : SoundSto
 
   entered-steady : (i : ℕ) → Steady s (enter s n d r i name) n (d ∷ [])
   unfolding enter
-  entered-steady i = steady-then (blocks-of h) (room-steady s n b d r h (new .directory) e) (put-steady m n d (r .slot) i name (blocks-of grown) there) (λ j z. (z, z))
+  entered-steady i = steady-then (store-blocks h) (room-steady s n b d r h (new .directory) e) (put-steady m n d (r .slot) i name (store-blocks grown) there) (λ j z. (z, z))
 
   -- the entry made, and nothing else of the store that a law speaks of. v is the answer, ks what else may change
   made-lawful : (w : List ℕ) (v i : ℕ) (ks : List ℕ) → Filled m w n (placeOf d (r .slot)) i name → Steady s w n (d ∷ ks) → Sound Store w
@@ -109,7 +108,7 @@ module _ (s : List ℕ) (n b d : ℕ) (name : List ℕ) (r : Room) (h : SoundSto
       let o = link-filled m n d (r .slot) i name grown (room-dir s n b d r h (new .directory) e) here (room .slot) (room .empty) (new .legal) still in
       let g = entered-steady i in
       let f = inode-fits s (enter s n d r i name) n i (g .frame .long) (kind-fits h fileKind i file) in
-      let a = steady-then {ks = d ∷ i ∷ []} (blocks-of h) g (links-steady (enter s n d r i name) n i (linksOf (enter s n d r i name) i + 1) f) (λ j z. ((z .0, tt), (z .1 .0, tt))) in
+      let a = steady-then {ks = d ∷ i ∷ []} (store-blocks h) g (links-steady (enter s n d r i name) n i (linksOf (enter s n d r i name) i + 1) f) (λ j z. ((z .0, tt), (z .1 .0, tt))) in
       made-lawful _ _ i _ o a sound
 
   create-lawful : (k : Kind) (i : ℕ) → freeInode s n ≡ At i → Sound Store (created s n d name k i r) → Lawful s n (changes i (created s n d name k i r) (d ∷ []) [] (entry d (r .slot) i ∷ []))
@@ -119,8 +118,8 @@ module _ (s : List ℕ) (n b d : ℕ) (name : List ℕ) (r : Room) (h : SoundSto
       let g = entered-steady i in
       let z = free-inode s n i free in
       let f = inode-fits s (enter s n d r i name) n i (g .frame .long) (fits h i (z .low) (z .high)) in
-      let c = put-entry m n d (r .slot) (slot-low m m n d (r .slot) (blocks-of grown) there) i name .inodes i (z .low) (z .high) .kind ∙ room .tree .kinds i (z .low) (z .high) ∙ z .kind in
-      let a = steady-then {ks = d ∷ []} (blocks-of h) g (new-steady (enter s n d r i name) n i (newInode k d) f c (new-addresses k d)) (λ j u. (u, tt)) in
+      let c = put-slot m n d (r .slot) (store-blocks grown) there i name .inodes i (z .low) (z .high) .kind ∙ room .tree .kinds i (z .low) (z .high) ∙ z .kind in
+      let a = steady-then {ks = d ∷ []} (store-blocks h) g (new-steady (enter s n d r i name) n i (newInode k d) f c (new-addresses k d)) (λ j u. (u, tt)) in
       made-lawful _ _ i _ o a sound
 
 pub lawful-link : (s : List ℕ) (n b d : ℕ) (name : List ℕ) (i : ℕ) → SoundStore s n b → Each (Lawful s n) (planned (link d name i) s n b)

@@ -19,7 +19,7 @@ use Rattle.names.specs.Name.{legalName}
 use Rattle.names.specs.Entry.{isEmpty, entryInode}
 use Rattle.sound.specs.Place.{placeOf}
 use Rattle.sound.specs.Counted.{SoundStore}
-use Rattle.changes.proofs.SameLaws.{SameInode, frame-stays, inode-stays, same-body, put-entry, clear-entry}
+use Rattle.changes.proofs.SameLaws.{SameInode, frame-stays, inode-stays, same-body}
 use Rattle.changes.proofs.StoreLaws.{is-dir, fits}
 use Rattle.changes.proofs.EntryWriteLaws.{SlotIn, slot-in, place-below}
 use Rattle.changes.proofs.InodeWriteLaws.{parent-relinked, body-all}
@@ -38,7 +38,7 @@ use Rattle.entries.proofs.MoveKeeps.{not-below, below-kept, move-emptied, move-
 use Rattle.entries.proofs.RenameKeeps.{rename-filled, rename-sound}
 use Rattle.files.specs.Effect.{entry, changes, doRename, planned, rename}
 use Rattle.files.proofs.Lawful.{SameNaming, Lawful, Each}
-use Rattle.files.proofs.LawfulSteady.{blocks-of, blocks-same, slot-low, Steady, steady-then, put-steady, clear-steady, roomed, room-steady, room-sound, room-slot}
+use Rattle.files.proofs.LawfulSteady.{store-blocks, blocks-same, put-slot, clear-slot, Steady, steady-then, put-steady, clear-steady, roomed, room-steady, room-sound, room-slot}
 use Rattle.files.proofs.LawfulEnter.{still, was-bare}
 use Rattle.files.proofs.LawfulStays.{same-store}
 
@@ -50,7 +50,7 @@ module _ (s : List ℕ) (n d t i : ℕ) (other : List ℕ) {b : ℕ} (h : SoundS
   rename-lawful =
       let o = rename-filled s n d t i other h dir inside full is legal absent in
       let y = entry-here h d t i dir inside full is in
-      let a = put-steady s n d t i other (blocks-of h) (y .slot) in
+      let a = put-steady s n d t i other (store-blocks h) (y .slot) in
       let f = place-filled s n d t (y .slot) full in
       record {
         sound = rename-sound s n d t i other h dir inside full is legal absent;
@@ -122,20 +122,20 @@ module _ (s : List ℕ) (n b d : ℕ) (name : List ℕ) (e : ℕ) (other : List 
       let filling = move-filled g n d t i e (r .slot) other grown from inside-g (ap isEmpty bytes ∙ full) (w .inode ∙ ap entryInode (sym bytes))
       (same directoryKind e ∙ v .directory) (room .slot) (room .empty) (v .legal) free below in
       let here = slot-in grown d t from inside-g in
-      let bg = blocks-of grown in
-      let cleared = clear-entry g n d t (slot-low g g n d t bg here) in
+      let bg = store-blocks grown in
+      let cleared = clear-slot g n d t bg here in
       let cut = clearEntry g n d t in
       let into = slot-same g cut n e (r .slot) (cleared .inodes e (there .low) (there .high)) there in
       let bc = blocks-same g cut n (cleared .inodes) bg in
       let entered = putEntry cut n e (r .slot) i other in
-      let put = put-entry cut n e (r .slot) (slot-low cut cut n e (r .slot) bc into) i other in
+      let put = put-slot cut n e (r .slot) bc into i other in
       let a : Steady s entered n (d ∷ e ∷ []) =
-      steady-then (blocks-of h) (room-steady s n b e r h (v .directory) (o .room))
+      steady-then (store-blocks h) (room-steady s n b e r h (v .directory) (o .room))
       (steady-then {ks = d ∷ e ∷ []} bg (clear-steady g n d t bg here) (put-steady cut n e (r .slot) i other bc into) (λ j z. ((z .0, tt), (z .1 .0, tt))))
       (λ j z. ((z .1 .0, tt), z)) in
       let f = inode-fits s entered n i (a .frame .long) (fits h i (old .low) (old .high)) in
       let spare : spareOf entered i ≡ 0 = put .inodes i (old .low) (old .high) .spare ∙ cleared .inodes i (old .low) (old .high) .spare ∙ body-of grown .inodes i (old .low) (old .high) .spare in
-      let p : Steady s (setParent entered n i e) n (d ∷ e ∷ i ∷ []) = steady-then (blocks-of h) a (parent-steady entered n i e f spare) (λ j z. ((z .0, (z .1 .0, tt)), (z .1 .1 .0, tt))) in
+      let p : Steady s (setParent entered n i e) n (d ∷ e ∷ i ∷ []) = steady-then (store-blocks h) a (parent-steady entered n i e f spare) (λ j z. ((z .0, (z .1 .0, tt)), (z .1 .1 .0, tt))) in
       record {
         sound = moved-sound s n b h d name e other t i r q;
         frame = p .frame;

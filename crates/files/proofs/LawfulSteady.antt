@@ -9,17 +9,21 @@ use borrow.Author.Tests.{ne-eqb}
 use lib.Dec.{eqb}
 use lib.ListN.{replicate}
 use Rattle.bounded.proofs.CaseLaws.{each-else}
-use Rattle.layout.specs.Sizes.{addressCount}
+use Rattle.bounded.proofs.BoolLaws.{clash}
+use Rattle.layout.specs.Sizes.{addressCount, mostBlocks}
 use Rattle.layout.specs.declared.inode.Inode.{Inode}
 use Rattle.layout.specs.Inode.{kindOf, sizeOf, putInode, putLinks, freeKind, fileKind, directoryKind, isDirectory}
-use Rattle.blocks.specs.Block.{blocksUsed, blockOf, kthBlock}
+use Rattle.blocks.specs.Block.{blocksUsed, blockOf, isLong, kthBlock}
 use Rattle.layout.specs.Header.{lessFree}
 use Rattle.blocks.proofs.FrameLaws.{length-inode}
+use Rattle.blocks.proofs.KthLaws.{kth-direct}
+use Rattle.ledger.proofs.WriteLaws.{NoAddresses}
 use Rattle.layout.specs.Fits.{InodeFits}
 use Rattle.directory.specs.Slot.{putEntry, clearEntry}
 use Rattle.sound.specs.Counted.{SoundStore}
-use Rattle.changes.proofs.SameLaws.{SameFrame, SameInode, SameBlock, InBlock, same-body, body-then, frame-then, inode-then, put-entry, clear-entry, less-free}
-use Rattle.changes.proofs.StoreLaws.{same-counts, dir-of, one-at, kind-some, kind-most, kind-is}
+use Rattle.sound.specs.Place.{IsDir}
+use Rattle.changes.proofs.SameLaws.{SameFrame, SameInode, SameBlock, InBlock, same-body, same-long, body-then, frame-then, inode-then, put-entry, clear-entry, less-free}
+use Rattle.changes.proofs.StoreLaws.{same-counts, blocks-of, data-at, dir-short, one-at, is-dir, kind-is}
 use Rattle.changes.proofs.FreeLaws.{free-block}
 use Rattle.changes.proofs.EntryWriteLaws.{SlotIn, slot-in, slot-block}
 use Rattle.changes.proofs.InodeWriteLaws.{links-relinked, body-all}
@@ -32,17 +36,19 @@ use Rattle.entries.specs.Room.{roomIn, makeRoom}
 use Rattle.entries.proofs.RoomLaws.{IsRoom, slot, block, is-room, Roomed, make-room, same-kind}
 use Rattle.files.proofs.Lawful.{Apart, Stays, Keeps, stays-keeps}
 
--- ---- the blocks of a store: few of an inode, and none twice
+-- ---- the blocks of a store: few of an inode, none twice, and none of a directory holds addresses
 pub record Blocks (s : List ℕ) (n : ℕ) : Type 0 where
-  pub few : (j : ℕ) → 1 ≤ j → j ≤ n → blocksUsed (sizeOf s j) ≤ 12
+  pub few : (j : ℕ) → 1 ≤ j → j ≤ n → blocksUsed (sizeOf s j) ≤ mostBlocks
   pub low : (j k : ℕ) → 1 ≤ j → j ≤ n → k < blocksUsed (sizeOf s j) → 1 ≤ kthBlock s n j k
   pub once : (i k j a : ℕ) → 1 ≤ i → i ≤ n → 1 ≤ j → j ≤ n → k < blocksUsed (sizeOf s i) → a < blocksUsed (sizeOf s j) → kthBlock s n i k ≡ kthBlock s n j a → i ≡ j
+  pub plain : (d k : ℕ) → IsDir s n d → k < blocksUsed (sizeOf s d) → NoAddresses (isLong s) s n (kthBlock s n d k)
 
-pub blocks-of : {s : List ℕ} {n b : ℕ} → SoundStore s n b → Blocks s n
-blocks-of h = record {
-  few = λ j l m. dir-of h j l m .few;
-  low = λ j k l m u. dir-of h j l m .blocks k u .low;
+pub store-blocks : {s : List ℕ} {n b : ℕ} → SoundStore s n b → Blocks s n
+store-blocks {s} h = record {
+  few = λ j l m. blocks-of h j l m .few;
+  low = λ j k l m u. blocks-of h j l m .blocks k u .low;
   once = λ i k j a l m p q u w e. one-at h i k j a l m p q u w e .0;
+  plain = λ d k y u. data-at h d k (y .low) (y .high) u (λ z. absurd (clash (isLong s d) z (dir-short s d (y .kind))));
 }
 
 pub blocks-same : (s t : List ℕ) (n : ℕ) → ((j : ℕ) → 1 ≤ j → j ≤ n → SameInode s t n j) → Blocks s n → Blocks t n
@@ -55,6 +61,12 @@ blocks-same s t n a c = record {
       let v = used i k l m u in
       let y = used j b p q w in
       c .once i k j b l m p q v y (sym (a i l m .blocks k (omega arith)) ∙ e ∙ a j p q .blocks b (omega arith));
+  plain = λ d k y u j l m z e.
+      let f = c .few d (y .low) (y .high) in
+      let v = used d k (y .low) (y .high) u in
+      let g = a j l m in
+      c .plain d k (record { low = y .low; high = y .high; kind = sym (a d (y .low) (y .high) .kind) ∙ y .kind }) v j l m (sym (same-long s t j (g .kind) (g .size)) ∙ z)
+      (sym (kth-direct (isLong s j) s n j 11 (omega arith)) ∙ sym (g .blocks 11 (omega arith)) ∙ kth-direct (isLong t j) t n j 11 (omega arith) ∙ e ∙ a d (y .low) (y .high) .blocks k (omega arith));
 }
   where
     used : (j k : ℕ) → 1 ≤ j → j ≤ n → k < blocksUsed (sizeOf t j) → k < blocksUsed (sizeOf s j)
@@ -62,12 +74,23 @@ blocks-same s t n a c = record {
 
 -- ---- a write in the block of slot t of d: the blocks of the other inodes stay
 module _ (s w : List ℕ) (n d t : ℕ) (c : Blocks s n) (y : SlotIn s n d t) where
-  pub slot-low : 1 ≤ kthBlock s n d (t / 4)
-  slot-low = c .low d (t / 4) (y .low) (y .high) (slot-block s d t (y .inside))
-
   others-bytes : InBlock s w n (kthBlock s n d (t / 4)) → (j : ℕ) → 1 ≤ j → j ≤ n → j ≢ d → (k : ℕ) → k < blocksUsed (sizeOf s j) → SameBlock s w n (kthBlock s n j k)
   others-bytes g j l m z k u =
       g .others (kthBlock s n j k) (c .low j k l m u) (λ e. z (c .once j k d (t / 4) l m (y .low) (y .high) u (slot-block s d t (y .inside)) e))
+
+-- such writes
+module _ (s : List ℕ) (n d t : ℕ) (c : Blocks s n) (y : SlotIn s n d t) where
+  slot-low : 1 ≤ kthBlock s n d (t / 4)
+  slot-low = c .low d (t / 4) (y .low) (y .high) (slot-block s d t (y .inside))
+
+  slot-plain : NoAddresses (isLong s) s n (kthBlock s n d (t / 4))
+  slot-plain = c .plain d (t / 4) (record { low = y .low; high = y .high; kind = y .dir }) (slot-block s d t (y .inside))
+
+  pub put-slot : (i : ℕ) (name : List ℕ) → InBlock s (putEntry s n d t i name) n (kthBlock s n d (t / 4))
+  put-slot = put-entry s n d t slot-low slot-plain
+
+  pub clear-slot : InBlock s (clearEntry s n d t) n (kthBlock s n d (t / 4))
+  clear-slot = clear-entry s n d t slot-low slot-plain
 
 -- ---- such changes
 pub record Steady (s t : List ℕ) (n : ℕ) (is : List ℕ) : Type 0 where
@@ -80,7 +103,7 @@ pub record Steady (s t : List ℕ) (n : ℕ) (is : List ℕ) : Type 0 where
 no-directory : (s : List ℕ) (j d : ℕ) → kindOf s d ≡ directoryKind → kindOf s j ≡ fileKind → j ≢ d
 no-directory s j d e f z = let a = sym (ap (kindOf s) z) ∙ f in omega arith
 
-keeps-then : {s t u : List ℕ} {n j : ℕ} → blocksUsed (sizeOf s j) ≤ 12 → Keeps s t n j → Keeps t u n j → Keeps s u n j
+keeps-then : {s t u : List ℕ} {n j : ℕ} → blocksUsed (sizeOf s j) ≤ mostBlocks → Keeps s t n j → Keeps t u n j → Keeps s u n j
 keeps-then {s} {t} {u} {n} {j} few a b = record {
   body = body-then (a .body) (b .body);
   bytes = λ k l.
@@ -88,7 +111,7 @@ keeps-then {s} {t} {u} {n} {j} few a b = record {
       ap (blockOf u n) (sym e) ∙ b .bytes k (subst (λ (z : ℕ). k < blocksUsed z) (sym (a .body .size)) l) ∙ ap (blockOf t n) e ∙ a .bytes k l;
 }
 
-stays-then : {s t u : List ℕ} {n j : ℕ} → blocksUsed (sizeOf s j) ≤ 12 → Stays s t n j → Stays t u n j → Stays s u n j
+stays-then : {s t u : List ℕ} {n j : ℕ} → blocksUsed (sizeOf s j) ≤ mostBlocks → Stays s t n j → Stays t u n j → Stays s u n j
 stays-then few a b = record { inode = inode-then (a .inode) (b .inode); bytes = keeps-then few (stays-keeps a) (stays-keeps b) .bytes }
 
 module _ {s t u : List ℕ} {n : ℕ} {is js ks : List ℕ} (c : Blocks s n)
@@ -113,10 +136,10 @@ slot-steady s w n d t c y g = record {
 }
 
 pub put-steady : (s : List ℕ) (n d t i : ℕ) (name : List ℕ) → Blocks s n → SlotIn s n d t → Steady s (putEntry s n d t i name) n (d ∷ [])
-put-steady s n d t i name c y = slot-steady s (putEntry s n d t i name) n d t c y (put-entry s n d t (slot-low s s n d t c y) i name)
+put-steady s n d t i name c y = slot-steady s (putEntry s n d t i name) n d t c y (put-slot s n d t c y i name)
 
 pub clear-steady : (s : List ℕ) (n d t : ℕ) → Blocks s n → SlotIn s n d t → Steady s (clearEntry s n d t) n (d ∷ [])
-clear-steady s n d t c y = slot-steady s (clearEntry s n d t) n d t c y (clear-entry s n d t (slot-low s s n d t c y))
+clear-steady s n d t c y = slot-steady s (clearEntry s n d t) n d t c y (clear-slot s n d t c y)
 
 -- other links
 pub links-steady : (s : List ℕ) (n i v : ℕ) → InodeFits s n i → Steady s (putLinks s i v) n (i ∷ [])
@@ -159,11 +182,8 @@ module _ (s : List ℕ) (n b d : ℕ) (r : Room) (h : SoundStore s n b)
       go (block c w f q) =
           let o = free-block s n b c f in
           let z : eqb c 0 ≡ false = ne-eqb c 0 (let l = o .low in (λ o. omega arith)) in
-          let low = kind-some s n directoryKind d k in
-          let high = kind-most s n directoryKind d k in
-          let i = kind-is s n directoryKind d k in
-          let used : kindOf s d ≢ freeKind = λ g. omega arith in
-          rw (q, z) (grown-bytes s (addBlock s n d c) n b d c h (block-added s n b d c h low high w o) low high used w (o .low) (o .high) (o .free) j a l m u)
+          let dir = is-dir s n d k in
+          rw (q, z) (grown-bytes s (addBlock s n d c) n b d c h (block-added s n b d c h dir w o) dir w o j a l m u)
 
   pub room-steady : Steady s (makeRoom s n d r) n (d ∷ [])
   room-steady = record {

@@ -34,7 +34,7 @@ use Rattle.entries.proofs.RoomLaws.{slot}
 use Rattle.entries.proofs.UnlinkKeeps.{unlink-emptied, unlink-others, unlink-less, unlink-last, unlink-sound}
 use Rattle.files.specs.Effect.{entry, changes, doUnlink, planned, unlink}
 use Rattle.files.proofs.Lawful.{Lawful, Each}
-use Rattle.files.proofs.LawfulSteady.{blocks-of, clear-steady}
+use Rattle.files.proofs.LawfulSteady.{store-blocks, clear-steady}
 
 -- ---- a link less: the frame and the bytes of all blocks stay
 module _ (m : List ℕ) (n i : ℕ) (there : InodeFits m n i) where
@@ -107,11 +107,11 @@ module _ (s : List ℕ) (n d t i : ℕ) {b : ℕ} (h : SoundStore s n b)
         ];
         untouched = λ j l k u z. record {
           inode = r j l k (z .1 .0);
-          bytes = λ a v. drop .1 (kthBlock s n j a) ∙ clear-steady s n d t (blocks-of h) y .stays j l k u (z .0, tt) .bytes a v;
+          bytes = λ a v. drop .1 (kthBlock s n j a) ∙ clear-steady s n d t (store-blocks h) y .stays j l k u (z .0, tt) .bytes a v;
         };
         contents = λ j l k f u _. record {
           body = each-else (λ a. kindOf (unlinked s n d t i) a ≢ freeKind → SameBody s (unlinked s n d t i) n a) i j body-after (λ z _. same-body (r j l k z)) u;
-          bytes = λ a v. drop .1 (kthBlock s n j a) ∙ clear-steady s n d t (blocks-of h) y .files j l k f .bytes a v;
+          bytes = λ a v. drop .1 (kthBlock s n j a) ∙ clear-steady s n d t (store-blocks h) y .files j l k f .bytes a v;
         };
         apart = λ j z. (((z .0, z .1 .0), tt), tt);
       }

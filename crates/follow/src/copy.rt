@@ -1,12 +1,16 @@
 // The record of a copy under way, kept from answers and stores alone, and what is asked of it.
 ghost use Prim.Native.Nat.{_≤_};
 use crate::tried::BLOCKS;
+use crate::tried::CROSSED;
 use crate::tried::ENTRIES;
 use crate::tried::FINISHES;
+use crate::tried::LONG;
 use crate::tried::tally;
 use beside::calls::Got;
 use chance::event;
 use judge::again::blocks_again;
+use judge::again::files_crossed;
+use judge::again::files_long;
 use judge::copy::MOMENT_BYTES;
 use judge::copy::kept_entries;
 use judge::copy::moment;
@@ -35,7 +39,7 @@ pub struct Next {
 }
 
 // The store is moment m.
-fn remember(store: &[u8], moments: &mut [u8; 1048576], m: usize) {
+fn remember(store: &[u8], moments: &mut [u8; 2097152], m: usize) {
     let k = store.len();
     if k <= MOMENT_BYTES {
         if m < moments.len() / MOMENT_BYTES {
@@ -44,15 +48,24 @@ fn remember(store: &[u8], moments: &mut [u8; 1048576], m: usize) {
     }
 }
 
+// What has become of blocks and files since the first moment, counted at a finish.
+fn count_changes(first: &[u8], store: &[u8], image: &[u8], n: usize, tried: &mut [u64; 26])
+    requires { ⌜ n ≤ 8 ⌝ }
+{
+    tally(&mut *tried, BLOCKS, blocks_again(first, store, n));
+    tally(&mut *tried, CROSSED, files_crossed(first, store, n));
+    tally(&mut *tried, LONG, files_long(image, n));
+}
+
 // The finished copy is a sound image of n inodes, has every entry that it owes, and nothing that is not of its time.
 fn finish_right(
     m: usize,
     n: usize,
     store: &[u8],
     image: &[u8],
-    moments: &[u8; 1048576],
+    moments: &[u8; 2097152],
     taken: &[u8; 384],
-    tried: &mut [u64; 24],
+    tried: &mut [u64; 26],
 ) -> bool
     requires { ⌜ n ≤ 8 ⌝ }
 {
@@ -60,7 +73,7 @@ fn finish_right(
     let owed = kept_entries(first, image, n, taken);
     tally(&mut *tried, FINISHES, 1);
     tally(&mut *tried, ENTRIES, owed.entries);
-    tally(&mut *tried, BLOCKS, blocks_again(first, store, n));
+    count_changes(first, store, image, n, &mut *tried);
     owed.there
         && byte(image, 0) == n
         && watch::check(Form::Image, image)
@@ -74,14 +87,14 @@ fn stepped(
     n: usize,
     store: &[u8],
     image: &[u8],
-    moments: &[u8; 1048576],
+    moments: &[u8; 2097152],
     taken: &[u8; 384],
-    tried: &mut [u64; 24],
+    tried: &mut [u64; 26],
 ) -> Next
     requires { ⌜ n ≤ 8 ⌝ }
 {
     let m = copy.moments;
-    let counted = 1 <= value && value - 1 == copy.steps && value <= 14 * n + 1 && 0 < m;
+    let counted = 1 <= value && value - 1 == copy.steps && value <= 46 * n + 1 && 0 < m;
     if byte(image, 8) != 1 {
         let copy = Copy {
             moments: m,
@@ -104,7 +117,7 @@ fn stepped(
 }
 
 // An accepted start: the first moment, and nothing taken out.
-fn started(store: &[u8], moments: &mut [u8; 1048576], taken: &mut [u8; 384]) -> Copy {
+fn started(store: &[u8], moments: &mut [u8; 2097152], taken: &mut [u8; 384]) -> Copy {
     octets::zero_range(&mut *taken, 0, 384);
     remember(store, &mut *moments, 0);
     Copy {
@@ -114,7 +127,7 @@ fn started(store: &[u8], moments: &mut [u8; 1048576], taken: &mut [u8; 384]) -> 
 }
 
 // An accepted file call: one more moment of a copy under way.
-fn called(copy: Copy, store: &[u8], moments: &mut [u8; 1048576]) -> Copy {
+fn called(copy: Copy, store: &[u8], moments: &mut [u8; 2097152]) -> Copy {
     let m = copy.moments;
     if m == 0 {
         return copy;
@@ -161,9 +174,9 @@ pub fn follow(
     n: usize,
     store: &[u8],
     image: &[u8],
-    moments: &mut [u8; 1048576],
+    moments: &mut [u8; 2097152],
     taken: &mut [u8; 384],
-    tried: &mut [u64; 24],
+    tried: &mut [u64; 26],
 ) -> Next
     requires { ⌜ n ≤ 8 ⌝ }
 {

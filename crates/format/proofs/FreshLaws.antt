@@ -1,5 +1,5 @@
 -- A store or a desk as it is laid out: what each reader gives, and that the store is sound.
-use Prim.Native.Nat.{ℕ, zero, suc, _+_, _*_, _-_, _≤_}
+use Prim.Native.Nat.{ℕ, zero, suc, _+_, _*_, _-_, _/_, _%_, _≤_, _<_}
 use mathlib.Core.Path.{_≡_, refl, sym, ap, _∙_}
 use mathlib.Core.Bool.{Bool, true, false, not, true≢false}
 use mathlib.Core.Logic.{_≢_}
@@ -19,14 +19,15 @@ use Rattle.octets.specs.Octets.{splice, Apart, numAt, toBytes, wordBytes}
 use Rattle.octets.proofs.PartLaws.{length-splice}
 use Rattle.octets.proofs.NumLaws.{num-apart, num-in, zero-num, num-off}
 use Rattle.octets.proofs.ZeroLaws.{byte-zeros, num-zeros, zero-over}
-use Rattle.layout.specs.Sizes.{mostInodes, mostStoreBlocks, rootInode}
+use Rattle.layout.specs.Sizes.{mostInodes, mostStoreBlocks, mostBlocks, rootInode}
 use Rattle.layout.specs.declared.header.Header.{Header}
 use Rattle.layout.specs.Header.{headerOf, putHeader, putFree, putComplete, headerRestZero}
 use Rattle.layout.specs.Inode.{attributesAt, addressAt, addressIndex, kindOf, spareOf, linksOf, sizeOf, parentOf, addressOf, attributeEntry, putAttributes, putAddresses, putInode, freeKind, directoryKind, inodeFree}
-use Rattle.blocks.specs.Block.{storeLength, blocksUsed, allowed}
-use Rattle.blocks.specs.Free.{blockNamed, blockFree}
+use Rattle.blocks.specs.Block.{storeLength, isLong, blocksUsed, kthBlock, rowBy, rowOf, allowed}
+use Rattle.blocks.specs.Free.{namedBy, blockNamed, blockFree}
 use Rattle.blocks.proofs.FrameLaws.{length-header, length-inode, header-past}
 use Rattle.blocks.proofs.ViewLaws.{header-put}
+use Rattle.blocks.proofs.KthLaws.{bare-all}
 use Rattle.directory.specs.Slot.{mostSlots, slots}
 use Rattle.sound.specs.Place.{dirOf, slotOf, isSlot, filled, naming}
 use Rattle.sound.specs.Inode.{InodeSound}
@@ -188,10 +189,17 @@ module _ (n b : ℕ) (some : 1 ≤ n) where
   unfolding filled
   filled-fresh p = rw (no-slot p)
 
+  kth-fresh : (i k : ℕ) → k < mostBlocks → kthBlock (freshStore n b) n i k ≡ 0
+  kth-fresh i k l = bare-all (isLong (freshStore n b) i) (freshStore n b) n i (λ j m. address-fresh (addressIndex i 0 + j)) k l
+
+  row-fresh : (x : ℕ) → rowOf (freshStore n b) n x ≡ 0
+  unfolding rowBy
+  row-fresh x = kth-fresh (x / mostBlocks + 1) (x % mostBlocks) (omega arith)
+
   named-fresh : (c : ℕ) → 1 ≤ c → blockNamed (freshStore n b) n c ≡ false
-  unfolding blockNamed
+  unfolding namedBy
   named-fresh c l =
-      none-some (λ x. eqb (addressOf (freshStore n b) n x) c) (12 * n) (λ x m. ne-eqb _ c (λ e. let z = address-fresh x in omega arith))
+      none-some (λ x. eqb (rowOf (freshStore n b) n x) c) (mostBlocks * n) (λ x m. ne-eqb _ c (λ e. let z = row-fresh x in omega arith))
 
   -- ---- it is sound
   inode-fresh : (i : ℕ) → 1 ≤ i → InodeSound (freshStore n b) n b i
@@ -204,7 +212,7 @@ module _ (n b : ℕ) (some : 1 ≤ n) where
         free = λ e. (links-fresh i, (z, parent-fresh i));
         size = omega arith;
         used = λ k m q. absurd (omega arith);
-        rest = λ k m q. address-fresh (addressIndex i k);
+        rest = λ k m q. kth-fresh i k m;
         directory = λ e. omega arith;
         tail = λ e h. absurd (h (omega arith));
         parent = λ e. parent-fresh i;
@@ -251,7 +259,7 @@ fresh-sound n b h i k l =
       root-number = ap (λ (x : Header). x .root) g;
       reserved = reserved-fresh n b;
       inodes = λ j p q. rw (e, f) (inode-fresh n b h j p);
-      once = rw e (λ x y p q r s. let z = address-fresh n b h y in omega arith);
+      once = rw e (λ x y p q r s. let z = row-fresh n b h y in omega arith);
       root = kind-root n b h;
       root-parent = parent-fresh n b h rootInode;
       entries = rw e (λ p q r. absurd (true≢false (sym r ∙ filled-fresh n b h p)));

@@ -30,14 +30,14 @@ module _ (s m d : List ℕ) where
   after-unsound h = rw h
 
   module _ (h : isSound Store s ≡ true) {n : ℕ} (p : n ≡ inodesIn s) where
-    notes : notesRight n m d ≡ notesFit s m d
+    notes : notesRight n s m d ≡ notesFit s m d
     unfolding notesFit
-    notes = ap (λ (k : ℕ). notesRight k m d) p
+    notes = ap (λ (k : ℕ). notesRight k s m d) p
 
-    pub after-misfit : notesRight n m d ≡ false → Stop BadDesk ≡ guardBy s (guardRows true s m d)
+    pub after-misfit : notesRight n s m d ≡ false → Stop BadDesk ≡ guardBy s (guardRows true s m d)
     after-misfit q = let k = sym notes ∙ q in rw (h, k)
 
-    pub after-pass : (b : ℕ) → b ≡ blocksIn s → notesRight n m d ≡ true → Pass n b ≡ guardBy s (guardRows true s m d)
+    pub after-pass : (b : ℕ) → b ≡ blocksIn s → notesRight n s m d ≡ true → Pass n b ≡ guardBy s (guardRows true s m d)
     after-pass b r q = let k = sym notes ∙ q in rw (h, k, p, r)
 
   -- 1, of a call on all three buffers and of a start

@@ -21,7 +21,7 @@ fn both_framed(store: &[u8], desk: &[u8]) -> bool
     fit::desk_framed(desk)
 }
 
-// 2 and 3, where 1 does not come: one check of the store, then the desk and the image of a running copy.
+// 2 and 3, where 1 does not come: one check of the store, then the desk and the image of a running copy, beside the store that is sound by then.
 fn after_lengths(store: &[u8], image: &[u8], desk: &[u8]) -> Guard
     requires { ⌜ bothFramed (now store) (now desk) ≡ true ⌝ }
     ensures { λ r. ⌜ r ≡ guardBy (now (store .entry)) (guardRows true (now (store .entry)) (now (image .entry)) (now (desk .entry))) ⌝ }
@@ -32,7 +32,7 @@ fn after_lengths(store: &[u8], image: &[u8], desk: &[u8]) -> Guard
     if !check::body_right(Form::Store, store, n, b) {
         return Guard::Stop(Refusal::UnsoundStore);
     }
-    if !fit::notes_fit(n, image, desk) {
+    if !fit::notes_fit(n, store, image, desk) {
         return Guard::Stop(Refusal::BadDesk);
     }
     Guard::Pass(n, b)

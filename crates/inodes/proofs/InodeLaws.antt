@@ -1,134 +1,265 @@
 -- What the check of the inodes finds at each step, said of the definitions. n and b are the counts of inodes and blocks.
 use Prim.Native.Nat.{ℕ, _+_, _*_, _-_, _/_, _%_, _≤_, _<_}
 use mathlib.Core.Path.{_≡_, refl, sym, ap, ap₂, _∙_}
+use mathlib.Core.Logic.{_≢_}
 use mathlib.Core.Bool.{Bool, true, false, not, _&&_, _||_, and-true as and-unit}
 use mathlib.Core.List.{List}
+use native.Mathlib.Decide.{decLt}
 use native.Mathlib.Omega.{arith}
-use borrow.Author.Tests.{eq-eqb, ne-eqb, eqb-true, eqb-false, le-leb, lt-leb}
-use lib.Dec.{eqb, leb}
+use borrow.Author.Tests.{not-true, not-false, eq-eqb, ne-eqb, eqb-true, eqb-false, le-leb, lt-leb, leb-true, lt-ltb, le-ltb}
+use lib.Dec.{eqb, leb, ltb}
 use lib.ListN.{getD}
 use Rattle.bounded.specs.Below.{allBelow, allTo}
 use Rattle.bounded.specs.Count.{newAt, differB}
 use Rattle.bounded.specs.Reflect.{Reflects}
-use Rattle.bounded.proofs.BoolLaws.{clash, fails, same-test, chain-stop, chain-on, chain-off, and-true, and-left, and-right, and-false-l, and-false-r, or-l, or-r}
-use Rattle.bounded.proofs.BelowLaws.{all-at, all-of, all-ext, all-chunk, all-and, all-from}
+use Rattle.bounded.proofs.BoolLaws.{clash, fails, holds, same-test, chain-stop, chain-on, chain-off, chain-end, and-true, and-left, and-right, and-false-l, and-false-r, or-l, or-r}
+use Rattle.bounded.proofs.BelowLaws.{all-at, all-of, all-ext, all-split, all-chunk, all-and, all-from}
 use Rattle.bounded.proofs.CountLaws.{new-zero}
 use Rattle.bounded.proofs.SeenLaws.{new-noted, again-noted}
 use Rattle.bounded.proofs.ReflectLaws.{r-eq, r-le, r-lt, r-and, r-imp, r-fails, r-says, reflects-ext}
 use Rattle.octets.proofs.PartLaws.{getD-part}
-use Rattle.layout.specs.Sizes.{addressCount, blockBytes, mostFileBytes, mostImageBlocks}
+use Rattle.layout.specs.Sizes.{addressCount, furtherCount, mostBlocks, addressPlace, blockBytes, mostDirectBytes, mostFileBytes, mostDirectoryBytes, mostImageBlocks}
 use Rattle.layout.specs.Inode.{kindOf, spareOf, linksOf, sizeOf, parentOf, addressOf, addressIndex, freeKind, fileKind, directoryKind, attributesZero, addressesZero}
-use Rattle.blocks.specs.Block.{blockAt, blockOf, blocksUsed, kthBlock}
+use Rattle.blocks.specs.Block.{blockAt, blockOf, blocksUsed, bytesPlace, isLong, addressBlock, furtherOf, kthBlock, bytesBlock, rowOf}
 use Rattle.blocks.specs.Free.{blockFree}
-use Rattle.blocks.specs.Map.{noted, lacks, Maps}
-use Rattle.layout.proofs.InodeLaws.{attributes-none, addresses-none}
-use Rattle.blocks.proofs.MapLaws.{map-more, map-pass, map-as, map-free}
-use Rattle.sound.specs.Inode.{mostBytes, tailByte}
-use Rattle.sound.proofs.SoundLaws.{most-any, attributes}
+use Rattle.blocks.specs.Map.{noted, lacks, Notes}
+use Rattle.layout.proofs.InodeLaws.{addresses-none}
+use Rattle.blocks.proofs.KthLaws.{kth-direct, kth-none, kth-behind, bare-all, row-kth}
+use Rattle.blocks.proofs.MapLaws.{map-pass, map-as, map-free, notes-none, notes-more, notes-pass}
+use Rattle.ledger.proofs.BytesLaws.{bytesBlocks, place-used, place-short, place-high, used-limits}
+use Rattle.sound.specs.Inode.{tailByte}
+use Rattle.sound.proofs.SoundLaws.{most-any, any-most, most-file, most-directory, attributes}
 use Rattle.sound.specs.Test.{usedB, restB, tailB, attributesB, addressesB, zeroTailB, inodeB, blankBlockB}
-use Rattle.inodes.specs.Pass.{newBlockB, newBlocksB, addressB}
+use Rattle.inodes.specs.Pass.{MapsOf, addressB, rowPlace, newBlockB, newBlocksB, kthB}
 
 -- ---- the attributes of inode i
 module _ (s : List ℕ) (i : ℕ) where
-  pub attr-kind : directoryKind < kindOf s i → false ≡ attributesB s i
-  attr-kind h = sym (r-fails (attributes s i) (λ a. omega (arith, a .0)))
+  no-attributes : Reflects (attributesZero s i) ((kindOf s i ≡ 0) × ((spareOf s i ≡ 0) × ((linksOf s i ≡ 0) × ((sizeOf s i ≡ 0) × (parentOf s i ≡ 0)))))
+  unfolding attributesZero
+  no-attributes = r-and (r-eq (kindOf s i) 0) (r-and (r-eq (spareOf s i) 0) (r-and (r-eq (linksOf s i) 0) (r-and (r-eq (sizeOf s i) 0) (r-eq (parentOf s i) 0))))
 
   pub attr-spare : (spareOf s i ≡ 0 → ⊥) → false ≡ attributesB s i
   attr-spare h = sym (r-fails (attributes s i) (λ a. h (a .1 .0)))
 
-  pub attr-size : mostBytes (kindOf s i) < sizeOf s i → false ≡ attributesB s i
-  attr-size h = sym (r-fails (attributes s i) (λ a. omega (arith, a .1 .1 .1 .0)))
+  -- a file, of which the code has the parent p
+  module _ (e : kindOf s i ≡ fileKind) where
+    pub attr-file-long : mostFileBytes < sizeOf s i → false ≡ attributesB s i
+    attr-file-long h = sym (r-fails (attributes s i) (λ a. let m = most-file (kindOf s i) e in omega (arith, a .1 .1 .1 .0)))
 
-  -- a free inode that has links, or a size
-  pub attr-linked : kindOf s i ≡ freeKind → (linksOf s i ≡ 0 → ⊥) → false ≡ attributesB s i
-  attr-linked e h = sym (r-fails (attributes s i) (λ a. h (a .1 .1 .0 e .0)))
+    pub attr-file : (p : ℕ) → spareOf s i ≡ 0 → sizeOf s i ≤ mostFileBytes → p ≡ parentOf s i → eqb p 0 ≡ attributesB s i
+    attr-file p eo h ep =
+        let m = most-file (kindOf s i) e in
+        reflects-ext (r-eq p 0)
+        (r-says (λ a. ep ∙ a .1 .1 .1 .1 .1 e)
+        (λ q. (omega arith, (eo, ((λ x. absurd (omega arith)), (omega arith, ((λ x. absurd (omega arith)), λ x. sym ep ∙ q))))))
+        (attributes s i))
 
-  pub attr-sized : kindOf s i ≡ freeKind → (sizeOf s i ≡ 0 → ⊥) → false ≡ attributesB s i
-  attr-sized e h = sym (r-fails (attributes s i) (λ a. h (a .1 .1 .0 e .1 .0)))
+  -- a directory, of which it has the size z
+  module _ (e : kindOf s i ≡ directoryKind) where
+    pub attr-directory-long : mostDirectoryBytes < sizeOf s i → false ≡ attributesB s i
+    attr-directory-long h = sym (r-fails (attributes s i) (λ a. let m = most-directory (kindOf s i) e in omega (arith, a .1 .1 .1 .0)))
 
-  -- the last test of each kind, where the code has the parent p or the size z
-  pub attr-free : (p : ℕ) → kindOf s i ≡ freeKind → spareOf s i ≡ 0 → linksOf s i ≡ 0 → sizeOf s i ≡ 0 → p ≡ parentOf s i → eqb p 0 ≡ attributesB s i
-  attr-free p ek eo el ez ep =
-      reflects-ext (r-eq p 0)
-      (r-says (λ a. ep ∙ a .1 .1 .0 ek .1 .1)
-      (λ q. (omega arith, (eo, ((λ x. (el, (ez, sym ep ∙ q))), (omega arith, ((λ x. absurd (omega arith)), λ x. absurd (omega arith)))))))
-      (attributes s i))
+    pub attr-directory : (z : ℕ) → spareOf s i ≡ 0 → sizeOf s i ≤ mostDirectoryBytes → z ≡ sizeOf s i → eqb (z % blockBytes) 0 ≡ attributesB s i
+    attr-directory z eo h ez =
+        let m = most-directory (kindOf s i) e in
+        reflects-ext (r-eq (z % blockBytes) 0)
+        (r-says (λ a. omega (arith, ez, a .1 .1 .1 .1 .0 e))
+        (λ q. (omega arith, (eo, ((λ x. absurd (omega arith)), (omega arith, ((λ x. omega (arith, ez, q)), λ x. absurd (omega arith)))))))
+        (attributes s i))
 
-  pub attr-file : (p : ℕ) → kindOf s i ≡ fileKind → spareOf s i ≡ 0 → sizeOf s i ≤ mostBytes (kindOf s i) → p ≡ parentOf s i → eqb p 0 ≡ attributesB s i
-  attr-file p ek eo h ep =
-      reflects-ext (r-eq p 0)
-      (r-says (λ a. ep ∙ a .1 .1 .1 .1 .1 ek)
-      (λ q. (omega arith, (eo, ((λ x. absurd (omega arith)), (h, ((λ x. absurd (omega arith)), λ x. sym ep ∙ q))))))
-      (attributes s i))
+  -- neither: it would be free, and have no attributes
+  pub attr-other : attributesZero s i ≡ false → kindOf s i ≢ fileKind → kindOf s i ≢ directoryKind → false ≡ attributesB s i
+  attr-other z f d =
+      sym
+      (r-fails (attributes s i) (λ a.
+      let k : kindOf s i ≤ directoryKind = a .0 in
+      let e : kindOf s i ≡ freeKind = omega arith in
+      let q = a .1 .1 .0 e in
+      clash (attributesZero s i) (no-attributes .from (e, (a .1 .0, q))) z))
 
-  pub attr-directory : (z : ℕ) → kindOf s i ≡ directoryKind → spareOf s i ≡ 0 → sizeOf s i ≤ mostBytes (kindOf s i) → z ≡ sizeOf s i → eqb (z % blockBytes) 0 ≡ attributesB s i
-  attr-directory z ek eo h ez =
-      reflects-ext (r-eq (z % blockBytes) 0)
-      (r-says (λ a. omega (arith, ez, a .1 .1 .1 .1 .0 ek))
-      (λ q. (omega arith, (eo, ((λ x. absurd (omega arith)), (h, ((λ x. omega (arith, ez, q)), λ x. absurd (omega arith)))))))
-      (attributes s i))
+  -- the attributes of a free inode
+  attr-free : attributesZero s i ≡ true → attributesB s i ≡ true
+  attr-free z =
+      let f = no-attributes .to z in
+      let k = f .0 in
+      let o = f .1 .1 .1 .0 in
+      attributes s i .from
+      (omega arith, (f .1 .0, ((λ x. (f .1 .1 .0, (o, f .1 .1 .1 .1))), (any-most (kindOf s i) (sizeOf s i) (omega arith), ((λ x. absurd (omega arith)), λ x. absurd (omega arith))))))
 
-  attr-small : attributesB s i ≡ true → sizeOf s i ≤ mostFileBytes
+  pub attr-small : attributesB s i ≡ true → sizeOf s i ≤ mostFileBytes
   attr-small h = most-any (kindOf s i) (sizeOf s i) ((attributes s i) .to h .1 .1 .1 .0)
 
--- ---- address k of inode i, of which the size uses u
+-- ---- an address a, with the blocks met so far in the map m
+module _ (b a : ℕ) (m : List ℕ) where
+  pub address-spare : (u : Bool) → not u ≡ true → eqb a 0 ≡ addressB u b m a
+  unfolding addressB
+  address-spare u h = rw (not-true u h)
+
+  module _ (u : Bool) (h : not u ≡ false) where
+    used-is : addressB u b m a ≡ leb 1 a && (leb a b && lacks m a)
+    unfolding addressB
+    used-is = rw (not-false u h)
+
+    pub address-none : a < 1 → false ≡ addressB u b m a
+    address-none l = sym (used-is ∙ and-false-l (leb 1 a) (leb a b && lacks m a) (lt-leb 1 a l))
+
+    pub address-past : b < a → false ≡ addressB u b m a
+    address-past l = sym (used-is ∙ and-false-r (leb 1 a) (leb a b && lacks m a) (and-false-l (leb a b) (lacks m a) (lt-leb a b l)))
+
+    pub address-again : lacks m a ≡ false → false ≡ addressB u b m a
+    address-again z = sym (used-is ∙ and-false-r (leb 1 a) (leb a b && lacks m a) (and-false-r (leb a b) (lacks m a) z))
+
+    pub address-new : 1 ≤ a → a ≤ b → lacks m a ≡ true → true ≡ addressB u b m a
+    address-new p q z = sym (used-is ∙ and-true (leb 1 a) (leb a b && lacks m a) (le-leb 1 a p) (and-true (leb a b) (lacks m a) (le-leb a b q) z))
+
+-- what is met is noted, and 0 needs no note
+module _ (a : ℕ) (m : List ℕ) where
+  pub address-passed : eqb a 0 ≡ true → Notes (λ _. a) 1 m m
+  address-passed z = notes-pass (λ _. a) 0 1 m m (λ k l. eqb-true a 0 z) (notes-none (λ _. a) m)
+
+  pub address-noted : a ≤ mostImageBlocks → Notes (λ _. a) 1 m (noted m a)
+  address-noted l = notes-more (λ _. a) 0 a m m refl l (notes-none (λ _. a) m)
+
+-- ---- the k-th block a of inode i
+-- the map of what the row has before it, and then with it
+module _ (s : List ℕ) (n i k a : ℕ) (ea : a ≡ kthBlock s n i k) (low : 1 ≤ i) (most : k < mostBlocks) where
+  in-row : a ≡ rowOf s n (rowPlace i k)
+  in-row = ea ∙ sym (row-kth (isLong s) s n i k low most)
+
+  pub kth-noted : (m after : List ℕ) → MapsOf s n (rowPlace i k) m → Notes (λ _. a) 1 m after → MapsOf s n (rowPlace i k + 1) after
+  kth-noted m after h g = g (rowOf s n) (rowPlace i k) (λ j l. let e : rowPlace i k + j ≡ rowPlace i k = omega arith in ap (rowOf s n) e ∙ sym in-row) h
+
+-- the size uses u blocks
 module _ (s : List ℕ) (n b i k u a : ℕ) (eu : u ≡ blocksUsed (sizeOf s i)) (ea : a ≡ kthBlock s n i k) where
-  address-is : Reflects (usedB s n b i k && restB s n i k) ((k < u → (1 ≤ a) × (a ≤ b)) × (u ≤ k → a ≡ 0))
-  unfolding kthBlock
-  address-is =
+  kth-is : Reflects (usedB s n b i k && restB s n i k) ((k < u → (1 ≤ a) × (a ≤ b)) × (u ≤ k → a ≡ 0))
+  kth-is =
       rw eu rw ea
       (r-and (r-imp (r-lt k (blocksUsed (sizeOf s i))) (r-and (r-le 1 (kthBlock s n i k)) (r-le (kthBlock s n i k) b)))
       (r-imp (r-le (blocksUsed (sizeOf s i)) k) (r-eq (kthBlock s n i k) 0)))
 
-  -- one that is refused
-  stop-used : k < u → ((1 ≤ a) × (a ≤ b) → ⊥) → false ≡ addressB s n b i k
-  unfolding addressB
-  stop-used l h = sym (and-false-l (usedB s n b i k && restB s n i k) (newBlockB s n i k) (r-fails address-is (λ p. h (p .0 l))))
+  module _ (low : 1 ≤ i) (most : k < mostBlocks) where
+    here : a ≡ rowOf s n (rowPlace i k)
+    here = in-row s n i k a ea low most
 
-  pub address-none : k < u → a < 1 → false ≡ addressB s n b i k
-  address-none l h = stop-used l (λ p. let q : 1 ≤ a = p .0 in omega arith)
+    -- what is not used is right if it is 0
+    kth-rest : u ≤ k → eqb a 0 ≡ kthB s n b i k
+    unfolding kthB
+    kth-rest l =
+        same-test (eqb a 0) (kthB s n b i k)
+        (λ t.
+        let z : a ≡ 0 = eqb-true a 0 t in
+        and-true (usedB s n b i k && restB s n i k) (newBlockB s n i k) (kth-is .from ((λ x. absurd (omega arith)), λ x. z))
+        (new-zero (rowOf s n) (rowPlace i k) a here z))
+        (λ t. eq-eqb a 0 (kth-is .to (and-left (usedB s n b i k && restB s n i k) (newBlockB s n i k) t) .1 l))
 
-  pub address-past : k < u → b < a → false ≡ addressB s n b i k
-  address-past l h = stop-used l (λ p. let q : a ≤ b = p .1 in omega arith)
+    -- what is used is right if it is a block that the map lacks
+    module _ (few : b ≤ mostImageBlocks) (m : List ℕ) (h : MapsOf s n (rowPlace i k) m) where
+      kth-used : k < u → leb 1 a && (leb a b && lacks m a) ≡ kthB s n b i k
+      unfolding kthB
+      kth-used l =
+          same-test (leb 1 a && (leb a b && lacks m a)) (kthB s n b i k)
+          (λ t.
+          let p : 1 ≤ a = leb-true 1 a (and-left (leb 1 a) (leb a b && lacks m a) t) in
+          let y = and-right (leb 1 a) (leb a b && lacks m a) t in
+          let q : a ≤ b = leb-true a b (and-left (leb a b) (lacks m a) y) in
+          and-true (usedB s n b i k && restB s n i k) (newBlockB s n i k) (kth-is .from ((λ x. (p, q)), λ x. absurd (omega arith)))
+          (new-noted (rowOf s n) 1 (mostImageBlocks + 1) (rowPlace i k) a m here p (omega arith) h (eqb-true _ 0 (and-right (leb a b) (lacks m a) y))))
+          (λ t.
+          let r = kth-is .to (and-left (usedB s n b i k && restB s n i k) (newBlockB s n i k) t) .0 l in
+          let p : 1 ≤ a = r .0 in
+          let q : a ≤ b = r .1 in
+          and-true (leb 1 a) (leb a b && lacks m a) (le-leb 1 a p)
+          (and-true (leb a b) (lacks m a) (le-leb a b q)
+          (holds (lacks m a) (λ z.
+          clash (newBlockB s n i k) (and-right (usedB s n b i k && restB s n i k) (newBlockB s n i k) t)
+          (again-noted (rowOf s n) 1 (mostImageBlocks + 1) (rowPlace i k) a m here p (omega arith) h (eqb-false _ 0 z) (omega arith))))))
 
-  -- what is not used is right if it is 0
-  pub address-rest : u ≤ k → eqb a 0 ≡ addressB s n b i k
-  unfolding addressB kthBlock
-  address-rest l =
-      same-test (eqb a 0) (addressB s n b i k)
-      (λ t.
-      let z : a ≡ 0 = eqb-true a 0 t in
-      and-true (usedB s n b i k && restB s n i k) (newBlockB s n i k) (address-is .from ((λ x. absurd (omega arith)), λ x. z))
-      (new-zero (addressOf s n) (addressIndex i k) a ea z))
-      (λ t. eq-eqb a 0 (address-is .to (and-left (usedB s n b i k && restB s n i k) (newBlockB s n i k) t) .1 l))
+      -- so the code's test of a is the block's, if x < z tells whether it is used
+      kth-tested : (x z : ℕ) → (x < z → k < u) → (k < u → x < z) → addressB (ltb x z) b m a ≡ kthB s n b i k
+      unfolding addressB
+      kth-tested x z f g = go (decLt x z)
+        where
+          go : Dec (x < z) → addressB (ltb x z) b m a ≡ kthB s n b i k
+          go (yes l) = rw (lt-ltb x z l) (kth-used (f l))
+          go (no l) = rw (le-ltb x z (omega arith)) (kth-rest (none (decLt k u)))
+            where
+              none : Dec (k < u) → u ≤ k
+              none (yes c) = absurd (l (g c))
+              none (no c) = omega arith
 
-  -- the blocks named before it are noted in m
-  module _ (m : List ℕ) (h : Maps s n (addressIndex i k) m) (p : 1 ≤ a) (l : a ≤ mostImageBlocks) where
-    pub address-again : lacks m a ≡ false → false ≡ addressB s n b i k
-    unfolding addressB kthBlock
-    address-again z =
-        sym (and-false-r (usedB s n b i k && restB s n i k) (newBlockB s n i k) (again-noted (addressOf s n) 1 (mostImageBlocks + 1) (addressIndex i k) a m ea p (omega arith) h (eqb-false _ 0 z) (omega arith)))
+-- the code tells it by the size z and where the bytes of the block start
+module _ (s : List ℕ) (n b i k z a : ℕ) (low : 1 ≤ i) (few : b ≤ mostImageBlocks) (m : List ℕ) (ez : z ≡ sizeOf s i) where
+  pub direct-tested : k < addressCount → a ≡ kthBlock s n i k → MapsOf s n (rowPlace i k) m → addressB (ltb (blockBytes * k) z) b m a ≡ kthB s n b i k
+  unfolding blocksUsed
+  direct-tested l ea h = kth-tested s n b i k (blocksUsed z) a (ap blocksUsed ez) ea low (omega arith) few m h (blockBytes * k) z (λ p. omega arith) (λ p. omega arith)
 
-    pub address-new : k < u → a ≤ b → lacks m a ≡ true → true ≡ addressB s n b i k
-    unfolding addressB kthBlock
-    address-new j q z =
+  pub further-tested : k < furtherCount → mostDirectBytes < z → a ≡ kthBlock s n i (addressCount + k) → MapsOf s n (rowPlace i (addressCount + k)) m
+      → addressB (ltb (blockBytes * (addressPlace + k)) z) b m a ≡ kthB s n b i (addressCount + k)
+  unfolding blocksUsed
+  further-tested l o ea h =
+      kth-tested s n b i (addressCount + k) (blocksUsed z) a (ap blocksUsed ez) ea low (omega arith) few m h (blockBytes * (addressPlace + k)) z (λ p. omega arith) (λ p. omega arith)
+
+-- ---- all blocks of inode i: the twelve addresses, and what is behind them
+module _ (s : List ℕ) (n b i : ℕ) where
+  addresses-are : allBelow (kthB s n b i) mostBlocks ≡ addressesB s n b i && newBlocksB s n i
+  unfolding kthB addressesB newBlocksB
+  addresses-are = all-and (λ k. usedB s n b i k && restB s n i k) (newBlockB s n i) mostBlocks
+
+  parts : allBelow (kthB s n b i) addressCount && allBelow (λ j. kthB s n b i (addressCount + j)) furtherCount ≡ addressesB s n b i && newBlocksB s n i
+  parts = sym (all-split (kthB s n b i) addressCount furtherCount) ∙ addresses-are
+
+  pub direct-stop : (r : Bool) → r ≡ allBelow (kthB s n b i) addressCount → not r ≡ true → false ≡ addressesB s n b i && newBlocksB s n i
+  direct-stop r e h = chain-stop r _ (allBelow (λ j. kthB s n b i (addressCount + j)) furtherCount) e h ∙ parts
+
+  module _ (d : allBelow (kthB s n b i) addressCount ≡ true) where
+    pub direct-then : (r : Bool) → r ≡ allBelow (λ j. kthB s n b i (addressCount + j)) furtherCount → r ≡ addressesB s n b i && newBlocksB s n i
+    direct-then r e = chain-end r _ _ d e ∙ parts
+
+    -- more than twelve blocks of bytes: the address block is there
+    pub direct-block : mostDirectBytes < sizeOf s i → (1 ≤ addressBlock s n i) × (addressBlock s n i ≤ b)
+    unfolding kthB blocksUsed
+    direct-block l =
+        kth-is s n b i 11 (blocksUsed (sizeOf s i)) (addressBlock s n i) refl (sym (kth-direct (isLong s i) s n i 11 (omega arith)))
+        .to (and-left (usedB s n b i 11 && restB s n i 11) (newBlockB s n i 11) (all-at (kthB s n b i) addressCount d 11 (omega arith)))
+        .0 (omega arith)
+
+  -- no more: there is no address block, and nothing behind
+  module _ (low : 1 ≤ i) (few : sizeOf s i ≤ mostDirectBytes) where
+    short-is : isLong s i ≡ false
+    unfolding isLong
+    short-is = and-false-r (eqb (kindOf s i) fileKind) (ltb mostDirectBytes (sizeOf s i)) (le-ltb mostDirectBytes (sizeOf s i) (omega arith))
+
+    behind : (k : ℕ) → addressCount ≤ k → kthBlock s n i k ≡ 0
+    behind k l = kth-none (isLong s i) s n i k short-is l
+
+    pub short-rest : true ≡ allBelow (λ j. kthB s n b i (addressCount + j)) furtherCount
+    unfolding blocksUsed
+    short-rest =
         sym
-        (and-true (usedB s n b i k && restB s n i k) (newBlockB s n i k) (address-is .from ((λ x. (p, q)), λ x. absurd (omega arith)))
-        (new-noted (addressOf s n) 1 (mostImageBlocks + 1) (addressIndex i k) a m ea p (omega arith) h (eqb-true _ 0 z)))
+        (all-of (λ j. kthB s n b i (addressCount + j)) furtherCount
+        (λ j l. sym (kth-rest s n b i (12 + j) (blocksUsed (sizeOf s i)) 0 refl (sym (behind (12 + j) (omega arith))) low (omega arith) (omega arith))))
 
-module _ (s : List ℕ) (n i k a : ℕ) (m : List ℕ) (e : a ≡ kthBlock s n i k) (h : Maps s n (addressIndex i k) m) where
-  pub address-noted : a ≤ mostImageBlocks → Maps s n (addressIndex i k + 1) (noted m a)
-  unfolding kthBlock
-  address-noted l = map-more s n (addressIndex i k) a m e l h
+    pub short-passed : (m : List ℕ) → MapsOf s n (rowPlace i addressCount) m → MapsOf s n (mostBlocks * i) m
+    short-passed m h =
+        map-as (isLong s) s n m (omega arith)
+        (map-pass (isLong s) s n (rowPlace i addressCount) furtherCount m
+        (λ j l.
+        let e : rowPlace i addressCount + j ≡ rowPlace i (12 + j) = omega arith in
+        ap (rowOf s n) e ∙ row-kth (isLong s) s n i (12 + j) low (omega arith) ∙ behind (12 + j) (omega arith)) h)
 
-  pub address-passed : a ≡ 0 → Maps s n (addressIndex i k + 1) m
-  unfolding kthBlock
-  address-passed z = map-pass s n (addressIndex i k) 1 m (λ j l. let y : addressIndex i k + j ≡ addressIndex i k = omega arith in ap (addressOf s n) y ∙ sym e ∙ z) h
+-- more than twelve blocks of bytes are a file's: no directory has them, and a free inode has none
+long-is : (s : List ℕ) (i : ℕ) → attributesB s i ≡ true → mostDirectBytes < sizeOf s i → isLong s i ≡ true
+unfolding isLong
+long-is s i a l =
+    let h = attributes s i .to a in
+    let d : kindOf s i ≢ directoryKind = λ e. let z = most-directory (kindOf s i) e in let y = h .1 .1 .1 .0 in omega arith in
+    let f : kindOf s i ≢ freeKind = λ e. let z = h .1 .1 .0 e .1 .0 in omega arith in
+    let k : kindOf s i ≤ directoryKind = h .0 in
+    and-true (eqb (kindOf s i) fileKind) (ltb mostDirectBytes (sizeOf s i)) (eq-eqb (kindOf s i) fileKind (omega arith)) (lt-ltb mostDirectBytes (sizeOf s i) l)
 
--- ---- all addresses of inode i
-pub addresses-are : (s : List ℕ) (n b i : ℕ) → allBelow (addressB s n b i) addressCount ≡ addressesB s n b i && newBlocksB s n i
-unfolding addressB addressesB newBlocksB
-addresses-are s n b i = all-and (λ k. usedB s n b i k && restB s n i k) (newBlockB s n i) addressCount
+-- address j of its address block c
+pub further-is : (s : List ℕ) (n i j z c a : ℕ) → attributesB s i ≡ true → z ≡ sizeOf s i → mostDirectBytes < z → c ≡ addressBlock s n i → a ≡ furtherOf s n c j → a ≡ kthBlock s n i (addressCount + j)
+further-is s n i j z c a t ez l ec ea = ea ∙ ap (λ (x : ℕ). furtherOf s n x j) ec ∙ sym (kth-behind (isLong s i) s n i j (long-is s i t (omega arith)))
 
 -- ---- inode i
 module _ (s : List ℕ) (n b i : ℕ) where
@@ -162,14 +293,14 @@ module _ (s : List ℕ) (n b i : ℕ) where
 
 -- all inodes: no block is named twice
 pub inodes-are : (s : List ℕ) (n b : ℕ) →
-    allBelow (λ k. inodeB s n b (k + 1) && newBlocksB s n (k + 1)) n ≡ allTo (inodeB s n b) n && differB (addressOf s n) (addressCount * n)
+    allBelow (λ k. inodeB s n b (k + 1) && newBlocksB s n (k + 1)) n ≡ allTo (inodeB s n b) n && differB (rowOf s n) (mostBlocks * n)
 unfolding newBlocksB
 inodes-are s n b =
     all-and (λ k. inodeB s n b (k + 1)) (λ k. newBlocksB s n (k + 1)) n
     ∙ ap (λ (x : Bool). allTo (inodeB s n b) n && x)
-    (all-ext (λ k. newBlocksB s n (k + 1)) (λ k. allBelow (λ j. newAt (addressOf s n) (addressCount * k + j)) addressCount) n
-    (λ k l. let e : k + 1 - 1 ≡ k = omega arith in ap (λ (x : ℕ). allBelow (λ j. newAt (addressOf s n) (addressCount * x + j)) addressCount) e)
-    ∙ sym (all-chunk (newAt (addressOf s n)) addressCount n))
+    (all-ext (λ k. newBlocksB s n (k + 1)) (λ k. allBelow (λ j. newAt (rowOf s n) (mostBlocks * k + j)) mostBlocks) n
+    (λ k l. let e : k + 1 - 1 ≡ k = omega arith in ap (λ (x : ℕ). allBelow (λ j. newAt (rowOf s n) (mostBlocks * x + j)) mostBlocks) e)
+    ∙ sym (all-chunk (newAt (rowOf s n)) mostBlocks n))
 
 -- ---- zero bytes
 -- a range inside of a block, from byte o of it on
@@ -184,10 +315,10 @@ zero-block-is s n k a e =
     (λ o l. ap (λ (x : ℕ). eqb x 0) (sym (block-byte s n (k + 1) o l))))
 
 tail-bytes : (s : List ℕ) (n i : ℕ) →
-    allBelow (tailB s n i) blockBytes ≡ allBelow (λ j. eqb (getD s (blockAt n (kthBlock s n i (sizeOf s i / blockBytes)) + sizeOf s i % blockBytes + j) 0) 0) (blockBytes - sizeOf s i % blockBytes)
+    allBelow (tailB s n i) blockBytes ≡ allBelow (λ j. eqb (getD s (blockAt n (bytesBlock s n i (sizeOf s i / blockBytes)) + sizeOf s i % blockBytes + j) 0) 0) (blockBytes - sizeOf s i % blockBytes)
 tail-bytes s n i =
     let t = sizeOf s i % blockBytes in
-    let c = kthBlock s n i (sizeOf s i / blockBytes) in
+    let c = bytesBlock s n i (sizeOf s i / blockBytes) in
     all-from (tailB s n i) (λ j. eqb (getD s (blockAt n c + t + j) 0) 0) t blockBytes (omega arith)
     (λ o l. or-l (not (leb t o)) (eqb (tailByte s n i o) 0) (ap not (lt-leb t o l)))
     (λ j l.
@@ -210,19 +341,33 @@ tail-full s n i e =
     (or-l (eqb (sizeOf s i % blockBytes) 0) (allBelow (tailB s n i) blockBytes) (eq-eqb (sizeOf s i % blockBytes) 0 e)))
 
 -- the last block of a file whose size z ends in it: it is there, and the bytes from z on are what the code tests
-module _ (s : List ℕ) (n i z : ℕ) (ez : z ≡ sizeOf s i) (h : z % blockBytes ≡ 0 → ⊥) where
-  pub last-block : (b : ℕ) → attributesB s i ≡ true → addressesB s n b i ≡ true →
-      (z / blockBytes < addressCount) × (1 ≤ kthBlock s n i (z / blockBytes)) × (kthBlock s n i (z / blockBytes) ≤ b)
-  unfolding addressesB blocksUsed
-  last-block b a d =
-      let k = z / blockBytes in
-      let m = attr-small s i a in
-      let l : k < addressCount = omega (arith, ez, m, h) in
-      let u : k < blocksUsed z = omega (arith, h) in
-      let r = address-is s n b i k (blocksUsed z) (kthBlock s n i k) (ap blocksUsed ez) refl .to (all-at _ addressCount d k l) .0 u in
-      (l, r .0, r .1)
+module _ (s : List ℕ) (n i z : ℕ) (ez : z ≡ sizeOf s i) (h : z % blockBytes ≢ 0) where
+  module _ (b : ℕ) (a : attributesB s i ≡ true) (d : addressesB s n b i ≡ true) where
+    used-block : (k : ℕ) → k < mostBlocks → k < blocksUsed z → (1 ≤ kthBlock s n i k) × (kthBlock s n i k ≤ b)
+    unfolding addressesB
+    used-block k l u = kth-is s n b i k (blocksUsed z) (kthBlock s n i k) (ap blocksUsed ez) refl .to (all-at _ mostBlocks d k l) .0 u
 
-  pub tail-tested : (c o : ℕ) → kindOf s i ≡ fileKind → c ≡ kthBlock s n i (z / blockBytes) → o ≡ blockAt n c →
+    pub last-there : (1 ≤ bytesBlock s n i (z / blockBytes)) × (bytesBlock s n i (z / blockBytes) ≤ b)
+    last-there =
+        let m = attr-small s i a in
+        let l : z / blockBytes < bytesBlocks z = omega arith in
+        let u = place-used z (z / blockBytes) l in
+        let w = used-limits z .0 (omega arith) in
+        rw (← ez) (used-block (bytesPlace z (z / blockBytes)) (omega arith) u)
+
+    pub last-long : mostDirectBytes < z → (1 ≤ addressBlock s n i) × (addressBlock s n i ≤ b)
+    last-long l = let w = used-limits z .1 .1 l in rw (← (kth-direct (isLong s i) s n i 11 (omega arith))) (used-block 11 (omega arith) (omega arith))
+
+  pub last-short : (r : ℕ) → z ≤ mostDirectBytes → r ≡ kthBlock s n i (z / blockBytes) → r ≡ bytesBlock s n i (z / blockBytes)
+  last-short r l e = e ∙ ap (kthBlock s n i) (sym (ap (λ (x : ℕ). bytesPlace x (z / blockBytes)) (sym ez) ∙ place-short z (z / blockBytes) l))
+
+  pub last-further : (r c j : ℕ) → attributesB s i ≡ true → mostDirectBytes < z → c ≡ addressBlock s n i → j ≡ z / blockBytes - addressPlace → r ≡ furtherOf s n c j → r ≡ bytesBlock s n i (z / blockBytes)
+  last-further r c j a l ec ej e =
+      let y : addressCount + j ≡ z / blockBytes + 1 = omega arith in
+      further-is s n i j z c r a ez l ec e
+      ∙ ap (kthBlock s n i) (y ∙ sym (ap (λ (x : ℕ). bytesPlace x (z / blockBytes)) (sym ez) ∙ place-high z (z / blockBytes) l (omega arith)))
+
+  pub tail-tested : (c o : ℕ) → kindOf s i ≡ fileKind → c ≡ bytesBlock s n i (z / blockBytes) → o ≡ blockAt n c →
       allBelow (λ j. eqb (getD s (o + z % blockBytes + j) 0) 0) (blockBytes - z % blockBytes) ≡ zeroTailB s n i
   unfolding zeroTailB
   tail-tested c o ek ec eo =
@@ -232,9 +377,9 @@ module _ (s : List ℕ) (n i z : ℕ) (ez : z ≡ sizeOf s i) (h : z % blockByte
       ∙ rw eo rw ec rw ez (tail-bytes s n i))
 
 -- ---- the blocks that the map does not have
-module _ (s : List ℕ) (n k : ℕ) (map : List ℕ) (h : Maps s n (addressCount * n) map) (l : k < mostImageBlocks) where
+module _ (s : List ℕ) (n k : ℕ) (map : List ℕ) (h : MapsOf s n (mostBlocks * n) map) (l : k < mostImageBlocks) where
   free : lacks map (k + 1) ≡ blockFree s n (k + 1)
-  free = map-free s n map h (k + 1) (omega arith) (omega arith)
+  free = map-free (isLong s) s n map h (k + 1) (omega arith) (omega arith)
 
   pub blank-named : lacks map (k + 1) ≡ false → not (blockFree s n (k + 1)) || blankBlockB s n (k + 1) ≡ true
   blank-named z = or-l _ (blankBlockB s n (k + 1)) (ap not (sym free ∙ z))
@@ -243,39 +388,49 @@ module _ (s : List ℕ) (n k : ℕ) (map : List ℕ) (h : Maps s n (addressCount
       allBelow (λ j. eqb (getD s (a + j) 0) 0) blockBytes ≡ not (blockFree s n (k + 1)) || blankBlockB s n (k + 1)
   blank-tested a z e = zero-block-is s n k a e ∙ sym (ap (λ (x : Bool). not x || blankBlockB s n (k + 1)) (sym free ∙ z))
 
--- ---- an inode that is all zero
-module _ (s : List ℕ) (n b i : ℕ) (h : attributesZero s i && addressesZero s n i ≡ true) where
-  a : attributesZero s i ≡ true
-  a = and-left (attributesZero s i) (addressesZero s n i) h
-
-  d : addressesZero s n i ≡ true
-  d = and-right (attributesZero s i) (addressesZero s n i) h
-
-  no-size : sizeOf s i ≡ 0
-  no-size = attributes-none s i a .1 .1 .1 .0
-
+-- ---- an inode that has no attributes: it is free, and right if it has no address
+module _ (s : List ℕ) (n b i : ℕ) (low : 1 ≤ i) (a : attributesZero s i ≡ true) where
   none-used : 0 ≡ blocksUsed (sizeOf s i)
   unfolding blocksUsed
-  none-used = let z = no-size in omega arith
+  none-used = let z = no-attributes s i .to a .1 .1 .1 .0 in omega arith
 
-  zero-address : (k : ℕ) → k < addressCount → addressB s n b i k ≡ true
-  unfolding kthBlock
-  zero-address k l =
-      let e : addressIndex i 0 + k ≡ addressIndex i k = omega arith in
-      sym (address-rest s n b i k 0 0 none-used (sym (addresses-none s n i d k l) ∙ ap (addressOf s n) e) (omega arith))
+  module _ (d : addressesZero s n i ≡ true) where
+    zero-kth : (k : ℕ) → k < mostBlocks → kthBlock s n i k ≡ 0
+    zero-kth k l = bare-all (isLong s i) s n i (addresses-none s n i d) k l
 
-  pub zero-right : true ≡ inodeB s n b i && newBlocksB s n i
+    zero-all : addressesB s n b i && newBlocksB s n i ≡ true
+    zero-all =
+        sym (addresses-are s n b i)
+        ∙ all-of (kthB s n b i) mostBlocks (λ k l. sym (kth-rest s n b i k 0 0 none-used (sym (zero-kth k l)) low l (omega arith)))
+
+    zero-right : inodeB s n b i && newBlocksB s n i ≡ true
+    unfolding inodeB
+    zero-right =
+        let k = no-attributes s i .to a .0 in
+        and-true (inodeB s n b i) (newBlocksB s n i)
+        (and-true (attributesB s i) (addressesB s n b i && zeroTailB s n i) (attr-free s i a)
+        (and-true (addressesB s n b i) (zeroTailB s n i) (and-left (addressesB s n b i) (newBlocksB s n i) zero-all) (sym (tail-none s n i (λ z. omega arith)))))
+        (and-right (addressesB s n b i) (newBlocksB s n i) zero-all)
+
+    pub zero-passed : (map : List ℕ) → MapsOf s n (rowPlace i 0) map → MapsOf s n (mostBlocks * i) map
+    zero-passed map g =
+        map-as (isLong s) s n map (omega arith)
+        (map-pass (isLong s) s n (rowPlace i 0) mostBlocks map
+        (λ k l.
+        let e : rowPlace i 0 + k ≡ rowPlace i k = omega arith in
+        ap (rowOf s n) e ∙ row-kth (isLong s) s n i k low l ∙ zero-kth k l) g)
+
+  unused : addressesB s n b i ≡ true → addressesZero s n i ≡ true
+  unfolding addressesB addressesZero
+  unused h =
+      all-of (λ k. eqb (addressOf s n (addressIndex i k)) 0) addressCount
+      (λ k l.
+      eq-eqb (addressOf s n (addressIndex i k)) 0
+      (kth-is s n b i k 0 (addressOf s n (addressIndex i k)) none-used (sym (kth-direct (isLong s i) s n i k l))
+      .to (all-at (λ j. usedB s n b i j && restB s n i j) mostBlocks h k (omega arith)) .1 (omega arith)))
+
+  pub free-right : addressesZero s n i ≡ inodeB s n b i && newBlocksB s n i
   unfolding inodeB
-  zero-right =
-      let f = attributes-none s i a in
-      let x : addressesB s n b i && newBlocksB s n i ≡ true = sym (addresses-are s n b i) ∙ all-of (addressB s n b i) addressCount zero-address in
-      let t : attributesB s i ≡ true = sym (attr-free s i 0 (f .0) (f .1 .0) (f .1 .1 .0) (f .1 .1 .1 .0) (sym (f .1 .1 .1 .1))) in
-      let y : zeroTailB s n i ≡ true = sym (tail-none s n i (λ z. omega (arith, f .0, z))) in
-      sym
-      (and-true (inodeB s n b i) (newBlocksB s n i)
-      (and-true (attributesB s i) (addressesB s n b i && zeroTailB s n i) t
-      (and-true (addressesB s n b i) (zeroTailB s n i) (and-left (addressesB s n b i) (newBlocksB s n i) x) y))
-      (and-right (addressesB s n b i) (newBlocksB s n i) x))
-
-  pub zero-passed : (map : List ℕ) → 1 ≤ i → Maps s n (addressIndex i 0) map → Maps s n (addressCount * i) map
-  zero-passed map l g = map-as s n map (omega arith) (map-pass s n (addressIndex i 0) 12 map (addresses-none s n i d) g)
+  free-right =
+      same-test (addressesZero s n i) (inodeB s n b i && newBlocksB s n i) zero-right
+      (λ t. unused (and-left (addressesB s n b i) (zeroTailB s n i) (and-right (attributesB s i) (addressesB s n b i && zeroTailB s n i) (and-left (inodeB s n b i) (newBlocksB s n i) t))))

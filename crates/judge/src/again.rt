@@ -1,16 +1,17 @@
-// Blocks that another inode has in a later store: what a trial tells of, and no part of the judgement.
+// Blocks that another inode has in a later store, and files above 768 bytes: what a trial tells of, and no part of the judgement.
 ghost use Prim.Native.Nat.{_≤_};
-use crate::fields::address;
+use crate::fields::BLOCKS;
+use crate::fields::FILE;
+use crate::fields::is_long;
+use crate::fields::kind;
+use crate::fields::kth_block;
 
-// Addresses of an inode.
-const ADDRESSES: usize = 12;
-
-// Address q is noted, with its inode, at the block's number; numbers from 64 on are left out.
+// Block q, counted through all inodes, is noted with its inode at its number; numbers from 64 on are left out.
 fn note_owner(s: &[u8], n: usize, q: usize, owners: &mut [usize; 64])
-    requires { ⌜ (n ≤ 256) × (q ≤ 3072) ⌝ }
+    requires { ⌜ (n ≤ 256) × (q ≤ 11264) ⌝ }
 {
-    let i = 1 + q / ADDRESSES;
-    let a = address(s, n, i, q % ADDRESSES);
+    let i = 1 + q / BLOCKS;
+    let a = kth_block(s, n, i, q % BLOCKS);
     if a < 64 {
         owners[a] = i;
     }
@@ -20,15 +21,21 @@ fn note_owner(s: &[u8], n: usize, q: usize, owners: &mut [usize; 64])
 fn note_owners(s: &[u8], n: usize, owners: &mut [usize; 64])
     requires { ⌜ n ≤ 256 ⌝ }
 {
-    for q in 0..ADDRESSES * n {
+    for q in 0..BLOCKS * n {
         note_owner(s, n, q, &mut *owners);
     }
+}
+
+fn one_if(so: bool) -> usize
+    ensures { λ r. ⌜ r ≤ 1 ⌝ }
+{
+    if so { 1 } else { 0 }
 }
 
 fn changed(x: usize, y: usize) -> usize
     ensures { λ r. ⌜ r ≤ 1 ⌝ }
 {
-    if x != 0 && y != 0 && x != y { 1 } else { 0 }
+    one_if(x != 0 && y != 0 && x != y)
 }
 
 pub fn blocks_again(first: &[u8], last: &[u8], n: usize) -> usize
@@ -44,4 +51,35 @@ pub fn blocks_again(first: &[u8], last: &[u8], n: usize) -> usize
         blocks += changed(before[a], after[a]);
     }
     blocks
+}
+
+// Inode i is a file in both stores, and above 768 bytes in one of them.
+fn crossed(first: &[u8], last: &[u8], i: usize) -> bool
+    requires { ⌜ i ≤ 256 ⌝ }
+{
+    kind(first, i) == FILE && kind(last, i) == FILE && is_long(first, i) != is_long(last, i)
+}
+
+// Files that have grown or were cut across 768 bytes.
+pub fn files_crossed(first: &[u8], last: &[u8], n: usize) -> usize
+    requires { ⌜ n ≤ 256 ⌝ }
+    ensures { λ r. ⌜ r ≤ 256 ⌝ }
+{
+    let mut files = 0;
+    for k in 0..n {
+        files += one_if(crossed(first, last, k + 1));
+    }
+    files
+}
+
+// Files above 768 bytes.
+pub fn files_long(s: &[u8], n: usize) -> usize
+    requires { ⌜ n ≤ 256 ⌝ }
+    ensures { λ r. ⌜ r ≤ 256 ⌝ }
+{
+    let mut files = 0;
+    for k in 0..n {
+        files += one_if(is_long(s, k + 1));
+    }
+    files
 }

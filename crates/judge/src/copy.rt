@@ -1,17 +1,18 @@
 // A copy's moments are stores in a row, each in so many bytes; the first is the store at its start.
 ghost use Prim.Native.Nat.{_*_, _≤_};
+use crate::fields::BYTES_BLOCKS;
 use crate::fields::FILE;
 use crate::fields::SLOTS;
-use crate::fields::address;
 use crate::fields::block_at;
 use crate::fields::byte;
+use crate::fields::bytes_block;
 use crate::fields::kind;
 use crate::fields::names;
 use crate::fields::same_bytes;
 use crate::fields::size;
 use crate::fields::slot_at;
 
-pub const MOMENT_BYTES: usize = 2048;
+pub const MOMENT_BYTES: usize = 4096;
 
 // Moment j; nothing where there is none.
 pub fn moment(moments: &[u8], j: usize) -> &[u8] {
@@ -43,12 +44,12 @@ fn stood(moments: &[u8], m: usize, copy: &[u8], n: usize, p: usize) -> bool
     false
 }
 
-// The k-th block of inode i is the same, or there is none.
-fn block_alike(s: &[u8], copy: &[u8], n: usize, i: usize, k: usize) -> bool
-    requires { ⌜ (n ≤ 256) × (1 ≤ i) × (i ≤ 256) × (k ≤ 12) ⌝ }
+// The p-th block of bytes of inode i is the same, or there is none.
+fn block_alike(s: &[u8], copy: &[u8], n: usize, i: usize, p: usize) -> bool
+    requires { ⌜ (n ≤ 256) × (1 ≤ i) × (i ≤ 256) × (p ≤ 43) ⌝ }
 {
-    let a = address(s, n, i, k);
-    let b = address(copy, n, i, k);
+    let a = bytes_block(s, n, i, p);
+    let b = bytes_block(copy, n, i, p);
     if a == 0 {
         return b == 0;
     }
@@ -71,8 +72,8 @@ fn alike(s: &[u8], copy: &[u8], n: usize, i: usize) -> bool
     if size(s, i) != size(copy, i) {
         return false;
     }
-    for k in 0..12 {
-        if !block_alike(s, copy, n, i, k) {
+    for p in 0..BYTES_BLOCKS {
+        if !block_alike(s, copy, n, i, p) {
             return false;
         }
     }

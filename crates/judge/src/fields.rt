@@ -8,6 +8,16 @@ const DIRECTORY: usize = 2;
 
 pub const SLOTS: usize = 48;
 
+// Addresses of an inode. The last one of a file above so many bytes names a block of further ones.
+const ADDRESSES: usize = 12;
+
+const MOST_DIRECT_BYTES: usize = 768;
+
+// Blocks of an inode at most, and those of them that have a file's bytes.
+pub const BLOCKS: usize = 44;
+
+pub const BYTES_BLOCKS: usize = 43;
+
 fn wide(x: u8) -> usize
     ensures { λ r. ⌜ (r ≡ x) × (r ≤ 255) ⌝ }
 {
@@ -43,8 +53,14 @@ pub fn size(s: &[u8], i: usize) -> usize
     pair(s, 12 + 8 * i)
 }
 
-// The k-th block of inode i, 0 for none.
-pub fn address(s: &[u8], n: usize, i: usize, k: usize) -> usize
+pub fn is_long(s: &[u8], i: usize) -> bool
+    requires { ⌜ i ≤ 65535 ⌝ }
+{
+    kind(s, i) == FILE && MOST_DIRECT_BYTES < size(s, i)
+}
+
+// Address k of inode i, 0 for none.
+fn address(s: &[u8], n: usize, i: usize, k: usize) -> usize
     requires { ⌜ (n ≤ 256) × (1 ≤ i) × (i ≤ 65535) × (k ≤ 12) ⌝ }
     ensures { λ r. ⌜ r ≤ 65535 ⌝ }
 {
@@ -56,6 +72,43 @@ pub fn block_at(n: usize, a: usize) -> usize
     ensures { λ r. ⌜ r ≤ 5000000 ⌝ }
 {
     16 + 32 * n + 64 * (a - 1)
+}
+
+// Number k in the block that the last address of inode i names, 0 for none.
+fn further(s: &[u8], n: usize, i: usize, k: usize) -> usize
+    requires { ⌜ (n ≤ 256) × (1 ≤ i) × (i ≤ 65535) × (k ≤ 32) ⌝ }
+    ensures { λ r. ⌜ r ≤ 65535 ⌝ }
+{
+    let a = address(s, n, i, ADDRESSES - 1);
+    if a == 0 {
+        return 0;
+    }
+    pair(s, block_at(n, a) + 2 * k)
+}
+
+// The k-th block of inode i, 0 for none: the twelfth of a long file has the numbers of those behind it.
+pub fn kth_block(s: &[u8], n: usize, i: usize, k: usize) -> usize
+    requires { ⌜ (n ≤ 256) × (1 ≤ i) × (i ≤ 65535) × (k ≤ 44) ⌝ }
+    ensures { λ r. ⌜ r ≤ 65535 ⌝ }
+{
+    if k < ADDRESSES {
+        return address(s, n, i, k);
+    }
+    if is_long(s, i) {
+        return further(s, n, i, k - ADDRESSES);
+    }
+    0
+}
+
+// The p-th block of a file's bytes, 0 for none.
+pub fn bytes_block(s: &[u8], n: usize, i: usize, p: usize) -> usize
+    requires { ⌜ (n ≤ 256) × (1 ≤ i) × (i ≤ 65535) × (p ≤ 43) ⌝ }
+    ensures { λ r. ⌜ r ≤ 65535 ⌝ }
+{
+    if ADDRESSES <= p + 1 && is_long(s, i) {
+        return kth_block(s, n, i, p + 1);
+    }
+    kth_block(s, n, i, p)
 }
 
 // Where slot p starts, 0 where its block is none.

@@ -61,11 +61,6 @@ addresses-words s n i o e =
     ∙ all-ext (λ k. eqb (numAt 2 s (o + 2 * k)) 0) (λ k. eqb (numAt 2 s (addressAt n (addressIndex i k))) 0) 12
     (λ k l. let g : o + 2 * k ≡ addressAt n (addressIndex i k) = omega arith in ap (λ (x : ℕ). eqb (numAt 2 s x) 0) g)
 
--- what they say
-pub attributes-none : (s : List ℕ) (i : ℕ) → attributesZero s i ≡ true → (kindOf s i ≡ 0) × ((spareOf s i ≡ 0) × ((linksOf s i ≡ 0) × ((sizeOf s i ≡ 0) × (parentOf s i ≡ 0))))
-unfolding attributesZero
-attributes-none s i = r-and (r-eq (kindOf s i) 0) (r-and (r-eq (spareOf s i) 0) (r-and (r-eq (linksOf s i) 0) (r-and (r-eq (sizeOf s i) 0) (r-eq (parentOf s i) 0)))) .to
-
 pub addresses-none : (s : List ℕ) (n i : ℕ) → addressesZero s n i ≡ true → (k : ℕ) → k < 12 → addressOf s n (addressIndex i 0 + k) ≡ 0
 unfolding addressesZero
 addresses-none s n i h k l =

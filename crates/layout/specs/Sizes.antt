@@ -1,5 +1,5 @@
--- The numbers of document 01's "Bytes", each under one name.
-use Prim.Native.Nat.{ℕ, _+_, _*_}
+-- The numbers of document 01's "Bytes" and of F-1, each under one name.
+use Prim.Native.Nat.{ℕ, _+_, _*_, _-_}
 
 -- "Header, 16 bytes"
 abbrev pub headerBytes : ℕ
@@ -35,13 +35,25 @@ inodeBytes = attributeBytes + addressBytes
 abbrev pub blockBytes : ℕ
 blockBytes = 64
 
--- "A size of s uses the first s/64 addresses": the most blocks of an inode, from which the limits of a file, of a copy's image and of its steps follow
-abbrev pub mostBlocks : ℕ
-mostBlocks = addressCount
+-- "a block of 32 further 16-bit addresses"
+abbrev pub furtherCount : ℕ
+furtherCount = 32
 
--- "at most 768 bytes", for a file
+-- the most blocks of an inode, its address block among them, from which the limits of a file, of a copy's image and of its steps follow
+abbrev pub mostBlocks : ℕ
+mostBlocks = addressCount + furtherCount
+
+-- "its twelfth names a block of 32 further 16-bit addresses"
+abbrev pub addressPlace : ℕ
+addressPlace = addressCount - 1
+
+-- "at or below 768 the layout is the present one"
+abbrev pub mostDirectBytes : ℕ
+mostDirectBytes = blockBytes * addressCount
+
+-- "the limit becomes 2,752 bytes": the address block holds no bytes of the file
 abbrev pub mostFileBytes : ℕ
-mostFileBytes = blockBytes * mostBlocks
+mostFileBytes = blockBytes * (mostBlocks - 1)
 
 -- "fewer than twelve blocks": the most that a directory takes, from which its slots and its size follow
 abbrev pub mostDirectoryBlocks : ℕ

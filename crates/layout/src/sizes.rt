@@ -1,4 +1,4 @@
-// The numbers of document 01's "Bytes", each under one name.
+// The numbers of document 01's "Bytes" and of F-1, each under one name.
 pub const HEADER_BYTES: usize = 16;
 
 pub const MOST_INODES: usize = 256;
@@ -20,10 +20,16 @@ pub const INODE_BYTES: usize = ATTRIBUTE_BYTES + ADDRESS_BYTES;
 
 pub const BLOCK_BYTES: usize = 64;
 
-// The most blocks of an inode, from which other limits follow.
-pub const MOST_BLOCKS: usize = ADDRESS_COUNT;
+pub const FURTHER_COUNT: usize = 32;
 
-pub const MOST_FILE_BYTES: usize = BLOCK_BYTES * MOST_BLOCKS;
+// The most blocks of an inode, from which other limits follow.
+pub const MOST_BLOCKS: usize = ADDRESS_COUNT + FURTHER_COUNT;
+
+pub const ADDRESS_PLACE: usize = ADDRESS_COUNT - 1;
+
+pub const MOST_DIRECT_BYTES: usize = BLOCK_BYTES * ADDRESS_COUNT;
+
+pub const MOST_FILE_BYTES: usize = BLOCK_BYTES * (MOST_BLOCKS - 1);
 
 pub const MOST_DIRECTORY_BLOCKS: usize = 12;
 

@@ -16,6 +16,7 @@ use Rattle.sound.specs.Sound.{Sound, inodesIn}
 use Rattle.sound.specs.Place.{isSlot, entryAt, filled, naming}
 use Rattle.sound.proofs.PlaceLaws.{slot-is, filled-is, naming-entry}
 use Rattle.sound.proofs.FactLaws.{inode-fits, dir-fits}
+use Rattle.sound.proofs.SoundLaws.{size-directory}
 use Rattle.sound.specs.declared.Form.the-variants.{Image}
 use Rattle.listing.specs.Listing.{placeText, inodeText, nameText, entryText}
 
@@ -52,8 +53,14 @@ module _ (s : List ℕ) (n p : ℕ) where
   entry-text x i g h = rw (h, g) refl
 
 module _ (s : List ℕ) (n p : ℕ) (h : Sound Image s) (c : n ≡ inodesIn s) (l : p < mostSlots * n) where
-  pub place-fits : DirFits s n (p / mostSlots + 1)
-  place-fits = subst (λ (x : ℕ). DirFits s x (p / mostSlots + 1)) (sym c) (dir-fits h (p / mostSlots + 1) (omega arith) (omega arith))
+  pub place-fits : kindOf s (p / mostSlots + 1) ≡ directoryKind → DirFits s n (p / mostSlots + 1)
+  place-fits k =
+      subst (λ (x : ℕ). DirFits s x (p / mostSlots + 1)) (sym c)
+      (dir-fits h (p / mostSlots + 1) (omega arith) (omega arith) (size-directory (h .inodes (p / mostSlots + 1) (omega arith) (omega arith)) k))
+
+  -- where an entry stands
+  pub filled-fits : filled s n p ≡ true → DirFits s n (p / mostSlots + 1)
+  filled-fits f = place-fits (slot-is s p .to (filled-is s n p .to f .0) .0)
 
   pub named-fits : filled s n p ≡ true → (x : List ℕ) (i : ℕ) → x ≡ entryAt s n p → i ≡ entryInode x → InodeFits s n i
   named-fits f x i g q =

@@ -1,11 +1,12 @@
 -- The calls behind the guards: what the guards let through, and each way that a call returns. s is the store, m the image, d the desk, n and b the counts of inodes and blocks.
-use Prim.Native.Nat.{ℕ, _≤_}
+use Prim.Native.Nat.{ℕ, _+_, _*_, _/_, _%_, _≤_, _<_}
 use mathlib.Core.Path.{_≡_, sym, ap, _∙_, subst}
 use mathlib.Core.Bool.{Bool, true, false}
 use mathlib.Core.List.{List}
 use native.Mathlib.Omega.{arith}
 use Rattle.bounded.specs.Search.{pick}
 use Rattle.layout.specs.Sizes.{mostInodes}
+use Rattle.layout.specs.Inode.{addressOf}
 use Rattle.desk.specs.Desk.{deskOf}
 use Rattle.sound.specs.Sound.{inodesIn, blocksIn}
 use Rattle.answers.specs.declared.Refusal.{Refusal}
@@ -18,26 +19,26 @@ use Rattle.files.proofs.Lawful.{Lawful, Each}
 use Rattle.files.proofs.LawfulCalls.{lawful}
 use Rattle.checkpoint.specs.Busy.{anyLocked, unlessBusy}
 use Rattle.checkpoint.specs.Notes.{cutEntries, clearMarks, setMarks}
-use Rattle.checkpoint.specs.Fit.{deskFits, imageFits}
+use Rattle.checkpoint.specs.Fit.{deskFits, imageLong, imageFits}
 use Rattle.checkpoint.specs.Live.{World, left, refuse, threeGuards, leavesIn}
 use Rattle.checkpoint.proofs.Copy.FitLaws.{desk-framed-is, image-fits-is, notes-fit-is}
 use Rattle.tallies.specs.Addressed.{Addressed}
 use Rattle.guards.proofs.GuardLaws.{passed, desk-passed}
+use Rattle.blocks.proofs.LongLaws.{row-direct}
 use Rattle.guards.proofs.FitLaws.{fits-few}
 use Rattle.live.specs.Fits.{Fits, Readable}
 
 -- ---- what the guards let through
-image-addressed : (m d : List ℕ) → deskOf d .inodes ≤ mostInodes → deskFits d ≡ true → imageFits m d ≡ true → Addressed m (deskOf d .inodes)
-image-addressed m d l w f =
-    let k = image-fits-is m d .to f in
-    let e = k .0 in
+image-addressed : (s m d : List ℕ) → deskOf d .inodes ≤ mostInodes → deskFits d ≡ true → imageFits s m d ≡ true → Addressed m (deskOf d .inodes)
+image-addressed s m d l w f =
+    let e = image-fits-is s m d .to f .0 in
     let b = fits-few d w in
-    record {
-      few = l;
-      area = omega arith;
-      most = λ x h. let a = k .1 .1 .1 .1 .1 x h in omega arith;
-      inside = λ x h. let a = k .1 .1 .1 .1 .1 x h in omega arith;
-    }
+    record { few = l; area = omega arith; most = λ x h. let a = direct x h in omega arith; inside = λ x h. let a = direct x h in omega arith }
+  where
+    direct : (x : ℕ) → x < 12 * deskOf d .inodes → addressOf m (deskOf d .inodes) x ≤ deskOf d .blocks
+    direct x h =
+        subst (λ (v : ℕ). v ≤ deskOf d .blocks) (row-direct (imageLong s m d) m (deskOf d .inodes) x)
+        (image-fits-is s m d .to f .1 .1 .1 .1 .1 .0 (44 * (x / 12) + x % 12) (omega arith))
 
 pub let-through : (s m d : List ℕ) (n b : ℕ) → threeGuards s m d ≡ Pass n b → Fits s d n b × Readable m d n
 let-through s m d n b g =
@@ -46,7 +47,7 @@ let-through s m d n b g =
     let l = f .1 .1 in
     let k = notes-fit-is s m d .to (p .notes) in
     let e = p .sound .inodes ∙ sym (k .1 .0) in
-    (record { sound = p .sound; long = omega arith }, λ r. subst (Addressed m) (sym e) (image-addressed m d (f .1 .0) (k .0) (k .1 .1 r)))
+    (record { sound = p .sound; long = omega arith }, λ r. subst (Addressed m) (sym e) (image-addressed s m d (f .1 .0) (k .0) (k .1 .1 r)))
 
 pub uncounted-fits : {s d : List ℕ} {n b : ℕ} → Fits s d n b → Fits s d n (blocksIn s)
 uncounted-fits f = record { sound = uncounted (f .sound); long = f .long }

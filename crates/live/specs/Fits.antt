@@ -14,6 +14,6 @@ pub record Fits (s desk : List ℕ) (n b : ℕ) : Type 0 where
   pub sound : SoundStore s n b
   pub long : deskLength n ≤ length desk
 
--- the image, which the calls read only while the copy runs: its addresses name blocks of it
+-- the image, which the calls read only while the copy runs: its direct addresses, all that a directory has, name blocks of it
 abbrev pub Readable : List ℕ → List ℕ → ℕ → Type 0
 Readable m desk n = isRunning desk ≡ true → Addressed m n

@@ -1,19 +1,21 @@
 -- What a sound store gives, and which blocks are named. n and b are the counts of inodes and blocks.
-use Prim.Native.Nat.{ℕ, _+_, _*_, _/_, _%_, _≤_, _<_}
-use mathlib.Core.Path.{_≡_, sym, ap, _∙_, subst}
+use Prim.Native.Nat.{ℕ, _*_, _≤_, _<_}
+use mathlib.Core.Path.{_≡_, sym, _∙_}
 use mathlib.Core.Bool.{false}
 use mathlib.Core.List.{List}
-use native.Mathlib.Decide.{decLt}
 use native.Mathlib.Omega.{arith}
 use Rattle.bounded.specs.Reflect.{Reflects}
 use Rattle.bounded.proofs.CountLaws.{met-once}
 use Rattle.bounded.proofs.ReflectLaws.{r-eq, r-some, r-no}
-use Rattle.layout.specs.Sizes.{addressCount, mostImageBlocks, rootInode}
-use Rattle.layout.specs.Inode.{kindOf, sizeOf, addressOf, addressIndex, directoryKind}
-use Rattle.blocks.specs.Block.{blocksUsed, kthBlock}
-use Rattle.blocks.specs.Free.{blockNamed}
+use Rattle.layout.specs.Sizes.{mostBlocks, mostDirectoryBytes, mostImageBlocks, rootInode}
+use Rattle.layout.specs.Inode.{kindOf, sizeOf, directoryKind}
+use Rattle.blocks.specs.Block.{isLong, blocksUsed, kthBlock, rowOf}
+use Rattle.blocks.specs.Free.{namedBy, blockNamed}
 use Rattle.layout.specs.Fits.{InodeFits}
-use Rattle.blocks.specs.Fits.{Sized}
+use Rattle.blocks.specs.Fits.{Sized, BlocksFit}
+use Rattle.ledger.proofs.Ledger.{Ledger}
+use Rattle.ledger.proofs.LedgerLaws.{one-kth}
+use Rattle.ledger.proofs.TallyLaws.{ledger-bound}
 use Rattle.directory.specs.Slot.{mostSlots}
 use Rattle.directory.specs.Fits.{DirFits}
 use Rattle.sound.specs.Sound.{inodesIn, blocksIn, Sound, limitOf}
@@ -25,11 +27,11 @@ use Rattle.sound.specs.declared.Form.the-variants.{Store, Image}
 
 -- ---- the blocks that some address names
 module _ (s : List ℕ) (n c : ℕ) where
-  pub named-is : Reflects (blockNamed s n c) ((x : ℕ) × (x < addressCount * n) × (addressOf s n x ≡ c))
-  unfolding blockNamed
-  named-is = r-some (addressCount * n) (λ x. r-eq (addressOf s n x) c)
+  pub named-is : Reflects (blockNamed s n c) ((x : ℕ) × (x < mostBlocks * n) × (rowOf s n x ≡ c))
+  unfolding namedBy
+  named-is = r-some (mostBlocks * n) (λ x. r-eq (rowOf s n x) c)
 
-  pub unnamed : blockNamed s n c ≡ false → (x : ℕ) → x < addressCount * n → addressOf s n x ≡ c → ⊥
+  pub unnamed : blockNamed s n c ≡ false → (x : ℕ) → x < mostBlocks * n → rowOf s n x ≡ c → ⊥
   unnamed e x l q = r-no named-is e (x, l, q)
 
 -- no form allows more blocks than an image may have
@@ -46,56 +48,45 @@ module _ {f : Form} {s : List ℕ} (h : Sound f s) where
     pub inode-fits : InodeFits s (inodesIn s) i
     inode-fits = let w = h .framed in record { low = l; high = m; few = w .most-inodes; area = omega (arith, w .long) }
 
-    pub used-few : blocksUsed (sizeOf s i) ≤ addressCount
+    pub used-few : blocksUsed (sizeOf s i) ≤ mostBlocks
     unfolding blocksUsed
     used-few = let z = size-most (h .inodes i l m) in omega arith
 
     pub used-block : (k : ℕ) → k < blocksUsed (sizeOf s i) → (1 ≤ kthBlock s (inodesIn s) i k) × (kthBlock s (inodesIn s) i k ≤ blocksIn s)
     used-block k u = let w = used-few in h .inodes i l m .used k (omega arith) u
 
-    -- whatever its kind: no file has more blocks than a directory may
-    pub dir-fits : DirFits s (inodesIn s) i
-    dir-fits =
+    pub blocks-fit : BlocksFit s (inodesIn s) i
+    blocks-fit =
         record {
           inode = inode-fits;
           few = used-few;
           blocks = λ k u. let f = h .framed in let r = used-block k u in record { low = r .0; inside = omega arith };
         }
 
-  -- ---- addresses
-  pub address-bound : (x : ℕ) → x < addressCount * inodesIn s → addressOf s (inodesIn s) x ≤ blocksIn s
-  unfolding kthBlock
-  address-bound x l = go (decLt (x % 12) (blocksUsed (sizeOf s i)))
-    where
-      i : ℕ
-      i = x / 12 + 1
+    -- of no more bytes than a directory may have
+    pub dir-fits : sizeOf s i ≤ mostDirectoryBytes → DirFits s (inodesIn s) i
+    unfolding blocksUsed
+    dir-fits z = record { inode = inode-fits; few = omega arith; blocks = blocks-fit .blocks }
 
-      e : addressIndex i (x % 12) ≡ x
-      e = omega arith
+  -- ---- which inode has which blocks
+  pub ledger-of : Ledger (isLong s) (λ i. blocksUsed (sizeOf s i)) s (inodesIn s) (blocksIn s)
+  ledger-of = record {
+    used = λ i k a c l m. h .inodes i a c .used k l m;
+    rest = λ i k a c l m. h .inodes i a c .rest k l m;
+    once = h .once;
+  }
 
-      go : Dec (x % 12 < blocksUsed (sizeOf s i)) → addressOf s (inodesIn s) x ≤ blocksIn s
-      go (yes u) = subst (λ (y : ℕ). addressOf s (inodesIn s) y ≤ blocksIn s) e (used-block i (omega arith) (omega arith) (x % 12) u .1)
-      go (no u) = let z = ap (addressOf s (inodesIn s)) (sym e) ∙ h .inodes i (omega arith) (omega arith) .rest (x % 12) (omega arith) (omega arith) in omega arith
+  pub row-bound : (x : ℕ) → x < mostBlocks * inodesIn s → rowOf s (inodesIn s) x ≤ blocksIn s
+  row-bound = ledger-bound ledger-of
 
-  -- a block that two used addresses name is one address
+  -- a block that two inodes have, or one twice, is one
   pub one-block : (i k j l : ℕ) → 1 ≤ i → i ≤ inodesIn s → 1 ≤ j → j ≤ inodesIn s
       → k < blocksUsed (sizeOf s i) → l < blocksUsed (sizeOf s j)
       → kthBlock s (inodesIn s) i k ≡ kthBlock s (inodesIn s) j l → (i ≡ j) × (k ≡ l)
-  unfolding kthBlock
   one-block i k j l a b c d u v e =
       let p = used-few i a b in
       let q = used-few j c d in
-      let x = used-block i a b k u .0 in
-      let y = used-block j c d l v .0 in
-      both (decLt (addressIndex i k) (addressIndex j l)) (decLt (addressIndex j l) (addressIndex i k))
-      (λ z. h .once (addressIndex i k) (addressIndex j l) z (omega arith) y e)
-      (λ z. h .once (addressIndex j l) (addressIndex i k) z (omega arith) x (sym e))
-      (omega arith) (omega arith)
-    where
-      both : Dec (addressIndex i k < addressIndex j l) → Dec (addressIndex j l < addressIndex i k) → (addressIndex i k < addressIndex j l → ⊥) → (addressIndex j l < addressIndex i k → ⊥) → k < 12 → l < 12 → (i ≡ j) × (k ≡ l)
-      both (yes z) w f g m n = absurd (f z)
-      both (no z) (yes w) f g m n = absurd (g w)
-      both (no z) (no w) f g m n = (omega arith, omega arith)
+      one-kth ledger-of i k j l a b c d (omega arith) (omega arith) (used-block i a b k u .0) e
 
   -- ---- directories and their entries
   -- but the root, each has an entry, in its parent

@@ -13,10 +13,10 @@ use Rattle.bounded.specs.Climb.{Leads, Closed}
 use Rattle.bounded.specs.Reflect.{Reflects}
 use Rattle.bounded.proofs.CountLaws.{met-at}
 use Rattle.bounded.proofs.ReflectLaws.{r-eq, r-le, r-lt, r-true, r-false, r-and, r-then, r-not, r-where, r-imp, r-else, r-all, r-to, r-differ, r-leads, r-says}
-use Rattle.layout.specs.Sizes.{mostFileBytes, mostDirectoryBytes, addressCount, blockBytes, rootInode}
+use Rattle.layout.specs.Sizes.{mostFileBytes, mostDirectoryBytes, mostBlocks, blockBytes, rootInode}
 use Rattle.layout.specs.Header.{headerOf, headerRestZero}
-use Rattle.layout.specs.Inode.{kindOf, spareOf, linksOf, sizeOf, parentOf, addressOf, addressIndex, freeKind, fileKind, directoryKind, inodeFree}
-use Rattle.blocks.specs.Block.{blockOf, blocksUsed, kthBlock}
+use Rattle.layout.specs.Inode.{kindOf, spareOf, linksOf, sizeOf, parentOf, freeKind, fileKind, directoryKind, inodeFree}
+use Rattle.blocks.specs.Block.{blockOf, blocksUsed, kthBlock, rowOf}
 use Rattle.blocks.proofs.AllowedLaws.{allowed-is}
 use Rattle.blocks.specs.Free.{blockFree}
 use Rattle.names.specs.Entry.{legalEntry}
@@ -84,15 +84,15 @@ module _ (s : List ℕ) (n b i : ℕ) where
   abbrev Address : ℕ → Type 0
   Address k =
       (k < blocksUsed (sizeOf s i) → (1 ≤ kthBlock s n i k) × (kthBlock s n i k ≤ b))
-      × (blocksUsed (sizeOf s i) ≤ k → addressOf s n (addressIndex i k) ≡ 0)
+      × (blocksUsed (sizeOf s i) ≤ k → kthBlock s n i k ≡ 0)
 
-  addresses : Reflects (addressesB s n b i) ((k : ℕ) → k < addressCount → Address k)
+  addresses : Reflects (addressesB s n b i) ((k : ℕ) → k < mostBlocks → Address k)
   unfolding addressesB
   addresses =
-      r-all addressCount
+      r-all mostBlocks
       (λ k.
       r-and (r-imp (r-lt k (blocksUsed (sizeOf s i))) (r-and (r-le 1 (kthBlock s n i k)) (r-le (kthBlock s n i k) b)))
-      (r-imp (r-le (blocksUsed (sizeOf s i)) k) (r-eq (addressOf s n (addressIndex i k)) 0)))
+      (r-imp (r-le (blocksUsed (sizeOf s i)) k) (r-eq (kthBlock s n i k) 0)))
 
   abbrev ZeroTail : Type 0
   ZeroTail = kindOf s i ≡ fileKind → (sizeOf s i % blockBytes ≡ 0 → ⊥) → (o : ℕ) → o < blockBytes → sizeOf s i % blockBytes ≤ o → tailByte s n i o ≡ 0
@@ -288,7 +288,7 @@ body f s framed =
     (λ r. ((r .complete, (r .root-number, (r .reserved, (r .root, r .root-parent)))), (r .inodes, (r .once, (r .entries, (all-counted r, ((λ i l m. r .links i l m .leads), ((r .free-inodes, r .free-blocks), r .blanks))))))))
     (r-and (header-is s)
     (r-and (r-to (inodesIn s) (λ i l m. inode-sound s (inodesIn s) (blocksIn s) i))
-    (r-and (r-differ (addressOf s (inodesIn s)) (addressCount * inodesIn s))
+    (r-and (r-differ (rowOf s (inodesIn s)) (mostBlocks * inodesIn s))
     (r-then (r-all (mostSlots * inodesIn s) (entry-sound s (inodesIn s)))
     (λ e. r-then (r-to (inodesIn s) (λ i l m. counted-is s (inodesIn s) i))
     (λ c. r-and (r-to (inodesIn s) (leads-is s (inodesIn s) e c))

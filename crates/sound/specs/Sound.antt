@@ -5,10 +5,10 @@ use mathlib.Core.Bool.{Bool, true, false}
 use mathlib.Core.List.{List}
 use lib.ListN.{length, getD}
 use Rattle.bounded.specs.Count.{countTo, Differ}
-use Rattle.layout.specs.Sizes.{mostStoreBlocks, mostImageBlocks, addressCount, blockBytes, rootInode, isComplete}
+use Rattle.layout.specs.Sizes.{mostStoreBlocks, mostImageBlocks, mostBlocks, blockBytes, rootInode, isComplete}
 use Rattle.layout.specs.Header.{headerOf, headerRestZero}
-use Rattle.layout.specs.Inode.{kindOf, parentOf, addressOf, directoryKind, inodeFree}
-use Rattle.blocks.specs.Block.{Allowed, blockOf}
+use Rattle.layout.specs.Inode.{kindOf, parentOf, directoryKind, inodeFree}
+use Rattle.blocks.specs.Block.{Allowed, blockOf, rowOf}
 use Rattle.blocks.specs.Free.{blockFree}
 use Rattle.directory.specs.Slot.{mostSlots}
 use Rattle.sound.specs.Place.{filled}
@@ -47,7 +47,7 @@ pub record Sound (f : Form) (s : List ℕ) : Type 0 where
   pub reserved : headerRestZero s ≡ true
   pub inodes : (i : ℕ) → 1 ≤ i → i ≤ inodesIn s → InodeSound s (inodesIn s) (blocksIn s) i
   -- "No block is named twice"
-  pub once : Differ (addressOf s (inodesIn s)) (addressCount * inodesIn s)
+  pub once : Differ (rowOf s (inodesIn s)) (mostBlocks * inodesIn s)
   -- "root is a directory in use"; its parent is 0
   pub root : kindOf s rootInode ≡ directoryKind
   pub root-parent : parentOf s rootInode ≡ 0

@@ -7,10 +7,10 @@ use lib.ListN.{length, getD}
 use Rattle.bounded.specs.Below.{allBelow, allTo}
 use Rattle.bounded.specs.Count.{countTo, tally, differB}
 use Rattle.bounded.specs.Climb.{leadsB}
-use Rattle.layout.specs.Sizes.{addressCount, blockBytes, rootInode, isComplete}
+use Rattle.layout.specs.Sizes.{mostBlocks, blockBytes, rootInode, isComplete}
 use Rattle.layout.specs.Header.{headerOf, headerRestZero}
-use Rattle.layout.specs.Inode.{kindOf, spareOf, linksOf, sizeOf, parentOf, addressOf, addressIndex, freeKind, fileKind, directoryKind, inodeFree}
-use Rattle.blocks.specs.Block.{allowed, blockOf, blocksUsed, kthBlock}
+use Rattle.layout.specs.Inode.{kindOf, spareOf, linksOf, sizeOf, parentOf, freeKind, fileKind, directoryKind, inodeFree}
+use Rattle.blocks.specs.Block.{allowed, blockOf, blocksUsed, kthBlock, rowOf}
 use Rattle.blocks.specs.Free.{blockFree}
 use Rattle.names.specs.Entry.{legalEntry}
 use Rattle.directory.specs.Slot.{mostSlots}
@@ -25,7 +25,7 @@ abbrev pub usedB : List ℕ → ℕ → ℕ → ℕ → ℕ → Bool
 usedB s n b i k = not (ltb k (blocksUsed (sizeOf s i))) || (leb 1 (kthBlock s n i k) && leb (kthBlock s n i k) b)
 
 abbrev pub restB : List ℕ → ℕ → ℕ → ℕ → Bool
-restB s n i k = not (leb (blocksUsed (sizeOf s i)) k) || eqb (addressOf s n (addressIndex i k)) 0
+restB s n i k = not (leb (blocksUsed (sizeOf s i)) k) || eqb (kthBlock s n i k) 0
 
 abbrev pub tailB : List ℕ → ℕ → ℕ → ℕ → Bool
 tailB s n i o = not (leb (sizeOf s i % blockBytes) o) || eqb (tailByte s n i o) 0
@@ -40,7 +40,7 @@ attributesB s i =
     && (not (eqb (kindOf s i) fileKind) || eqb (parentOf s i) 0)))))
 
 unfoldable pub addressesB : List ℕ → ℕ → ℕ → ℕ → Bool
-addressesB s n b i = allBelow (λ k. usedB s n b i k && restB s n i k) addressCount
+addressesB s n b i = allBelow (λ k. usedB s n b i k && restB s n i k) mostBlocks
 
 unfoldable pub zeroTailB : List ℕ → ℕ → ℕ → Bool
 zeroTailB s n i =
@@ -104,7 +104,7 @@ unfoldable pub bodyB : Form → List ℕ → Bool
 bodyB f s =
     headerB s
     && (allTo (inodeB s (inodesIn s) (blocksIn s)) (inodesIn s)
-    && (differB (addressOf s (inodesIn s)) (addressCount * inodesIn s)
+    && (differB (rowOf s (inodesIn s)) (mostBlocks * inodesIn s)
     && (allBelow (entryB s (inodesIn s)) (mostSlots * inodesIn s)
     && (allTo (countedB s (inodesIn s)) (inodesIn s)
     && (allTo (leadB s (inodesIn s)) (inodesIn s)

@@ -12,18 +12,22 @@ use lib.ListN.{length, getD, set, take, drop}
 use Rattle.bounded.specs.Count.{Tallied, tally, countTo}
 use Rattle.bounded.specs.Search.{pick, firstFrom}
 use Rattle.bounded.proofs.BoolLaws.{chain-end}
-use Rattle.bounded.proofs.CountLaws.{tally-skip, tally-one, tally-skips, tally-past, count-some-is}
+use Rattle.bounded.proofs.CountLaws.{tally-skip, tally-one, tally-skips, tally-past, count-some-is, count-ext}
 use Rattle.bounded.proofs.ReflectLaws.{r-fails}
 use Rattle.bounded.proofs.SearchLaws.{first-ext}
 use Rattle.octets.specs.Octets.{part}
 use Rattle.octets.proofs.PartLaws.{cut}
 use Rattle.octets.proofs.NumLaws.{length-num}
-use Rattle.layout.specs.Sizes.{mostInodes, mostImageBlocks, addressCount, isComplete}
+use Rattle.layout.specs.Sizes.{mostInodes, mostImageBlocks, mostBlocks, addressCount, isComplete}
 use Rattle.layout.specs.Header.{putFree, putComplete}
 use Rattle.layout.specs.Inode.{kindOf, directoryKind, addressIndex, putLinks, inodeFree}
-use Rattle.blocks.specs.Block.{blockAt, kthBlock}
+use Rattle.blocks.specs.Block.{blockAt, isLong, kthBlock}
+use Rattle.blocks.specs.Free.{longBut, blockFree}
+use Rattle.blocks.specs.Fits.{RowsFit}
 use Rattle.blocks.specs.Map.{lacks, Maps}
+use Rattle.blocks.proofs.KthLaws.{kth-direct}
 use Rattle.blocks.proofs.MapLaws.{map-count}
+use Rattle.blocks.proofs.LongLaws.{named-flags, fit-flags, long-own}
 use Rattle.names.specs.Entry.{entryInode}
 use Rattle.directory.specs.Slot.{mostSlots, slotAt, entryOf}
 use Rattle.desk.specs.Desk.{copiedOf}
@@ -73,8 +77,7 @@ module _ (m : List ℕ) (n e t : ℕ) (l : 1 ≤ e) (h : t < mostSlots) where
   slot-names k q = naming-place ∙ ap (λ (b : Bool). pick b (entryInode (entryOf m n e t)) 0) (has-slot-is m n e t .from (k, q))
 
 pub block-inside : (m : List ℕ) (n e k : ℕ) → Addressed m n → 1 ≤ e → e ≤ n → k < addressCount → (16 + 32 * n + 64 * kthBlock m n e k ≤ length m) × (kthBlock m n e k ≤ 4096)
-unfolding kthBlock
-block-inside m n e k h l u b = (h .inside (addressIndex e k) (omega arith), h .most (addressIndex e k) (omega arith))
+block-inside m n e k h l u b = rw (kth-direct (isLong m e) m n e k b) (h .inside (addressIndex e k) (omega arith), h .most (addressIndex e k) (omega arith))
 
 -- slot j of the k-th block, which starts at o
 module _ (m : List ℕ) (n e k : ℕ) (l : 1 ≤ e) (h : k < addressCount) where
@@ -146,8 +149,18 @@ module _ (d : List ℕ) (n i : ℕ) where
   unfolding isCopied
   copied-read x l h e = chain-end _ _ _ (le-leb 1 i l) (chain-end _ _ _ (le-leb i n h) (ap (λ (y : ℕ). eqb y 1) e))
 
-pub finish-read : (m map t u v : List ℕ) (n b i k : ℕ) → b ≤ mostImageBlocks → Maps m n (addressCount * n) map
+-- ---- nothing is locked: no inode has the number 0, so each is long by its own size
+module _ (m : List ℕ) (n : ℕ) where
+  pub rows-free : RowsFit (isLong m) m n → RowsFit (longBut m 0 false) m n
+  rows-free = fit-flags (isLong m) (longBut m 0 false) m n (long-own m false)
+
+  count-free : (map : List ℕ) (b : ℕ) → b ≤ mostImageBlocks → Maps (longBut m 0 false) m n (mostBlocks * n) map → countTo (lacks map) b ≡ countTo (blockFree m n) b
+  count-free map b l h =
+      map-count (longBut m 0 false) m n map h b l
+      ∙ count-ext _ _ b (λ k _. ap not (named-flags (isLong m) (longBut m 0 false) m n (long-own m false) (k + 1)))
+
+pub finish-read : (m map t u v : List ℕ) (n b i k : ℕ) → b ≤ mostImageBlocks → Maps (longBut m 0 false) m n (mostBlocks * n) map
     → i ≡ countTo (inodeFree m) n → k ≡ countTo (lacks map) b → t ≡ putCounts m m n n → u ≡ putFree t i k → v ≡ putComplete u isComplete → v ≡ finishImage m n b
 unfolding finishImage
 finish-read m map t u v n b i k l s e f p q r =
-    r ∙ ap (λ (x : List ℕ). putComplete x 1) (q ∙ rw (p, e, f, map-count m n map s b l))
+    r ∙ ap (λ (x : List ℕ). putComplete x 1) (q ∙ rw (p, e, f, count-free m n map b l s))

@@ -9,6 +9,8 @@ ghost use Rattle.bounded.specs.Search.{firstFrom};
 ghost use Rattle.octets.specs.Octets.{part};
 ghost use Rattle.layout.specs.Sizes.{mostInodes, mostImageBlocks, addressCount};
 ghost use Rattle.layout.specs.Inode.{kindOf, directoryKind};
+ghost use Rattle.blocks.specs.Block.{isLong};
+ghost use Rattle.blocks.specs.Fits.{RowsFit};
 ghost use Rattle.names.specs.Entry.{entryBytes, entryInode};
 ghost use Rattle.directory.specs.Slot.{mostSlots, slotsInBlock};
 ghost use Rattle.desk.specs.Sizes.{deskLength};
@@ -132,13 +134,13 @@ fn put_counts(m: &mut [u8], n: usize, counts: &[u16; INODE_PLACES])
     }
 }
 
-// The finished image: everything is counted before a byte is written.
+// The finished image: everything is counted before a byte is written. Nothing is locked any more, so an inode is long by its own size.
 pub fn finish_image(m: &mut [u8], n: usize, b: usize)
-    requires { ⌜ Addressed (now m) n × (b ≤ mostImageBlocks) ⌝ }
+    requires { ⌜ Addressed (now m) n × RowsFit (isLong (now m)) (now m) n × (b ≤ mostImageBlocks) ⌝ }
     ensures { λ _. ⌜ now (m .exit) ≡ finishImage (now (m .entry)) n b ⌝ }
 {
     let counts = count_names(&*m, n);
-    let map = free::named_blocks(&*m, n);
+    let map = free::named_blocks(&*m, n, 0, false);
     let inodes = inode::free_inodes(&*m, n);
     let blocks = map::free_blocks(&map, b);
     put_counts(&mut *m, n, &counts);

@@ -1,4 +1,4 @@
--- Laws of a block step: the image block that it takes, and the block as it is copied. s is the store, m the image, d the desk, n the inode count.
+-- The block of a block step, as it is copied. s is the store, m the image, d the desk, n the inode count.
 use Prim.Native.Nat.{ℕ, _+_, _*_, _-_, _≤_, _<_}
 use mathlib.Core.Path.{_≡_, refl, sym, ap, _∙_}
 use mathlib.Core.Bool.{Bool, true, false, not, _&&_}
@@ -6,50 +6,25 @@ use mathlib.Core.List.{List}
 use native.Mathlib.Nat.{add-zero}
 use native.Mathlib.Numerals.{add-one}
 use native.Mathlib.Omega.{arith}
-use borrow.Author.Tests.{eq-eqb, ne-eqb, le-leb, lt-leb, not-true, not-false}
+use borrow.Author.Tests.{eq-eqb, ne-eqb, not-true, not-false}
 use borrow.Rule.Slice.PartMut.{putMid}
-use lib.Dec.{eqb, leb}
-use lib.ListN.{length, take, drop, replicate}
-use Rattle.directory.specs.Fits.{DirFits}
+use lib.Dec.{eqb}
+use lib.ListN.{length, take, drop, replicate, length-replicate}
 use Rattle.bounded.specs.Search.{pick}
-use Rattle.bounded.specs.Count.{tally}
-use Rattle.bounded.specs.declared.Found.{Found}
-use Rattle.bounded.specs.declared.Found.the-variants.{At}
-use Rattle.bounded.proofs.BoolLaws.{chain-end, and-false-l, and-false-r, and-true}
-use Rattle.bounded.proofs.CountLaws.{count-none-is}
+use Rattle.bounded.proofs.BoolLaws.{and-false-l, and-false-r, and-true}
 use Rattle.octets.specs.Octets.{part, splice, zeroed, pasted}
 use Rattle.octets.proofs.PartLaws.{length-splice, length-inside, part-all, part-same, cut, lent}
-use Rattle.layout.specs.Sizes.{addressCount}
-use Rattle.layout.specs.Inode.{kindOf, directoryKind, addressOf, sizeOf, addressIndex, putAddress}
-use Rattle.blocks.specs.Block.{blockAt, blockOf, putInBlock, kthBlock, blocksUsed}
-use Rattle.blocks.specs.Free.{blockNamed, freeBlock}
+use Rattle.layout.specs.Sizes.{mostInodes, addressCount, addressPlace}
+use Rattle.layout.specs.Inode.{kindOf, directoryKind, sizeOf}
+use Rattle.blocks.specs.Block.{blockAt, blockOf, putInBlock, isLong, kthBlock, blocksUsed}
 use Rattle.names.specs.Entry.{entryInode}
 use Rattle.desk.specs.Desk.{markOf}
+use Rattle.sound.specs.Sound.{blocksIn}
+use Rattle.sound.specs.Counted.{SoundStore}
+use Rattle.changes.proofs.StoreLaws.{blocks-of, dir-of}
 use Rattle.checkpoint.specs.Notes.{isCopied}
-use Rattle.checkpoint.specs.Copier.{copy, targetBlock, copiedEntry, copiedEntries, copiedBlock, stepImage}
+use Rattle.checkpoint.specs.Copier.{copiedEntry, copiedEntries, copiedBlock}
 use Rattle.checkpoint.proofs.Copy.NoteLaws.{length-copied-block}
-
--- ---- the image block
-module _ (m : List ℕ) (n b c : ℕ) where
-  pub own-low : c < 1 → false ≡ leb 1 c && (leb c b && not (blockNamed m n c))
-  own-low h = sym (and-false-l _ _ (lt-leb 1 c h))
-
-  pub own-high : 1 ≤ c → b < c → false ≡ leb 1 c && (leb c b && not (blockNamed m n c))
-  own-high l h = chain-end _ _ _ (le-leb 1 c l) (sym (and-false-l _ _ (lt-leb c b h)))
-
-  pub own-counted : (r : ℕ) → r ≡ tally (addressOf m n) (addressCount * n) c → 1 ≤ c → c ≤ b → eqb r 0 ≡ leb 1 c && (leb c b && not (blockNamed m n c))
-  unfolding blockNamed
-  own-counted r e l h =
-      chain-end _ _ _ (le-leb 1 c l) (chain-end _ _ _ (le-leb c b h) (ap (λ (x : ℕ). eqb x 0) e ∙ count-none-is (λ x. eqb (addressOf m n x) c) (addressCount * n)))
-
-  module _ (r : Bool) (e : r ≡ leb 1 c && (leb c b && not (blockNamed m n c))) where
-    pub target-own : r ≡ true → At c ≡ targetBlock m n b c
-    unfolding targetBlock
-    target-own q = sym (ap (λ (t : Bool). pick t (At c) (freeBlock m n b)) (sym e ∙ q))
-
-    pub target-other : (f : Found) → r ≡ false → f ≡ freeBlock m n b → f ≡ targetBlock m n b c
-    unfolding targetBlock
-    target-other f q g = g ∙ sym (ap (λ (t : Bool). pick t (At c) (freeBlock m n b)) (sym e ∙ q))
 
 -- ---- the entries
 module _ (d : List ℕ) (n i k : ℕ) (x : List ℕ) (j : ℕ) (a : Bool) (e : a ≡ markOf d n i (4 * k + j)) where
@@ -82,49 +57,72 @@ module _ (d : List ℕ) (n i k : ℕ) (x : List ℕ) where
   entries-more j y z e f = f ∙ ap (λ (w : List ℕ). copiedEntry d n i k w j) e ∙ ap (copiedEntries d n i k x) (sym (add-one j))
 
 -- ---- the block
-module _ (s : List ℕ) (n i k : ℕ) (f : DirFits s n i) (l : k < blocksUsed (sizeOf s i)) where
-  pub block-here : (1 ≤ kthBlock s n i k) × (blockAt n (kthBlock s n i k) + 64 ≤ length s)
-  block-here = let b = f .blocks k l in let w = b .low in let v = b .inside in (b .low, omega arith)
+-- 64 bytes written over 64
+covered : (x xs : List ℕ) → length x ≡ 64 → length xs ≡ 64 → splice x 0 xs ≡ xs
+covered x xs e f = sym (part-all (splice x 0 xs) 64 (length-splice x 0 xs ∙ e)) ∙ part-same x 0 xs 64 f (omega arith)
 
-  pub block-few : k < 12
-  block-few = let w = f .few in omega arith
+module _ (s : List ℕ) (i k : ℕ) where
+  pub place-other : (k ≡ addressPlace → ⊥) → false ≡ isLong s i && eqb k addressPlace
+  place-other h = sym (and-false-r (isLong s i) (eqb k 11) (ne-eqb k 11 h))
 
-  -- x has the store's block
-  module _ (x y : List ℕ) (a o : ℕ) (e : length x ≡ 64) (p : a ≡ kthBlock s n i k) (q : o ≡ blockAt n a) (r : y ≡ pasted x 0 s o 64) where
-    pub block-read : y ≡ blockOf s n (kthBlock s n i k)
-    unfolding pasted blockOf
-    block-read =
-        let b = block-here in
-        let w = ap (blockAt n) p in
-        let z : length (part s o 64) ≡ 64 = length-inside s o 64 (omega (arith, q, w, b .1)) in
-        r
-        ∙ sym (part-all (splice x 0 (part s o 64)) 64 (length-splice x 0 (part s o 64) ∙ e))
-        ∙ part-same x 0 (part s o 64) 64 z (omega arith)
-        ∙ ap (λ (v : ℕ). part s v 64) (q ∙ w)
+  pub place-same : (r : Bool) → k ≡ addressPlace → r ≡ isLong s i → r ≡ isLong s i && eqb k addressPlace
+  place-same r h e = e ∙ alone (isLong s i) ∙ sym (ap (λ (t : Bool). isLong s i && t) (eq-eqb k 11 h))
+    where
+      alone : (t : Bool) → t ≡ t && true
+      alone true = refl
+      alone false = refl
 
-    module _ (d : List ℕ) (t : ℕ) (u : t ≡ kindOf s i) where
-      pub block-plain : (t ≡ directoryKind → ⊥) → y ≡ copiedBlock s d n i k
-      unfolding copiedBlock
-      block-plain h =
-          block-read
-          ∙ sym (ap (λ (b : Bool). pick b (copiedEntries d n i k (blockOf s n (kthBlock s n i k)) 4) (blockOf s n (kthBlock s n i k))) (ne-eqb (kindOf s i) 2 (λ v. h (u ∙ v))))
+module _ {s : List ℕ} {n : ℕ} (f : SoundStore s n (blocksIn s)) (i : ℕ) (low : 1 ≤ i) (high : i ≤ n) (k : ℕ) (used : k < blocksUsed (sizeOf s i)) where
+  pub block-here : (n ≤ mostInodes) × (1 ≤ kthBlock s n i k) × (blockAt n (kthBlock s n i k) + 64 ≤ length s)
+  block-here =
+      let b = blocks-of f i low high in
+      let w = b .blocks k used .low in
+      let v = b .blocks k used .inside in
+      (b .inode .few, w, omega arith)
 
-      pub block-parted : t ≡ directoryKind → (z : List ℕ) → z ≡ copiedEntries d n i k y 4 → z ≡ copiedBlock s d n i k
-      unfolding copiedBlock
-      block-parted h z g =
-          g ∙ ap (λ (w : List ℕ). copiedEntries d n i k w 4) block-read
-          ∙ sym (ap (λ (b : Bool). pick b (copiedEntries d n i k (blockOf s n (kthBlock s n i k)) 4) (blockOf s n (kthBlock s n i k))) (eq-eqb (kindOf s i) 2 (sym u ∙ h)))
+  -- a directory has no address block
+  pub block-few : kindOf s i ≡ directoryKind → k < addressCount
+  block-few e = let w = dir-of f i (record { low = low; high = high; kind = e }) .few in omega arith
 
-in-block : (m : List ℕ) (n c o : ℕ) (xs : List ℕ) → o ≡ blockAt n c → splice m o xs ≡ putInBlock m n c 0 xs
-unfolding putInBlock
-in-block m n c o xs e = ap (λ (y : ℕ). splice m y xs) (e ∙ sym (add-zero (blockAt n c)))
+  abbrev plain : List ℕ
+  plain = blockOf s n (kthBlock s n i k)
 
--- its place in the image
-module _ (s m d : List ℕ) (n i k c : ℕ) (f : DirFits s n i) (l : k < blocksUsed (sizeOf s i)) where
-  block-long : length (copiedBlock s d n i k) ≡ 64
+  pub block-long : (d : List ℕ) → length (copiedBlock s d n i k) ≡ 64
   unfolding blockOf
-  block-long = length-copied-block d n i k s ∙ length-inside s (blockAt n (kthBlock s n i k)) 64 (block-here s n i k f l .1)
+  block-long d = length-copied-block d n i k s (length-inside s (blockAt n (kthBlock s n i k)) 64 (block-here .2))
 
-  pub block-put : (o : ℕ) (y a : List ℕ) → o ≡ blockAt n c → o + 64 ≤ length m → y ≡ copiedBlock s d n i k → a ≡ putAddress (putMid o (o + 64 - o) m y) n (addressIndex i k) c → a ≡ stepImage s m d n (copy i k c)
-  block-put o y a e h q r =
-      r ∙ ap (λ (t : List ℕ). putAddress t n (addressIndex i k) c) (lent m o 64 y (ap length q ∙ block-long) h ∙ in-block m n c o y e ∙ ap (putInBlock m n c 0) q)
+  module _ (d : List ℕ) (p : Bool) (q : p ≡ isLong s i && eqb k addressPlace) (x : List ℕ) (e : length x ≡ 64) where
+    pub block-zeroed : p ≡ true → (y : List ℕ) → y ≡ zeroed x 0 64 → y ≡ copiedBlock s d n i k
+    unfolding copiedBlock zeroed
+    block-zeroed t y r =
+        r ∙ covered x (replicate 64 0) e (length-replicate {A = ℕ} 64 0)
+        ∙ sym (ap (λ (b : Bool). pick b (replicate 64 0) (pick (eqb (kindOf s i) 2) (copiedEntries d n i k plain 4) plain)) (sym q ∙ t))
+
+    -- x has the store's block
+    module _ (t : p ≡ false) (y : List ℕ) (a o : ℕ) (u : a ≡ kthBlock s n i k) (v : o ≡ blockAt n a) (r : y ≡ pasted x 0 s o 64) where
+      block-read : y ≡ plain
+      unfolding pasted blockOf
+      block-read =
+          let b = block-here in
+          let w = ap (blockAt n) u in
+          r ∙ covered x (part s o 64) e (length-inside s o 64 (omega (arith, v, w, b .2))) ∙ ap (λ (z : ℕ). part s z 64) (v ∙ w)
+
+      block-by : (b : Bool) → eqb (kindOf s i) directoryKind ≡ b → copiedBlock s d n i k ≡ pick b (copiedEntries d n i k plain 4) plain
+      unfolding copiedBlock
+      block-by b w =
+          ap (λ (z : Bool). pick z (replicate 64 0) (pick (eqb (kindOf s i) 2) (copiedEntries d n i k plain 4) plain)) (sym q ∙ t)
+          ∙ ap (λ (z : Bool). pick z (copiedEntries d n i k plain 4) plain) w
+
+      module _ (g : ℕ) (w : g ≡ kindOf s i) where
+        pub block-plain : (g ≡ directoryKind → ⊥) → y ≡ copiedBlock s d n i k
+        block-plain h = block-read ∙ sym (block-by false (ne-eqb (kindOf s i) 2 (λ z. h (w ∙ z))))
+
+        pub block-parted : g ≡ directoryKind → (z : List ℕ) → z ≡ copiedEntries d n i k y 4 → z ≡ copiedBlock s d n i k
+        block-parted h z c = c ∙ ap (λ (l : List ℕ). copiedEntries d n i k l 4) block-read ∙ sym (block-by true (eq-eqb (kindOf s i) 2 (sym w ∙ h)))
+
+  -- its place in the image
+  pub block-put : (m d : List ℕ) (c o : ℕ) (y : List ℕ) → o ≡ blockAt n c → o + 64 ≤ length m → y ≡ copiedBlock s d n i k → putMid o (o + 64 - o) m y ≡ putInBlock m n c 0 (copiedBlock s d n i k)
+  block-put m d c o y e h q = lent m o 64 y (ap length q ∙ block-long d) h ∙ in-block m n c o y e ∙ ap (putInBlock m n c 0) q
+    where
+      in-block : (m : List ℕ) (n c o : ℕ) (xs : List ℕ) → o ≡ blockAt n c → splice m o xs ≡ putInBlock m n c 0 xs
+      in-block m n c o xs e = unfold putInBlock in ap (λ (y : ℕ). splice m y xs) (e ∙ sym (add-zero (blockAt n c)))

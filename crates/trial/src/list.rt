@@ -34,7 +34,7 @@ fn made_again(e: Event, a: Got, first: &[u8]) -> bool {
 }
 
 // An accepted call during a copy.
-fn count_live(e: Event, a: Got, first: &[u8], tried: &mut [u64; 24]) {
+fn count_live(e: Event, a: Got, first: &[u8], tried: &mut [u64; 26]) {
     if made_again(e, a, first) {
         tally(&mut *tried, INODES, 1);
     } else if e.what == event::RENAME && e.dir != e.to {
@@ -43,7 +43,7 @@ fn count_live(e: Event, a: Got, first: &[u8], tried: &mut [u64; 24]) {
 }
 
 // What is told of the trial at its end.
-fn count(e: Event, a: Got, running: bool, first: &[u8], tried: &mut [u64; 24]) {
+fn count(e: Event, a: Got, running: bool, first: &[u8], tried: &mut [u64; 26]) {
     tally(&mut *tried, EVENTS, 1);
     tally(&mut *tried, a.number, 1);
     if running && a.number == 0 {
@@ -60,9 +60,9 @@ fn turn(
     image: &mut [u8],
     desk: &mut [u8],
     beside: &mut [u8],
-    moments: &mut [u8; 1048576],
+    moments: &mut [u8; 2097152],
     taken: &mut [u8; 384],
-    tried: &mut [u64; 24],
+    tried: &mut [u64; 26],
 ) -> Next
     requires { ⌜ n ≤ 8 ⌝ }
 {
@@ -93,9 +93,9 @@ fn run_events(
     image: &mut [u8],
     desk: &mut [u8],
     beside: &mut [u8],
-    moments: &mut [u8; 1048576],
+    moments: &mut [u8; 2097152],
     taken: &mut [u8; 384],
-    tried: &mut [u64; 24],
+    tried: &mut [u64; 26],
 ) -> u64
     requires { ⌜ Small shape ⌝ }
 {
@@ -127,7 +127,7 @@ fn run_events(
 
 // A store's or an image's length.
 fn length_of(n: usize, b: usize) -> usize
-    requires { ⌜ (n ≤ 8) × (b ≤ 96) ⌝ }
+    requires { ⌜ (n ≤ 8) × (b ≤ 352) ⌝ }
     ensures { λ r. ⌜ r ≡ 16 + 32 * n + 64 * b ⌝ }
 {
     16 + 32 * n + 64 * b
@@ -142,9 +142,9 @@ fn run_fresh(
     image: &mut [u8],
     desk: &mut [u8],
     beside: &mut [u8],
-    moments: &mut [u8; 1048576],
+    moments: &mut [u8; 2097152],
     taken: &mut [u8; 384],
-    tried: &mut [u64; 24],
+    tried: &mut [u64; 26],
 ) -> u64
     requires { ⌜ Small shape ⌝ }
 {
@@ -169,16 +169,16 @@ fn run_fresh(
 }
 
 // Runs a list, and answers as above.
-pub fn run(seed: u64, list: u64, moments: &mut [u8; 1048576], tried: &mut [u64; 24]) -> u64 {
+pub fn run(seed: u64, list: u64, moments: &mut [u8; 2097152], tried: &mut [u64; 26]) -> u64 {
     let shape = event::shape_of(seed, list);
     let n = shape.inodes;
     let s = length_of(n, shape.blocks);
     let i = length_of(n, shape.image);
     let d = 16 + 9 * n;
-    let mut store = [0u8; 1808];
-    let mut image = [0u8; 6416];
+    let mut store = [0u8; 4048];
+    let mut image = [0u8; 22800];
     let mut desk = [0u8; 88];
-    let mut beside = [0u8; 1808];
+    let mut beside = [0u8; 4048];
     let mut taken = [0u8; 384];
     run_fresh(
         seed,

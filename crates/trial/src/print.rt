@@ -3,11 +3,13 @@ use chance::print::list;
 use chance::print::number;
 use chance::print::word;
 use follow::tried::BLOCKS;
+use follow::tried::CROSSED;
 use follow::tried::ENTRIES;
 use follow::tried::EVENTS;
 use follow::tried::FINISHES;
 use follow::tried::INODES;
 use follow::tried::LISTS;
+use follow::tried::LONG;
 use follow::tried::MOVES;
 
 // The list up to the event, after a line that `replay` has no answer to.
@@ -24,7 +26,7 @@ fn row(what: &[u8], n: u64) {
     word(b"\n");
 }
 
-fn refused(tried: &[u64; 24]) {
+fn refused(tried: &[u64; 26]) {
     for k in 1..17 {
         word(b"refused with");
         number(k);
@@ -32,7 +34,7 @@ fn refused(tried: &[u64; 24]) {
     }
 }
 
-pub fn all(tried: &[u64; 24]) {
+pub fn all(tried: &[u64; 26]) {
     row(b"lists", tried[LISTS]);
     row(b"events", tried[EVENTS]);
     row(b"copies finished", tried[FINISHES]);
@@ -40,6 +42,8 @@ pub fn all(tried: &[u64; 24]) {
     row(b"moves during a copy", tried[MOVES]);
     row(b"inodes used again during a copy", tried[INODES]);
     row(b"blocks used again during a copy", tried[BLOCKS]);
+    row(b"files across 768 bytes during a copy", tried[CROSSED]);
+    row(b"files above 768 bytes in copies", tried[LONG]);
     row(b"accepted", tried[0]);
     refused(tried);
 }

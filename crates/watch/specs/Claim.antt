@@ -84,7 +84,7 @@ pub record Delivered (es : List Event) (w : World) (rs : List Received) (u : Wor
   pub sound : (fs gs : List Event) → es ≡ fs ++ gs → Finish fs w → noRestart gs (run fs w) ≡ true → Sound Image (u .image)
   -- "Finished or not, the copy's accepted steps are the number that the state question reports"
   pub reports : {a : Received} {x : World} → Did asks u a x → a .answer ≡ toldStatus (Is (stateAfter es w running) (deskOf (u .desk) .locked) (stepsTold es rs 0))
-  -- "and at most 14 times the inode count, plus 1"
+  -- "and at most 14 times the inode count, plus 1"; F-1: 46 times
   pub bound : stepsTold es rs 0 ≤ stepsAnInode * countOf w + 1
   -- "The store's bytes and every file call's answer are exactly those of a plain store without a copier, given the same file calls in the same order, the ones refused as busy left out."
   pub store : u .store ≡ plainRun (fed es rs) (w .store)

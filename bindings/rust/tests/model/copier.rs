@@ -17,6 +17,9 @@ pub enum State {
 pub enum Piece {
     Bytes(Vec<u8>),
     Slots([Option<Entry>; 4]),
+    /// The numbers of the blocks behind it, as far as they are copied: "it starts zeroed in the image and gains each image
+    /// address as that block is copied".
+    Addresses,
 }
 
 /// An inode of the image: blocks by number as they were copied, the rest when it was closed.
@@ -25,6 +28,8 @@ pub struct Kept {
     pub kind: Option<Kind>,
     pub size: usize,
     pub links: usize,
+    pub parent: usize,
+    /// In the order of copying.
     pub pieces: Vec<(usize, Piece)>,
 }
 
@@ -69,6 +74,8 @@ pub struct Aims {
     pub dropped: usize,
     /// Blocks that could not go to the image block of their own number.
     pub displaced: usize,
+    /// Address blocks copied.
+    pub address_blocks: usize,
 }
 
 #[derive(Clone, Debug)]
@@ -76,10 +83,10 @@ pub struct Copier {
     pub state: State,
     pub locked: Option<usize>,
     /// Blocks of the locked inode copied so far.
-    done: usize,
+    pub done: usize,
     pub steps: usize,
     pub copied: BTreeSet<usize>,
-    marks: BTreeSet<(usize, usize)>,
+    pub marks: BTreeSet<(usize, usize)>,
     pub image: Image,
     pub aims: Aims,
 }
@@ -168,10 +175,10 @@ impl Copier {
         };
         self.aims.displaced += usize::from(own.is_none());
         let piece = match &node.body {
-            Body::File(bytes) => {
-                let part = &bytes[64 * self.done..bytes.len().min(64 * self.done + 64)];
-                Piece::Bytes(part.to_vec())
-            }
+            Body::File(bytes) => match node.piece_of(self.done) {
+                Some(k) => Piece::Bytes(bytes[64 * k..bytes.len().min(64 * k + 64)].to_vec()),
+                None => Piece::Addresses,
+            },
             Body::Directory(slots) => Piece::Slots(std::array::from_fn(|j| {
                 let slot = 4 * self.done + j;
                 let entry = slots[slot].clone()?;
@@ -180,6 +187,7 @@ impl Copier {
                 (!late).then_some(entry)
             })),
         };
+        self.aims.address_blocks += usize::from(matches!(piece, Piece::Addresses));
         self.image.nodes.entry(inode).or_default().pieces.push((block, piece));
         self.done += 1;
         Ok(())
@@ -188,7 +196,7 @@ impl Copier {
     fn close(&mut self, store: &Store, inode: usize) {
         let kept = self.image.nodes.entry(inode).or_default();
         if let Some(node) = store.nodes.get(&inode) {
-            (kept.kind, kept.size) = (Some(node.kind()), node.size());
+            (kept.kind, kept.size, kept.parent) = (Some(node.kind()), node.size(), node.parent);
         }
         self.copied.insert(inode);
         (self.locked, self.done) = (None, 0);

@@ -4,7 +4,7 @@ use crate::call::{Call, Kind, Name, Sizes};
 use crate::copier::State;
 use crate::random::Random;
 use crate::session::Session;
-use crate::store::{Body, Entry, Store};
+use crate::store::{Body, EDGE, Entry, MAX_FILE, Store};
 
 /// What a list is after.
 #[derive(Clone, Copy, PartialEq, Eq)]
@@ -35,10 +35,10 @@ pub fn sizes(random: &mut Random) -> (Sizes, Aim) {
     };
     let blocks = match mood {
         Mood::Slots => random.between(12, 24),
-        Mood::Bytes => random.between(4, 30),
-        _ => random.between(inodes, 4 * inodes + 8),
+        Mood::Bytes => random.between(4, 100),
+        _ => random.between(inodes, 4 * inodes + 30),
     };
-    let image_blocks = if random.percent(70) { 12 * inodes } else { random.between(1, blocks + 4) };
+    let image_blocks = if random.percent(70) { 44 * inodes } else { random.between(1, blocks + 4) };
     let names = if mood == Mood::Slots { 60 } else { random.between(3, 12) };
     (Sizes { inodes, blocks, image_blocks }, Aim { mood, names, pace: random.between(15, 60) })
 }
@@ -105,7 +105,7 @@ fn aimed(random: &mut Random, aim: &Aim, session: &Session) -> Call {
         let all = store.nodes.iter().filter(|(_, node)| node.kind() == Kind::Directory).map(|(&i, _)| i);
         all.filter(|i| copied.contains(i) == copied_ones).collect()
     };
-    let call = match (random.below(7), session.copier.locked) {
+    let call = match (random.below(8), session.copier.locked) {
         // what is locked, in every way that 14 names
         (0, Some(locked)) => match random.below(6) {
             0 => Some(Call::Write(locked, 0, vec![1; random.between(0, 70)])),
@@ -133,6 +133,7 @@ fn aimed(random: &mut Random, aim: &Aim, session: &Session) -> Call {
             let to = random.pick(&directories(false)).unwrap_or(1);
             Some(Call::Create(to, name(random, aim), kind(random)))
         }
+        (6, _) => entry(random, store, |_, e| store.bytes(e.inode).is_ok()).map(|(_, _, i)| across(random, store, i)),
         // a copied file linked into what is not copied yet
         _ => {
             let to = random.pick(&directories(false)).unwrap_or(1);
@@ -140,6 +141,16 @@ fn aimed(random: &mut Random, aim: &Aim, session: &Session) -> Call {
         }
     };
     call.unwrap_or_else(|| file_call(random, aim, store))
+}
+
+/// A file grown or cut across 768 bytes.
+fn across(random: &mut Random, store: &Store, file: usize) -> Call {
+    let size = store.bytes(file).map_or(0, Vec::len);
+    if size > EDGE {
+        return Call::Shorten(file, random.between(EDGE - 100, EDGE));
+    }
+    let length = random.between(EDGE + 1, EDGE + 200) - size;
+    Call::Write(file, size, bytes(random, length))
 }
 
 fn kind(random: &mut Random) -> Kind {
@@ -161,13 +172,18 @@ fn file_call(random: &mut Random, aim: &Aim, store: &Store) -> Call {
                 1..10 => size,
                 _ => random.below(size + 1),
             };
-            let length = if random.percent(70) { random.below(100) } else { random.below(800) };
+            let length = match random.below(10) {
+                0..4 => random.below(100),
+                4..6 => random.below(800),
+                _ => aimed_size(random).saturating_sub(offset),
+            };
             Call::Write(file, offset, bytes(random, length))
         }
         n if n < writes + 8 => {
             let file = number(random, store, Kind::File);
             let size = store.bytes(file).map_or(0, Vec::len);
-            Call::Shorten(file, random.below(size + 2))
+            let length = if random.percent(50) { aimed_size(random).min(size) } else { random.below(size + 2) };
+            Call::Shorten(file, length)
         }
         n if n < writes + 16 => Call::Link(directory, name(random, aim), number(random, store, Kind::File)),
         n if n < writes + 26 => match entry(random, store, |_, _| true) {
@@ -184,6 +200,16 @@ fn file_call(random: &mut Random, aim: &Aim, store: &Store) -> Call {
             Call::Read(file, random.below(size + 2), random.below(200))
         }
         _ => Call::LookUp(directory, name(random, aim)),
+    }
+}
+
+/// Sizes around where a file takes or gives back its address block and its twelfth block, around the limit, and any.
+fn aimed_size(random: &mut Random) -> usize {
+    match random.below(6) {
+        0 | 1 => random.between(EDGE - 1, EDGE + 1),
+        2 => random.between(EDGE - 66, EDGE + 66),
+        3 => random.between(MAX_FILE - 1, MAX_FILE + 1),
+        _ => random.below(MAX_FILE + 2),
     }
 }
 

@@ -1,8 +1,9 @@
 //! The library against an independent model: lists of calls at random from a seed, with copies that overlap changes.
 //!
 //! The model has the store and the copy as records, written from the paper's rules ([`store`], [`copier`]). After every call
-//! the answers are compared, and the store's bytes with those of a second store without a copy; every few calls what the
-//! store holds; at a finish what demand 3 says ([`history`]) and every entry and byte of the copy.
+//! the answers are compared, the store's bytes with those of a second store without a copy, and desk and image with what the
+//! records say of them ([`laid`]); every few calls what the store holds; at a finish what demand 3 says ([`history`]) and every
+//! entry and byte of the copy.
 //!
 //! `HONECERISE_CALLS` and `HONECERISE_SEED` say how many calls and from which seed:
 //! `HONECERISE_CALLS=10000000 HONECERISE_SEED=7 cargo test --offline --test model -- --nocapture`. A list that fails is made
@@ -11,6 +12,7 @@ mod call;
 mod copier;
 mod generate;
 mod history;
+mod laid;
 mod random;
 mod seen;
 mod session;
@@ -91,6 +93,10 @@ fn calls_at_random() {
             tally.zeroed,
             tally.dropped,
             tally.displaced,
+            tally.address_blocks,
+            tally.crossed_copied,
+            tally.crossed_uncopied,
+            tally.crossed_idle,
         ];
         assert!(aims.into_iter().all(|count| count > 100), "the lists miss their aim: {tally:?}");
     }

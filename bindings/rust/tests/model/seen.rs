@@ -5,7 +5,7 @@ use honecerise::Files;
 
 use crate::call::{Kind, Name};
 use crate::copier::{Image, Piece};
-use crate::store::{Body, Store};
+use crate::store::{Body, EDGE, Store};
 
 #[derive(PartialEq, Eq)]
 pub struct Row {
@@ -55,7 +55,14 @@ pub fn of_bytes(files: &Files, bytes: &[u8]) -> Seen {
     let rows: Vec<Row> = files.all().map(|e| row(e.directory.0, e.slot, e.inode.0, e.name, e.kind, e.size, e.links)).collect();
     let contents =
         |inode| files.contents(honecerise::Inode(inode)).ok().map(|pieces| (inode, pieces.collect::<Vec<_>>().concat()));
-    let addresses = |inode| (0..12).map(move |k| number(16 + 8 * inodes + 24 * (inode - 1) + 2 * k)).filter(|&b| b != 0);
+    // the twelve addresses, and those in the block that the last one of a file above 768 bytes names
+    let addresses = |inode: usize| {
+        let (attributes, direct) = (16 + 8 * (inode - 1), 16 + 8 * inodes + 24 * (inode - 1));
+        let long = bytes[attributes] == 1 && number(attributes + 4) > EDGE;
+        let further = if long { 16 + 32 * inodes + 64 * (number(direct + 22) - 1) } else { 0 };
+        let places = (0..12).map(move |k| direct + 2 * k).chain((0..if long { 32 } else { 0 }).map(move |k| further + 2 * k));
+        places.map(number).filter(|&b| b != 0)
+    };
     Seen {
         free_inodes: files.free_inodes(),
         free_blocks: files.free_blocks(),

@@ -1,12 +1,12 @@
 //! Calls made three times: of the library, of the model, and of a second store of the library with no copy running. Whatever
 //! the three should agree on is compared after every call.
-use honecerise::{CopyState, Files, Inode, Refusal, Watch, desk_len, image_len, most_steps, store_len};
+use honecerise::{CopyState, Files, Inode, Refusal, Watch, desk_len, enough_image, image_len, most_steps, store_len};
 
 use crate::call::{Answer, Call, Kind, Sizes};
 use crate::copier::{Copier, State};
 use crate::history::History;
-use crate::seen;
-use crate::store::{Body, Store};
+use crate::store::{Body, EDGE, Store};
+use crate::{laid, seen};
 
 /// How often the whole store is listed and compared, beside every finish.
 const LIST_EVERY: usize = 8;
@@ -49,6 +49,12 @@ pub struct Tally {
     pub zeroed: usize,
     pub dropped: usize,
     pub displaced: usize,
+    pub address_blocks: usize,
+    /// Writes and shortenings that crossed 768 bytes while a copy ran, by what the copier had of the file: all of it, or nothing.
+    pub crossed_copied: usize,
+    pub crossed_uncopied: usize,
+    /// Writes and shortenings that crossed 768 bytes while no copy ran.
+    pub crossed_idle: usize,
 }
 
 impl Tally {
@@ -61,6 +67,10 @@ impl Tally {
         self.zeroed += other.zeroed;
         self.dropped += other.dropped;
         self.displaced += other.displaced;
+        self.address_blocks += other.address_blocks;
+        self.crossed_copied += other.crossed_copied;
+        self.crossed_uncopied += other.crossed_uncopied;
+        self.crossed_idle += other.crossed_idle;
         self.refused.iter_mut().zip(other.refused).for_each(|(sum, count)| *sum += count);
     }
 }
@@ -105,6 +115,14 @@ fn make(watch: &mut Watch, call: &Call) -> (Answer, Vec<u8>) {
     (answer.map_err(Refusal::number), out)
 }
 
+/// The file that a call is to write or shorten.
+fn changed(call: &Call) -> Option<usize> {
+    match call {
+        Call::Write(inode, ..) | Call::Shorten(inode, _) => Some(*inode),
+        _ => None,
+    }
+}
+
 fn agree<T: PartialEq + std::fmt::Debug>(what: &str, library: T, model: T) -> Result<(), String> {
     if library == model { Ok(()) } else { Err(format!("{what}: the library has {library:?}, expected was {model:?}")) }
 }
@@ -128,6 +146,7 @@ impl Session {
     pub fn tally(mut self) -> Tally {
         let aims = self.copier.aims;
         (self.tally.zeroed, self.tally.dropped, self.tally.displaced) = (aims.zeroed, aims.dropped, aims.displaced);
+        self.tally.address_blocks = aims.address_blocks;
         self.tally
     }
 
@@ -147,6 +166,7 @@ impl Session {
             }
             _ => self.file_call(call, answer, out)?,
         }
+        agree("the desk's bytes", self.buffers.desk == laid::desk(&self.copier, self.sizes), true)?;
         if answer.is_err() && answer != Err(16) {
             agree("a refusal changes nothing", self.buffers == self.before, true)?;
         }
@@ -160,6 +180,7 @@ impl Session {
             self.history = Some(History::begin(&self.store));
             self.steps = 0;
             self.status()?;
+            self.image()?;
         }
         Ok(())
     }
@@ -170,12 +191,17 @@ impl Session {
         self.steps += usize::from(answer.is_ok());
         if answer == Err(16) {
             agree("16 leaves the image", self.buffers.image == self.before.image, true)?;
+            agree("16 comes only with too few blocks", self.sizes.image_blocks < enough_image(self.sizes.inodes), true)?;
             self.status()?;
+        }
+        if answer.is_ok() {
+            self.image()?;
         }
         if answer.is_ok() && self.copier.state == State::Finished { self.finish() } else { Ok(()) }
     }
 
     fn file_call(&mut self, call: &Call, answer: Answer, out: Vec<u8>) -> Result<(), String> {
+        let size = changed(call).and_then(|inode| self.store.bytes(inode).ok()).map_or(0, Vec::len);
         let expected = self.store.call(call, self.copier.locked);
         agree("answer", answer, expected.as_ref().map(|done| done.answer).map_err(|&number| number))?;
         if answer != Err(14) {
@@ -194,6 +220,11 @@ impl Session {
         }
         if let Ok(done) = expected {
             image_changed = self.copier.learn(&done);
+            if let Some(inode) = done.written
+                && (size > EDGE) != (done.answer > EDGE)
+            {
+                self.crossed(inode);
+            }
             if let Some(history) = &mut self.history {
                 history.note(&done, &self.store);
             }
@@ -204,7 +235,23 @@ impl Session {
                 self.tally.reused_as_directory += usize::from(again && was == Some(Kind::File) && *kind == Kind::Directory);
             }
         }
-        agree("the image changed", self.buffers.image != self.before.image, image_changed)
+        agree("the image changed", self.buffers.image != self.before.image, image_changed)?;
+        if image_changed { self.image() } else { Ok(()) }
+    }
+
+    fn crossed(&mut self, inode: usize) {
+        match (self.copier.state, self.copier.copied.contains(&inode)) {
+            (State::Running, true) => self.tally.crossed_copied += 1,
+            (State::Running, false) => self.tally.crossed_uncopied += 1,
+            _ => self.tally.crossed_idle += 1,
+        }
+    }
+
+    /// The image's bytes, of a copy that runs or has just finished.
+    fn image(&self) -> Result<(), String> {
+        let expected = laid::image(&self.copier, self.sizes);
+        let at = self.buffers.image.iter().zip(&expected).position(|(a, b)| a != b);
+        agree("the image's first byte that is another than the records say", at, None)
     }
 
     /// The state question, against the model and the accepted steps counted here.
@@ -219,7 +266,7 @@ impl Session {
         agree("state", state, self.copier.state)?;
         agree("locked inode", status.locked.map(|inode| inode.0), self.copier.locked)?;
         agree("steps", status.steps, self.steps)?;
-        agree("steps are at most 14 for each inode, and 1", self.steps <= most_steps(self.sizes.inodes), true)
+        agree("steps are at most 46 for each inode, and 1", self.steps <= most_steps(self.sizes.inodes), true)
     }
 
     /// What the store holds: by the listing, and by look up and read.

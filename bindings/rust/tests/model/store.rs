@@ -6,8 +6,12 @@ use crate::call::{Call, Kind, Name};
 
 const BLOCK: usize = 64;
 const SLOTS_IN_BLOCK: usize = 4;
-const MAX_BLOCKS: usize = 12;
-const MAX_FILE: usize = 768;
+const MAX_DIRECTORY_BLOCKS: usize = 12;
+/// "A file above 768 bytes uses eleven direct addresses, and its twelfth names a block of 32 further".
+pub const EDGE: usize = 768;
+pub const MAX_FILE: usize = 2752;
+/// Blocks that come before the address block.
+const DIRECT: usize = 11;
 
 #[derive(Clone, Debug, PartialEq, Eq)]
 pub struct Entry {
@@ -27,8 +31,13 @@ pub struct Node {
     /// Of a directory; 0 for files and the root.
     pub parent: usize,
     pub body: Body,
-    /// The numbers of its blocks, in their order.
+    /// The numbers of its blocks, in the order of taking and copying.
     pub blocks: Vec<usize>,
+}
+
+/// "The address block counts as a block of its file."
+fn blocks_for(size: usize) -> usize {
+    size.div_ceil(BLOCK) + usize::from(size > EDGE)
 }
 
 impl Node {
@@ -43,6 +52,15 @@ impl Node {
         match &self.body {
             Body::File(bytes) => bytes.len(),
             Body::Directory(_) => BLOCK * self.blocks.len(),
+        }
+    }
+
+    /// Which piece of a file's bytes its k-th block has; none is the address block's.
+    pub fn piece_of(&self, k: usize) -> Option<usize> {
+        match k {
+            DIRECT if self.size() > EDGE => None,
+            k if k > DIRECT => Some(k - usize::from(self.size() > EDGE)),
+            k => Some(k),
         }
     }
 }
@@ -135,8 +153,8 @@ impl Store {
     fn room(&self, directory: usize) -> Result<(), u8> {
         let full = self.slots(directory)?.iter().all(Option::is_some);
         let blocks = self.nodes[&directory].blocks.len();
-        refuse(12, full && blocks < MAX_BLOCKS && self.free_blocks() == 0)?;
-        refuse(13, full && blocks == MAX_BLOCKS)
+        refuse(12, full && blocks < MAX_DIRECTORY_BLOCKS && self.free_blocks() == 0)?;
+        refuse(13, full && blocks == MAX_DIRECTORY_BLOCKS)
     }
 
     fn node(&mut self, inode: usize) -> &mut Node {
@@ -242,11 +260,16 @@ impl Store {
         refuse(9, offset > old || offset + bytes.len() > MAX_FILE)?;
         let end = offset + bytes.len();
         let new = old.max(end);
-        let wanted = new.div_ceil(BLOCK) - old.div_ceil(BLOCK);
+        let wanted = blocks_for(new) - blocks_for(old);
         refuse(12, wanted > self.free_blocks())?;
         busy(locked, &[inode])?;
+        let standing = self.nodes[&inode].blocks.len();
         for _ in 0..wanted {
             self.take_block(inode);
+        }
+        // "(a standing twelfth block keeps its number)": it now comes behind the address block, which was taken after it
+        if old <= EDGE && new > EDGE && standing == DIRECT + 1 {
+            self.node(inode).blocks.swap(DIRECT, DIRECT + 1);
         }
         let held = self.bytes_mut(inode);
         held.resize(new, 0);
@@ -255,9 +278,14 @@ impl Store {
     }
 
     fn shorten(&mut self, inode: usize, length: usize, locked: Option<usize>) -> Result<Done, u8> {
-        refuse(9, length > self.bytes(inode)?.len())?;
+        let old = self.bytes(inode)?.len();
+        refuse(9, length > old)?;
         busy(locked, &[inode])?;
-        self.free_blocks_from(inode, length.div_ceil(BLOCK));
+        if old > EDGE && length <= EDGE {
+            let addresses = self.node(inode).blocks.remove(DIRECT);
+            self.used.remove(&addresses);
+        }
+        self.free_blocks_from(inode, blocks_for(length));
         self.bytes_mut(inode).truncate(length);
         Ok(Done { answer: length, written: Some(inode), ..Done::default() })
     }

@@ -1,19 +1,23 @@
 -- Image and desk lie after a file call as they did before it. s is the store, m the image, d the desk, n and b the counts of inodes and image blocks, x the call's effect.
-use Prim.Native.Nat.{ℕ, _+_, _*_, _≤_, _<_}
-use mathlib.Core.Path.{_≡_, sym, ap, ap₂, _∙_, subst}
+use Prim.Native.Nat.{ℕ, _+_, _*_, _/_, _%_, _≤_, _<_}
+use mathlib.Core.Path.{_≡_, refl, sym, ap, ap₂, _∙_, subst}
 use mathlib.Core.Logic.{_≢_}
-use mathlib.Core.Bool.{Bool, true, false}
+use mathlib.Core.Bool.{Bool, true, false, _&&_}
 use mathlib.Core.List.{List, [], _∷_}
+use native.Mathlib.Decide.{ℕ-discrete}
 use native.Mathlib.Omega.{arith}
-use borrow.Author.Tests.{eq-eqb}
+use borrow.Author.Tests.{eq-eqb, ne-eqb}
 use lib.Dec.{eqb}
-use lib.ListN.{length}
+use lib.ListN.{length, replicate}
 use Rattle.bounded.proofs.SumLaws.{sum-ext}
 use Rattle.bounded.specs.Search.{pick}
 use Rattle.bounded.proofs.EachLaws.{All, all-map}
-use Rattle.layout.specs.Sizes.{addressCount}
+use Rattle.layout.specs.Sizes.{addressCount, addressPlace, mostBlocks, blockBytes}
 use Rattle.layout.specs.Inode.{kindOf, sizeOf, freeKind, directoryKind}
-use Rattle.blocks.specs.Block.{blockOf, blocksUsed, kthBlock}
+use Rattle.blocks.specs.Block.{blockOf, blocksUsed, isLong, kthBy, kthBlock, rowBy}
+use Rattle.blocks.specs.Free.{longBut}
+use Rattle.blocks.proofs.LongLaws.{but-here, but-else}
+use Rattle.changes.proofs.SameLaws.{same-long}
 use Rattle.directory.specs.Slot.{mostSlots, slotsInBlock}
 use Rattle.desk.specs.Sizes.{deskLength, running}
 use Rattle.desk.specs.declared.Desk.{Desk}
@@ -21,30 +25,36 @@ use Rattle.desk.specs.Desk.{deskOf, markOf}
 use Rattle.sound.specs.Place.{placeOf}
 use Rattle.sound.specs.Sound.{Sound, inodesIn}
 use Rattle.sound.specs.declared.Form.the-variants.{Store}
-use Rattle.changes.proofs.StoreLaws.{sound-store, dir-of}
+use Rattle.changes.proofs.StoreLaws.{sound-store, dir-of, blocks-of}
 use Rattle.changes.proofs.KeepLaws.{body-of}
 use Rattle.files.specs.Effect.{Entry, placeIn, Effect}
 use Rattle.files.proofs.Lawful.{Away, Stands, Stays, Lawful}
-use Rattle.checkpoint.specs.Fit.{isRunning}
+use Rattle.checkpoint.specs.Fit.{isRunning, imageLong}
 use Rattle.checkpoint.specs.Busy.{anyLocked}
 use Rattle.checkpoint.specs.Notes.{isCopied, cutEntries, clearMarks, setMarks}
 use Rattle.checkpoint.specs.Copier.{copiedEntries, copiedBlock}
 use Rattle.checkpoint.proofs.Copy.Laid.{DeskLaid, Laid, Open, cost, costSoFar}
+use Rattle.checkpoint.proofs.Copy.LedgerLaws.{rows-named, rows-differ}
 use Rattle.checkpoint.proofs.DecisionLaws.{apart-locked}
 use Rattle.checkpoint.proofs.Call.CallNotes.{MarksAlone, same-copied, Ranged, call-notes, mark-away}
 use Rattle.checkpoint.proofs.Call.CutEntries.{Whole, entries-laid}
 use Rattle.checkpoint.proofs.Copy.NoteLaws.{copied-block}
 
 -- ---- a block that is copied by the same marks is the same
-module _ (d e : List ℕ) (n i k : ℕ) (l : k < addressCount) (marks : (t : ℕ) → t < mostSlots → markOf e n i t ≡ markOf d n i t) (copied : (j : ℕ) → isCopied e n j ≡ isCopied d n j) where
+module _ (d e : List ℕ) (n i k : ℕ) (l : k < mostBlocks) (marks : (t : ℕ) → t < mostSlots → markOf e n i t ≡ markOf d n i t) (copied : (j : ℕ) → isCopied e n j ≡ isCopied d n j) where
   -- of an inode that stays
-  pub block-same : (s t : List ℕ) → k < blocksUsed (sizeOf s i) → Stays s t n i → copiedBlock t e n i k ≡ copiedBlock s d n i k
+  pub block-same : (s t : List ℕ) → k < blocksUsed (sizeOf s i) → (kindOf s i ≡ directoryKind → k < addressCount) → Stays s t n i → copiedBlock t e n i k ≡ copiedBlock s d n i k
   unfolding copiedBlock
-  block-same s t u r =
+  block-same s t u few r =
       let a : kindOf t i ≡ kindOf s i = r .inode .kind in
       let b : blockOf t n (kthBlock t n i k) ≡ blockOf s n (kthBlock s n i k) = ap (blockOf t n) (r .inode .blocks k l) ∙ r .bytes k u in
-      ap₂ (λ (v : ℕ) (y : List ℕ). pick (eqb v directoryKind) (copiedEntries e n i k y slotsInBlock) y) a b
-      ∙ copied-block d e n i k copied (λ j w. marks (slotsInBlock * k + j) (omega arith)) s
+      ap (λ (q : Bool). pick (q && eqb k addressPlace) (replicate blockBytes 0) (pick (eqb (kindOf t i) directoryKind) (copiedEntries e n i k (blockOf t n (kthBlock t n i k)) slotsInBlock) (blockOf t n (kthBlock t n i k))))
+      (same-long s t i a (r .inode .size))
+      ∙ ap₂ (λ (v : ℕ) (y : List ℕ). pick (isLong s i && eqb k addressPlace) (replicate blockBytes 0) (pick (eqb v directoryKind) (copiedEntries e n i k y slotsInBlock) y)) a b
+      ∙ (elim (ℕ-discrete (kindOf s i) directoryKind) as (λ _. copiedBlock s e n i k ≡ copiedBlock s d n i k) [
+        | yes z ↦ let f = few z in copied-block d e n i k copied (λ j w. marks (slotsInBlock * k + j) (omega arith)) s
+        | no z ↦ rw (ne-eqb (kindOf s i) directoryKind z) refl
+      ])
 
 -- ---- another store, and other marks: the locked inode stays, and so do its marks
 module _ {n b : ℕ} {s m d : List ℕ} (k : Sound Store s) (x : n ≡ inodesIn s) (h : Laid n b s m d) (t e : List ℕ) (a : MarksAlone n d e)
@@ -75,8 +85,9 @@ module _ {n b : ℕ} {s m d : List ℕ} (k : Sound Store s) (x : n ≡ inodesIn 
   opened-here z =
       let o = h .opened z in
       let r = stays z in
-      let w = dir-of (sound-store k x) (deskOf d .locked) (o .low) (h .desk .high) .few in
+      let w = blocks-of (sound-store k x) (deskOf d .locked) (o .low) (h .desk .high) .few in
       let f = o .few in
+      let g = sym (same-long s t (deskOf d .locked) (r .inode .kind) (r .inode .size)) in
       record {
         low = o .low;
         new = same-copied a (deskOf d .locked) ∙ o .new;
@@ -85,9 +96,13 @@ module _ {n b : ℕ} {s m d : List ℕ} (k : Sound Store s) (x : n ≡ inodesIn 
         size = o .size;
         parent = o .parent;
         few = subst (λ (y : ℕ). deskOf d .transferred ≤ blocksUsed y) (sym (r .inode .size)) f;
-        named = o .named;
-        rest = o .rest;
-        blocks = λ j l. o .blocks j l ∙ sym (block-same d e n (deskOf d .locked) j (omega arith) (marks z) (same-copied a) s t (omega arith) r);
+        named = λ j l c. subst (λ (y : Bool). (1 ≤ kthBy y m n (deskOf d .locked) j) × (kthBy y m n (deskOf d .locked) j ≤ b)) g (o .named j l c);
+        rest = λ j l c. subst (λ (y : Bool). kthBy y m n (deskOf d .locked) j ≡ 0) g (o .rest j l c);
+        blocks = λ j l c.
+            ap (λ (y : Bool). blockOf m n (kthBy y m n (deskOf d .locked) j)) (sym g)
+            ∙ o .blocks j l (λ y. c (sym g ∙ y))
+            ∙ sym (block-same d e n (deskOf d .locked) j (omega arith) (marks z) (same-copied a) s t (omega arith)
+            (λ q. let v = dir-of (sound-store k x) (deskOf d .locked) (record { low = o .low; high = h .desk .high; kind = q }) .few in omega arith) r);
       }
 
   opened : deskOf e .locked ≢ 0 → Open n b t m e (deskOf e .locked) (deskOf e .transferred)
@@ -101,6 +116,20 @@ module _ {n b : ℕ} {s m d : List ℕ} (k : Sound Store s) (x : n ≡ inodesIn 
   unfolding costSoFar
   so-far = ap (λ (z : Desk). pick (eqb (z .locked) 0) 0 (1 + z .transferred)) (sym (a .head))
 
+  long-same : (j : ℕ) → 1 ≤ j → imageLong t m e j ≡ imageLong s m d j
+  long-same j l =
+      ap (λ (y : ℕ). longBut m y (isLong t y) j) lock-same
+      ∙ (elim (ℕ-discrete j (deskOf d .locked)) as (λ _. longBut m (deskOf d .locked) (isLong t (deskOf d .locked)) j ≡ imageLong s m d j) [
+        | yes z ↦
+            let r = stays (λ w. omega arith) in
+            but-here m (deskOf d .locked) (isLong t (deskOf d .locked)) j z ∙ same-long s t (deskOf d .locked) (r .inode .kind) (r .inode .size) ∙ sym (but-here m (deskOf d .locked) (isLong s (deskOf d .locked)) j z)
+        | no z ↦ but-else m (deskOf d .locked) (isLong t (deskOf d .locked)) j z ∙ sym (but-else m (deskOf d .locked) (isLong s (deskOf d .locked)) j z)
+      ])
+
+  row-same : (v : ℕ) → v < mostBlocks * n → rowBy (imageLong t m e) m n v ≡ rowBy (imageLong s m d) m n v
+  unfolding rowBy
+  row-same v l = ap (λ (y : Bool). kthBy y m n (v / 44 + 1) (v % 44)) (long-same (v / 44 + 1) (omega arith))
+
   pub notes-laid : Laid n b t m e
   notes-laid = record {
     desk = desk;
@@ -108,8 +137,8 @@ module _ {n b : ℕ} {s m d : List ℕ} (k : Sound Store s) (x : n ≡ inodesIn 
     inodes = λ i l o z. h .inodes i l o (λ w. z (w ∙ sym lock-same));
     blank = λ i l o c. h .blank i l o (sym (same-copied a i) ∙ c);
     opened = opened;
-    once = h .once;
-    blanks = h .blanks;
+    once = rows-differ (imageLong s m d) (imageLong t m e) m m n row-same (h .once);
+    blanks = λ c l o q. h .blanks c l o (sym (rows-named (imageLong s m d) (imageLong t m e) m m n row-same c) ∙ q);
     fair = h .fair;
     steps = ap (λ (z : Desk). z .steps) (a .head) ∙ h .steps ∙ ap₂ _+_ (sum-ext (cost m d n) (cost m e n) n costs) so-far;
   }

@@ -15,7 +15,8 @@ use Rattle.bounded.proofs.CaseLaws.{in-range, is-below}
 use Rattle.bounded.proofs.RangeLaws.{within-in, within-out, within-ext, below-in, below-out}
 use Rattle.layout.specs.Sizes.{blockBytes}
 use Rattle.layout.specs.Inode.{kindOf, sizeOf, parentOf, freeKind, fileKind}
-use Rattle.blocks.specs.Block.{blockOf, blocksUsed}
+use Rattle.blocks.specs.Block.{blockOf, bytesPlace, kthBlock}
+use Rattle.ledger.proofs.BytesLaws.{place-used, used-limits}
 use Rattle.directory.specs.Slot.{mostSlots}
 use Rattle.desk.specs.declared.Desk.{Desk}
 use Rattle.desk.specs.Desk.{deskOf, markOf}
@@ -24,7 +25,8 @@ use Rattle.sound.specs.Sound.{Sound, inodesIn}
 use Rattle.sound.proofs.SoundLaws.{size-most}
 use Rattle.sound.specs.declared.Form.the-variants.{Store}
 use Rattle.changes.proofs.BaredLaws.{naming-none}
-use Rattle.content.specs.Content.{fileByte, fileBytes}
+use Rattle.growth.specs.Extend.{fileByte}
+use Rattle.content.specs.Content.{fileBytes}
 use Rattle.files.specs.Effect.{Entry, placeIn, Effect}
 use Rattle.files.proofs.Lawful.{Away, Stands, Lawful}
 use Rattle.files.proofs.EffectFacts.{away-or}
@@ -157,11 +159,15 @@ module _ {n b : ℕ} {s m d : List ℕ} (k : Sound Store s) (e : n ≡ inodesIn 
       (λ o. absurd (u (within-out n (kindOf s) i o)))
 
   file-byte : (i : ℕ) → 1 ≤ i → i ≤ n → kindOf m i ≡ fileKind → (o : ℕ) → o < sizeOf m i → fileByte image n i o ≡ fileByte m n i o
-  unfolding fileByte blocksUsed
+  unfolding fileByte
   file-byte i l p z o u =
       let g = size-most (used-sound h i l p (λ w. omega arith)) in
-      ap (λ (c : ℕ). getD (blockOf image n c) (o % blockBytes) 0) (cuts .inodes i l p .blocks (o / blockBytes) (omega arith))
-      ∙ ap (λ (y : List ℕ). getD y (o % blockBytes) 0) (cuts .files i (o / blockBytes) l p z (omega arith) (omega arith))
+      let a = bytesPlace (sizeOf m i) (o / blockBytes) in
+      let few = used-limits (sizeOf m i) .0 g in
+      let v = place-used (sizeOf m i) (o / blockBytes) (omega arith) in
+      ap (λ (y : ℕ). getD (blockOf image n (kthBlock image n i (bytesPlace y (o / blockBytes)))) (o % blockBytes) 0) (cuts .inodes i l p .size)
+      ∙ ap (λ (c : ℕ). getD (blockOf image n c) (o % blockBytes) 0) (cuts .inodes i l p .blocks a (omega arith))
+      ∙ ap (λ (y : List ℕ). getD y (o % blockBytes) 0) (cuts .files i a l p z (omega arith) v)
 
   alike : (i : ℕ) → Alike (old .image) (new .image) i
   unfolding seen shelfOf

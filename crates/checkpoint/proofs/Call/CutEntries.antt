@@ -12,7 +12,7 @@ use lib.ListN.{length}
 use Rattle.bounded.specs.Search.{pick}
 use Rattle.bounded.proofs.BoolLaws.{clash, holds, and-left, and-right}
 use Rattle.bounded.proofs.EachLaws.{All}
-use Rattle.layout.specs.Sizes.{addressCount}
+use Rattle.layout.specs.Sizes.{mostBlocks}
 use Rattle.layout.specs.Inode.{kindOf, sizeOf, fileKind}
 use Rattle.blocks.specs.Block.{blocksUsed, kthBlock}
 use Rattle.directory.specs.Slot.{mostSlots, clearEntry}
@@ -109,7 +109,7 @@ pub data CutAt (n : ℕ) (m v d : List ℕ) (y : Entry) : Type 0 where
 -- v is the image m after it
 pub record Cuts (n : ℕ) (m v d : List ℕ) (ys : List Entry) : Type 0 where
   pub inodes : (j : ℕ) → 1 ≤ j → j ≤ n → SameInode m v n j
-  pub files : (j k : ℕ) → 1 ≤ j → j ≤ n → kindOf m j ≡ fileKind → k < addressCount → k < blocksUsed (sizeOf m j) → SameBlock m v n (kthBlock m n j k)
+  pub files : (j k : ℕ) → 1 ≤ j → j ≤ n → kindOf m j ≡ fileKind → k < mostBlocks → k < blocksUsed (sizeOf m j) → SameBlock m v n (kthBlock m n j k)
   pub entries : (q : ℕ) → q < mostSlots * n → naming v n q ≢ 0 → entryAt v n q ≡ entryAt m n q
   pub away : (q : ℕ) → q < mostSlots * n → Away q ys → naming v n q ≡ naming m n q
   pub at : All (CutAt n m v d) ys

@@ -1,17 +1,30 @@
 -- An entry of the image is cut: 16 bytes in a block of a copied directory become zero. What that leaves. s is the store, m the image, d the desk, n and b the counts of inodes and image blocks.
-use Prim.Native.Nat.{ℕ, _+_, _*_, _/_, _≤_, _<_}
-use mathlib.Core.Path.{_≡_, sym, ap, _∙_}
+use Prim.Native.Nat.{ℕ, _+_, _*_, _/_, _%_, _≤_, _<_}
+use mathlib.Core.Path.{_≡_, sym, ap, _∙_, subst}
 use mathlib.Core.Logic.{_≢_}
-use mathlib.Core.Bool.{true}
+use mathlib.Core.Bool.{Bool, true, false}
 use mathlib.Core.List.{List}
-use native.Mathlib.Decide.{ℕ-discrete, decLt}
+use native.Mathlib.Decide.{ℕ-discrete}
 use native.Mathlib.Omega.{arith}
+use lib.Dec.{eqb}
 use lib.ListN.{length}
-use Rattle.bounded.specs.Count.{Differ}
+use Rattle.bounded.specs.Search.{pick}
+use borrow.Author.Tests.{ne-eqb}
+use Rattle.bounded.proofs.BoolLaws.{clash, and-false-l}
+use Rattle.bounded.proofs.UpdateLaws.{upd-other}
 use Rattle.octets.specs.Octets.{Apart}
-use Rattle.layout.specs.Sizes.{addressCount}
-use Rattle.layout.specs.Inode.{kindOf, sizeOf, addressOf, addressIndex, freeKind, fileKind, directoryKind}
-use Rattle.blocks.specs.Block.{blocksUsed, kthBlock}
+use Rattle.layout.specs.Sizes.{mostBlocks}
+use Rattle.layout.specs.Inode.{kindOf, sizeOf, freeKind, fileKind, directoryKind}
+use Rattle.blocks.specs.Block.{blocksUsed, isLong, addressBlock, kthBy, kthBlock, rowBy}
+use Rattle.blocks.specs.Free.{longBut}
+use Rattle.blocks.proofs.KthLaws.{kth-same, kth-direct}
+use Rattle.ledger.proofs.WriteLaws.{NoAddresses}
+use Rattle.ledger.proofs.LedgerLaws.{one-kth, data-none}
+use Rattle.blocks.proofs.LongLaws.{but-else}
+use Rattle.desk.specs.Desk.{deskOf}
+use Rattle.changes.proofs.StoreLaws.{dir-short}
+use Rattle.checkpoint.specs.Fit.{imageLong}
+use Rattle.checkpoint.proofs.Copy.LedgerLaws.{laid-ledger}
 use Rattle.names.specs.Entry.{isEmpty}
 use Rattle.names.proofs.EntryLaws.{empty-inode, empty-zeros}
 use Rattle.directory.specs.Slot.{mostSlots, slots, slotAt, clearEntry}
@@ -19,25 +32,16 @@ use Rattle.directory.proofs.SlotLaws.{apart-blocks, apart-slots, entry-clear, e
 use Rattle.sound.specs.Place.{dirOf, slotOf, isSlot, entryAt, naming, placeOf}
 use Rattle.sound.specs.Inode.{InodeSound}
 use Rattle.sound.proofs.PlaceLaws.{slot-is, naming-entry, entry-place, slot-place}
-use Rattle.changes.proofs.SameLaws.{SameInode, SameBlock, InBlock, clear-entry}
+use Rattle.changes.proofs.SameLaws.{SameInode, SameBlock, InBlock, same-long, clear-entry}
 use Rattle.changes.proofs.KeepLaws.{SamePlace, place-slot, slot-kept, same-slots}
 use Rattle.changes.proofs.EntryWriteLaws.{SlotIn, slot-block}
 use Rattle.checkpoint.proofs.Copy.Laid.{Laid}
-use Rattle.checkpoint.proofs.Copy.NamingLaws.{used-sound}
+use Rattle.checkpoint.proofs.Copy.NamingLaws.{used-other, used-sound}
 
--- a block that two addresses name is one address
-pub one-address : (m : List ℕ) (n i k j l : ℕ) → Differ (addressOf m n) (addressCount * n) → 1 ≤ i → i ≤ n → 1 ≤ j → j ≤ n → k < addressCount → l < addressCount
-    → 1 ≤ kthBlock m n j l → kthBlock m n i k ≡ kthBlock m n j l → (i ≡ j) × (k ≡ l)
-unfolding kthBlock
-one-address m n i k j l h a b c d u v o e =
-    both (decLt (addressIndex i k) (addressIndex j l)) (decLt (addressIndex j l) (addressIndex i k))
-    (λ z. h (addressIndex i k) (addressIndex j l) z (omega arith) o e)
-    (λ z. h (addressIndex j l) (addressIndex i k) z (omega arith) (omega arith) (sym e))
-  where
-    both : Dec (addressIndex i k < addressIndex j l) → Dec (addressIndex j l < addressIndex i k) → (addressIndex i k < addressIndex j l → ⊥) → (addressIndex j l < addressIndex i k → ⊥) → (i ≡ j) × (k ≡ l)
-    both (yes z) w f g = absurd (f z)
-    both (no z) (yes w) f g = absurd (g w)
-    both (no z) (no w) f g = (omega arith, omega arith)
+-- a free inode has no address block
+free-short : (m : List ℕ) (j : ℕ) → kindOf m j ≡ freeKind → isLong m j ≡ false
+unfolding isLong
+free-short m j e = and-false-l _ _ (ne-eqb (kindOf m j) fileKind (λ z. omega arith))
 
 -- ---- slot t of the image directory e is cleared
 module _ {n b : ℕ} {s m d : List ℕ} (h : Laid n b s m d) (e t : ℕ) (slot : SlotIn m n e t) where
@@ -59,22 +63,64 @@ module _ {n b : ℕ} {s m d : List ℕ} (h : Laid n b s m d) (e t : ℕ) (slot :
   pub block : (1 ≤ here) × (here ≤ b)
   block = let u = used in let l = slot .small in sound .used (t / 4) (omega arith) u
 
+  -- the directory is no long file, and not the locked inode
+  other : e ≢ deskOf d .locked
+  other = used-other h e (slot .low) (slot .high) in-use
+
+  short : imageLong s m d e ≡ false
+  short = but-else m (deskOf d .locked) (isLong s (deskOf d .locked)) e other ∙ dir-short m e (slot .dir)
+
+  pub by-own : (u : ℕ) → kthBy (imageLong s m d e) m n e u ≡ kthBlock m n e u
+  by-own u = ap (λ (y : Bool). kthBy y m n e u) (but-else m (deskOf d .locked) (isLong s (deskOf d .locked)) e other)
+
+  -- so its block holds no addresses, of the locked inode either
+  pub plain : NoAddresses (imageLong s m d) m n here
+  plain =
+      let u = used in
+      let l = slot .small in
+      subst (NoAddresses (imageLong s m d) m n) (by-own (t / 4))
+      (data-none (laid-ledger h) e (t / 4) (slot .low) (slot .high) (omega arith)
+      (let g = upd-other (λ j. blocksUsed (sizeOf m j)) (deskOf d .locked) (deskOf d .transferred) e other in omega arith)
+      (λ y. absurd (clash (imageLong s m d e) y short)))
+
+  -- an inode of the image that is long by itself is not the locked one
+  own : NoAddresses (isLong m) m n here
+  own j l o y =
+      plain j l o
+      (but-else m (deskOf d .locked) (isLong s (deskOf d .locked)) j (used-other h j l o (λ z. clash (isLong m j) y (free-short m j z))) ∙ y)
+
   pub inside : InBlock m cut n here
-  inside = clear-entry m n e t (block .0)
+  inside = clear-entry m n e t (block .0) own
 
   pub cut-inode : (j : ℕ) → 1 ≤ j → j ≤ n → SameInode m cut n j
   cut-inode = inside .inodes
 
+  -- every place of the image's row stays
+  pub cut-kth : (j u : ℕ) → 1 ≤ j → j ≤ n → u < mostBlocks → kthBy (imageLong s m d j) cut n j u ≡ kthBy (imageLong s m d j) m n j u
+  cut-kth j u l o q =
+      kth-same (imageLong s m d j) m cut n j u
+      (λ k a. sym (kth-direct (isLong cut j) cut n j k a) ∙ cut-inode j l o .blocks k (omega arith) ∙ kth-direct (isLong m j) m n j k a)
+      (λ y z. inside .others (addressBlock m n j) (omega arith) (plain j l o y)) q
+
+  pub cut-row : (x : ℕ) → x < mostBlocks * n → rowBy (imageLong s cut d) cut n x ≡ rowBy (imageLong s m d) m n x
+  unfolding rowBy longBut
+  cut-row x q =
+      let r = cut-inode (x / 44 + 1) (omega arith) (omega arith) in
+      ap (λ (y : Bool). kthBy (pick (eqb (x / 44 + 1) (deskOf d .locked)) (isLong s (deskOf d .locked)) y) cut n (x / 44 + 1) (x % 44)) (same-long m cut (x / 44 + 1) (r .kind) (r .size))
+      ∙ cut-kth (x / 44 + 1) (x % 44) (omega arith) (omega arith) (omega arith)
+
   -- the blocks of other inodes stay
-  pub cut-block : (j k : ℕ) → 1 ≤ j → j ≤ n → j ≢ e → k < addressCount → 1 ≤ kthBlock m n j k → SameBlock m cut n (kthBlock m n j k)
-  cut-block j k l o q u p = inside .others (kthBlock m n j k) p
-      (λ z. let y = slot .small in q (one-address m n j k e (t / 4) (h .once) l o (slot .low) (slot .high) u (omega arith) (block .0) z .0))
+  pub cut-block : (j k : ℕ) → 1 ≤ j → j ≤ n → j ≢ e → k < mostBlocks → 1 ≤ kthBy (imageLong s m d j) m n j k → SameBlock m cut n (kthBy (imageLong s m d j) m n j k)
+  cut-block j k l o q u p = inside .others (kthBy (imageLong s m d j) m n j k) p
+      (λ z. let y = slot .small in q (one-kth (laid-ledger h) j k e (t / 4) l o (slot .low) (slot .high) u (omega arith) p (z ∙ sym (by-own (t / 4))) .0))
 
   -- so do those of files
-  pub cut-file : (j k : ℕ) → 1 ≤ j → j ≤ n → kindOf m j ≡ fileKind → k < addressCount → k < blocksUsed (sizeOf m j) → SameBlock m cut n (kthBlock m n j k)
+  pub cut-file : (j k : ℕ) → 1 ≤ j → j ≤ n → kindOf m j ≡ fileKind → k < mostBlocks → k < blocksUsed (sizeOf m j) → SameBlock m cut n (kthBlock m n j k)
   cut-file j k l o f u v =
-      cut-block j k l o (λ z. let y = sym (ap (kindOf m) z) ∙ f in let w = slot .dir in omega arith) u
-      (used-sound h j l o (λ z. omega arith) .used k u v .0)
+      let g = but-else m (deskOf d .locked) (isLong s (deskOf d .locked)) j (used-other h j l o (λ z. omega arith)) in
+      subst (λ (y : Bool). SameBlock m cut n (kthBy y m n j k)) g
+      (cut-block j k l o (λ z. let y = sym (ap (kindOf m) z) ∙ f in let w = slot .dir in omega arith) u
+      (subst (λ (y : Bool). 1 ≤ kthBy y m n j k) (sym g) (used-sound h j l o (λ z. omega arith) .used k u v .0)))
 
   pub slot-same : (q : ℕ) → q < mostSlots * n → isSlot cut q ≡ isSlot m q
   slot-same q l = let r = cut-inode (dirOf q) (omega arith) (omega arith) in slot-kept m cut q (r .kind) (λ _. same-slots r)
@@ -100,7 +146,9 @@ module _ {n b : ℕ} {s m d : List ℕ} (h : Laid n b s m d) (e t : ℕ) (slot :
       go (yes g) =
           let a = slot .small in
           let b = slot .low in
-          let o = one-address m n (dirOf q) (slotOf q / 4) e (t / 4) (h .once) (omega arith) (omega arith) (slot .low) (slot .high) (omega arith) (omega arith) (block .0) g in
+          let w = ap (λ (y : Bool). kthBy y m n (dirOf q) (slotOf q / 4)) (but-else m (deskOf d .locked) (isLong s (deskOf d .locked)) (dirOf q) (used-other h (dirOf q) (omega arith) (omega arith) (λ f. let k = r .0 in omega arith))) in
+          let p = low in
+          let o = one-kth (laid-ledger h) (dirOf q) (slotOf q / 4) e (t / 4) (omega arith) (omega arith) (slot .low) (slot .high) (omega arith) (omega arith) (omega arith) (w ∙ g ∙ sym (by-own (t / 4))) in
           let f : dirOf q ≡ e = o .0 in
           apart-slots m n (dirOf q) (slotOf q) e t f (o .1) (λ w. z (omega arith))
       go (no g) = apart-blocks m n (dirOf q) (slotOf q) e t g low (block .0)

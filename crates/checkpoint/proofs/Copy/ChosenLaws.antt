@@ -16,10 +16,10 @@ use Rattle.bounded.proofs.ReflectLaws.{r-eq, r-some}
 use Rattle.bounded.proofs.SearchLaws.{found-lowest, none-below}
 use Rattle.bounded.proofs.CaseLaws.{is-below}
 use Rattle.bounded.proofs.RangeLaws.{below-out}
-use Rattle.layout.specs.Sizes.{addressCount, rootInode}
+use Rattle.layout.specs.Sizes.{mostBlocks, rootInode}
 use Rattle.layout.specs.Inode.{sizeOf}
 use Rattle.blocks.specs.Block.{blocksUsed, kthBlock}
-use Rattle.blocks.specs.Free.{blockNamed}
+use Rattle.blocks.specs.Free.{namedBy}
 use Rattle.directory.specs.Slot.{mostSlots}
 use Rattle.desk.specs.Desk.{deskOf}
 use Rattle.sound.specs.Place.{naming}
@@ -27,6 +27,7 @@ use Rattle.sound.specs.Sound.{Sound, inodesIn}
 use Rattle.sound.specs.declared.Form.the-variants.{Store}
 use Rattle.copying.specs.Holds.{Ended}
 use Rattle.checkpoint.specs.Image.{imageNaming, inodeNamed}
+use Rattle.checkpoint.specs.Fit.{imageLong}
 use Rattle.checkpoint.specs.Notes.{isCopied}
 use Rattle.checkpoint.specs.Copier.{Step, lock, copy, close, finish, full, nextInode, targetBlock, lockedStep, freeStep, stepOf}
 use Rattle.checkpoint.proofs.Copy.Seen.{shelfOf, seen}
@@ -46,7 +47,7 @@ pub data Chosen (s m d : List ℕ) (n : ℕ) : Step → Type 0 where
       → ((l ≡ rootInode) ⊎ ((p : ℕ) × (p < mostSlots * n) × (imageNaming m n p ≡ l))) → Chosen s m d n (lock l)
   -- 3
   will-copy : (c : ℕ) → deskOf d .locked ≢ 0 → deskOf d .transferred < blocksUsed (sizeOf s (deskOf d .locked))
-      → targetBlock m n (deskOf d .blocks) (kthBlock s n (deskOf d .locked) (deskOf d .transferred)) ≡ At c → Chosen s m d n (copy (deskOf d .locked) (deskOf d .transferred) c)
+      → targetBlock (imageLong s m d) m n (deskOf d .blocks) (kthBlock s n (deskOf d .locked) (deskOf d .transferred)) ≡ At c → Chosen s m d n (copy (deskOf d .locked) (deskOf d .transferred) c)
   -- 4
   will-close : deskOf d .locked ≢ 0 → blocksUsed (sizeOf s (deskOf d .locked)) ≤ deskOf d .transferred → Chosen s m d n (close (deskOf d .locked))
   -- 5
@@ -54,24 +55,24 @@ pub data Chosen (s m d : List ℕ) (n : ℕ) : Step → Type 0 where
       → ((p : ℕ) → p < mostSlots * n → 1 ≤ imageNaming m n p → imageNaming m n p ≤ n → isCopied d n (imageNaming m n p) ≡ true) → Chosen s m d n finish
   -- 16
   no-room : deskOf d .locked ≢ 0 → deskOf d .transferred < blocksUsed (sizeOf s (deskOf d .locked))
-      → ((c : ℕ) → 1 ≤ c → c ≤ deskOf d .blocks → blockNamed m n c ≡ true) → Chosen s m d n full
+      → ((c : ℕ) → 1 ≤ c → c ≤ deskOf d .blocks → namedBy (imageLong s m d) m n c ≡ true) → Chosen s m d n full
 
 module _ (s m d : List ℕ) (n : ℕ) where
   -- ---- something is locked
   module _ (z : deskOf d .locked ≢ 0) where
     block : deskOf d .transferred < blocksUsed (sizeOf s (deskOf d .locked)) → (r : Found)
-        → targetBlock m n (deskOf d .blocks) (kthBlock s n (deskOf d .locked) (deskOf d .transferred)) ≡ r
+        → targetBlock (imageLong s m d) m n (deskOf d .blocks) (kthBlock s n (deskOf d .locked) (deskOf d .transferred)) ≡ r
         → Chosen s m d n (onFound r (λ c. copy (deskOf d .locked) (deskOf d .transferred) c) full)
     block l (At c) e = will-copy c z l e
-    block l Absent e = no-room z l (target-absent m n (deskOf d .blocks) (kthBlock s n (deskOf d .locked) (deskOf d .transferred)) e)
+    block l Absent e = no-room z l (target-absent (imageLong s m d) m n (deskOf d .blocks) (kthBlock s n (deskOf d .locked) (deskOf d .transferred)) e)
 
     chosen-locked : Chosen s m d n (lockedStep s m n (deskOf d .blocks) (deskOf d .locked) (deskOf d .transferred))
     unfolding lockedStep
     chosen-locked = go (ltb (deskOf d .transferred) (blocksUsed (sizeOf s (deskOf d .locked)))) refl
       where
         go : (t : Bool) → ltb (deskOf d .transferred) (blocksUsed (sizeOf s (deskOf d .locked))) ≡ t
-            → Chosen s m d n (pick t (onFound (targetBlock m n (deskOf d .blocks) (kthBlock s n (deskOf d .locked) (deskOf d .transferred))) (λ c. copy (deskOf d .locked) (deskOf d .transferred) c) full) (close (deskOf d .locked)))
-        go true e = block (ltb-true _ _ e) (targetBlock m n (deskOf d .blocks) (kthBlock s n (deskOf d .locked) (deskOf d .transferred))) refl
+            → Chosen s m d n (pick t (onFound (targetBlock (imageLong s m d) m n (deskOf d .blocks) (kthBlock s n (deskOf d .locked) (deskOf d .transferred))) (λ c. copy (deskOf d .locked) (deskOf d .transferred) c) full) (close (deskOf d .locked)))
+        go true e = block (ltb-true _ _ e) (targetBlock (imageLong s m d) m n (deskOf d .blocks) (kthBlock s n (deskOf d .locked) (deskOf d .transferred))) refl
         go false e = will-close z (ltb-false _ _ e)
 
   -- ---- nothing is locked
@@ -120,8 +121,8 @@ chosen-ended {n} {b} {s} {m} {d} h (will-finish z c f) high = record {
         let k = high p in
         rw e (unfold seen in f p l (omega arith) (omega arith))
 
--- "With 12 × N image blocks or more, 16 never comes in a run."
-pub never-full : {n b : ℕ} {s m d : List ℕ} → Laid n b s m d → Sound Store s → n ≡ inodesIn s → addressCount * n ≤ b → stepOf s m d n ≢ full
+-- "With 44 × N image blocks or more, 16 never comes in a run."
+pub never-full : {n b : ℕ} {s m d : List ℕ} → Laid n b s m d → Sound Store s → n ≡ inodesIn s → mostBlocks * n ≤ b → stepOf s m d n ≢ full
 never-full {n} {b} {s} {m} {d} h sound e enough q = go (stepOf s m d n) q (chosen s m d n (h .frame .some-inodes))
   where
     go : (x : Step) → x ≡ full → Chosen s m d n x → ⊥
@@ -132,6 +133,6 @@ never-full {n} {b} {s} {m} {d} h sound e enough q = go (stepOf s m d n) q (chose
     go x q (no-room z l all) =
         let r = laid-room h sound e z l enough in
         let k = h .desk .blocks in
-        let w = target-at m n b (kthBlock s n (deskOf d .locked) (deskOf d .transferred)) (r .0) (r .1) in
+        let w = target-at (imageLong s m d) m n b (kthBlock s n (deskOf d .locked) (deskOf d .transferred)) (r .0) (r .1) in
         let v = w .high in
-        clash (blockNamed m n (r .0)) (all (r .0) (w .low) (omega arith)) (w .free)
+        clash (namedBy (imageLong s m d) m n (r .0)) (all (r .0) (w .low) (omega arith)) (w .free)

@@ -9,11 +9,11 @@ use lib.ListN.{length, getD}
 use Rattle.bounded.specs.Search.{pick}
 use Rattle.bounded.specs.Count.{Differ}
 use Rattle.bounded.specs.Sum.{sum}
-use Rattle.layout.specs.Sizes.{mostInodes, mostImageBlocks, addressCount, blockBytes, rootInode, notComplete}
+use Rattle.layout.specs.Sizes.{mostInodes, mostImageBlocks, mostBlocks, addressPlace, blockBytes, rootInode, notComplete}
 use Rattle.layout.specs.Header.{headerOf, headerRestZero}
-use Rattle.layout.specs.Inode.{kindOf, spareOf, linksOf, sizeOf, parentOf, addressOf, addressIndex, freeKind}
-use Rattle.blocks.specs.Block.{storeLength, blockOf, blocksUsed, kthBlock}
-use Rattle.blocks.specs.Free.{blockFree}
+use Rattle.layout.specs.Inode.{kindOf, spareOf, linksOf, sizeOf, parentOf, freeKind}
+use Rattle.blocks.specs.Block.{storeLength, blockOf, blocksUsed, isLong, kthBy, rowBy}
+use Rattle.blocks.specs.Free.{namedBy}
 use Rattle.names.specs.Entry.{isEmpty, entryInode, legalEntry}
 use Rattle.directory.specs.Slot.{mostSlots}
 use Rattle.desk.specs.Sizes.{deskLength, running}
@@ -22,6 +22,7 @@ use Rattle.desk.specs.Desk as desk
 use Rattle.sound.specs.Place.{isSlot, entryAt}
 use Rattle.sound.specs.Inode.{InodeSound}
 use Rattle.changes.proofs.SameLaws.{SameFrame}
+use Rattle.checkpoint.specs.Fit.{imageLong}
 use Rattle.checkpoint.specs.Notes.{isCopied}
 use Rattle.checkpoint.specs.Copier.{copiedBlock}
 
@@ -64,7 +65,7 @@ frame-kept g f = record {
   reserved = g .reserved ∙ f .reserved;
 }
 
--- the locked inode l, k of whose blocks are copied: no attributes yet, k addresses, and each of these blocks is as a step would copy it now
+-- the locked inode l, k of whose blocks are copied: no attributes yet, k addresses, and each of these blocks but the address block is as a step would copy it now
 pub record Open (n b : ℕ) (s m d : List ℕ) (l k : ℕ) : Type 0 where
   pub low : 1 ≤ l
   pub new : isCopied d n l ≡ false
@@ -73,9 +74,9 @@ pub record Open (n b : ℕ) (s m d : List ℕ) (l k : ℕ) : Type 0 where
   pub size : sizeOf m l ≡ 0
   pub parent : parentOf m l ≡ 0
   pub few : k ≤ blocksUsed (sizeOf s l)
-  pub named : (j : ℕ) → j < addressCount → j < k → (1 ≤ kthBlock m n l j) × (kthBlock m n l j ≤ b)
-  pub rest : (j : ℕ) → j < addressCount → k ≤ j → addressOf m n (addressIndex l j) ≡ 0
-  pub blocks : (j : ℕ) → j < k → blockOf m n (kthBlock m n l j) ≡ copiedBlock s d n l j
+  pub named : (j : ℕ) → j < mostBlocks → j < k → (1 ≤ kthBy (isLong s l) m n l j) × (kthBy (isLong s l) m n l j ≤ b)
+  pub rest : (j : ℕ) → j < mostBlocks → k ≤ j → kthBy (isLong s l) m n l j ≡ 0
+  pub blocks : (j : ℕ) → j < k → (isLong s l ≡ true → j ≢ addressPlace) → blockOf m n (kthBy (isLong s l) m n l j) ≡ copiedBlock s d n l j
 
 -- an image entry: empty, or it names an inode and has a legal name
 abbrev pub Fair : List ℕ → Type 0
@@ -97,8 +98,8 @@ pub record Laid (n b : ℕ) (s m d : List ℕ) : Type 0 where
   pub blank : (i : ℕ) → 1 ≤ i → i ≤ n → isCopied d n i ≡ false → kindOf m i ≡ freeKind
   pub opened : deskOf d .locked ≢ 0 → Open n b s m d (deskOf d .locked) (deskOf d .transferred)
   -- no image block is named twice, and those that none names are zero
-  pub once : Differ (addressOf m n) (addressCount * n)
-  pub blanks : (c : ℕ) → 1 ≤ c → c ≤ b → blockFree m n c ≡ true → (o : ℕ) → o < blockBytes → getD (blockOf m n c) o 0 ≡ 0
+  pub once : Differ (rowBy (imageLong s m d) m n) (mostBlocks * n)
+  pub blanks : (c : ℕ) → 1 ≤ c → c ≤ b → namedBy (imageLong s m d) m n c ≡ false → (o : ℕ) → o < blockBytes → getD (blockOf m n c) o 0 ≡ 0
   pub fair : (p : ℕ) → p < mostSlots * n → isSlot m p ≡ true → Fair (entryAt m n p)
   -- every accepted step is accounted for
   pub steps : deskOf d .steps ≡ sum (cost m d n) n + costSoFar d

@@ -8,7 +8,7 @@ use native.Mathlib.Omega.{arith}
 use Rattle.bounded.specs.Reflect.{Reflects}
 use Rattle.bounded.proofs.BoolLaws.{same-test}
 use Rattle.bounded.proofs.ReflectLaws.{r-eq, r-not, r-and}
-use Rattle.layout.specs.Sizes.{addressCount}
+use Rattle.layout.specs.Sizes.{mostBlocks}
 use Rattle.layout.specs.Inode.{kindOf, sizeOf, freeKind, directoryKind}
 use Rattle.blocks.specs.Block.{blocksUsed, kthBlock}
 use Rattle.directory.specs.Slot.{mostSlots, slotsInBlock, slots}
@@ -24,8 +24,7 @@ unfolding hasSlot
 has-slot-is m n e t = r-and (r-eq (kindOf m e) directoryKind) (r-not (r-eq (kthBlock m n e (t / slotsInBlock)) 0))
 
 -- the addresses of a sound inode that are not 0 are those that its size uses
-pub used-by-size : (m : List ℕ) (n b i k : ℕ) → InodeSound m n b i → k < addressCount → kthBlock m n i k ≢ 0 → k < blocksUsed (sizeOf m i)
-unfolding kthBlock
+pub used-by-size : (m : List ℕ) (n b i k : ℕ) → InodeSound m n b i → k < mostBlocks → kthBlock m n i k ≢ 0 → k < blocksUsed (sizeOf m i)
 used-by-size m n b i k h l z = go (decLt k (blocksUsed (sizeOf m i)))
   where
     go : Dec (k < blocksUsed (sizeOf m i)) → k < blocksUsed (sizeOf m i)

@@ -3,8 +3,9 @@ use Prim.Native.Nat.{ℕ, zero, suc, _+_, _*_, _≤_, _<_}
 use mathlib.Core.Path.{_≡_, refl, ap, ap₂, _∙_}
 use mathlib.Core.Bool.{Bool, true, false, _&&_}
 use mathlib.Core.List.{List}
+use borrow.Author.Tests.{eq-eqb}
 use lib.Dec.{eqb, leb}
-use lib.ListN.{length, replicate}
+use lib.ListN.{length, replicate, length-replicate}
 use native.Mathlib.Omega.{arith}
 use Rattle.bounded.specs.Search.{pick}
 use Rattle.bounded.specs.Sum.{sum}
@@ -12,8 +13,9 @@ use Rattle.bounded.specs.Reflect.{Reflects}
 use Rattle.bounded.proofs.ReflectLaws.{r-eq, r-le, r-and}
 use Rattle.octets.specs.Octets.{part, splice}
 use Rattle.octets.proofs.PartLaws.{length-splice}
+use Rattle.layout.specs.Sizes.{addressPlace, blockBytes}
 use Rattle.layout.specs.Inode.{kindOf, sizeOf, directoryKind}
-use Rattle.blocks.specs.Block.{blockOf, blocksUsed, kthBlock}
+use Rattle.blocks.specs.Block.{blockOf, blocksUsed, isLong, kthBlock}
 use Rattle.names.specs.Entry.{entryBytes, entryInode}
 use Rattle.directory.specs.Slot.{slotsInBlock}
 use Rattle.desk.specs.declared.Desk.{Desk}
@@ -43,7 +45,13 @@ pub copied-is : (d : List ℕ) (n i : ℕ) → Reflects (isCopied d n i) ((1 ≤
 unfolding isCopied
 copied-is d n i = r-and (r-le 1 i) (r-and (r-le i n) (r-eq (copiedOf d i) 1))
 
--- ---- the block that a step copies depends on the marks of its directory and on the copied inodes
+-- ---- the block that a step copies
+-- "it starts zeroed in the image"
+pub address-block : (s d : List ℕ) (n i k : ℕ) → isLong s i ≡ true → k ≡ addressPlace → copiedBlock s d n i k ≡ replicate blockBytes 0
+unfolding copiedBlock
+address-block s d n i k p q = rw (p, eq-eqb k addressPlace q)
+
+-- it depends on the marks of its directory and on the copied inodes
 module _ (d e : List ℕ) (n i k : ℕ) (copied : (j : ℕ) → isCopied e n j ≡ isCopied d n j)
     (marks : (t : ℕ) → t < slotsInBlock → markOf e n i (slotsInBlock * k + t) ≡ markOf d n i (slotsInBlock * k + t)) where
   copied-entry : (x : List ℕ) (j : ℕ) → j < slotsInBlock → copiedEntry e n i k x j ≡ copiedEntry d n i k x j
@@ -58,10 +66,9 @@ module _ (d e : List ℕ) (n i k : ℕ) (copied : (j : ℕ) → isCopied e n j �
 
   pub copied-block : (s : List ℕ) → copiedBlock s e n i k ≡ copiedBlock s d n i k
   unfolding copiedBlock
-  copied-block s =
-      ap (λ (y : List ℕ). pick (eqb (kindOf s i) directoryKind) y (blockOf s n (kthBlock s n i k))) (copied-entries (blockOf s n (kthBlock s n i k)) slotsInBlock (omega arith))
+  copied-block s = rw (copied-entries (blockOf s n (kthBlock s n i k)) slotsInBlock (omega arith))
 
--- its length is that of the store's block
+-- its length is that of a block
 module _ (d : List ℕ) (n i k : ℕ) where
   length-entry : (x : List ℕ) (j : ℕ) → length (copiedEntry d n i k x j) ≡ length x
   unfolding copiedEntry
@@ -76,13 +83,17 @@ module _ (d : List ℕ) (n i k : ℕ) where
   length-entries x zero = refl
   length-entries x (suc j) = length-entry (copiedEntries d n i k x j) j ∙ length-entries x j
 
-  pub length-copied-block : (s : List ℕ) → length (copiedBlock s d n i k) ≡ length (blockOf s n (kthBlock s n i k))
+  pub length-copied-block : (s : List ℕ) → length (blockOf s n (kthBlock s n i k)) ≡ blockBytes → length (copiedBlock s d n i k) ≡ blockBytes
   unfolding copiedBlock
-  length-copied-block s = go (eqb (kindOf s i) directoryKind)
+  length-copied-block s f = blank (isLong s i && eqb k addressPlace)
     where
       go : (t : Bool) → length (pick t (copiedEntries d n i k (blockOf s n (kthBlock s n i k)) slotsInBlock) (blockOf s n (kthBlock s n i k))) ≡ length (blockOf s n (kthBlock s n i k))
       go true = length-entries (blockOf s n (kthBlock s n i k)) slotsInBlock
       go false = refl
+
+      blank : (t : Bool) → length (pick t (replicate {A = ℕ} blockBytes 0) (pick (eqb (kindOf s i) directoryKind) (copiedEntries d n i k (blockOf s n (kthBlock s n i k)) slotsInBlock) (blockOf s n (kthBlock s n i k)))) ≡ blockBytes
+      blank true = length-replicate {A = ℕ} blockBytes 0
+      blank false = go (eqb (kindOf s i) directoryKind) ∙ f
 
 -- ---- the marks that are seen
 pub same-marked : {d e : List ℕ} {n : ℕ} → SameNotes d e n → (p : ℕ) → markedAt n e p ≡ markedAt n d p

@@ -12,16 +12,18 @@ use Rattle.bounded.proofs.ReflectLaws.{r-eq, r-le, r-and, r-says, reflects-ext}
 use Rattle.bounded.proofs.TableLaws.{table-ext}
 use Rattle.bounded.proofs.CaseLaws.{in-range}
 use Rattle.bounded.proofs.RangeLaws.{within-in, within-out, below-in, below-out, within-some, below-some}
-use Rattle.layout.specs.Sizes.{blockBytes}
+use Rattle.layout.specs.Sizes.{addressPlace, blockBytes, mostDirectBytes}
 use Rattle.layout.specs.Inode.{kindOf, sizeOf, parentOf}
-use Rattle.blocks.specs.Block.{blockOf, blocksUsed, kthBlock}
+use Rattle.blocks.specs.Block.{blockOf, blocksUsed, bytesPlace, kthBlock}
+use Rattle.ledger.proofs.BytesLaws.{place-used, place-bytes}
 use Rattle.directory.specs.Slot.{mostSlots}
 use Rattle.desk.specs.Desk.{copiedOf, markOf}
 use Rattle.sound.specs.Inode.{InodeSound}
 use Rattle.sound.specs.Place.{dirOf, slotOf, entryAt, naming}
 use Rattle.sound.proofs.SoundLaws.{size-most}
 use Rattle.changes.proofs.SameLaws.{SameBody, SameBlock}
-use Rattle.content.specs.Content.{fileByte, fileBytes}
+use Rattle.growth.specs.Extend.{fileByte}
+use Rattle.content.specs.Content.{fileBytes}
 use Rattle.copying.specs.Deed.{Alike}
 use Rattle.checkpoint.specs.Notes.{isCopied}
 use Rattle.checkpoint.proofs.Copy.Seen.{shelfOf, markedAt}
@@ -83,12 +85,12 @@ module _ (n : ℕ) (s : List ℕ) where
     size-out = within-out n (sizeOf s) i o
 
 -- ---- the bytes of a file, in blocks of the same bytes
-pub bytes-same : (s t : List ℕ) (n i : ℕ) → sizeOf t i ≡ sizeOf s i → ((k : ℕ) → k < blocksUsed (sizeOf s i) → blockOf t n (kthBlock t n i k) ≡ blockOf s n (kthBlock s n i k))
+pub bytes-same : (s t : List ℕ) (n i : ℕ) → sizeOf t i ≡ sizeOf s i → ((k : ℕ) → k < blocksUsed (sizeOf s i) → (mostDirectBytes < sizeOf s i → k ≢ addressPlace) → blockOf t n (kthBlock t n i k) ≡ blockOf s n (kthBlock s n i k))
     → fileBytes t n i 0 (sizeOf t i) ≡ fileBytes s n i 0 (sizeOf s i)
-unfolding fileBytes fileByte blocksUsed
+unfolding fileBytes fileByte
 bytes-same s t n i z e =
     rw z
-    (table-ext _ _ (sizeOf s i) (λ j l. ap (λ (y : List ℕ). getD y ((0 + j) % blockBytes) 0) (e ((0 + j) / blockBytes) (omega arith))))
+    (table-ext _ _ (sizeOf s i) (λ j l. ap (λ (y : List ℕ). getD y ((0 + j) % blockBytes) 0) (e (bytesPlace (sizeOf s i) ((0 + j) / blockBytes)) (place-used (sizeOf s i) ((0 + j) / blockBytes) (omega arith)) (place-bytes (sizeOf s i) ((0 + j) / blockBytes)))))
 
 -- an inode with the same bytes in its blocks
 pub alike : (s t : List ℕ) (n b i : ℕ) → (1 ≤ i → i ≤ n → SameBody s t n i) → (1 ≤ i → i ≤ n → parentOf t i ≡ parentOf s i) → ((c : ℕ) → SameBlock s t n c) → (1 ≤ i → i ≤ n → InodeSound s n b i)
@@ -104,7 +106,7 @@ alike s t n b i e f g h =
           let v = e (r .0) (r .1) in
           let w = size-most (h (r .0) (r .1)) in
           bytes-in n t i
-          ∙ bytes-same s t n i (v .size) (λ j l. ap (blockOf t n) (v .blocks j (omega arith)) ∙ g (kthBlock s n i j))
+          ∙ bytes-same s t n i (v .size) (λ j l _. ap (blockOf t n) (v .blocks j (omega arith)) ∙ g (kthBlock s n i j))
           ∙ sym (bytes-in n s i);
     }
 

@@ -13,7 +13,8 @@ use Rattle.bounded.proofs.CaseLaws.{in-range, is-below}
 use Rattle.bounded.proofs.RangeLaws.{within, within-in, within-out, below-in, below-out}
 use Rattle.layout.specs.Sizes.{mostFileBytes}
 use Rattle.layout.specs.Inode.{kindOf, sizeOf, parentOf, fileKind}
-use Rattle.blocks.specs.Block.{blockOf, blocksUsed, kthBlock}
+use Rattle.blocks.specs.Block.{blockOf, blocksUsed, bytesPlace, kthBlock}
+use Rattle.ledger.proofs.BytesLaws.{place-used, used-limits}
 use Rattle.names.specs.Entry.{entryInode}
 use Rattle.directory.specs.Slot.{mostSlots, slots}
 use Rattle.sound.specs.Place.{dirOf, slotOf, isSlot, entryAt, naming}
@@ -21,7 +22,8 @@ use Rattle.sound.specs.Inode.{InodeSound}
 use Rattle.sound.proofs.PlaceLaws.{slot-is, naming-slot}
 use Rattle.changes.proofs.SameLaws.{SameInode, SameBlock}
 use Rattle.changes.proofs.KeepLaws.{inode-kept, slot-kept, same-slots, entry-kept}
-use Rattle.content.specs.Content.{fileByte, fileBytes}
+use Rattle.growth.specs.Extend.{fileByte}
+use Rattle.content.specs.Content.{fileBytes}
 use Rattle.copying.specs.Deed.{Alike}
 use Rattle.checkpoint.proofs.Copy.Seen.{shelfOf}
 
@@ -32,7 +34,7 @@ pub record Whole (m t : List ℕ) (n i : ℕ) : Type 0 where
 -- it stays sound
 pub whole-sound : {m t : List ℕ} {n i : ℕ} (b : ℕ) → Whole m t n i → InodeSound m n b i → InodeSound t n b i
 whole-sound {m} {t} {n} {i} b w h =
-    inode-kept m t n b i (w .inode) (λ _ z. w .blocks (sizeOf m i / 64) (unfold blocksUsed in omega arith)) h
+    inode-kept m t n b i (w .inode) (λ _ z. w .blocks (bytesPlace (sizeOf m i) (sizeOf m i / 64)) (place-used (sizeOf m i) (sizeOf m i / 64) (omega arith))) h
 
 -- a file keeps its bytes
 pub whole-bytes : {m t : List ℕ} {n i : ℕ} → Whole m t n i → sizeOf m i ≤ mostFileBytes → fileBytes t n i 0 (sizeOf t i) ≡ fileBytes m n i 0 (sizeOf m i)
@@ -42,9 +44,13 @@ whole-bytes {m} {t} {n} {i} w l =
     ∙ table-ext (λ j. fileByte t n i (0 + j)) (λ j. fileByte m n i (0 + j)) (sizeOf m i) (λ j a. at (0 + j) (omega arith))
   where
     at : (x : ℕ) → x < sizeOf m i → fileByte t n i x ≡ fileByte m n i x
-    at x a = unfold fileByte in
-        (ap (λ (c : ℕ). getD (blockOf t n c) (x % 64) 0) (w .inode .blocks (x / 64) (omega arith))
-        ∙ ap (λ (y : List ℕ). getD y (x % 64) 0) (w .blocks (x / 64) (unfold blocksUsed in omega arith)))
+    at x a =
+        let u = place-used (sizeOf m i) (x / 64) (omega arith) in
+        let few = used-limits (sizeOf m i) .0 l in
+        unfold fileByte in
+        (ap (λ (z : ℕ). getD (blockOf t n (kthBlock t n i (bytesPlace z (x / 64)))) (x % 64) 0) (w .inode .size)
+        ∙ ap (λ (c : ℕ). getD (blockOf t n c) (x % 64) 0) (w .inode .blocks (bytesPlace (sizeOf m i) (x / 64)) (omega arith))
+        ∙ ap (λ (y : List ℕ). getD y (x % 64) 0) (w .blocks (bytesPlace (sizeOf m i) (x / 64)) u))
 
 -- a directory keeps its slots and their entries
 module _ {m t : List ℕ} {n : ℕ} (p : ℕ) (w : Whole m t n (dirOf p)) where

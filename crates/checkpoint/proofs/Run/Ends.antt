@@ -142,7 +142,7 @@ module _ (n b : ℕ) (w : World) (r : Running n b w) where
           notes =
               and-true (deskFits (putDesk (w .desk) h)) _ (rest-fits n b (w .desk) k h a (f .some-blocks) (f .most-blocks))
               (and-true (eqb (deskOf (putDesk (w .desk) h) .inodes) (inodesIn (w .store))) _ (eq-eqb _ _ (inodes-is n b (w .desk) k h a ∙ r .count))
-              (or-l (not (isRunning (putDesk (w .desk) h))) (imageFits m (putDesk (w .desk) h)) (ap not (rest-idle n b (w .desk) k h a))));
+              (or-l (not (isRunning (putDesk (w .desk) h))) (imageFits (w .store) m (putDesk (w .desk) h)) (ap not (rest-idle n b (w .desk) k h a))));
         };
         long = e ∙ f .long;
         some-blocks = f .some-blocks;

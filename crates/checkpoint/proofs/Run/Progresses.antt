@@ -9,7 +9,7 @@ use borrow.Author.Tests.{not-true}
 use lib.Dec.{eqb}
 use lib.ListN.{length, getD}
 use Rattle.bounded.proofs.BoolLaws.{clash, and-left, and-right}
-use Rattle.layout.specs.Sizes.{addressCount, isComplete}
+use Rattle.layout.specs.Sizes.{mostBlocks, isComplete}
 use Rattle.layout.specs.Header.{headerOf}
 use Rattle.desk.specs.Sizes.{finished, stopped, stepsAnInode}
 use Rattle.desk.specs.declared.Desk.{Desk}
@@ -87,8 +87,8 @@ module _ (n b : ℕ) (w : World) where
     question = asks-same w;
   }
 
--- ---- with 12 × N image blocks
-pub roomy-blocks : {n b : ℕ} {w : World} → Running n b w → Roomy w → addressCount * n ≤ b
+-- ---- with 44 × N image blocks
+pub roomy-blocks : {n b : ℕ} {w : World} → Running n b w → Roomy w → mostBlocks * n ≤ b
 roomy-blocks r h = let l = r .laid .frame .long in let c = r .count in omega arith
 
 -- ---- no start is accepted: at rest it stays, and what runs has always run

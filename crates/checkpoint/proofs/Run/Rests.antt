@@ -9,7 +9,7 @@ use borrow.Author.Tests.{ne-eqb}
 use lib.Dec.{eqb}
 use lib.ListN.{length}
 use Rattle.bounded.specs.Search.{pick}
-use Rattle.bounded.proofs.BoolLaws.{and-left}
+use Rattle.bounded.proofs.BoolLaws.{clash, and-left}
 use Rattle.layout.specs.Sizes.{mostImageBlocks, isComplete, notComplete}
 use Rattle.layout.specs.Header.{headerOf}
 use Rattle.blocks.specs.Block.{storeLength}
@@ -24,10 +24,11 @@ use Rattle.changes.proofs.StoreLaws.{sound-store}
 use Rattle.files.specs.Effect.{Call, Planned, does, refused}
 use Rattle.files.proofs.Lawful.{Each, Lawful}
 use Rattle.files.proofs.LawfulCalls.{lawful}
-use Rattle.checkpoint.specs.Fit.{isRunning, notesFit}
+use Rattle.checkpoint.specs.Fit.{isRunning}
 use Rattle.checkpoint.specs.Live.{World, refuse, decision, leavesIn, live, step}
 use Rattle.checkpoint.specs.Shown.{shown}
 use Rattle.checkpoint.specs.List.{Ready, call, advances, asks, outcome, next}
+use Rattle.checkpoint.proofs.Copy.FitLaws.{notes-fit-is}
 use Rattle.checkpoint.proofs.DecisionLaws.{Unhindered, each-decided}
 use Rattle.checkpoint.proofs.Run.Calls.{asks-same}
 use Rattle.checkpoint.proofs.Run.Going.{guards-pass, leftIn, next-is}
@@ -47,16 +48,17 @@ unfolding isRunning
 idle {w = w} r = ne-eqb (deskOf (w .desk) .state) running (λ e. elim (r .state) [ inl f ↦ omega arith | inr f ↦ omega arith ])
 
 -- ---- a call writes neither image nor desk
--- the buffers fit another sound store of as many inodes
-refit : (w : World) (s : List ℕ) → Ready w → Sound Store s → inodesIn s ≡ inodesIn (w .store) → Ready (record { store = s; image = w .image; desk = w .desk })
-unfolding isSound notesFit
-refit w s r h e =
+-- at rest the buffers fit another sound store of as many inodes
+refit : (w : World) (s : List ℕ) → Ready w → isRunning (w .desk) ≡ false → Sound Store s → inodesIn s ≡ inodesIn (w .store) → Ready (record { store = s; image = w .image; desk = w .desk })
+unfolding isSound
+refit w s r i h e =
     let k = is-sound Store s .from h in
+    let a = notes-fit-is (w .store) (w .image) (w .desk) .to (r .notes) in
     record {
       framed = and-left (framedB Store s) _ k;
       sound = k;
       desk = r .desk;
-      notes = rw e (r .notes);
+      notes = notes-fit-is s (w .image) (w .desk) .from (a .0, (a .1 .0 ∙ sym e, λ y. absurd (clash (isRunning (w .desk)) y i)));
     }
 
 module _ (n b : ℕ) (w : World) (r : Resting n b w) where
@@ -71,7 +73,7 @@ module _ (n b : ℕ) (w : World) (r : Resting n b w) where
 
   stays : (s : List ℕ) → Sound Store s → inodesIn s ≡ inodesIn (w .store) → Kept (record { store = s; image = w .image; desk = w .desk })
   stays s h e = record {
-    rest = record { count = r .count ∙ sym e; fit = refit w s (r .fit) h e; long = r .long; some-blocks = r .some-blocks; most-blocks = r .most-blocks; state = r .state; byte = r .byte };
+    rest = record { count = r .count ∙ sym e; fit = refit w s (r .fit) (idle r) h e; long = r .long; some-blocks = r .some-blocks; most-blocks = r .most-blocks; state = r .state; byte = r .byte };
     image = refl;
     desk = refl;
   }

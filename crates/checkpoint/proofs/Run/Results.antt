@@ -13,7 +13,8 @@ use Rattle.answers.specs.declared.Answer.{Answer}
 use Rattle.answers.specs.declared.Answer.the-variants.{Done, Refused}
 use Rattle.answers.specs.Told.{Told, told}
 use Rattle.checkpoint.specs.declared.Status.the-variants.{Is}
-use Rattle.blocks.specs.Free.{blockNamed}
+use Rattle.blocks.specs.Free.{namedBy}
+use Rattle.checkpoint.specs.Fit.{imageLong}
 use Rattle.files.specs.Effect.{Call}
 use Rattle.checkpoint.proofs.DecisionLaws.{asStatus, status-is}
 use Rattle.checkpoint.specs.Live.{World, Outcome, refuse, live}
@@ -78,7 +79,7 @@ module _ (n b : ℕ) (w : World) where
       let e = r .laid .frame .long in
       let k = r .laid .desk .blocks in
       let c = r .count in
-      record { locked = omega arith; more = f .left; taken = λ x l m. subst (λ (i : ℕ). blockNamed (w .image) i x ≡ true) c (f .all x l (omega arith)) }
+      record { locked = omega arith; more = f .left; taken = λ x l m. subst (λ (i : ℕ). namedBy (imageLong (w .store) (w .image) (w .desk)) (w .image) i x ≡ true) c (f .all x l (omega arith)) }
 
   number-is : (e : Event) (x : Told) → outcome e w .answer ≡ x → refusalOf e w ≡ x .number
   number-is e x h = ap (λ (y : Told). y .number) h

@@ -8,7 +8,8 @@ use native.Mathlib.Omega.{arith}
 use lib.ListN.{length}
 use Rattle.layout.specs.Inode.{sizeOf}
 use Rattle.blocks.specs.Block.{blocksUsed, kthBlock}
-use Rattle.blocks.specs.Free.{blockNamed}
+use Rattle.blocks.specs.Free.{namedBy}
+use Rattle.checkpoint.specs.Fit.{imageLong}
 use Rattle.desk.specs.Sizes.{deskHeaderBytes}
 use Rattle.desk.specs.declared.Desk.{Desk}
 use Rattle.desk.specs.Next.{locking, copyingOne, unlocking}
@@ -48,7 +49,7 @@ pub record Finishes (n b : ℕ) (w : World) : Type 0 where
 pub record Fills (n b : ℕ) (w : World) : Type 0 where
   pub locked : deskOf (w .desk) .locked ≢ 0
   pub left : deskOf (w .desk) .transferred < blocksUsed (sizeOf (w .store) (deskOf (w .desk) .locked))
-  pub all : (c : ℕ) → 1 ≤ c → c ≤ deskOf (w .desk) .blocks → blockNamed (w .image) n c ≡ true
+  pub all : (c : ℕ) → 1 ≤ c → c ≤ deskOf (w .desk) .blocks → namedBy (imageLong (w .store) (w .image) (w .desk)) (w .image) n c ≡ true
   pub is : stepOf (w .store) (w .image) (w .desk) n ≡ full
 
 -- the copy runs on, and the theory knows what was done
@@ -98,8 +99,8 @@ module _ (n b : ℕ) (w : World) (r : Running n b w) where
       (ap (λ (x : Desk). x .steps) (desk-putDesk (w .desk) (locking (deskOf (w .desk)) l) long))
       refl
   chose p e (will-copy c z l t) =
-      let g : targetBlock (w .image) n b (kthBlock (w .store) n (deskOf (w .desk) .locked) (deskOf (w .desk) .transferred)) ≡ At c
-      = ap (λ (x : ℕ). targetBlock (w .image) n x (kthBlock (w .store) n (deskOf (w .desk) .locked) (deskOf (w .desk) .transferred))) (sym (r .laid .desk .blocks)) ∙ t in
+      let g : targetBlock (imageLong (w .store) (w .image) (w .desk)) (w .image) n b (kthBlock (w .store) n (deskOf (w .desk) .locked) (deskOf (w .desk) .transferred)) ≡ At c
+      = ap (λ (x : ℕ). targetBlock (imageLong (w .store) (w .image) (w .desk)) (w .image) n x (kthBlock (w .store) n (deskOf (w .desk) .locked) (deskOf (w .desk) .transferred))) (sym (r .laid .desk .blocks)) ∙ t in
       step-on (copy (deskOf (w .desk) .locked) (deskOf (w .desk) .transferred) c) e
       (goes (after (copy (deskOf (w .desk) .locked) (deskOf (w .desk) .transferred) c)) refl
       (copy-laid (r .laid) (r .sound) (r .count) z l c g)

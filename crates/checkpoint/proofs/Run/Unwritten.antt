@@ -17,7 +17,7 @@ use Rattle.changes.proofs.StoreLaws.{sound-store}
 use Rattle.content.specs.Content.{fileBytes}
 use Rattle.files.specs.Effect.{Call, Effect, Planned, onPlanned}
 use Rattle.files.proofs.Lawful.{Apart, Keeps, Lawful}
-use Rattle.files.proofs.LawfulSteady.{blocks-of}
+use Rattle.files.proofs.LawfulSteady.{store-blocks}
 use Rattle.checkpoint.specs.Live.{World}
 use Rattle.checkpoint.specs.List.{Event, call, advances, asks, starts, next, accepted, takes, Untouched, Moment, here, after, Kept}
 use Rattle.checkpoint.specs.List as list
@@ -68,12 +68,12 @@ module _ (n b : ℕ) (w : World) (g : Going n b w) (p : ℕ) (l : p < mostSlots 
 
   keeps-kept : (t : List ℕ) → Keeps (w .store) t n i → FileKept t
   keeps-kept t k =
-      let few = blocks-of (sound-store (ready-sound w (fit g)) (counted g)) .few i low high in
+      let few = store-blocks (sound-store (ready-sound w (fit g)) (counted g)) .few i low high in
       record {
         kind = k .body .kind ∙ file;
         same = record {
           size = k .body .size;
-          bytes = bytes-same (w .store) t n i (k .body .size) (λ a u. ap (blockOf t n) (k .body .blocks a (omega arith)) ∙ k .bytes a u);
+          bytes = bytes-same (w .store) t n i (k .body .size) (λ a u _. ap (blockOf t n) (k .body .blocks a (omega arith)) ∙ k .bytes a u);
         };
       }
 

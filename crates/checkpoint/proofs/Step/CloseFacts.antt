@@ -2,17 +2,23 @@
 use Prim.Native.Nat.{ℕ, _+_, _*_, _/_, _%_, _≤_, _<_}
 use mathlib.Core.Path.{_≡_, refl, sym, ap, _∙_, subst}
 use mathlib.Core.Logic.{_≢_}
-use mathlib.Core.Bool.{true}
+use mathlib.Core.Bool.{Bool, true}
 use mathlib.Core.List.{List}
 use native.Mathlib.Decide.{ℕ-discrete}
 use native.Mathlib.Omega.{arith}
+use borrow.Author.Tests.{ltb-true}
+use lib.Dec.{eqb, ltb}
 use lib.ListN.{length, getD}
+use Rattle.bounded.proofs.BoolLaws.{clash, and-right}
 use Rattle.bounded.specs.Update.{Changed, here, there}
 use Rattle.bounded.proofs.CaseLaws.{each-else}
 use Rattle.octets.proofs.PartLaws.{length-inside}
-use Rattle.layout.specs.Sizes.{addressCount, blockBytes}
+use Rattle.layout.specs.Sizes.{addressPlace, mostBlocks, blockBytes, mostDirectBytes}
 use Rattle.layout.specs.Inode.{kindOf, sizeOf, parentOf, inodeOf, freeKind, fileKind, directoryKind}
-use Rattle.blocks.specs.Block.{blockOf, blocksUsed, kthBlock}
+use Rattle.blocks.specs.Block.{blockOf, blocksUsed, bytesPlace, isLong, kthBy, kthBlock, bytesBlock, rowBy}
+use Rattle.ledger.proofs.BytesLaws.{place-used, place-bytes}
+use Rattle.blocks.proofs.LongLaws.{but-here, but-else}
+use Rattle.checkpoint.specs.Fit.{imageLong}
 use Rattle.layout.specs.Fits.{InodeFits}
 use Rattle.directory.specs.Slot.{slots, entryOf}
 use Rattle.desk.specs.declared.Desk.{Desk}
@@ -22,9 +28,9 @@ use Rattle.desk.proofs.DeskLaws.{length-putDesk, length-putCopied, desk-putDesk
 use Rattle.sound.specs.Inode.{InodeSound}
 use Rattle.sound.specs.Sound.{blocksIn}
 use Rattle.sound.specs.Counted.{SoundStore}
-use Rattle.changes.proofs.SameLaws.{InInode, NewInode, put-attributes, attributes-blocks, attributes-new}
+use Rattle.changes.proofs.SameLaws.{InInode, NewInode, same-long, put-attributes, attributes-blocks, attributes-new}
 use Rattle.changes.proofs.KeepLaws.{body-of, inode-kept}
-use Rattle.changes.proofs.StoreLaws.{dir-of}
+use Rattle.changes.proofs.StoreLaws.{dir-of, blocks-of, dir-short}
 use Rattle.checkpoint.specs.Notes.{isCopied}
 use Rattle.checkpoint.specs.Copier.{close, copiedBlock, unlinkedInode, stepImage, stepDesk}
 use Rattle.checkpoint.proofs.Copy.Laid.{DeskLaid, Open, Laid}
@@ -121,45 +127,73 @@ module _ {n b : ℕ} {s m d : List ℕ} (c : Closing n b s m d) where
   pub new-parent : parentOf m′ l ≡ parentOf s l
   new-parent = new .parent ∙ (unfold inodeOf in refl)
 
-  pub same-blocks : (i : ℕ) → 1 ≤ i → i ≤ n → (k : ℕ) → k < addressCount → kthBlock m′ n i k ≡ kthBlock m n i k
-  same-blocks i o q k a = each-else (λ i. 1 ≤ i → i ≤ n → kthBlock m′ n i k ≡ kthBlock m n i k) l i (λ _ _. attributes-blocks m n l fits (unlinkedInode (inodeOf s n l)) k a) (λ z x y. in-inode .others i x y z .blocks k a) o q
+  -- it is long by its size now, as it was by the store's
+  pub long-after : (i : ℕ) → 1 ≤ i → i ≤ n → isLong m′ i ≡ imageLong s m d i
+  long-after i o q = elim (ℕ-discrete i l) as (λ _. isLong m′ i ≡ imageLong s m d i) [
+    | yes e ↦ ap (isLong m′) e ∙ same-long s m′ l new-kind new-size ∙ sym (but-here m l (isLong s l) i e)
+    | no e ↦ let g = in-inode .others i o q e in same-long m m′ i (g .kind) (g .size) ∙ sym (but-else m l (isLong s l) i e)
+  ]
 
-  pub few : blocksUsed (sizeOf s l) ≤ addressCount
-  few = dir-of (c .sound) l low high .few
+  kth-after : (i : ℕ) → 1 ≤ i → i ≤ n → (k : ℕ) → k < mostBlocks → kthBy (imageLong s m d i) m′ n i k ≡ kthBy (imageLong s m d i) m n i k
+  kth-after i o q k a =
+      each-else (λ i. 1 ≤ i → i ≤ n → kthBy (imageLong s m d i) m′ n i k ≡ kthBy (imageLong s m d i) m n i k) l i
+      (λ _ _. attributes-blocks m n l fits (unlinkedInode (inodeOf s n l)) (imageLong s m d l) k a)
+      (λ z x y.
+      ap (λ (w : Bool). kthBy w m′ n i k) (sym (long-after i x y)) ∙ in-inode .others i x y z .blocks k a
+      ∙ ap (λ (w : Bool). kthBy w m n i k) (sym (but-else m l (isLong s l) i z))) o q
+
+  pub same-blocks : (i : ℕ) → 1 ≤ i → i ≤ n → (k : ℕ) → k < mostBlocks → kthBlock m′ n i k ≡ kthBy (imageLong s m d i) m n i k
+  same-blocks i o q k a = ap (λ (w : Bool). kthBy w m′ n i k) (long-after i o q) ∙ kth-after i o q k a
+
+  own-block : (k : ℕ) → k < mostBlocks → kthBlock m′ n l k ≡ kthBy (isLong s l) m n l k
+  own-block k a = same-blocks l low high k a ∙ ap (λ (w : Bool). kthBy w m n l k) (but-here m l (isLong s l) l refl)
+
+  -- with nothing locked any more the row is what it was
+  pub close-row : (x : ℕ) → x < mostBlocks * n → rowBy (imageLong s m′ d′) m′ n x ≡ rowBy (imageLong s m d) m n x
+  unfolding rowBy
+  close-row x q =
+      let z = ap (λ (v : Desk). v .locked) desk-closed in
+      ap (λ (w : Bool). kthBy w m′ n (x / 44 + 1) (x % 44)) (but-else m′ (deskOf d′ .locked) (isLong s (deskOf d′ .locked)) (x / 44 + 1) (λ y. omega arith))
+      ∙ same-blocks (x / 44 + 1) (omega arith) (omega arith) (x % 44) (omega arith)
+
+  pub long-over : isLong s l ≡ true → mostDirectBytes < sizeOf s l
+  unfolding isLong
+  long-over e = ltb-true mostDirectBytes (sizeOf s l) (and-right (eqb (kindOf s l) fileKind) (ltb mostDirectBytes (sizeOf s l)) e)
+
+  pub few : blocksUsed (sizeOf s l) ≤ mostBlocks
+  few = blocks-of (c .sound) l low high .few
 
   store : InodeSound s n (blocksIn s) l
   store = body-of (c .sound) .inodes l low high
 
   -- its blocks
-  pub new-block : (k : ℕ) → k < blocksUsed (sizeOf s l) → blockOf m′ n (kthBlock m′ n l k) ≡ copiedBlock s d n l k
-  new-block k u =
+  pub new-block : (k : ℕ) → k < blocksUsed (sizeOf s l) → (isLong s l ≡ true → k ≢ addressPlace) → blockOf m′ n (kthBlock m′ n l k) ≡ copiedBlock s d n l k
+  new-block k u y =
       let f = few in
       let e = full in
-      ap (blockOf m′ n) (same-blocks l low high k (omega arith)) ∙ in-inode .bytes (kthBlock m n l k) ∙ lock .blocks k (omega arith)
+      ap (blockOf m′ n) (own-block k (omega arith)) ∙ in-inode .bytes (kthBy (isLong s l) m n l k) ∙ lock .blocks k (omega arith) y
 
-  pub file-same : kindOf s l ≡ fileKind → (k : ℕ) → k < blocksUsed (sizeOf s l) → blockOf m′ n (kthBlock m′ n l k) ≡ blockOf s n (kthBlock s n l k)
-  file-same e k u = new-block k u ∙ file-block s d n l k (λ z. let y = sym e ∙ z in omega arith)
+  pub file-same : kindOf s l ≡ fileKind → (k : ℕ) → k < blocksUsed (sizeOf s l) → (isLong s l ≡ true → k ≢ addressPlace) → blockOf m′ n (kthBlock m′ n l k) ≡ blockOf s n (kthBlock s n l k)
+  file-same e k u f = new-block k u f ∙ file-block s d n l k (λ z. let y = sym e ∙ z in omega arith) f
 
   pub entry-new : kindOf s l ≡ directoryKind → (t : ℕ) → t < slots s l → entryOf m′ n l t ≡ pasted d n l t (entryOf s n l t)
   unfolding slots
   entry-new e t u =
-      let r = dir-of (c .sound) l low high .blocks (t / 4) (omega arith) in
+      let r = dir-of (c .sound) l (record { low = low; high = high; kind = e }) .blocks (t / 4) (omega arith) in
       let a = r .low in
       let i = r .inside in
-      slot-pasted s m′ d n l t e (unfold blockOf in length-inside s _ blockBytes (omega arith)) (new-block (t / 4) (omega arith))
+      slot-pasted s m′ d n l t e (unfold blockOf in length-inside s _ blockBytes (omega arith)) (new-block (t / 4) (omega arith) (λ y. absurd (clash (isLong s l) y (dir-short s l e))))
 
-  tail : kindOf m′ l ≡ fileKind → (sizeOf m′ l % blockBytes ≡ 0 → ⊥) → (o : ℕ) → o < blockBytes → sizeOf m′ l % blockBytes ≤ o → getD (blockOf m′ n (kthBlock m′ n l (sizeOf m′ l / blockBytes))) o 0 ≡ 0
-  unfolding blocksUsed
+  tail : kindOf m′ l ≡ fileKind → (sizeOf m′ l % blockBytes ≡ 0 → ⊥) → (o : ℕ) → o < blockBytes → sizeOf m′ l % blockBytes ≤ o → getD (blockOf m′ n (bytesBlock m′ n l (sizeOf m′ l / blockBytes))) o 0 ≡ 0
   tail k q o u w =
       let z = new-size in
       let e : kindOf s l ≡ fileKind = sym new-kind ∙ k in
-      let v : sizeOf m′ l / blockBytes ≡ sizeOf s l / blockBytes = ap (λ (y : ℕ). y / blockBytes) z in
-      ap (λ (y : ℕ). getD (blockOf m′ n (kthBlock m′ n l y)) o 0) v
-      ∙ ap (λ (y : List ℕ). getD y o 0) (file-same e (sizeOf s l / blockBytes) (omega arith))
+      let p = bytesPlace (sizeOf s l) (sizeOf s l / blockBytes) in
+      ap (λ (y : ℕ). getD (blockOf m′ n (kthBlock m′ n l (bytesPlace y (y / blockBytes)))) o 0) z
+      ∙ ap (λ (y : List ℕ). getD y o 0) (file-same e p (place-used (sizeOf s l) (sizeOf s l / blockBytes) (omega arith)) (λ y. place-bytes (sizeOf s l) (sizeOf s l / blockBytes) (long-over y)))
       ∙ store .tail e (λ y. q (omega arith)) o u (omega arith)
 
   new-sound : InodeSound m′ n b l
-  unfolding kthBlock
   new-sound =
       let a = new-kind in
       let z = new-size in
@@ -172,8 +206,8 @@ module _ {n b : ℕ} {s m d : List ℕ} (c : Closing n b s m d) where
         spare = new .spare;
         free = λ k. absurd (u (sym a ∙ k));
         size = rw (z, a) (r .size);
-        used = λ k f g. rw (same-blocks l low high k f) (lock .named k f (omega arith));
-        rest = λ k f g. same-blocks l low high k f ∙ lock .rest k f (omega arith);
+        used = λ k f g. rw (own-block k f) (lock .named k f (omega arith));
+        rest = λ k f g. own-block k f ∙ lock .rest k f (omega arith);
         directory = λ k. ap (λ (y : ℕ). y % blockBytes) z ∙ r .directory (sym a ∙ k);
         tail = tail;
         parent = λ k. new-parent ∙ r .parent (sym a ∙ k);

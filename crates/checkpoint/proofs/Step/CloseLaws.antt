@@ -2,7 +2,7 @@
 use Prim.Native.Nat.{ℕ, _+_, _*_, _-_, _/_, _≤_, _<_}
 use mathlib.Core.Path.{_≡_, refl, sym, ap, _∙_, subst}
 use mathlib.Core.Logic.{_≢_, inl, inr}
-use mathlib.Core.Bool.{Bool, true, false, not}
+use mathlib.Core.Bool.{Bool, true, false}
 use mathlib.Core.List.{List}
 use native.Mathlib.Decide.{ℕ-discrete}
 use native.Mathlib.Omega.{arith}
@@ -22,13 +22,14 @@ use Rattle.sound.specs.Place.{dirOf, slotOf, isSlot, entryAt}
 use Rattle.sound.proofs.PlaceLaws.{slot-is, filled-is, naming-entry}
 use Rattle.changes.proofs.SameLaws.{SameInode}
 use Rattle.changes.proofs.KeepLaws.{body-of, SamePlace, place-slot, slot-kept, same-slots, entry-kept}
-use Rattle.changes.proofs.AddressLaws.{same-named, same-differ}
 use Rattle.checkpoint.specs.Notes.{isCopied}
 use Rattle.checkpoint.specs.Copier.{close, stepImage, stepDesk}
+use Rattle.checkpoint.specs.Fit.{imageLong}
+use Rattle.checkpoint.proofs.Copy.LedgerLaws.{rows-named, rows-differ}
 use Rattle.checkpoint.proofs.Copy.Laid.{Frame, frame-kept, Fair, Laid, cost, costSoFar}
 use Rattle.bounded.proofs.SumLaws.{sum-but}
 use Rattle.checkpoint.proofs.Step.PasteLaws.{pasted, pasted-either}
-use Rattle.checkpoint.proofs.Step.CloseFacts.{Closing, lock, low, high, full, desk-closed, copied-closed, desk-laid, in-inode, new-kind, new-size, same-blocks, entry-new, inodes-sound}
+use Rattle.checkpoint.proofs.Step.CloseFacts.{Closing, lock, low, high, full, desk-closed, copied-closed, desk-laid, in-inode, new-kind, new-size, close-row, entry-new, inodes-sound}
 use Rattle.checkpoint.proofs.Step.LockLaws.{locked-cost}
 
 module _ {n b : ℕ} {s m d : List ℕ} (c : Closing n b s m d) where
@@ -143,8 +144,8 @@ module _ {n b : ℕ} {s m d : List ℕ} (c : Closing n b s m d) where
         inodes = λ i o q _. inodes-sound c i o q;
         blank = blank;
         opened = λ y. absurd (y z);
-        once = same-differ m m′ n (same-blocks c) (c .laid .once);
-        blanks = λ k a q e o u. ap (λ (y : List ℕ). getD y o 0) (in-inode c .bytes k) ∙ c .laid .blanks k a q (sym (ap not (same-named m m′ n (same-blocks c) k)) ∙ e) o u;
+        once = rows-differ (imageLong s m d) (imageLong s m′ d′) m m′ n (close-row c) (c .laid .once);
+        blanks = λ k a q e o u. ap (λ (y : List ℕ). getD y o 0) (in-inode c .bytes k) ∙ c .laid .blanks k a q (sym (rows-named (imageLong s m d) (imageLong s m′ d′) m m′ n (close-row c) k) ∙ e) o u;
         fair = fair;
         steps = steps;
       }

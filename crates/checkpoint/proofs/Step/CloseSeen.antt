@@ -22,7 +22,7 @@ use Rattle.checkpoint.specs.Copier.{close, stepImage, stepDesk}
 use Rattle.checkpoint.proofs.Copy.Seen.{shelfOf, seen}
 use Rattle.checkpoint.proofs.Copy.SeenLaws.{names-in, names-out, names-below, names-low, entry-in, bytes-in, kind-in, parent-in, size-in, bytes-same, alike, marked-in, marked-same, zero-new}
 use Rattle.checkpoint.proofs.Step.PasteLaws.{pasted, pasted-either}
-use Rattle.checkpoint.proofs.Step.CloseFacts.{Closing, low, high, desk-closed, copied-closed, marks-closed, in-inode, new-kind, new-size, new-parent, file-same}
+use Rattle.checkpoint.proofs.Step.CloseFacts.{Closing, low, high, desk-closed, copied-closed, marks-closed, in-inode, new-kind, new-size, new-parent, file-same, long-over}
 use Rattle.checkpoint.proofs.Step.CloseLaws.{place-else, slot-here, entry-here}
 
 module _ {n b : ℕ} {s m d : List ℕ} (c : Closing n b s m d) where
@@ -102,7 +102,7 @@ module _ {n b : ℕ} {s m d : List ℕ} (c : Closing n b s m d) where
         kind = kind-in n m′ l a e ∙ new-kind c ∙ sym (kind-in n s l a e);
         parent = parent-in n m′ l a e ∙ new-parent c ∙ sym (parent-in n s l a e);
         size = size-in n m′ l a e ∙ new-size c ∙ sym (size-in n s l a e);
-        bytes = λ k. bytes-in n m′ l ∙ bytes-same s m′ n l (new-size c) (file-same c (sym (kind-in n s l a e) ∙ k)) ∙ sym (bytes-in n s l);
+        bytes = λ k. bytes-in n m′ l ∙ bytes-same s m′ n l (new-size c) (λ u v f. file-same c (sym (kind-in n s l a e) ∙ k) u v (λ y. f (long-over c y))) ∙ sym (bytes-in n s l);
       }
 
   pub close-closed : Closed (seen n s m d) (seen n s m′ d′) l

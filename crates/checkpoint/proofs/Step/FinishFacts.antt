@@ -15,14 +15,14 @@ use Rattle.layout.specs.Sizes.{mostInodes, isComplete}
 use Rattle.layout.specs.declared.header.Header.{Header}
 use Rattle.layout.specs.Header.{headerOf, headerRestZero, putFree, putComplete}
 use Rattle.layout.specs.Inode.{addressIndex, linksOf, parentOf, putLinks, inodeFree}
-use Rattle.blocks.specs.Block.{blockAt, blockOf, kthBlock}
+use Rattle.blocks.specs.Block.{blockAt, blockOf, addressBlock}
 use Rattle.blocks.proofs.View.{completion}
 use Rattle.blocks.proofs.FrameLaws.{length-complete, kind-apart, spare-apart, size-apart, links-apart, parent-apart, address-apart}
 use Rattle.blocks.proofs.ViewLaws.{header-complete}
 use Rattle.blocks.specs.Free.{blockFree}
 use Rattle.layout.specs.Fits.{InodeFits}
 use Rattle.directory.specs.Slot.{mostSlots}
-use Rattle.changes.proofs.SameLaws.{SameFrame, SameInode, SameBody, SameBlock, same-body, body-then, frame-then, frame-stays, inode-stays, put-links, links-new, links-body, links-parent, put-free}
+use Rattle.changes.proofs.SameLaws.{SameFrame, SameInode, SameBody, SameBlock, same-body, same-blocks, body-then, frame-then, frame-stays, inode-stays, put-links, links-new, links-body, links-parent, put-free}
 use Rattle.checkpoint.specs.Image.{imageNaming}
 use Rattle.checkpoint.specs.Copier.{putCounts, finishImage}
 
@@ -32,8 +32,12 @@ unfolding putComplete headerRestZero
 complete-reserved s v = ap₂ (λ (x y : ℕ). eqb x 0 && eqb y 0) (num-other 1 1 s 9 8 v (omega arith)) (num-other 4 1 s 12 8 v (omega arith))
 
 module _ (s : List ℕ) (n v : ℕ) where
+  pub complete-block : (c : ℕ) → SameBlock s (putComplete s v) n c
+  unfolding putComplete putNum blockOf
+  complete-block c = let e = length-toBytes 1 v in part-apart s (blockAt n c) 64 8 (toBytes 1 v) (omega arith)
+
   pub complete-inode : (j : ℕ) → SameInode s (putComplete s v) n j
-  unfolding putComplete putNum kthBlock
+  unfolding putComplete putNum
   complete-inode j =
       let e = length-toBytes 1 v in
       record {
@@ -42,12 +46,9 @@ module _ (s : List ℕ) (n v : ℕ) where
         links = links-apart s 8 (toBytes 1 v) j (omega arith);
         size = size-apart s 8 (toBytes 1 v) j (omega arith);
         parent = parent-apart s 8 (toBytes 1 v) j (omega arith);
-        blocks = λ k l. address-apart s 8 (toBytes 1 v) n (addressIndex j k) (omega arith);
+        blocks = same-blocks s (putComplete s v) n j (kind-apart s 8 (toBytes 1 v) j (omega arith)) (size-apart s 8 (toBytes 1 v) j (omega arith))
+            (λ k l. address-apart s 8 (toBytes 1 v) n (addressIndex j k) (omega arith)) (λ _ _. complete-block (addressBlock s n j));
       }
-
-  pub complete-block : (c : ℕ) → SameBlock s (putComplete s v) n c
-  unfolding putComplete putNum blockOf
-  complete-block c = let e = length-toBytes 1 v in part-apart s (blockAt n c) 64 8 (toBytes 1 v) (omega arith)
 
 -- ---- the link counts of the first k inodes are put, and all else of t is as in m
 pub record Counts (m t : List ℕ) (n k : ℕ) : Type 0 where

@@ -2,20 +2,21 @@
 use Prim.Native.Nat.{ℕ, _*_, _≤_, _<_}
 use mathlib.Core.Path.{_≡_, sym, ap, _∙_, subst}
 use mathlib.Core.Logic.{_≢_, inl, inr}
-use mathlib.Core.Bool.{true, false, not}
+use mathlib.Core.Bool.{true, false}
 use mathlib.Core.List.{List}
 use native.Mathlib.Omega.{arith}
 use lib.ListN.{getD}
 use Rattle.bounded.specs.Count.{one, tally}
 use Rattle.bounded.specs.Climb.{Closed}
+use borrow.Author.Tests.{not-true}
 use Rattle.bounded.proofs.BoolLaws.{clash}
 use Rattle.bounded.proofs.CountLaws.{met, unmet}
 use Rattle.bounded.proofs.ClimbLaws.{leads-kept}
 use Rattle.bounded.proofs.TallyLaws.{tally-same, met-one}
-use Rattle.layout.specs.Sizes.{addressCount, blockBytes, rootInode}
+use Rattle.layout.specs.Sizes.{mostBlocks, blockBytes, rootInode}
 use Rattle.layout.specs.Inode.{kindOf, linksOf, parentOf, freeKind, directoryKind}
 use Rattle.blocks.specs.Block.{blockOf, kthBlock}
-use Rattle.blocks.specs.Free.{blockFree}
+use Rattle.blocks.specs.Free.{blockNamed, blockFree}
 use Rattle.names.specs.Entry.{isEmpty, legalEntry}
 use Rattle.directory.specs.Slot.{mostSlots}
 use Rattle.desk.specs.Desk.{deskOf}
@@ -30,6 +31,7 @@ use Rattle.changes.proofs.ChangeLaws.{NamesSound}
 use Rattle.changes.proofs.TreeLaws.{Tree, Names, Linked}
 use Rattle.changes.proofs.SoundTreeLaws.{nodesOf, entries-back, links-back}
 use Rattle.copying.specs.View.{Tidy}
+use Rattle.checkpoint.proofs.Copy.LedgerLaws.{free-named, free-once}
 use Rattle.checkpoint.specs.Image.{imageNaming}
 use Rattle.checkpoint.specs.Copier.{finishImage}
 use Rattle.checkpoint.proofs.Copy.Seen.{shelfOf}
@@ -49,11 +51,11 @@ module _ {n b : ℕ} {s m d : List ℕ} (h : Laid n b s m d) where
   pub finish-place : (p : ℕ) → p < mostSlots * n → SamePlace m t n p
   finish-place p l = place-kept m t n p (done .bodies (dirOf p) (omega arith) (omega arith)) (λ k _ _. done .bytes (kthBlock m n (dirOf p) k))
 
-  pub finish-blocks : (j : ℕ) → 1 ≤ j → j ≤ n → (k : ℕ) → k < addressCount → kthBlock t n j k ≡ kthBlock m n j k
+  pub finish-blocks : (j : ℕ) → 1 ≤ j → j ≤ n → (k : ℕ) → k < mostBlocks → kthBlock t n j k ≡ kthBlock m n j k
   finish-blocks j l o = done .bodies j l o .blocks
 
-  pub finish-blanks : (c : ℕ) → 1 ≤ c → c ≤ b → blockFree t n c ≡ true → (o : ℕ) → o < blockBytes → getD (blockOf t n c) o 0 ≡ 0
-  finish-blanks c l r e o u = ap (λ (x : List ℕ). getD x o 0) (done .bytes c) ∙ h .blanks c l r (sym (ap not (same-named m t n finish-blocks c)) ∙ e) o u
+  pub finish-blanks : deskOf d .locked ≡ 0 → (c : ℕ) → 1 ≤ c → c ≤ b → blockFree t n c ≡ true → (o : ℕ) → o < blockBytes → getD (blockOf t n c) o 0 ≡ 0
+  finish-blanks none c l r e o u = ap (λ (x : List ℕ). getD x o 0) (done .bytes c) ∙ h .blanks c l r (sym (free-named h none c) ∙ sym (same-named m t n finish-blocks c) ∙ not-true (blockNamed t n c) e) o u
 
   -- the counts written are true of what the image then names
   counted : (i : ℕ) → 1 ≤ i → i ≤ n → linksOf t i ≡ tally (naming t n) (mostSlots * n) i
@@ -184,7 +186,7 @@ module _ {n b : ℕ} {s m d : List ℕ} (h : Laid n b s m d) where
     pub finish-body : Body t n b
     finish-body = record {
       inodes = inode-now;
-      once = same-differ m t n finish-blocks (h .once);
+      once = same-differ m t n finish-blocks (free-once h none);
       root = tree .root;
       root-parent = tree .root-parent;
       entries = entries-back t n names-sound tree;

@@ -75,7 +75,7 @@ module _ {n b : ℕ} {s m d : List ℕ} (h : Laid n b s m d) where
         most-blocks = f .most-blocks;
         long = done h .long ∙ f .long;
         body = finish-body h none tidy;
-        blanks = finish-blanks h;
+        blanks = finish-blanks h none;
       } in
       whole-sound t (done h .complete) (done h .root ∙ f .root) (done h .reserved ∙ f .reserved)
       (subst (λ (x : ℕ). Whole t x (blocksIn t)) (sym finish-inodes) (subst (Whole t n) (sym finish-count) w))

@@ -1,15 +1,21 @@
 -- A lock: image and desk lie as they must, and the theory sees nothing but the locked inode. s is the store, m the image, d the desk, n and b the counts of inodes and image blocks, l the inode.
-use Prim.Native.Nat.{ℕ, _+_, _*_, _≤_, _<_}
+use Prim.Native.Nat.{ℕ, _+_, _*_, _/_, _%_, _≤_, _<_}
 use mathlib.Core.Path.{_≡_, refl, sym, ap, _∙_}
 use mathlib.Core.Logic.{_≢_, _⊎_, inl, inr}
-use mathlib.Core.Bool.{false}
+use mathlib.Core.Bool.{Bool, false}
 use mathlib.Core.List.{List}
+use native.Mathlib.Decide.{ℕ-discrete}
 use native.Mathlib.Omega.{arith}
 use borrow.Author.Tests.{ne-eqb}
 use Rattle.bounded.proofs.RangeLaws.{below-in}
-use Rattle.layout.specs.Sizes.{rootInode}
+use Rattle.layout.specs.Sizes.{rootInode, mostBlocks}
 use Rattle.layout.specs.Inode.{sizeOf}
-use Rattle.blocks.specs.Block.{blocksUsed}
+use Rattle.blocks.specs.Block.{blocksUsed, isLong, addressBlock, kthBy, rowBy}
+use Rattle.blocks.specs.Free.{longBut}
+use Rattle.blocks.proofs.KthLaws.{kth-direct, few-alike}
+use Rattle.blocks.proofs.LongLaws.{but-else}
+use Rattle.checkpoint.specs.Fit.{imageLong}
+use Rattle.checkpoint.proofs.Copy.LedgerLaws.{rows-named, rows-differ}
 use Rattle.directory.specs.Slot.{mostSlots}
 use Rattle.desk.specs.declared.Desk.{Desk}
 use Rattle.desk.specs.Desk.{deskOf, putDesk}
@@ -90,12 +96,25 @@ module _ {n b : ℕ} {s m d : List ℕ} (h : Laid n b s m d) (l : ℕ) where
 
   module _ (none : deskOf d .locked ≡ 0) (low : 1 ≤ l) (high : l ≤ n) (fresh : isCopied d n l ≡ false) where
     -- no inode is locked: each is sound by itself
+    unused : blocksUsed (sizeOf m l) ≡ 0
+    unused = let z = h .inodes l low high (λ z. omega arith) .free (h .blank l low high fresh) .1 .0 in rw z (unfold blocksUsed in refl)
+
+    bare : addressBlock m n l ≡ 0
+    bare = let u = unused in sym (kth-direct (isLong m l) m n l 11 (omega arith)) ∙ h .inodes l low high (λ z. omega arith) .rest 11 (omega arith) (omega arith)
+
+    lock-row : (x : ℕ) → x < mostBlocks * n → rowBy (longBut m l (isLong s l)) m n x ≡ rowBy (imageLong s m d) m n x
+    unfolding rowBy
+    lock-row x q = elim (ℕ-discrete (x / 44 + 1) l) as (λ _. kthBy (longBut m l (isLong s l) (x / 44 + 1)) m n (x / 44 + 1) (x % 44) ≡ kthBy (imageLong s m d (x / 44 + 1)) m n (x / 44 + 1) (x % 44)) [
+      | yes e ↦ few-alike m n (x / 44 + 1) (x % 44) _ _ (ap (addressBlock m n) e ∙ bare) (omega arith)
+      | no e ↦ ap (λ (y : Bool). kthBy y m n (x / 44 + 1) (x % 44)) (but-else m l (isLong s l) (x / 44 + 1) e ∙ sym (but-else m (deskOf d .locked) (isLong s (deskOf d .locked)) (x / 44 + 1) (λ z. omega arith)))
+    ]
+
     opened : Open n b s m new l 0
     opened =
         let k = h .blank l low high fresh in
         let w = h .inodes l low high (λ z. omega arith) in
         let z = w .free k .1 .0 in
-        let u : blocksUsed (sizeOf m l) ≡ 0 = rw z (unfold blocksUsed in refl) in
+        let u = unused in
         record {
           low = low;
           new = notes .copied l ∙ fresh;
@@ -105,8 +124,8 @@ module _ {n b : ℕ} {s m d : List ℕ} (h : Laid n b s m d) (l : ℕ) where
           parent = w .free k .1 .1;
           few = omega arith;
           named = λ j _ a. absurd (omega arith);
-          rest = λ j a _. w .rest j a (omega arith);
-          blocks = λ j a. absurd (omega arith);
+          rest = λ j a _. few-alike m n l j (isLong s l) (isLong m l) bare a ∙ w .rest j a (omega arith);
+          blocks = λ j a _. absurd (omega arith);
         }
 
     pub lock-laid : Laid n b s m (stepDesk d (lock l))
@@ -125,8 +144,8 @@ module _ {n b : ℕ} {s m d : List ℕ} (h : Laid n b s m d) (l : ℕ) where
           inodes = λ i p q _. h .inodes i p q (λ z. omega arith);
           blank = λ i p q r. h .blank i p q (sym (notes .copied i) ∙ r);
           opened = λ _. rw (a, c) opened;
-          once = h .once;
-          blanks = h .blanks;
+          once = rw a (rows-differ (imageLong s m d) (longBut m l (isLong s l)) m m n lock-row (h .once));
+          blanks = λ q f g r. h .blanks q f g (sym (rows-named (imageLong s m d) (longBut m l (isLong s l)) m m n lock-row q) ∙ (rw a at r));
           fair = h .fair;
           steps = omega arith;
         }

@@ -6,15 +6,17 @@ use mathlib.Core.Bool.{Bool, true, false, _&&_}
 use mathlib.Core.List.{List}
 use native.Mathlib.Decide.{ℕ-discrete}
 use native.Mathlib.Omega.{arith}
-use borrow.Author.Tests.{eq-eqb, ne-eqb}
+use lib.Dec.{eqb}
+use borrow.Author.Tests.{eq-eqb, ne-eqb, eqb-true}
 use lib.ListN.{length, replicate, length-replicate}
 use Rattle.bounded.specs.Search.{pick}
-use Rattle.bounded.proofs.BoolLaws.{clash}
+use Rattle.bounded.proofs.BoolLaws.{clash, fails, and-left, and-right}
 use Rattle.octets.specs.Octets.{part, splice}
 use Rattle.octets.proofs.PartLaws.{part-apart, part-same}
-use Rattle.layout.specs.Sizes.{blockBytes}
+use Rattle.layout.specs.Sizes.{addressPlace, blockBytes}
 use Rattle.layout.specs.Inode.{kindOf, directoryKind}
-use Rattle.blocks.specs.Block.{blockOf, kthBlock}
+use Rattle.blocks.specs.Block.{blockOf, isLong, kthBlock}
+use Rattle.changes.proofs.StoreLaws.{dir-short}
 use Rattle.names.specs.Entry.{entryBytes, entryInode}
 use Rattle.directory.specs.Slot.{slotsInBlock, entryOf}
 use Rattle.desk.specs.Desk.{markOf}
@@ -84,13 +86,13 @@ module _ (d : List ℕ) (n i k : ℕ) where
 
 -- ---- a block as it is copied
 module _ (s d : List ℕ) (n i k : ℕ) where
-  pub file-block : kindOf s i ≢ directoryKind → copiedBlock s d n i k ≡ blockOf s n (kthBlock s n i k)
+  pub file-block : kindOf s i ≢ directoryKind → (isLong s i ≡ true → k ≢ addressPlace) → copiedBlock s d n i k ≡ blockOf s n (kthBlock s n i k)
   unfolding copiedBlock
-  file-block h = rw (ne-eqb (kindOf s i) directoryKind h)
+  file-block h f = rw (fails (isLong s i && eqb k addressPlace) (λ e. f (and-left (isLong s i) (eqb k addressPlace) e) (eqb-true k addressPlace (and-right (isLong s i) (eqb k addressPlace) e))), ne-eqb (kindOf s i) directoryKind h)
 
   pub dir-block : kindOf s i ≡ directoryKind → copiedBlock s d n i k ≡ copiedEntries d n i k (blockOf s n (kthBlock s n i k)) slotsInBlock
   unfolding copiedBlock
-  dir-block h = rw (eq-eqb (kindOf s i) directoryKind h)
+  dir-block h = rw (dir-short s i h, eq-eqb (kindOf s i) directoryKind h)
 
 -- the entry in slot t of a directory i, where its image block is as a step would copy it
 pub slot-pasted : (s m d : List ℕ) (n i t : ℕ) → kindOf s i ≡ directoryKind → length (blockOf s n (kthBlock s n i (t / 4))) ≡ blockBytes

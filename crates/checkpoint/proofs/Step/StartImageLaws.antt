@@ -1,7 +1,7 @@
 -- The image just after a start: a header, and zero past it. n is the inode count, k the length.
-use Prim.Native.Nat.{ℕ, _+_, _*_, _-_, _≤_, _<_}
+use Prim.Native.Nat.{ℕ, _+_, _*_, _-_, _/_, _%_, _≤_, _<_}
 use mathlib.Core.Path.{_≡_, sym, ap, ap₂, _∙_}
-use mathlib.Core.Bool.{true, false, _&&_}
+use mathlib.Core.Bool.{Bool, true, false, _&&_}
 use mathlib.Core.List.{List}
 use native.Mathlib.Omega.{arith}
 use lib.Dec.{eqb}
@@ -10,13 +10,14 @@ use Rattle.bounded.proofs.ReflectLaws.{r-fails}
 use Rattle.bounded.proofs.RangeLaws.{within, within-in, below-in}
 use Rattle.octets.proofs.PartLaws.{getD-part}
 use Rattle.octets.proofs.ZeroLaws.{byte-zeros, num-zeros}
-use Rattle.layout.specs.Sizes.{addressCount, blockBytes, rootInode, notComplete}
+use Rattle.layout.specs.Sizes.{addressCount, mostBlocks, blockBytes, rootInode, notComplete}
 use Rattle.layout.specs.declared.header.Header.{Header}
 use Rattle.layout.specs.Header.{headerOf, putHeader, headerRestZero}
 use Rattle.layout.specs.Inode.{kindOf, spareOf, linksOf, sizeOf, parentOf, addressOf, addressIndex}
-use Rattle.blocks.specs.Block.{blockAt, blockOf, blocksUsed}
+use Rattle.blocks.specs.Block.{blockAt, blockOf, blocksUsed, rowBy}
 use Rattle.blocks.proofs.View.{View, viewOf, contentOf}
 use Rattle.blocks.proofs.FrameLaws.{length-header}
+use Rattle.blocks.proofs.KthLaws.{bare-all}
 use Rattle.blocks.proofs.ViewLaws.{view-header, header-put}
 use Rattle.directory.specs.Slot.{mostSlots}
 use Rattle.sound.specs.Place.{dirOf, isSlot, naming}
@@ -98,11 +99,15 @@ module _ (n k : ℕ) where
         free = λ _. (start-links i l h, (z, start-parent i l h));
         size = omega arith;
         used = λ j _ u. absurd (omega arith);
-        rest = λ j u _. start-address (addressIndex i j) (omega arith);
+        rest = λ j u _. bare-all _ (startImage n k) n i (λ x y. start-address (addressIndex i 0 + x) (omega arith)) j u;
         directory = λ q. absurd (omega arith);
         tail = λ q. absurd (omega arith);
         parent = λ q. absurd (omega arith);
       }
+
+  pub start-row : (long : ℕ → Bool) (x : ℕ) → x < mostBlocks * n → rowBy long (startImage n k) n x ≡ 0
+  unfolding rowBy
+  start-row long x l = bare-all (long (x / 44 + 1)) (startImage n k) n (x / 44 + 1) (λ y z. start-address (addressIndex (x / 44 + 1) 0 + y) (omega arith)) (x % 44) (omega arith)
 
   -- and no place is a slot
   pub start-slot : (p : ℕ) → p < mostSlots * n → isSlot (startImage n k) p ≡ false

@@ -25,7 +25,7 @@ use Rattle.sound.specs.Place.{dirOf, slotOf, naming}
 use Rattle.sound.specs.Sound.{Sound, inodesIn}
 use Rattle.sound.specs.declared.Form.the-variants.{Store}
 use Rattle.copying.specs.Holds.{Fresh}
-use Rattle.checkpoint.specs.Fit.{deskFramed, imageBlocks, imageAllowed, isRunning, deskFits}
+use Rattle.checkpoint.specs.Fit.{deskFramed, imageLong, imageBlocks, imageAllowed, isRunning, deskFits}
 use Rattle.checkpoint.specs.Notes.{isCopied}
 use Rattle.checkpoint.specs.Copier.{startImage, startDesk}
 use Rattle.checkpoint.proofs.Copy.Seen.{shelfOf, markedAt, seen}
@@ -36,7 +36,7 @@ use Rattle.bounded.proofs.RangeLaws.{within-in, within-out, below-in, below-out
 use Rattle.checkpoint.proofs.Copy.NoteLaws.{copied-is}
 use Rattle.checkpoint.proofs.Step.LockLaws.{free-cost}
 use Rattle.checkpoint.proofs.Copy.FitLaws.{desk-framed-is, desk-fits-is, idle-free}
-use Rattle.checkpoint.proofs.Step.StartImageLaws.{length-start, start-header, start-kind, start-address, start-byte, start-reserved, start-inode, start-slot, start-naming}
+use Rattle.checkpoint.proofs.Step.StartImageLaws.{length-start, start-header, start-kind, start-row, start-byte, start-reserved, start-inode, start-slot, start-naming}
 
 pub image-allowed-is : (n k : ℕ) → Reflects (imageAllowed n k) (Allowed mostImageBlocks n (imageBlocks n k) k)
 unfolding imageAllowed
@@ -138,7 +138,7 @@ module _ (s m d : List ℕ) (n : ℕ) (sound : Sound Store s) (e : n ≡ inodesI
         inodes = λ i l h _. start-inode n (length m) b i l h;
         blank = λ i l h _. start-kind n (length m) i l h;
         opened = λ q. absurd (q z);
-        once = λ i j l h p _. let q = start-address n (length m) j h in omega arith;
+        once = λ i j l h p _. let q = start-row n (length m) (imageLong s image desk) j h in omega arith;
         blanks = λ c _ _ _ o l. start-byte n (length m) c o l;
         fair = λ p l q. absurd (clash _ q (start-slot n (length m) p l));
         steps = omega arith;

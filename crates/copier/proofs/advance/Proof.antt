@@ -2,7 +2,7 @@ use mathlib.Core.Path.{refl}
 use Rattle.desk.specs.Desk.{deskOf}
 use Rattle.checkpoint.specs.Copier.{stepOf, freeStep, lockedStep}
 use Rattle.copier.proofs.StepLaws.{step-free, step-locked, does-same}
-use Rattle.copier.proofs.ReadyLaws.{ready-held, ready-blocks, ready-sized, ready-locked, ready-image}
+use Rattle.copier.proofs.ReadyLaws.{ready-held, ready-locked, ready-free, ready-open}
 use native.Mathlib.Omega.{arith}
 use denote.Ref.{now}
 use borrow.Author.Needs.{needs}
@@ -20,7 +20,7 @@ free-step-requires : tie.Need-free-step-requires
 free-step-requires c κs =
     let z = c .before .before .before .before .before .before .before .before .before in
     let a = z .args in
-    (ready-held (now (a .s)) (now (a .m)) (now (a .d)) (a .n) (z .pre .0) (z .pre .1) (z .pre .2) _ (c .before .before .before .before .read .ensures), ready-image (now (a .s)) (now (a .m)) (now (a .d)) (a .n) (z .pre .0) (z .pre .1) (z .pre .2), ready-blocks (now (a .s)) (now (a .m)) (now (a .d)) (a .n) (z .pre .0) (z .pre .1) (z .pre .2) _ (c .before .before .before .before .read .ensures))
+    (ready-held (now (a .s)) (now (a .m)) (now (a .d)) (a .n) (z .pre .0) (z .pre .1) (z .pre .2) _ (c .before .before .before .before .read .ensures), ready-free (now (a .s)) (now (a .m)) (now (a .d)) (a .n) (z .pre .0) (z .pre .1) (z .pre .2) _ (c .before .before .before .before .read .ensures) (c .before .before .if1 .taken))
 
 same-length : tie.Need-same-length
 same-length c = search needs
@@ -38,7 +38,7 @@ locked-step-requires : tie.Need-locked-step-requires
 locked-step-requires c κs =
     let z = c .before .before .before .before .before .before .before .before .before in
     let a = z .args in
-    (ready-held (now (a .s)) (now (a .m)) (now (a .d)) (a .n) (z .pre .0) (z .pre .1) (z .pre .2) _ (c .before .before .before .before .read .ensures), ready-locked (now (a .s)) (now (a .m)) (now (a .d)) (a .n) (z .pre .0) (z .pre .1) (z .pre .2) _ (c .before .before .before .before .read .ensures) (c .before .before .if1 .left), ready-image (now (a .s)) (now (a .m)) (now (a .d)) (a .n) (z .pre .0) (z .pre .1) (z .pre .2), ready-sized (now (a .s)) (now (a .m)) (now (a .d)) (a .n) (z .pre .0) (z .pre .1) (z .pre .2) _ (c .before .before .before .before .read .ensures))
+    (ready-held (now (a .s)) (now (a .m)) (now (a .d)) (a .n) (z .pre .0) (z .pre .1) (z .pre .2) _ (c .before .before .before .before .read .ensures), ready-locked (now (a .s)) (now (a .m)) (now (a .d)) (a .n) (z .pre .0) (z .pre .1) (z .pre .2) _ (c .before .before .before .before .read .ensures) (c .before .before .if1 .left), ready-open (now (a .s)) (now (a .m)) (now (a .d)) (a .n) (z .pre .0) (z .pre .1) (z .pre .2) _ (c .before .before .before .before .read .ensures) (c .before .before .if1 .left))
 
 same-length-3 : tie.Need-same-length-3
 same-length-3 c = search needs

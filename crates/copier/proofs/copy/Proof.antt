@@ -1,7 +1,11 @@
-use Rattle.transfer.proofs.BlockLaws.{block-put}
+use Prim.Native.Nat.{ℕ}
+use mathlib.Core.Path.{ap, _∙_}
+use mathlib.Core.List.{List}
 use native.Mathlib.Omega.{arith}
 use denote.Ref.{now}
-use Rattle.copier.proofs.StepLaws.{copy-done}
+use Rattle.blocks.specs.Block.{putKth}
+use Rattle.transfer.proofs.BlockLaws.{block-put, block-long}
+use Rattle.copier.proofs.StepLaws.{copy-done, locked-few, address-fits, further-fits}
 use borrow.Author.Needs.{needs}
 use Rattle.copier.proofs.copy.Statement.{statement}
 use Rattle.copier.proofs.copy.Tie as tie
@@ -30,28 +34,25 @@ part-copy-block-end c = search needs
 copy-block-requires : tie.Need-copy-block-requires
 copy-block-requires c κs = search needs
 
-sub-put-address : tie.Need-sub-put-address
-sub-put-address c = search needs
+cast-put-kth : tie.Need-cast-put-kth
+cast-put-kth c = search needs
 
-mul-put-address : tie.Need-mul-put-address
-mul-put-address c = search needs
-
-add-put-address : tie.Need-add-put-address
-add-put-address c = search needs
-
-cast-put-address : tie.Need-cast-put-address
-cast-put-address c = search needs
-
-put-address-requires : tie.Need-put-address-requires
-put-address-requires c κs = search needs
+put-kth-requires : tie.Need-put-kth-requires
+put-kth-requires c κs =
+    let z = c .before .before .before .before .before .before .before .before .before .before .before .before in
+    let a = z .args in
+    let l = z .pre .1 in
+    let t = z .pre .3 in
+    let o = c .before .before .before .before .before .before .block-at in
+    let w = block-put (l .store) (a .h .locked) (l .low) (l .high) (a .h .transferred) (z .pre .2) (now (a .m)) (now (a .d)) (a .c) (o .result) _ (o .ensures) (omega (arith, o .ensures, t .block .low, t .block .inside)) (c .before .before .before .copy-block .ensures) in
+    let v = block-long (l .store) (a .h .locked) (l .low) (l .high) (a .h .transferred) (z .pre .2) (now (a .d)) in
+    (address-fits t (l .low) (l .high) _ _ v w, locked-few l (z .pre .2), further-fits t (l .low) (l .high) _ _ v w)
 
 copied-one-more-requires : tie.Need-copied-one-more-requires
-copied-one-more-requires c κs = search needs
+copied-one-more-requires c κs = let z = c .before .before .before .before .before .before .before .before .before .before .before .before .before .before .before in let w = locked-few (z .pre .1) (z .pre .2) in (omega arith, z .pre .0 .steps)
 
 write-requires : tie.Need-write-requires
-write-requires c κs =
-    let w = c .before .before .before .before .before .before .before .before .before .before .before .before .before .before .before .before .before .pre .0 .0 .long in
-    omega arith
+write-requires c κs = search needs
 
 cast-t14 : tie.Need-cast-t14
 cast-t14 c = search needs
@@ -66,10 +67,11 @@ returns : tie.Need-returns
 returns c =
     let z = c .before .before .before .before .before .before .before .before .before .before .before .before .before .before .before .before .before .before .before .before .before in
     let a = z .args in
-    let p = z .pre .0 in
-    let q = z .pre .1 in
+    let l = z .pre .1 in
+    let t = z .pre .3 in
     let o = c .before .before .before .before .before .before .before .before .before .before .before .before .before .before .before .block-at in
-    copy-done (now (a .d)) (a .h) _ (p .0 .read) (now (a .m)) (a .n) _ (now (a .s)) _ (a .c) (block-put (now (a .s)) (now (a .m)) (now (a .d)) (a .n) (a .h .locked) (a .h .transferred) (a .c) (p .1) (p .2) (o .result) _ _ (o .ensures) (omega (arith, o .ensures, q .2)) (c .before .before .before .before .before .before .before .before .before .before .before .before .copy-block .ensures) (c .before .before .before .before .before .before .before .before .put-address .ensures)) (c .before .before .before .before .before .copied-one-more .ensures) (c .before .before .before .write .ensures)
+    let w = block-put (l .store) (a .h .locked) (l .low) (l .high) (a .h .transferred) (z .pre .2) (now (a .m)) (now (a .d)) (a .c) (o .result) _ (o .ensures) (omega (arith, o .ensures, t .block .low, t .block .inside)) (c .before .before .before .before .before .before .before .before .before .before .before .before .copy-block .ensures) in
+    copy-done (now (a .d)) (a .h) _ (z .pre .0 .read) (now (a .m)) (a .n) _ (now (a .s)) _ (a .c) (c .before .before .before .before .before .before .before .before .put-kth .ensures ∙ ap (λ (x : List ℕ). putKth x (a .n) (a .h .locked) (a .h .transferred) (a .c)) w) (c .before .before .before .before .before .copied-one-more .ensures) (c .before .before .before .write .ensures)
 
 pub copy-spec : {M : Type 1} → statement M
 copy-spec =
@@ -83,11 +85,8 @@ copy-spec =
     part-copy-block-start
     part-copy-block-end
     copy-block-requires
-    sub-put-address
-    mul-put-address
-    add-put-address
-    cast-put-address
-    put-address-requires
+    cast-put-kth
+    put-kth-requires
     copied-one-more-requires
     write-requires
     cast-t14

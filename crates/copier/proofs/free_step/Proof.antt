@@ -48,7 +48,7 @@ lock-requires-2 c κs =
     let z = c .before .before .before .before .before .before .before .before .before .before .before .before in
     let a = z .args in
     let w = z .pre .0 in
-    (w .read, omega (arith, w .long), w .steps, omega (arith, z .pre .1 .few, next-few (now (a .m)) (now (a .d)) (a .n) (c .before .before .i .given .0 .0) _ (c .before .before .before .before .next-inode .ensures) (c .before .before .i .given .1)))
+    (w .read, omega (arith, w .long), w .steps, omega (arith, z .pre .1 .addressed .few, next-few (now (a .m)) (now (a .d)) (a .n) (c .before .before .i .given .0 .0) _ (c .before .before .before .before .next-inode .ensures) (c .before .before .i .given .1)))
 
 same-length-4 : tie.Need-same-length-4
 same-length-4 c = search needs

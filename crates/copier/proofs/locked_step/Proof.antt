@@ -1,10 +1,12 @@
-use Rattle.blocks.specs.Block.{blocksUsed}
-use Rattle.checkpoint.specs.Copier.{close, copy, lockedStep}
-use Rattle.transfer.proofs.BlockLaws.{block-few}
-use Rattle.copier.proofs.StepLaws.{locked-close, locked-copy, locked-full, does-same, does-full, target-inside}
-use mathlib.Core.Path.{ap, _∙_}
+use mathlib.Core.Path.{sym, ap, _∙_, subst}
+use mathlib.Core.Bool.{Bool}
 use native.Mathlib.Omega.{arith}
 use denote.Ref.{now}
+use Rattle.blocks.specs.Block.{blocksUsed}
+use Rattle.blocks.specs.Free.{longBut}
+use Rattle.blocks.specs.Fits.{RowsFit}
+use Rattle.checkpoint.specs.Copier.{close, copy, lockedStep}
+use Rattle.copier.proofs.StepLaws.{locked-close, locked-copy, locked-full, does-same, does-full, target-inside}
 use borrow.Author.Needs.{needs}
 use Rattle.copier.proofs.locked_step.Statement.{statement}
 use Rattle.copier.proofs.locked_step.Tie as tie
@@ -41,13 +43,17 @@ returns c =
     let u = c .before .before .before .before .before .before .before .before .blocks-used .ensures ∙ ap blocksUsed (c .before .before .before .before .before .before .before .before .before .size .ensures) in
     does-same (now (a .s)) (now (a .m)) (now (a .d)) (a .n) (lockedStep (now (a .s)) (now (a .m)) (a .n) (h .blocks) (h .locked) (h .transferred)) (close (h .locked)) (locked-close (now (a .s)) (now (a .m)) (a .n) (h .blocks) (h .locked) (h .transferred) _ u (c .before .before .before .before .before .before .before .if1 .taken)) _ (c .before .before .before .before .close .ensures)
 
-kth-block-requires : tie.Need-kth-block-requires
-kth-block-requires c κs =
-    let z = c .before .before .before .before .before .before .before .before in
+is-long-requires : tie.Need-is-long-requires
+is-long-requires c κs = search needs
+
+kth-used-requires : tie.Need-kth-used-requires
+kth-used-requires c κs =
+    let z = c .before .before .before .before .before .before .before .before .before in
     let a = z .args in
     let h = a .h in
-    let u = c .before .blocks-used .ensures ∙ ap blocksUsed (c .before .before .size .ensures) in
-    (z .pre .1 .inode, block-few (now (a .s)) (a .n) (h .locked) (h .transferred) (z .pre .1) (omega arith))
+    let u = c .before .before .blocks-used .ensures ∙ ap blocksUsed (c .before .before .before .size .ensures) in
+    let l = z .pre .1 in
+    (l .store, l .low, l .high, omega arith)
 
 cast-own : tie.Need-cast-own
 cast-own c = search needs
@@ -56,7 +62,10 @@ cast-target-block : tie.Need-cast-target-block
 cast-target-block c = search needs
 
 target-block-requires : tie.Need-target-block-requires
-target-block-requires c κs = search needs
+target-block-requires c κs =
+    let z = c .before .before .before .before .before .before .before .before .before .before .before .before in
+    let a = z .args in
+    (subst (λ (x : Bool). RowsFit (longBut (now (a .m)) (a .h .locked) x) (now (a .m)) (a .n)) (sym (c .before .before .before .is-long .ensures)) (z .pre .2 .rows), z .pre .2 .sized .blocks)
 
 enum-known-c : tie.Need-enum-known-c
 enum-known-c c = search needs
@@ -75,20 +84,20 @@ same-length-4 c = search needs
 
 returns-2 : tie.Need-returns-2
 returns-2 c =
+    let z = c .before .before .before .before .before .before .before .before .before .before .before .before .before .before .before .before .before .before .before in
+    let a = z .args in
+    let h = a .h in
+    let u = c .before .before .before .before .before .before .before .before .before .before .before .before .blocks-used .ensures ∙ ap blocksUsed (c .before .before .before .before .before .before .before .before .before .before .before .before .before .size .ensures) in
+    does-full (now (a .s)) (now (a .m)) (now (a .d)) (a .n) (lockedStep (now (a .s)) (now (a .m)) (a .n) (h .blocks) (h .locked) (h .transferred)) (locked-full (now (a .s)) (now (a .m)) (a .n) (h .blocks) (h .locked) (h .transferred) _ u (omega arith) _ (c .before .before .before .before .before .before .before .before .before .before .is-long .ensures) _ (c .before .before .before .before .before .before .before .before .before .kth-used .ensures) _ (c .before .before .before .before .before .before .target-block .ensures) (c .before .before .before .before .enum-told .given .1)) _ _ (c .before .before .stop .ensures .0) (c .before .before .stop .ensures .1)
+
+copy-requires : tie.Need-copy-requires
+copy-requires c κs =
     let z = c .before .before .before .before .before .before .before .before .before .before .before .before .before .before .before .before .before .before in
     let a = z .args in
     let h = a .h in
     let u = c .before .before .before .before .before .before .before .before .before .before .before .blocks-used .ensures ∙ ap blocksUsed (c .before .before .before .before .before .before .before .before .before .before .before .before .size .ensures) in
-    does-full (now (a .s)) (now (a .m)) (now (a .d)) (a .n) (lockedStep (now (a .s)) (now (a .m)) (a .n) (h .blocks) (h .locked) (h .transferred)) (locked-full (now (a .s)) (now (a .m)) (a .n) (h .blocks) (h .locked) (h .transferred) _ u (omega arith) _ (c .before .before .before .before .before .before .before .before .before .kth-block .ensures) _ (c .before .before .before .before .before .before .target-block .ensures) (c .before .before .before .before .enum-told .given .1)) _ _ (c .before .before .stop .ensures .0) (c .before .before .stop .ensures .1)
-
-copy-requires : tie.Need-copy-requires
-copy-requires c κs =
-    let z = c .before .before .before .before .before .before .before .before .before .before .before .before .before .before .before .before .before in
-    let a = z .args in
-    let h = a .h in
-    let u = c .before .before .before .before .before .before .before .before .before .before .blocks-used .ensures ∙ ap blocksUsed (c .before .before .before .before .before .before .before .before .before .before .before .size .ensures) in
     let i = c .before .before .before .c .given in
-    ((z .pre .0, z .pre .1, omega arith), target-inside (now (a .m)) (a .n) (h .blocks) _ (i .0 .0) _ (z .pre .3) (c .before .before .before .before .before .target-block .ensures) (i .1))
+    (z .pre .0, z .pre .1, omega arith, target-inside (z .pre .1) (z .pre .2) (omega arith) _ _ (i .0 .0) _ (c .before .before .before .before .before .target-block .ensures) (i .1))
 
 same-length-5 : tie.Need-same-length-5
 same-length-5 c = search needs
@@ -98,12 +107,12 @@ same-length-6 c = search needs
 
 returns-3 : tie.Need-returns-3
 returns-3 c =
-    let z = c .before .before .before .before .before .before .before .before .before .before .before .before .before .before .before .before .before .before .before .before .before .before in
+    let z = c .before .before .before .before .before .before .before .before .before .before .before .before .before .before .before .before .before .before .before .before .before .before .before in
     let a = z .args in
     let h = a .h in
-    let u = c .before .before .before .before .before .before .before .before .before .before .before .before .before .before .before .blocks-used .ensures ∙ ap blocksUsed (c .before .before .before .before .before .before .before .before .before .before .before .before .before .before .before .before .size .ensures) in
+    let u = c .before .before .before .before .before .before .before .before .before .before .before .before .before .before .before .before .blocks-used .ensures ∙ ap blocksUsed (c .before .before .before .before .before .before .before .before .before .before .before .before .before .before .before .before .before .size .ensures) in
     let i = c .before .before .before .before .before .before .before .before .c .given in
-    does-same (now (a .s)) (now (a .m)) (now (a .d)) (a .n) (lockedStep (now (a .s)) (now (a .m)) (a .n) (h .blocks) (h .locked) (h .transferred)) (copy (h .locked) (h .transferred) (i .0 .0)) (locked-copy (now (a .s)) (now (a .m)) (a .n) (h .blocks) (h .locked) (h .transferred) _ u (omega arith) _ (c .before .before .before .before .before .before .before .before .before .before .before .before .before .kth-block .ensures) _ (c .before .before .before .before .before .before .before .before .before .before .target-block .ensures) (i .0 .0) (i .1)) _ (c .before .before .before .before .copy .ensures)
+    does-same (now (a .s)) (now (a .m)) (now (a .d)) (a .n) (lockedStep (now (a .s)) (now (a .m)) (a .n) (h .blocks) (h .locked) (h .transferred)) (copy (h .locked) (h .transferred) (i .0 .0)) (locked-copy (now (a .s)) (now (a .m)) (a .n) (h .blocks) (h .locked) (h .transferred) _ u (omega (arith, c .before .before .before .before .before .before .before .before .before .before .before .before .before .before .before .if1 .left)) _ (c .before .before .before .before .before .before .before .before .before .before .before .before .before .before .is-long .ensures) _ (c .before .before .before .before .before .before .before .before .before .before .before .before .before .kth-used .ensures) _ (c .before .before .before .before .before .before .before .before .before .before .target-block .ensures) (i .0 .0) (i .1)) _ (c .before .before .before .before .copy .ensures)
 
 pub locked-step-spec : {M : Type 1} → statement M
 locked-step-spec =
@@ -118,7 +127,8 @@ locked-step-spec =
     same-length
     same-length-2
     returns
-    kth-block-requires
+    is-long-requires
+    kth-used-requires
     cast-own
     cast-target-block
     target-block-requires

@@ -1,28 +1,32 @@
-use mathlib.Core.Path.{sym, _∙_}
-use borrow.Author.Tests.{not-false}
+use Rattle.inodes.proofs.InodeLaws.{inode-stop, inode-named, inode-addresses, inode-end, free-right, zero-passed}
 use Rattle.bounded.proofs.BoolLaws.{chain-on, never}
-use Rattle.inodes.proofs.InodeLaws.{inode-stop, inode-named, inode-addresses, inode-end, zero-right, zero-passed}
+use borrow.Author.Tests.{not-false}
+use mathlib.Core.Path.{sym, _∙_}
 use borrow.Author.Needs.{needs}
 use Rattle.inodes.proofs.inode_right.Statement.{statement}
 use Rattle.inodes.proofs.inode_right.Tie as tie
 
-inode-zero-requires : tie.Need-inode-zero-requires
-inode-zero-requires c κs = search needs
+attributes-zero-requires : tie.Need-attributes-zero-requires
+attributes-zero-requires c κs = search needs
+
+addresses-zero-requires : tie.Need-addresses-zero-requires
+addresses-zero-requires c κs = search needs
 
 returns : tie.Need-returns
 returns c =
-    let p = c .before .before .before .before .pre in
-    let e = sym (c .before .inode-zero .ensures) ∙ c .if1 .taken in
-    (zero-right _ _ _ _ e, λ q. zero-passed _ _ 0 _ e _ (p .1 .low) (p .2))
+    let p = c .before .before .before .before .before .pre in
+    let a = sym (c .before .before .attributes-zero .ensures) ∙ c .before .if1 .taken in
+    let e = c .addresses-zero .ensures in
+    (e ∙ free-right _ _ _ _ (p .1 .low) a, λ q. zero-passed _ _ 0 _ (p .1 .low) a (sym e ∙ q) _ (p .2))
 
 attributes-right-requires : tie.Need-attributes-right-requires
-attributes-right-requires c κs = search needs
+attributes-right-requires c κs = let p = c .before .before .before .before .pre in (p .1, sym (c .before .attributes-zero .ensures) ∙ c .if1 .left)
 
 returns-2 : tie.Need-returns-2
 returns-2 c = (inode-stop _ _ _ _ _ (c .before .attributes-right .ensures) (c .if2 .taken), never)
 
 addresses-right-requires : tie.Need-addresses-right-requires
-addresses-right-requires c κs = search needs
+addresses-right-requires c κs = let p = c .before .before .before .before .before .before .before .pre in (p .0, p .1, chain-on _ _ (c .before .before .attributes-right .ensures) (c .before .if2 .left), p .2)
 
 same-length : tie.Need-same-length
 same-length c = search needs
@@ -50,7 +54,8 @@ pub inode-right-spec : {M : Type 1} → statement M
 inode-right-spec =
     tie.close
     (tie.spec
-    inode-zero-requires
+    attributes-zero-requires
+    addresses-zero-requires
     returns
     attributes-right-requires
     returns-2

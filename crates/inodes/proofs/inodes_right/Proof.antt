@@ -6,17 +6,16 @@ use borrow.Author.Tests.{not-false}
 use borrow.Author.Needs.{needs}
 use Rattle.sound.specs.Test.{inodeB}
 use Rattle.bounded.specs.Below.{allBelow}
-use Rattle.blocks.specs.Map.{Maps}
 use Rattle.blocks.proofs.MapLaws.{map-as}
 use Rattle.bounded.proofs.BoolLaws.{chain-on, chain-off, never}
 use Rattle.bounded.proofs.BelowLaws.{all-none, all-more, all-stopped, all-done}
-use Rattle.inodes.specs.Pass.{newBlocksB}
+use Rattle.inodes.specs.Pass.{MapsOf, newBlocksB}
 use Rattle.inodes.proofs.InodeLaws.{inodes-are}
 use Rattle.inodes.proofs.inodes_right.Statement.{statement}
 use Rattle.inodes.proofs.inodes_right.Tie as tie
 
 abbrev Inv-loop : tie.InvT-loop
-Inv-loop s n b map₀ k₀ map k = (k ≤ n) × (allBelow (λ j. inodeB s n b (j + 1) && newBlocksB s n (j + 1)) k ≡ true) × Maps s n (12 * k) map
+Inv-loop s n b map₀ k₀ map k = (k ≤ n) × (allBelow (λ j. inodeB s n b (j + 1) && newBlocksB s n (j + 1)) k ≡ true) × MapsOf s n (44 * k) map
 
 abbrev μ-loop : tie.MeasureT-loop
 μ-loop s n b map₀ k₀ map k = n - k
@@ -31,7 +30,7 @@ inode-right-requires : tie.Need-inode-right-requires Inv-loop μ-loop
 inode-right-requires c κs =
     let p = c .before .before .before .before .before .pre .0 in
     let l = p .long in
-    (p, record { low = omega arith; high = omega arith; few = p .inodes; area = omega arith }, map-as _ _ _ (omega arith) (c .before .before .loop .inv .2))
+    (p, record { low = omega arith; high = omega arith; few = p .inodes; area = omega arith }, map-as _ _ _ _ (omega arith) (c .before .before .loop .inv .2))
 
 same-length : tie.Need-same-length Inv-loop μ-loop
 same-length c =
@@ -58,7 +57,7 @@ same-length-2 c = c .before .loop .inv .2 .long ∙ sym (c .before .before .befo
 returns-2 : tie.Need-returns-2 Inv-loop μ-loop
 returns-2 c =
     let i = c .before .loop in
-    (all-done _ _ (i .k) (omega arith) (omega arith) (i .inv .1) ∙ inodes-are _ _ _, λ q. map-as _ _ _ (omega arith) (i .inv .2))
+    (all-done _ _ (i .k) (omega arith) (omega arith) (i .inv .1) ∙ inodes-are _ _ _, λ q. map-as _ _ _ _ (omega arith) (i .inv .2))
 
 pub inodes-right-spec : {M : Type 1} → statement M
 inodes-right-spec =

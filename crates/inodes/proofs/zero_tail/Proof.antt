@@ -1,8 +1,8 @@
-use Prim.Native.Nat.{ℕ, _%_}
-use mathlib.Core.Path.{sym, ap, _∙_}
-use native.Mathlib.Omega.{arith}
+use Rattle.inodes.proofs.InodeLaws.{tail-none, tail-full, last-there, tail-tested}
 use Rattle.layout.specs.Sizes.{blockBytes}
-use Rattle.inodes.proofs.InodeLaws.{tail-none, tail-full, last-block, tail-tested}
+use native.Mathlib.Omega.{arith}
+use mathlib.Core.Path.{sym, ap, _∙_}
+use Prim.Native.Nat.{ℕ, _%_}
 use borrow.Author.Needs.{needs}
 use Rattle.inodes.proofs.zero_tail.Statement.{statement}
 use Rattle.inodes.proofs.zero_tail.Tie as tie
@@ -22,10 +22,8 @@ returns c = tail-none _ _ _ (λ z. c .if1 .taken (c .before .kind .ensures ∙ z
 returns-2 : tie.Need-returns-2
 returns-2 c = tail-full _ _ _ (ap (λ (x : ℕ). x % blockBytes) (sym (c .before .before .before .size .ensures)) ∙ c .if2 .taken)
 
-kth-block-requires : tie.Need-kth-block-requires
-kth-block-requires c κs =
-    let p = c .before .before .before .before .before .pre in
-    (p .1, last-block _ _ _ _ (c .before .before .before .size .ensures) (c .if2 .left) _ (p .2) (p .3) .0)
+last-block-requires : tie.Need-last-block-requires
+last-block-requires c κs = search needs
 
 cast-last : tie.Need-cast-last
 cast-last c = search needs
@@ -33,8 +31,8 @@ cast-last c = search needs
 block-at-requires : tie.Need-block-at-requires
 block-at-requires c κs =
     let p = c .before .before .before .before .before .before .pre in
-    let r = last-block _ _ _ _ (c .before .before .before .before .size .ensures) (c .before .if2 .left) _ (p .2) (p .3) in
-    (p .0 .inodes, omega (arith, c .kth-block .ensures, r .1), search needs)
+    let r = last-there _ _ _ _ (c .before .before .before .before .size .ensures) (c .before .if2 .left) _ (p .2) (p .3) in
+    (p .0 .inodes, omega (arith, c .last-block .ensures, r .0), search needs)
 
 add-all-zero : tie.Need-add-all-zero
 add-all-zero c = search needs
@@ -45,15 +43,15 @@ sub-all-zero c = search needs
 all-zero-requires : tie.Need-all-zero-requires
 all-zero-requires c κs =
     let p = c .before .before .before .before .before .before .before .pre in
-    let r = last-block _ _ _ _ (c .before .before .before .before .before .size .ensures) (c .before .before .if2 .left) _ (p .2) (p .3) in
-    omega (arith, c .block-at .ensures, c .before .kth-block .ensures, r .1, r .2, p .0 .long)
+    let r = last-there _ _ _ _ (c .before .before .before .before .before .size .ensures) (c .before .before .if2 .left) _ (p .2) (p .3) in
+    omega (arith, c .block-at .ensures, c .before .last-block .ensures, r .0, r .1, p .0 .long)
 
 returns-3 : tie.Need-returns-3
 returns-3 c =
     c .all-zero .ensures
     ∙ tail-tested _ _ _ _ (c .before .before .before .before .before .before .size .ensures) (c .before .before .before .if2 .left) _ _
     (sym (c .before .before .before .before .before .kind .ensures) ∙ c .before .before .before .before .if1 .left)
-    (c .before .before .kth-block .ensures)
+    (c .before .before .last-block .ensures)
     (c .before .block-at .ensures)
 
 pub zero-tail-spec : {M : Type 1} → statement M
@@ -65,7 +63,7 @@ zero-tail-spec =
     kind-requires
     returns
     returns-2
-    kth-block-requires
+    last-block-requires
     cast-last
     block-at-requires
     add-all-zero

@@ -15,13 +15,13 @@ returns : tie.Need-returns
 returns c = no-directory _ _ (c .before .before .before .args .p) (λ q. c .if1 .taken (c .before .kind .ensures ∙ q))
 
 slot-count-requires : tie.Need-slot-count-requires
-slot-count-requires c κs = place-fits _ _ (c .before .before .before .args .p) (c .before .before .before .pre .0) (c .before .before .before .pre .1) (c .before .before .before .pre .2)
+slot-count-requires c κs = place-fits _ _ (c .before .before .before .args .p) (c .before .before .before .pre .0) (c .before .before .before .pre .1) (c .before .before .before .pre .2) (sym (c .before .kind .ensures) ∙ c .if1 .left)
 
 returns-2 : tie.Need-returns-2
 returns-2 c = no-slot _ _ (c .before .before .before .before .before .args .p) (sym (c .before .before .before .kind .ensures) ∙ c .before .before .if1 .left) (omega (arith, c .before .slot-count .ensures .0))
 
 slot-at-requires : tie.Need-slot-at-requires
-slot-at-requires c κs = (place-fits _ _ (c .before .before .before .before .before .args .p) (c .before .before .before .before .before .pre .0) (c .before .before .before .before .before .pre .1) (c .before .before .before .before .before .pre .2), omega (arith, c .before .slot-count .ensures .0))
+slot-at-requires c κs = (place-fits _ _ (c .before .before .before .before .before .args .p) (c .before .before .before .before .before .pre .0) (c .before .before .before .before .before .pre .1) (c .before .before .before .before .before .pre .2) (sym (c .before .before .before .kind .ensures) ∙ c .before .before .if1 .left), omega (arith, c .before .slot-count .ensures .0))
 
 add-is-empty : tie.Need-add-is-empty
 add-is-empty c = search needs

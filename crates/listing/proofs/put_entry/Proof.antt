@@ -1,6 +1,6 @@
 use native.Mathlib.Omega.{arith}
 use denote.Ref.{now}
-use Rattle.listing.proofs.PlaceLaws.{place-fits, named-fits, filled-slot, cut-entry, entry-text}
+use Rattle.listing.proofs.PlaceLaws.{filled-fits, named-fits, filled-slot, cut-entry, entry-text}
 use Rattle.text.proofs.PutLaws.{put-same, put-on}
 use borrow.Author.Needs.{needs}
 use Rattle.listing.proofs.put_entry.Statement.{statement}
@@ -10,7 +10,7 @@ add-e : tie.Need-add-e
 add-e c = search needs
 
 slot-at-requires : tie.Need-slot-at-requires
-slot-at-requires c κs = (place-fits _ _ (c .before .before .args .p) (c .before .before .pre .1) (c .before .before .pre .2) (c .before .before .pre .3), filled-slot _ _ (c .before .before .args .p) (c .before .before .pre .4))
+slot-at-requires c κs = (filled-fits _ _ (c .before .before .args .p) (c .before .before .pre .1) (c .before .before .pre .2) (c .before .before .pre .3) (c .before .before .pre .4), filled-slot _ _ (c .before .before .args .p) (c .before .before .pre .4))
 
 add-entry : tie.Need-add-entry
 add-entry c = search needs

@@ -1,6 +1,6 @@
 use Prim.Native.Nat.{_+_}
 use Rattle.bounded.proofs.CountLaws.{count-le}
-use Rattle.tallies.proofs.NameLaws.{finish-read}
+use Rattle.tallies.proofs.NameLaws.{finish-read, rows-free}
 use denote.Ref.{now}
 use native.Mathlib.Omega.{arith}
 use borrow.Author.Needs.{needs}
@@ -13,7 +13,7 @@ count-names-requires : tie.Need-count-names-requires
 count-names-requires c κs = search needs
 
 named-blocks-requires : tie.Need-named-blocks-requires
-named-blocks-requires c κs = search needs
+named-blocks-requires c κs = rows-free _ _ (c .before .before .before .before .pre .1)
 
 free-inodes-requires : tie.Need-free-inodes-requires
 free-inodes-requires c κs = search needs
@@ -35,7 +35,7 @@ cast-put-free c =
 cast-put-free-2 : tie.Need-cast-put-free-2
 cast-put-free-2 c =
     let z = c .before .before .before .before .before .before .before .before .before .before .before .before .before .before .before in
-    omega (arith, z .pre .1, c .before .before .before .before .before .before .free-blocks .ensures, count-le (λ k. lacks (c .before .before .before .before .before .before .before .before .before .before .named-blocks .result) (k + 1)) (z .args .b))
+    omega (arith, z .pre .2, c .before .before .before .before .before .before .free-blocks .ensures, count-le (λ k. lacks (c .before .before .before .before .before .before .before .before .before .before .named-blocks .result) (k + 1)) (z .args .b))
 
 put-free-requires : tie.Need-put-free-requires
 put-free-requires c κs = search needs
@@ -50,7 +50,7 @@ returns : tie.Need-returns
 returns c =
     let z = c .before .before .before .before .before .before .before .before .before .before .before .before .before .before .before .before .before .before .before .before .before .before in
     let a = z .args in
-    finish-read (now (a .m)) _ _ _ _ (a .n) (a .b) _ _ (z .pre .1) (c .before .before .before .before .before .before .before .before .before .before .before .before .before .before .before .before .before .named-blocks .ensures) (c .before .before .before .before .before .before .before .before .before .before .before .before .before .before .before .free-inodes .ensures) (c .before .before .before .before .before .before .before .before .before .before .before .before .before .free-blocks .ensures) (c .before .before .before .before .before .before .before .before .before .before .put-counts .ensures) (c .before .before .before .before .before .before .put-free .ensures) (c .before .before .put-complete .ensures)
+    finish-read (now (a .m)) _ _ _ _ (a .n) (a .b) _ _ (z .pre .2) (c .before .before .before .before .before .before .before .before .before .before .before .before .before .before .before .before .before .named-blocks .ensures) (c .before .before .before .before .before .before .before .before .before .before .before .before .before .before .before .free-inodes .ensures) (c .before .before .before .before .before .before .before .before .before .before .before .before .before .free-blocks .ensures) (c .before .before .before .before .before .before .before .before .before .before .put-counts .ensures) (c .before .before .before .before .before .before .put-free .ensures) (c .before .before .put-complete .ensures)
 
 pub finish-image-spec : {M : Type 1} → statement M
 finish-image-spec =

@@ -30,7 +30,7 @@ add-times : tie.Need-add-times Inv-loop μ-loop
 add-times c =
     let a = c .before .before .before .before .before in
     let l = c .before .before .before .loop in
-    omega (arith, a .pre .few, tally-le (addressOf (now (a .args .m)) (a .args .n)) (l .x) (a .args .c))
+    omega (arith, a .pre .0, tally-le (addressOf (now (a .args .m)) (a .args .n)) (l .x) (a .args .c))
 
 add-x : tie.Need-add-x Inv-loop μ-loop
 add-x c = search needs

@@ -59,7 +59,7 @@ slice-aggregate-inodes-right : tie.Need-slice-aggregate-inodes-right
 slice-aggregate-inodes-right c = search needs
 
 inodes-right-requires : tie.Need-inodes-right-requires
-inodes-right-requires c κs = (sized (c .before .before .before .before), map-none _ _)
+inodes-right-requires c κs = (sized (c .before .before .before .before), map-none _ _ _)
 
 returns-2 : tie.Need-returns-2
 returns-2 c = past-header (c .before .before .before .before) _ (chain-stop _ _ _ (c .before .before .inodes-right .ensures .0) (c .if2 .taken))
@@ -69,7 +69,10 @@ slice-aggregate-entries-right c = search needs
 
 entries-right-requires : tie.Need-entries-right-requires
 entries-right-requires c κs =
-    let z = c .before .before .before .before .before .before .before .before in (sized z .inodes, dir-fits _ (z .pre .0) (z .pre .1) (z .pre .2) (inodes-on (c .before)), refl)
+    let z = c .before .before .before .before .before .before .before .before in
+    let w = sized z in
+    let l = w .long in
+    (w .inodes, omega arith, dir-fits _ (z .pre .0) (z .pre .1) (z .pre .2) (inodes-on (c .before)), refl)
 
 returns-3 : tie.Need-returns-3
 returns-3 c = past-inodes (c .before .before .before .before) _ (chain-stop _ _ _ (c .before .before .entries-right .ensures .0) (c .if3 .taken))

@@ -3,9 +3,9 @@ use mathlib.Core.Path.{ap, subst, _∙_}
 use denote.Ref.{now}
 use native.Mathlib.Omega.{arith}
 use Rattle.bounded.specs.Count.{countTo}
-use Rattle.layout.specs.Sizes.{addressCount}
+use Rattle.layout.specs.Sizes.{mostBlocks}
 use Rattle.layout.specs.Inode.{inodeFree}
-use Rattle.blocks.specs.Map.{Maps}
+use Rattle.inodes.specs.Pass.{MapsOf}
 use Rattle.checker.proofs.CheckLaws.{counts-1, counts-2}
 use borrow.Author.Needs.{needs}
 use Rattle.checker.proofs.check.counts_right.Statement.{statement}
@@ -32,7 +32,7 @@ free-blocks-requires c κs = search needs
 returns-2 : tie.Need-returns-2
 returns-2 c = let p = c .before .before .before .before .before .before .before .before .pre in let a = c .before .before .before .before .before .before .before .before .args in let m = p .0 .most-blocks in
     counts-2 _ _ (c .before .before .before .before .before .read .ensures) _ (c .before .before .before .free-inodes .ensures ∙ ap (countTo (inodeFree (now (a .s)))) (p .1)) (a .b) _ (now (a .map)) (c .before .before .if1 .left)
-    (subst (λ (x : ℕ). Maps (now (a .s)) x (addressCount * x) (now (a .map))) (p .1) (p .3)) (p .2) (omega arith) (c .free-blocks .ensures)
+    (subst (λ (x : ℕ). MapsOf (now (a .s)) x (mostBlocks * x) (now (a .map))) (p .1) (p .3)) (p .2) (omega arith) (c .free-blocks .ensures)
 
 pub counts-right-spec : {M : Type 1} → statement M
 counts-right-spec =

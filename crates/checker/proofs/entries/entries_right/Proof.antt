@@ -25,7 +25,7 @@ loop-holds : tie.Need-loop-holds Inv-loop μ-loop
 loop-holds c =
     let z = c .before .before in
     let a = z .args in
-    (omega arith, all-none _, refl, refl, dirs-begin (now (a .s)) (a .n) (now (a .counts)) (z .pre .2))
+    (omega arith, all-none _, refl, refl, dirs-begin (now (a .s)) (a .n) (now (a .counts)) (z .pre .3))
 
 add-directory-right : tie.Need-add-directory-right Inv-loop μ-loop
 add-directory-right c = omega arith
@@ -40,18 +40,17 @@ directory-right-requires : tie.Need-directory-right-requires Inv-loop μ-loop
 directory-right-requires c κs =
     let l = c .before .before .before .before in
     let z = l .before .before .before in
-    let a = z .args in (
-      z .pre .1 (l .loop .k + 1) (omega arith) (omega (arith, c .before .before .before .loop-test .taken)),
-      l .loop .inv .2,
-      l .loop .inv .3,
-      dir-turn (now (a .s)) (a .n) (l .loop .counts) (l .loop .k) (l .loop .inv .4),
+    let a = z .args in
+    let o = c .before .before .before .loop-test .taken in (
+      (record { low = omega arith; high = omega arith; few = z .pre .0; area = z .pre .1 }, λ e. z .pre .2 (l .loop .k + 1) (record { low = omega arith; high = omega arith; kind = e })),
+      (l .loop .inv .2, l .loop .inv .3, dir-turn (now (a .s)) (a .n) (l .loop .counts) (l .loop .k) (l .loop .inv .4)),
     )
 
 same-length : tie.Need-same-length Inv-loop μ-loop
 same-length c =
     let y = c .before .before .before .before .before in
     let l = y .before .before .before .before .before in
-    omega (arith, y .directory-right .kept .1 .1 .1 .1 .1 .0, l .loop .inv .4 .long, ap length (l .before .before .before .pre .2) ∙ length-replicate {A = ℕ} 257 0)
+    omega (arith, y .directory-right .kept .1 .1 .1 .1 .1 .0, l .loop .inv .4 .long, ap length (l .before .before .before .pre .3) ∙ length-replicate {A = ℕ} 257 0)
 
 returns : tie.Need-returns Inv-loop μ-loop
 returns c =
@@ -79,7 +78,7 @@ loop-again c =
     )
 
 same-length-2 : tie.Need-same-length-2 Inv-loop μ-loop
-same-length-2 c = c .before .loop .inv .4 .long ∙ sym (ap length (c .before .before .before .before .pre .2) ∙ length-replicate {A = ℕ} 257 0)
+same-length-2 c = c .before .loop .inv .4 .long ∙ sym (ap length (c .before .before .before .before .pre .3) ∙ length-replicate {A = ℕ} 257 0)
 
 returns-2 : tie.Need-returns-2 Inv-loop μ-loop
 returns-2 c =

@@ -1,25 +1,23 @@
-use native.Mathlib.Omega.{arith}
-use Rattle.content.specs.Fits.{byteAt}
+use Rattle.content.proofs.ReadLaws.{fits-inode, block-some, byte-is}
 use borrow.Author.Needs.{needs}
 use Rattle.content.proofs.apply.byte_at.Statement.{statement}
 use Rattle.content.proofs.apply.byte_at.Tie as tie
 
-kth-block-requires : tie.Need-kth-block-requires
-kth-block-requires c κs = search needs
+bytes-block-requires : tie.Need-bytes-block-requires
+bytes-block-requires c κs = search needs
 
 cast-block-at : tie.Need-cast-block-at
 cast-block-at c = search needs
 
 block-at-requires : tie.Need-block-at-requires
-block-at-requires c κs = search needs
+block-at-requires c κs = let f = c .before .before .pre .0 in (fits-inode f .few, block-some _ f _ (c .bytes-block .ensures), search needs)
 
 add-result : tie.Need-add-result
 add-result c = search needs
 
 returns : tie.Need-returns
-unfolding byteAt
-returns c = let e = c .block-at .ensures in let k = c .before .kth-block .ensures in omega arith
+returns c = byte-is _ _ _ _ _ _ (c .before .bytes-block .ensures) (c .block-at .ensures)
 
 pub byte-at-spec : {M : Type 1} → statement M
 byte-at-spec =
-    tie.close (tie.spec kth-block-requires cast-block-at block-at-requires add-result returns)
+    tie.close (tie.spec bytes-block-requires cast-block-at block-at-requires add-result returns)

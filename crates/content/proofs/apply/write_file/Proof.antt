@@ -24,7 +24,7 @@ put-file-requires c κs =
     let p = c .before .before .before .before .before .before .before .pre in
     let a = c .before .before .before .before .before .before .before .args in
     let w = writes _ _ _ _ _ _ (p .1) in
-    rw (c .before .before .before .extend .ensures) (holds-fits _ _ _ _ _ (sized-holds _ _ _ _ _ (now (a .xs)) _ (p .0) w))
+    rw (c .before .before .before .extend .ensures) (holds-fits (sized-holds _ _ _ _ _ (now (a .xs)) _ (p .0) w))
 
 same-length : tie.Need-same-length
 same-length c = search needs

@@ -6,7 +6,8 @@ use borrow.Author.Tests.{not-true, not-false}
 use denote.Ref.{now}
 use Rattle.layout.specs.Inode.{isFile}
 use Rattle.changes.proofs.StoreLaws.{kind-fits, kind-size}
-use Rattle.content.proofs.SizePlanLaws.{used-more, write-wrong, write-off, write-long, write-full, write-done}
+use Rattle.ledger.proofs.BytesLaws.{used-up}
+use Rattle.content.proofs.SizePlanLaws.{write-wrong, write-off, write-long, write-full, write-done}
 use borrow.Author.Needs.{needs}
 use Rattle.content.proofs.plan.write_plan.Statement.{statement}
 use Rattle.content.proofs.plan.write_plan.Tie as tie
@@ -15,7 +16,7 @@ use Rattle.content.proofs.plan.write_plan.Tie as tie
 is-file : (c : tie.Else1) → let a = c .before .before .before .args in isFile (now (a .s)) (a .n) (a .i) ≡ true
 is-file c = sym (c .before .is-kind .ensures) ∙ not-false _ (c .if1 .left)
 
-few : (c : tie.After-size) → c .size .result ≤ 768
+few : (c : tie.After-size) → c .size .result ≤ 2752
 few c =
     let p = c .before .before .before .before .pre in
     let w = kind-size p _ _ (is-file (c .before)) in
@@ -64,7 +65,7 @@ blocks-used-requires-2 c κs = search needs
 sub-if4 : tie.Need-sub-if4
 sub-if4 c =
     let a = c .before .before .before .before .greater .ensures in
-    let m = used-more (c .before .before .before .before .before .before .before .size .result) (c .before .before .before .before .greater .result) (omega arith) in
+    let m = used-up (c .before .before .before .before .before .before .before .size .result) (c .before .before .before .before .greater .result) (omega arith) in
     let u = c .before .blocks-used .ensures in
     let v = c .blocks-used2 .ensures in
     omega arith

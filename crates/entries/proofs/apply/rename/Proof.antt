@@ -7,7 +7,7 @@ cast-put-entry : tie.Need-cast-put-entry
 cast-put-entry c = search needs
 
 put-entry-requires : tie.Need-put-entry-requires
-put-entry-requires c κs = let p = c .before .before .before .pre in (kind-dir (p .0) _ _ (p .1), p .2, p .4)
+put-entry-requires c κs = let p = c .before .before .before .pre in (kind-dir (p .0) _ (p .1), p .2, p .4)
 
 same-length : tie.Need-same-length
 same-length c = search needs

@@ -9,7 +9,7 @@ use Rattle.entries.proofs.apply.unlink.Statement.{statement}
 use Rattle.entries.proofs.apply.unlink.Tie as tie
 
 clear-entry-requires : tie.Need-clear-entry-requires
-clear-entry-requires c κs = let p = c .before .before .pre in (kind-dir (p .0) _ _ (p .1), p .2)
+clear-entry-requires c κs = let p = c .before .before .pre in (kind-dir (p .0) _ (p .1), p .2)
 
 drop-link-requires : tie.Need-drop-link-requires
 drop-link-requires c κs = let p = c .before .before .before .before .before .before .pre in let z = cleared (p .0) _ _ (p .1) (p .2) _ (c .before .before .before .clear-entry .ensures) _ (p .3) (p .4) in (z .inode, z .inodes, z .blocks)

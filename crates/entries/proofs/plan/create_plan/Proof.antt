@@ -36,7 +36,7 @@ returns-2 : tie.Need-returns-2
 returns-2 c = create-wrong _ _ _ _ _ (is-legal (c .before .before)) (chain-off _ _ (c .before .is-kind .ensures) (c .if2 .taken))
 
 find-slot-requires : tie.Need-find-slot-requires
-find-slot-requires c κs = let p = c .before .before .before .before .before .before .pre in (kind-dir p _ _ (is-dir c), legal-bounds _ (is-legal (c .before .before)) .1)
+find-slot-requires c κs = let p = c .before .before .before .before .before .before .pre in (kind-dir p _ (is-dir c), legal-bounds _ (is-legal (c .before .before)) .1)
 
 enum-told : tie.Need-enum-told
 enum-told c = search needs

@@ -45,7 +45,7 @@ returns-3 : tie.Need-returns-3
 returns-3 c = link-other _ _ _ _ _ _ (is-legal (c .before .before .before .before)) (is-dir (c .before .before)) (chain-off _ _ (c .before .is-kind2 .ensures) (c .if3 .taken))
 
 find-slot-requires : tie.Need-find-slot-requires
-find-slot-requires c κs = let p = c .before .before .before .before .before .before .before .before .pre in (kind-dir p _ _ (is-dir (c .before .before)), legal-bounds _ (is-legal (c .before .before .before .before)) .1)
+find-slot-requires c κs = let p = c .before .before .before .before .before .before .before .before .pre in (kind-dir p _ (is-dir (c .before .before)), legal-bounds _ (is-legal (c .before .before .before .before)) .1)
 
 enum-told : tie.Need-enum-told
 enum-told c = search needs

@@ -37,7 +37,7 @@ returns-2 : tie.Need-returns-2
 returns-2 c = look-wrong _ _ _ _ (passed (c .before .before)) (sym (c .before .is-kind .ensures) ∙ not-true _ (c .if2 .taken))
 
 find-slot-requires : tie.Need-find-slot-requires
-find-slot-requires c κs = let s = c .before .before .before .before .before .before in (kind-dir (s .pre) _ _ (is-directory c), legal-bounds _ (passed (c .before .before)) .1)
+find-slot-requires c κs = let s = c .before .before .before .before .before .before in (kind-dir (s .pre) _ (is-directory c), legal-bounds _ (passed (c .before .before)) .1)
 
 enum-known-t : tie.Need-enum-known-t
 enum-known-t c = search needs
@@ -49,7 +49,7 @@ returns-3 : tie.Need-returns-3
 returns-3 c = look-absent _ _ _ _ (passed (c .before .before .before .before .before)) (is-directory (c .before .before .before)) (sym (c .before .before .find-slot .ensures) ∙ c .enum-told .given .1)
 
 slot-inode-requires : tie.Need-slot-inode-requires
-slot-inode-requires c κs = let s = c .before .before .before .before .before .before .before .before .before .before in (kind-dir (s .pre) _ _ (is-directory (c .before .before .before .before)), find-below _ _ _ _ _ (found c))
+slot-inode-requires c κs = let s = c .before .before .before .before .before .before .before .before .before .before in (kind-dir (s .pre) _ (is-directory (c .before .before .before .before)), find-below _ _ _ _ _ (found c))
 
 cast-t13 : tie.Need-cast-t13
 cast-t13 c = search needs

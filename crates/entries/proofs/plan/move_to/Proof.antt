@@ -12,7 +12,7 @@ not-there : (c : tie.After-enum-told) → findSlot (now (c .before .before .befo
 not-there c = sym (c .before .before .find-slot .ensures) ∙ c .enum-told .given .1
 
 find-slot-requires : tie.Need-find-slot-requires
-find-slot-requires c κs = let p = c .before .before .pre in (kind-dir (p .0) _ _ (p .1), p .2)
+find-slot-requires c κs = let p = c .before .before .pre in (kind-dir (p .0) _ (p .1), p .2)
 
 enum-told : tie.Need-enum-told
 enum-told c = search needs

@@ -57,7 +57,7 @@ returns-4 : tie.Need-returns-4
 returns-4 c = rename-wrong-new _ _ _ _ _ _ _ (is-legal (c .before .before .before .before .before .before)) (is-legal-new (c .before .before .before .before)) (is-dir (c .before .before)) (chain-off _ _ (c .before .is-kind2 .ensures) (c .if4 .taken))
 
 find-slot-requires : tie.Need-find-slot-requires
-find-slot-requires c κs = let p = c .before .before .before .before .before .before .before .before .before .before .before .pre in (kind-dir p _ _ (is-dir (c .before .before)), legal-bounds _ (is-legal (c .before .before .before .before .before .before)) .1)
+find-slot-requires c κs = let p = c .before .before .before .before .before .before .before .before .before .before .before .pre in (kind-dir p _ (is-dir (c .before .before)), legal-bounds _ (is-legal (c .before .before .before .before .before .before)) .1)
 
 enum-known-t : tie.Need-enum-known-t
 enum-known-t c = search needs
@@ -69,7 +69,7 @@ returns-5 : tie.Need-returns-5
 returns-5 c = rename-absent _ _ _ _ _ _ _ (is-legal (c .before .before .before .before .before .before .before .before .before)) (is-legal-new (c .before .before .before .before .before .before .before)) (is-dir (c .before .before .before .before .before)) (is-dir-new (c .before .before .before)) (sym (c .before .before .find-slot .ensures) ∙ c .enum-told .given .1)
 
 slot-inode-requires : tie.Need-slot-inode-requires
-slot-inode-requires c κs = let p = c .before .before .before .before .before .before .before .before .before .before .before .before .before .before .before .pre in (kind-dir p _ _ (is-dir (c .before .before .before .before .before .before)), find-below _ _ _ _ _ (is-at c))
+slot-inode-requires c κs = let p = c .before .before .before .before .before .before .before .before .before .before .before .before .before .before .before .pre in (kind-dir p _ (is-dir (c .before .before .before .before .before .before)), find-below _ _ _ _ _ (is-at c))
 
 cast-i : tie.Need-cast-i
 cast-i c = search needs
@@ -77,7 +77,7 @@ cast-i c = search needs
 rename-within-requires : tie.Need-rename-within-requires
 rename-within-requires c κs =
     let p = c .before .before .before .before .before .before .before .before .before .before .before .before .before .before .before .before .before .pre in
-    (kind-dir p _ _ (is-dir-new (c .before .before .before .before .before .before)), legal-bounds _ (is-legal-new (c .before .before .before .before .before .before .before .before .before .before)) .1)
+    (kind-dir p _ (is-dir-new (c .before .before .before .before .before .before)), legal-bounds _ (is-legal-new (c .before .before .before .before .before .before .before .before .before .before)) .1)
 
 returns-6 : tie.Need-returns-6
 returns-6 c =

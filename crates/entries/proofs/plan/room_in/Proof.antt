@@ -1,11 +1,10 @@
 use mathlib.Core.Path.{_≡_, sym, _∙_}
-use native.Mathlib.Omega.{arith}
 use denote.Ref.{now}
 use Rattle.bounded.specs.declared.Found.the-variants.{Absent}
-use Rattle.layout.specs.Inode.{directoryKind}
 use Rattle.directory.specs.Slot.{emptySlot}
 use Rattle.directory.specs.Fits.{DirFits}
-use Rattle.changes.proofs.StoreLaws.{kind-dir, addresses-most}
+use Rattle.changes.proofs.StoreLaws.{sized-at, kind-dir}
+use Rattle.content.proofs.TakeLaws.{rows-fit, lowest-own}
 use Rattle.entries.proofs.EntryPlanLaws.{room-empty, room-none, room-blockless, room-more}
 use borrow.Author.Needs.{needs}
 use Rattle.entries.proofs.plan.room_in.Statement.{statement}
@@ -13,7 +12,7 @@ use Rattle.entries.proofs.plan.room_in.Tie as tie
 
 -- the directory fits
 fits : (c : tie.Start) → DirFits (now (c .args .s)) (c .args .n) (c .args .d)
-fits c = kind-dir (c .pre .0) directoryKind (c .args .d) (c .pre .1)
+fits c = kind-dir (c .pre .0) (c .args .d) (c .pre .1)
 
 -- no slot is empty
 full : (c : tie.After-enum-told) → emptySlot (now (c .before .before .before .before .args .s)) (c .before .before .before .before .args .n) (c .before .before .before .before .args .d) ≡ Absent
@@ -38,15 +37,7 @@ returns-2 : tie.Need-returns-2
 returns-2 c = room-none _ _ _ _ _ (full (c .before .before)) (c .before .slot-count .ensures .0) (c .if1 .taken)
 
 free-block-requires : tie.Need-free-block-requires
-free-block-requires c κs =
-    let p = c .before .before .before .before .before .before .pre in
-    let e = p .0 .inodes in
-    let q = p .0 .blocks in
-    let f = p .0 .sound .framed in
-    let i = f .most-inodes in
-    let m = f .most-blocks in
-    let l = f .long in
-    ((omega arith, omega arith, omega arith), addresses-most (p .0))
+free-block-requires c κs = let p = c .before .before .before .before .before .before .pre in (rows-fit (p .0), sized-at (p .0) .blocks)
 
 enum-known-c : tie.Need-enum-known-c
 enum-known-c c = search needs
@@ -55,10 +46,10 @@ enum-told-2 : tie.Need-enum-told-2
 enum-told-2 c = search needs
 
 returns-3 : tie.Need-returns-3
-returns-3 c = room-blockless _ _ _ _ _ (full (c .before .before .before .before .before)) (c .before .before .before .before .slot-count .ensures .0) (c .before .before .before .if1 .left) (sym (c .before .before .free-block .ensures) ∙ c .enum-told2 .given .1)
+returns-3 c = room-blockless _ _ _ _ _ (full (c .before .before .before .before .before)) (c .before .before .before .before .slot-count .ensures .0) (c .before .before .before .if1 .left) (sym (lowest-own _ _ _) ∙ sym (c .before .before .free-block .ensures) ∙ c .enum-told2 .given .1)
 
 returns-4 : tie.Need-returns-4
-returns-4 c = room-more _ _ _ _ _ (full (c .before .before .before .before .before .before)) (c .before .before .before .before .before .slot-count .ensures .0) _ (c .before .before .before .before .if1 .left) (sym (c .before .before .before .free-block .ensures) ∙ c .before .c .given .1)
+returns-4 c = room-more _ _ _ _ _ (full (c .before .before .before .before .before .before)) (c .before .before .before .before .before .slot-count .ensures .0) _ (c .before .before .before .before .if1 .left) (sym (lowest-own _ _ _) ∙ sym (c .before .before .before .free-block .ensures) ∙ c .before .c .given .1)
 
 pub room-in-spec : {M : Type 1} → statement M
 room-in-spec =

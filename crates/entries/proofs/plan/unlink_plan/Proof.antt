@@ -53,7 +53,7 @@ returns-2 : tie.Need-returns-2
 returns-2 c = unlink-wrong _ _ _ _ (is-legal (c .before .before)) (chain-off _ _ (c .before .is-kind .ensures) (c .if2 .taken))
 
 find-slot-requires : tie.Need-find-slot-requires
-find-slot-requires c κs = let p = c .before .before .before .before .before .before .pre in (kind-dir p _ _ (is-dir c), legal-bounds _ (is-legal (c .before .before)) .1)
+find-slot-requires c κs = let p = c .before .before .before .before .before .before .pre in (kind-dir p _ (is-dir c), legal-bounds _ (is-legal (c .before .before)) .1)
 
 enum-known-t : tie.Need-enum-known-t
 enum-known-t c = search needs
@@ -65,7 +65,7 @@ returns-3 : tie.Need-returns-3
 returns-3 c = unlink-absent _ _ _ _ (is-legal (c .before .before .before .before .before)) (is-dir (c .before .before .before)) (sym (c .before .before .find-slot .ensures) ∙ c .enum-told .given .1)
 
 slot-inode-requires : tie.Need-slot-inode-requires
-slot-inode-requires c κs = let p = c .before .before .before .before .before .before .before .before .before .before .pre in (kind-dir p _ _ (is-dir (c .before .before .before .before)), find-below _ _ _ _ _ (is-at c))
+slot-inode-requires c κs = let p = c .before .before .before .before .before .before .before .before .before .before .pre in (kind-dir p _ (is-dir (c .before .before .before .before)), find-below _ _ _ _ _ (is-at c))
 
 cast-i : tie.Need-cast-i
 cast-i c = search needs
@@ -74,7 +74,7 @@ kind-requires : tie.Need-kind-requires
 kind-requires c κs = let p = c .before .before .before .before .before .before .before .before .before .before .before .pre in fits p _ (some c) (most c)
 
 holds-none-requires : tie.Need-holds-none-requires
-holds-none-requires c κs = let p = c .before .before .before .before .before .before .before .before .before .before .before .before .before .pre in dir-of p _ (some (c .before .before)) (most (c .before .before))
+holds-none-requires c κs = let p = c .before .before .before .before .before .before .before .before .before .before .before .before .before .pre in dir-of p _ (record { low = some (c .before .before); high = most (c .before .before); kind = sym (c .before .kind .ensures) ∙ c .if3 .taken })
 
 returns-4 : tie.Need-returns-4
 returns-4 c = unlink-full _ _ _ _ (is-legal (c .before .before .before .before .before .before .before .before .before .before .before)) (is-dir (c .before .before .before .before .before .before .before .before .before)) _ _ (is-at (c .before .before .before .before .before)) (c .before .before .before .before .slot-inode .ensures) (sym (c .before .before .before .kind .ensures) ∙ c .before .before .if3 .taken) (chain-off _ _ (c .before .holds-none .ensures) (c .if4 .taken))

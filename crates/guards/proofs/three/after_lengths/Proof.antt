@@ -26,7 +26,12 @@ returns : tie.Need-returns
 returns c = after-unsound _ _ _ (chain-off _ _ (sound-on _ _ _ (and-left _ _ (c .before .before .before .before .before .before .before .before .pre)) (c .before .body-right .ensures)) (c .if1 .taken))
 
 notes-fit-requires : tie.Need-notes-fit-requires
-notes-fit-requires c κs = let b = c .before .before .before .before .before .before .before .before in and-right (framedB Store (b .args .store .now)) _ (b .pre)
+notes-fit-requires c κs =
+    let b = c .before .before .before .before .before .before .before .before in
+    let f = framed-on Store _ (and-left _ _ (b .pre)) in
+    let l = f .long in
+    let e = ap (λ (h : Header). h .inodes) (c .before .before .before .before .read .ensures) in
+    (and-right (framedB Store (b .args .store .now)) _ (b .pre), omega arith)
 
 returns-2 : tie.Need-returns-2
 returns-2 c =

@@ -4,10 +4,10 @@ use Rattle.judge.proofs.copy.alike.Statement.{statement}
 use Rattle.judge.proofs.copy.alike.Tie as tie
 
 abbrev Inv-loop : tie.InvT-loop
-Inv-loop s copy n i k₀ k = k ≤ 12
+Inv-loop s copy n i p₀ p = p ≤ 43
 
 abbrev μ-loop : tie.MeasureT-loop
-μ-loop s copy n i k₀ k = 12 - k
+μ-loop s copy n i p₀ p = 43 - p
 
 kind-requires : tie.Need-kind-requires Inv-loop μ-loop
 kind-requires c κs = search needs
@@ -42,8 +42,8 @@ block-alike-requires c κs = search needs
 returns-4 : tie.Need-returns-4 Inv-loop μ-loop
 returns-4 c = search needs
 
-add-k : tie.Need-add-k Inv-loop μ-loop
-add-k c = search needs
+add-p : tie.Need-add-p Inv-loop μ-loop
+add-p c = search needs
 
 loop-less : tie.Need-loop-less Inv-loop μ-loop
 loop-less c = search needs
@@ -71,7 +71,7 @@ alike-spec =
     loop-holds
     block-alike-requires
     returns-4
-    add-k
+    add-p
     loop-less
     loop-again
     returns-5)

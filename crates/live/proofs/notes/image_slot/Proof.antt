@@ -1,8 +1,8 @@
 use Prim.Native.Nat.{_/_}
 use native.Mathlib.Omega.{arith}
-use Rattle.blocks.specs.Block.{kthBlock}
-use Rattle.layout.specs.Inode.{addressIndex}
+use denote.Ref.{now}
 use Rattle.directory.specs.Slot.{slotAt}
+use Rattle.tallies.proofs.NameLaws.{block-inside}
 use borrow.Author.Needs.{needs}
 use Rattle.live.proofs.notes.image_slot.Statement.{statement}
 use Rattle.live.proofs.notes.image_slot.Tie as tie
@@ -23,13 +23,13 @@ add-result : tie.Need-add-result
 add-result c = search needs
 
 returns : tie.Need-returns
-unfolding slotAt kthBlock
+unfolding slotAt
 returns c =
     let a = c .before .before .before .args in
     let p = c .before .before .before .pre in
     let k = c .before .kth-block .ensures in
     let e = c .block-at .ensures in
-    let i = p .0 .inside (addressIndex (a .e) (a .t / 4)) (omega arith) in
+    let i = block-inside (now (a .m)) (a .n) (a .e) (a .t / 4) (p .0) (p .1) (p .2) (omega arith) .0 in
     (omega arith, omega arith)
 
 pub image-slot-spec : {M : Type 1} → statement M
