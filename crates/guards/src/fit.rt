@@ -183,7 +183,7 @@ fn largest_further(m: &[u8], n: usize, a: usize) -> u16
 }
 
 // None in the address block of inode i, if it has one, is above b; its own number is known not to be. Inode l has one as told by long.
-fn further_fit_of(m: &[u8], n: usize, b: usize, l: usize, long: bool, i: usize) -> bool
+pub fn further_fit_of(m: &[u8], n: usize, b: usize, l: usize, long: bool, i: usize) -> bool
     requires { ⌜ Sized (now m) n b × (1 ≤ i) × (i ≤ n) × (addressBlock (now m) n i ≤ b) ⌝ }
     ensures { λ r. ⌜ r ≡ furtherRightOf (longBut (now (m .entry)) l long i) (now (m .entry)) n b i ⌝ }
 {
@@ -222,7 +222,7 @@ fn addresses_fit(m: &[u8], n: usize, b: usize, l: usize, long: bool) -> bool
 }
 
 // The locked inode l is to have an address block: by the store, since its size in the image is not yet written.
-fn locked_long(s: &[u8], n: usize, l: usize) -> bool
+pub fn locked_long(s: &[u8], n: usize, l: usize) -> bool
     requires { ⌜ (n ≤ mostInodes) × (headerBytes + inodeBytes * n ≤ length (now s)) × (l ≤ n) ⌝ }
     ensures { λ r. ⌜ r ≡ lockedLong (now (s .entry)) l ⌝ }
 {

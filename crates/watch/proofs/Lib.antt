@@ -1,5 +1,6 @@
 pub mod ReturnLaws
 pub mod OutLaws
+pub mod SinglesLaws
 pub mod MadeLaws
 pub mod Claim
 pub mod AnswerLaws
