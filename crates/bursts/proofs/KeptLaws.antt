@@ -20,9 +20,9 @@ use Rattle.blocks.specs.Fits.{RowsFit}
 use Rattle.blocks.specs.Map.{lacks, Maps}
 use Rattle.blocks.proofs.KthLaws.{kth-direct, kth-further, few-alike}
 use Rattle.blocks.proofs.MapLaws.{map-free}
-use Rattle.blocks.proofs.LongLaws.{but-here, but-else}
+use Rattle.blocks.proofs.LongLaws.{but-else}
 use Rattle.checkpoint.specs.Copier.{targetBlock}
-use Rattle.guards.specs.Fit.{furtherRightOf, lockedLong}
+use Rattle.guards.specs.Fit.{lockedLong}
 use Rattle.guards.proofs.FitLaws.{told}
 use Rattle.transfer.proofs.NamedLaws.{target-own, target-other}
 
@@ -95,6 +95,3 @@ module _ (s m : List ℕ) (n i : ℕ) where
       go : (x : ℕ) → Dec (x / 44 + 1 ≡ i) → kthBy (longBut m i (isLong s i) (x / 44 + 1)) m n (x / 44 + 1) (x % 44) ≡ kthBy (isLong m (x / 44 + 1)) m n (x / 44 + 1) (x % 44)
       go x (yes e) = few-alike m n (x / 44 + 1) (x % 44) (longBut m i (isLong s i) (x / 44 + 1)) (isLong m (x / 44 + 1)) (ap (addressBlock m n) e ∙ z) (omega arith)
       go x (no e) = ap (λ (y : Bool). kthBy y m n (x / 44 + 1) (x % 44)) (but-else m i (isLong s i) (x / 44 + 1) e)
-
-  pub further-own : (b : ℕ) (x : Bool) → x ≡ isLong s i → (r : Bool) → r ≡ furtherRightOf (longBut m i x i) m n b i → r ≡ furtherRightOf (isLong s i) m n b i
-  further-own b x e r g = g ∙ ap (λ (y : Bool). furtherRightOf y m n b i) (but-here m i x i refl ∙ e)

@@ -188,15 +188,27 @@ fn next_lock(d: &[u8], n: usize, counts: &[u16; INODE_PLACES]) -> Found
     tallies::lowest_named(counts, d, n)
 }
 
+// None of the addresses that the image has for inode i, by its address block a, is above b; they count if it is long in the store.
+fn further_fit(s: &[u8], m: &[u8], n: usize, b: usize, i: usize, a: usize) -> bool
+    requires { ⌜ InodeFits (now s) n i × Sized (now m) n b × (a ≡ addressBlock (now m) n i) × (1 ≤ a) × (a ≤ b) ⌝ }
+    ensures { λ r. ⌜ r ≡ furtherRightOf (isLong (now (s .entry)) i) (now (m .entry)) n b i ⌝ }
+{
+    if !blocks::is_long(s, n, i) {
+        return true;
+    }
+    fit::largest_further(m, n, a) as usize <= b
+}
+
 // Inode i is to be locked: 3 stays away, by the 32 addresses that count from then on if it is long in the store. In a run its twelfth image address is 0, and there are none.
 fn may_hold(s: &[u8], m: &[u8], n: usize, b: usize, i: usize, map: &mut [u8; BLOCK_PLACES]) -> bool
     requires { ⌜ InodeFits (now s) n i × Sized (now m) n b × (addressBlock (now m) n i ≤ b) × (furtherRightOf (isLong (now s) i) (now m) n b i ≡ true → RowsFit (longBut (now m) i (isLong (now s) i)) (now m) n) ⌝ }
     ensures { λ r. ⌜ (r ≡ furtherRightOf (isLong (now (s .entry)) i) (now (m .entry)) n b i) × (r ≡ true → Maps (isLong (now (m .entry))) (now (m .entry)) n (mostBlocks * n) (now (map .entry)) → Maps (longBut (now (m .entry)) i (isLong (now (s .entry)) i)) (now (m .entry)) n (mostBlocks * n) (now (map .exit))) ⌝ }
 {
-    if blocks::kth_block(m, n, i, ADDRESS_PLACE) == 0 {
+    let a = blocks::kth_block(m, n, i, ADDRESS_PLACE) as usize;
+    if a < 1 {
         return true;
     }
-    if !fit::further_fit_of(m, n, b, i, blocks::is_long(s, n, i), i) {
+    if !further_fit(s, m, n, b, i, a) {
         return false;
     }
     *map = map_of(s, m, n, i);
