@@ -55,12 +55,12 @@ extern "C" {
 #define HONECERISE_MAX_NAME        14u /* bytes of a name: 1 to 14, none 0 or '/', not . or ..  */
 #define HONECERISE_MAX_FILE      2752u /* bytes of a file                                       */
 #define HONECERISE_MAX_SLOTS       48u /* entries of a directory                                */
+#define HONECERISE_MOST_BURST      64u /* steps of a burst: 1 to 64                             */
 
 /*
- * The deepest stack of any call, below its caller's frame, with room to spare. By the frames in the
- * disassembly along the deepest path of calls, step takes about 10,600 bytes, write 10,000 and every
- * other call less than 6,000; memset, memcpy and strlen come on top. bindings/c/stack.c paints a
- * stack, makes all calls on it and looks how far they came.
+ * The deepest stack of any call, below its caller's frame, with room to spare: burst takes about
+ * 10,700 bytes, step 10,500, write 10,200 and every other call less than 6,000 (bindings/c/stack.c
+ * paints a stack, makes all calls on it and looks how far they came).
  */
 #define HONECERISE_STACK        12288u
 
@@ -80,8 +80,8 @@ extern "C" {
 #define HONECERISE_MOST_STEPS(inodes)           (46u * (inodes) + 1u)
 
 /* ---- refusals, by who causes them ----------------------------------------------------------
- * Where several apply, the lowest is answered. A call answers one when, and only when, its
- * condition holds for that call. */
+ * Where several apply, the lowest is answered, save that 17 is looked at right after 1. A call
+ * answers one when, and only when, its condition holds for that call. */
 
 enum honecerise_refusal {
     /* whoever wires the buffers */
@@ -112,8 +112,9 @@ enum honecerise_refusal {
                                       create, link, unlink or rename in a locked directory; a link to,
                                       unlink or move of the locked inode: step, and try again         */
     HONECERISE_WRONG_STATE   = 15, /* a start while a copy runs, or a step while none does            */
-    HONECERISE_IMAGE_FULL    = 16  /* a step had a block to copy and no image block for it: the copy
+    HONECERISE_IMAGE_FULL    = 16, /* a step had a block to copy and no image block for it: the copy
                                       is stopped, and what was locked is free again                   */
+    HONECERISE_BAD_COUNT     = 17  /* a burst of no steps, or of more than 64                         */
 };
 
 /* ---- laying out ----------------------------------------------------------------------------
@@ -195,7 +196,8 @@ int32_t honecerise_rename(uint8_t *store, size_t store_length,
 
 /* ---- the copier ----------------------------------------------------------------------------
  * Start once, then step until the state is finished, with any calls in between: a step is short,
- * and copies one block at most. All refuse with 1, 2 and 3. */
+ * and copies one block at most. A burst is up to 64 steps in one call, which examines its buffers
+ * once. All refuse with 1, 2 and 3. */
 
 enum honecerise_copy_state {
     HONECERISE_IDLE     = 0, /* no copy since the desk was laid out        */
@@ -214,6 +216,15 @@ int32_t honecerise_start(const uint8_t *store, size_t store_length,
 int32_t honecerise_step(const uint8_t *store, size_t store_length,
                         uint8_t *image, size_t image_length,
                         uint8_t *desk, size_t desk_length);
+
+/* Does what so many single steps would, 1 to HONECERISE_MOST_BURST, and answers how many of this call
+ * were accepted. It ends early when the copy finishes or a step is refused: if that is the first, its
+ * refusal is the answer; a later one only cuts the count short, and after 16 the copy is stopped.
+ * 15, 16, 17. */
+int32_t honecerise_burst(const uint8_t *store, size_t store_length,
+                         uint8_t *image, size_t image_length,
+                         uint8_t *desk, size_t desk_length,
+                         size_t count);
 
 /* Puts the state (enum honecerise_copy_state), the locked inode (0: none) and the accepted steps
  * since the latest start through the three pointers, which are three different ones, and answers

@@ -1,28 +1,57 @@
-//! Whole copies, start to finish and step by step, of an empty, a typical and a full store and one of long files: proved and plain,
-//! beside the checks that their calls must make, a copy of the store's bytes and the zeroing of the image.
+//! Whole copies, start to finish, by single steps and by bursts, of an empty, a typical and a full store and one of long files:
+//! proved and plain, beside the checks that their calls must make, a copy of the store's bytes and the zeroing of the image.
 use crate::scenes;
-use crate::timing::{each, shown, TO_CHECKS, TO_RUST};
+use crate::timing::{each, shown, BURSTS_TO_CHECKS, TO_CHECKS, TO_RUST};
 use bench::proved::Proved;
 use bench::side::{Answer, Buffers, Plain, Side};
 use std::hint::black_box;
 
-/// A start and steps until the image is complete; every answer is kept.
-fn copy<S: Side>(w: &mut Buffers, answers: &mut Vec<Answer>) {
+/// How a copy is gone on with.
+#[derive(Clone, Copy, PartialEq)]
+enum By {
+    Steps,
+    Bursts(usize),
+}
+
+/// The ways that are timed; a burst of one step stands beside a step.
+const WAYS: [(By, &str); 3] = [(By::Steps, "steps"), (By::Bursts(64), "64s"), (By::Bursts(1), "1s")];
+
+impl By {
+    fn go_on<S: Side>(self, w: &mut Buffers) -> Answer {
+        match self {
+            By::Steps => S::step(w),
+            By::Bursts(count) => S::burst(w, count),
+        }
+    }
+
+    /// The goal for the ratio to the checks; bursts of one step have none.
+    fn to_checks(self) -> f64 {
+        match self {
+            By::Steps => TO_CHECKS,
+            By::Bursts(64) => BURSTS_TO_CHECKS,
+            By::Bursts(_) => f64::MAX,
+        }
+    }
+}
+
+/// A start, and further calls until the image is complete; every answer is kept.
+fn copy<S: Side>(by: By, w: &mut Buffers, answers: &mut Vec<Answer>) {
     answers.clear();
     answers.push(S::start(w));
     while w.image[8] == 0 && answers.last().is_some_and(|a| a.is_ok()) {
-        answers.push(S::step(w));
+        answers.push(by.go_on::<S>(w));
     }
 }
 
 /// What a copy answers and leaves.
 struct Copied {
+    by: By,
     answers: Vec<Answer>,
     w: Buffers,
 }
 
 /// The same call by call on both sides, with answers, states and buffers compared after each.
-fn compare(start: &Buffers, name: &str) -> Copied {
+fn compare(by: By, start: &Buffers, name: &str) -> Copied {
     let (mut a, mut b) = (start.clone(), start.clone());
     let mut answers = vec![];
     let mut next = (Proved::start(&mut a), Plain::start(&mut b));
@@ -35,10 +64,10 @@ fn compare(start: &Buffers, name: &str) -> Copied {
         if a.image[8] == 1 {
             break;
         }
-        next = (Proved::step(&mut a), Plain::step(&mut b));
+        next = (by.go_on::<Proved>(&mut a), by.go_on::<Plain>(&mut b));
     }
     assert!(Proved::check(&a.image, true) && Plain::check(&a.image, true), "{name}: the finished image");
-    Copied { answers, w: a }
+    Copied { by, answers, w: a }
 }
 
 struct Least {
@@ -51,7 +80,7 @@ struct Least {
 
 /// One side's copy, which must be the expected one; its time.
 fn timed<S: Side>(w: &mut Buffers, answers: &mut Vec<Answer>, expected: &Copied) -> f64 {
-    let time = each(1, || copy::<S>(black_box(w), answers));
+    let time = each(1, || copy::<S>(expected.by, black_box(w), answers));
     assert!(*answers == expected.answers && *w == expected.w, "a {} copy differs", S::NAME);
     time
 }
@@ -78,23 +107,51 @@ fn time(expected: &Copied, rounds: usize) -> Least {
     t
 }
 
-/// The table of copies; the largest ratio to Rust, and to the checks.
-pub fn run() -> (f64, f64) {
+/// The largest ratio to Rust, and to the checks by single steps and by bursts of 64.
+#[derive(Default)]
+pub struct Worst {
+    pub plain: f64,
+    pub checks: f64,
+    pub burst_checks: f64,
+}
+
+impl Worst {
+    fn note(&mut self, by: By, to_plain: f64, to_checks: f64) {
+        self.plain = self.plain.max(to_plain);
+        match by {
+            By::Steps => self.checks = self.checks.max(to_checks),
+            By::Bursts(64) => self.burst_checks = self.burst_checks.max(to_checks),
+            By::Bursts(_) => {}
+        }
+    }
+}
+
+/// The table of copies.
+pub fn run() -> Worst {
     println!(
-        "\n{:<14} {:>6} {:>11} {:>11} {:>8} {:>11} {:>10} {:>10} {:>9} {:>12}",
-        "copy of", "calls", "proved ns", "Rust ns", "ratio", "checks ns", "to checks", "memcpy ns", "to memcpy", "zero image"
+        "\n{:<14} {:>6} {:>6} {:>11} {:>11} {:>8} {:>11} {:>10} {:>9} {:>10} {:>9} {:>12}",
+        "copy of", "by", "calls", "proved ns", "Rust ns", "ratio", "checks ns", "to checks", "of steps", "memcpy ns", "to memcpy", "zero image"
     );
-    let mut worst = (0.0f64, 0.0f64);
+    let mut worst = Worst::default();
     let cases = [("an empty", scenes::empty(), 1000), ("a typical", scenes::typical(), 200), ("a full store", scenes::full(), 40), ("long files", scenes::long(), 40)];
-    for (name, start, rounds) in cases {
-        let expected = compare(&start, name);
-        let (calls, t) = (expected.answers.len(), time(&expected, rounds));
-        let (to_plain, to_checks) = (t.proved / t.plain, t.proved / t.checks);
-        println!(
-            "{:<14} {:>6} {:>11.0} {:>11.0} {:>8} {:>11.0} {:>10} {:>10.0} {:>9.1} {:>12.0}",
-            name, calls, t.proved, t.plain, shown(to_plain, TO_RUST), t.checks, shown(to_checks, TO_CHECKS), t.bytes, t.proved / t.bytes, t.zeros
-        );
-        worst = (worst.0.max(to_plain), worst.1.max(to_checks));
+    for (name, start, rounds) in &cases {
+        // the time by single steps, which come first
+        let mut by_steps = 0.0;
+        for (by, way) in WAYS {
+            let expected = compare(by, start, name);
+            let rounds = if by == By::Bursts(64) { 5 * rounds } else { *rounds };
+            let (calls, t) = (expected.answers.len(), time(&expected, rounds));
+            let (to_plain, to_checks) = (t.proved / t.plain, t.proved / t.checks);
+            if by == By::Steps {
+                by_steps = t.proved;
+            }
+            let of_steps = format!("1/{:.1}", by_steps / t.proved);
+            println!(
+                "{:<14} {:>6} {:>6} {:>11.0} {:>11.0} {:>8} {:>11.0} {:>10} {:>9} {:>10.0} {:>9.1} {:>12.0}",
+                name, way, calls, t.proved, t.plain, shown(to_plain, TO_RUST), t.checks, shown(to_checks, by.to_checks()), of_steps, t.bytes, t.proved / t.bytes, t.zeros
+            );
+            worst.note(by, to_plain, to_checks);
+        }
     }
     worst
 }

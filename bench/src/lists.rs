@@ -26,7 +26,7 @@ impl Call {
     fn any(r: &mut Random, n: usize) -> Call {
         let length = [r.next(5), r.next(70), r.next(780), r.next(2760)][r.next(4)];
         Call {
-            kind: r.next(19),
+            kind: r.next(21),
             numbers: [[1, r.next(n + 2)][r.next(2)], [0, r.next(65), r.next(780), r.next(2760), usize::MAX][r.next(5)], r.next(n + 2)],
             names: [any_name(r), any_name(r)],
             bytes: (0..length).map(|k| (k + 1) as u8).collect(),
@@ -49,6 +49,8 @@ impl Call {
             12 | 13 => S::rename(w, x, name, z, other),
             14 => S::start(w),
             15 => return S::state(w).map_or_else(|no| (no, [0; 3], out), |(a, b, c)| (0, [a as usize, b as usize, c as usize], vec![])),
+            16 => S::burst(w, z),
+            17 => S::burst(w, [0, 1, 2, 63, 64, 65, usize::MAX][y % 7]),
             _ => S::step(w),
         };
         (answer.err().unwrap_or(0), [answer.unwrap_or(0), 0, 0], out)
@@ -79,7 +81,7 @@ fn mend(w: &mut Buffers, (which, o, old): (usize, usize, u8)) {
 }
 
 /// One list; how often each refusal came, and at 0 how many calls were accepted.
-fn list(r: &mut Random, tally: &mut [usize; 17]) {
+fn list(r: &mut Random, tally: &mut [usize; 18]) {
     // few blocks, or room for some long files
     let (n, b, image) = (1 + r.next(7), [1 + r.next(12), 20 + r.next(100)][r.next(2)], [1 + r.next(20), 20 + r.next(150)][r.next(2)]);
     let (mut w, mut v) = (fresh::<Proved>(n, b, image), fresh::<Plain>(n, b, image));
@@ -98,9 +100,9 @@ fn list(r: &mut Random, tally: &mut [usize; 17]) {
 
 pub fn run() {
     let mut r = Random(0x2545f4914f6cdd1d);
-    let mut tally = [0; 17];
+    let mut tally = [0; 18];
     for _ in 0..LISTS {
         list(&mut r, &mut tally);
     }
-    println!("\n{} calls at random: both sides answer and write alike; {} accepted, by refusal 1 to 16: {:?}", LISTS * CALLS, tally[0], &tally[1..]);
+    println!("\n{} calls at random: both sides answer and write alike; {} accepted, by refusal 1 to 17: {:?}", LISTS * CALLS, tally[0], &tally[1..]);
 }

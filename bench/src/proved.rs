@@ -37,6 +37,9 @@ extern "C" {
     ) -> i32;
     fn honecerise_start(store: *const u8, store_length: usize, image: *mut u8, image_length: usize, desk: *mut u8, desk_length: usize) -> i32;
     fn honecerise_step(store: *const u8, store_length: usize, image: *mut u8, image_length: usize, desk: *mut u8, desk_length: usize) -> i32;
+    fn honecerise_burst(
+        store: *const u8, store_length: usize, image: *mut u8, image_length: usize, desk: *mut u8, desk_length: usize, count: usize,
+    ) -> i32;
     fn honecerise_state(
         store: *const u8, store_length: usize, image: *const u8, image_length: usize, desk: *const u8, desk_length: usize,
         state: *mut usize, locked: *mut usize, steps: *mut usize,
@@ -102,6 +105,9 @@ impl Side for Proved {
     }
     fn step(w: &mut Buffers) -> Answer {
         over!(w, honecerise_step)
+    }
+    fn burst(w: &mut Buffers, count: usize) -> Answer {
+        over!(w, honecerise_burst, count)
     }
     fn state(w: &Buffers) -> Status {
         let (mut state, mut locked, mut steps) = (0, 0, 0);

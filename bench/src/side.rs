@@ -29,6 +29,7 @@ pub trait Side {
     fn rename(w: &mut Buffers, directory: usize, name: &[u8], to: usize, to_name: &[u8]) -> Answer;
     fn start(w: &mut Buffers) -> Answer;
     fn step(w: &mut Buffers) -> Answer;
+    fn burst(w: &mut Buffers, count: usize) -> Answer;
     fn state(w: &Buffers) -> Status;
 }
 
@@ -77,6 +78,9 @@ impl Side for Plain {
     }
     fn step(w: &mut Buffers) -> Answer {
         plain::step(&w.store, &mut w.image, &mut w.desk)
+    }
+    fn burst(w: &mut Buffers, count: usize) -> Answer {
+        plain::burst(&w.store, &mut w.image, &mut w.desk, count)
     }
     fn state(w: &Buffers) -> Status {
         plain::state(&w.store, &w.image, &w.desk)

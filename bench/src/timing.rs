@@ -5,6 +5,8 @@ use std::time::Instant;
 pub const TO_RUST: f64 = 1.1;
 /// Of a copy to the checks that its calls must make.
 pub const TO_CHECKS: f64 = 1.3;
+/// The same of a copy by bursts of 64 steps.
+pub const BURSTS_TO_CHECKS: f64 = 1.5;
 
 /// A ratio, starred if it is above its goal.
 pub fn shown(ratio: f64, goal: f64) -> String {

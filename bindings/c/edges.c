@@ -4,7 +4,8 @@
  * - A buffer of length 0 may be NULL: each slice of each call in turn, with no copy running and
  *   with one.
  * - Nothing outside of a buffer is touched: buffers that begin or end at a page that may not be
- *   touched, with a whole copy taken on them.
+ *   touched, with whole copies taken on them, by single steps and by bursts.
+ * - A burst has 1 to 64 steps, whatever else is wrong but a buffer's length.
  */
 #define _DEFAULT_SOURCE
 #include <stdio.h>
@@ -62,6 +63,8 @@ static void null_store(size_t *n)
     IS(-1, honecerise_rename(NONE, IMAGE, DESK, 1, NAME("a"), 1, NAME("z")));
     IS(-1, honecerise_start(NONE, IMAGE, DESK));
     IS(-1, honecerise_step(NONE, IMAGE, DESK));
+    IS(-1, honecerise_burst(NONE, IMAGE, DESK, 1));
+    IS(-1, honecerise_burst(NONE, IMAGE, DESK, 0));
     IS(-1, honecerise_state(NONE, IMAGE, DESK, n, n + 1, n + 2));
     IS(-1, honecerise_state(NONE, NONE, NONE, n, n + 1, n + 2));
 }
@@ -77,6 +80,8 @@ static void null_desk(size_t *n)
     IS(-1, honecerise_rename(STORE, IMAGE, NONE, 1, NAME("a"), 1, NAME("z")));
     IS(-1, honecerise_start(STORE, IMAGE, NONE));
     IS(-1, honecerise_step(STORE, IMAGE, NONE));
+    IS(-1, honecerise_burst(STORE, IMAGE, NONE, 1));
+    IS(-1, honecerise_burst(STORE, IMAGE, NONE, 65));
     IS(-1, honecerise_state(STORE, IMAGE, NONE, n, n + 1, n + 2));
 }
 
@@ -95,6 +100,8 @@ static void null_image(size_t *n, int running)
     IS(off, honecerise_unlink(STORE, NONE, DESK, 1, NAME("x")));
     IS(-1, honecerise_start(STORE, NONE, DESK));
     IS(running ? -3 : -15, honecerise_step(STORE, NONE, DESK));
+    IS(running ? -3 : -15, honecerise_burst(STORE, NONE, DESK, 1));
+    IS(-17, honecerise_burst(STORE, NONE, DESK, 0));
     IS(off, honecerise_state(STORE, NONE, DESK, n, n + 1, n + 2));
 }
 
@@ -161,13 +168,19 @@ static void lend(size_t inodes, size_t blocks, size_t image_blocks, int at_end)
     desk = fenced(desk_length, at_end);
 }
 
-/* Files until the store is full, in the root and a folder, then a copy with changes in between:
+/* A step, or a burst of so many. */
+static int32_t step_by(size_t count)
+{
+    return count ? honecerise_burst(STORE, IMAGE, DESK, count) : honecerise_step(STORE, IMAGE, DESK);
+}
+
+/* Files until the store is full, in the root and a folder, then copies with changes in between:
  * files grow to the limit and are cut, past the edge of 768 bytes both ways. */
 static void copy_all(size_t inodes, size_t blocks)
 {
     const size_t most = HONECERISE_MAX_FILE;
     uint8_t *name = fenced(14, 1), *bytes = fenced(most, 1), *out = fenced(most, 1);
-    size_t n[3], i, length, folder = 1;
+    size_t n[3], i, length, folder = 1, count;
     int32_t made;
     memset(bytes, 'b', most);
     TAKEN(honecerise_lay_out_store(STORE, inodes, blocks));
@@ -184,18 +197,56 @@ static void copy_all(size_t inodes, size_t blocks)
         else if (made > 0)
             honecerise_write(STORE, IMAGE, DESK, (size_t)made, 0, bytes + most - length, length);
     }
-    TAKEN(honecerise_start(STORE, IMAGE, DESK));
-    for (i = 0; honecerise_step(STORE, IMAGE, DESK) > 0; i++) {
-        honecerise_rename(STORE, IMAGE, DESK, folder, name, 14, 1, NAME("moved"));
-        honecerise_write(STORE, IMAGE, DESK, 1 + i % inodes, 0, bytes, most);
-        honecerise_read(STORE, 1 + i % inodes, 0, out, most);
-        honecerise_shorten(STORE, IMAGE, DESK, 1 + (i + 1) % inodes, 700 + i % 70);
-        honecerise_rename(STORE, IMAGE, DESK, 1, NAME("moved"), folder, name, 14);
+    for (count = 0; count <= HONECERISE_MOST_BURST; count += 32) {
+        TAKEN(honecerise_start(STORE, IMAGE, DESK));
+        for (i = 0; step_by(count) > 0; i++) {
+            honecerise_rename(STORE, IMAGE, DESK, folder, name, 14, 1, NAME("moved"));
+            honecerise_write(STORE, IMAGE, DESK, 1 + i % inodes, 0, bytes, most);
+            honecerise_read(STORE, 1 + i % inodes, 0, out, most);
+            honecerise_shorten(STORE, IMAGE, DESK, 1 + (i + 1) % inodes, 700 + i % 70);
+            honecerise_rename(STORE, IMAGE, DESK, 1, NAME("moved"), folder, name, 14);
+        }
+        IS(0, honecerise_state(STORE, IMAGE, DESK, n, n + 1, n + 2));
+        IS(2, (int32_t)n[0]);
+        IS(1, honecerise_check(0, STORE));
+        IS(1, honecerise_check(1, IMAGE));
     }
-    IS(0, honecerise_state(STORE, IMAGE, DESK, n, n + 1, n + 2));
-    IS(2, (int32_t)n[0]);
-    IS(1, honecerise_check(0, STORE));
+}
+
+/* ---- how many steps a burst may have */
+
+static void bad_counts(void)
+{
+    IS(-17, honecerise_burst(STORE, IMAGE, DESK, 0));
+    IS(-17, honecerise_burst(STORE, IMAGE, DESK, HONECERISE_MOST_BURST + 1));
+    IS(-17, honecerise_burst(STORE, IMAGE, DESK, SIZE_MAX));
+    IS(-17, honecerise_burst(STORE, IMAGE, DESK, SIZE_MAX / 2 + 2));
+}
+
+/* A copy of 68 steps: the root in 3, the long file in 46, the other in 18, the finish. */
+static void counts(void)
+{
+    uint8_t bytes[HONECERISE_MAX_FILE] = { 1 };
+    TAKEN(honecerise_lay_out_store(STORE, 16, 64));
+    TAKEN(honecerise_lay_out_desk(DESK, 16));
+    IS(2, honecerise_create_file(STORE, IMAGE, DESK, 1, NAME("a")));
+    IS(3, honecerise_create_file(STORE, IMAGE, DESK, 1, NAME("b")));
+    IS(2752, honecerise_write(STORE, IMAGE, DESK, 2, 0, bytes, sizeof bytes));
+    IS(900, honecerise_write(STORE, IMAGE, DESK, 3, 0, bytes, 900));
+    bad_counts();
+    IS(-15, honecerise_burst(STORE, IMAGE, DESK, 1));
+    IS(-15, honecerise_burst(STORE, IMAGE, DESK, HONECERISE_MOST_BURST));
+    TAKEN(honecerise_start(STORE, IMAGE, DESK));
+    bad_counts();
+    IS(1, honecerise_burst(STORE, IMAGE, DESK, 1));
+    IS(64, honecerise_burst(STORE, IMAGE, DESK, HONECERISE_MOST_BURST));
+    store[9] = 1; /* no sound store: 17 is looked at before it */
+    bad_counts();
+    IS(-2, honecerise_burst(STORE, IMAGE, DESK, 1));
+    store[9] = 0;
+    IS(3, honecerise_burst(STORE, IMAGE, DESK, HONECERISE_MOST_BURST));
     IS(1, honecerise_check(1, IMAGE));
+    IS(-15, honecerise_burst(STORE, IMAGE, DESK, 1));
 }
 
 int main(void)
@@ -210,6 +261,7 @@ int main(void)
         copy_all(256, 1024);
         lend(16, 64, 704, at_end);
         nulls();
+        counts();
     }
     printf("edges: %u answers as expected\n", tried);
     return 0;

@@ -51,6 +51,10 @@ static void calls(void)
     while (honecerise_step(WATCH) > 0)
         honecerise_state(WATCH, n, n + 1, n + 2);
     honecerise_check(1, image, sizeof image);
+    if (copied)
+        honecerise_start(WATCH);
+    while (honecerise_burst(WATCH, 20) > 0)
+        ;
 }
 
 static void nothing(void)

@@ -33,10 +33,10 @@ static size_t done(const char *what, int32_t answer)
     return (size_t)answer;
 }
 
-static int running(void)
+static int running(size_t *steps)
 {
-    size_t state, locked, steps;
-    done("state", honecerise_state(WATCH, &state, &locked, &steps));
+    size_t state, locked;
+    done("state", honecerise_state(WATCH, &state, &locked, steps));
     return state == HONECERISE_RUNNING;
 }
 
@@ -82,7 +82,7 @@ int main(void)
 
     /* the copy: one step for each turn of the watch's loop, and the pupil goes on meanwhile */
     done("start", honecerise_start(WATCH));
-    while (running()) {
+    while (steps < 10) {
         steps = done("step", honecerise_step(WATCH));
         if (steps == 5)
             record(second, 5, "67.9 ");
@@ -91,6 +91,9 @@ int main(void)
         if (steps == 10)
             record(second, 10, "69.1 ");
     }
+    /* the run is over: the rest goes in bursts, as the radio works */
+    while (running(&steps))
+        done("burst", honecerise_burst(WATCH, HONECERISE_MOST_BURST));
 
     /* what was sent is looked at before it is believed */
     if (!honecerise_check(1, image, sizeof image)) {

@@ -88,6 +88,7 @@ fn run<S: Side>(w: &mut Buffers, command: &str) -> String {
         "mv" => told(S::rename(w, num(1), &hex(2), num(3), &hex(4))),
         "go" => told(S::start(w)),
         "st" => told(S::step(w)),
+        "bu" => told(S::burst(w, num(1))),
         "ask" => S::state(w).map_or_else(|no| format!("no {no}"), |(s, l, k)| format!("ok {s} {l} {k}")),
         _ => "err".to_string(),
     }

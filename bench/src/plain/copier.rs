@@ -2,7 +2,7 @@
 use super::desk::{is_copied, marks, Desk, FINISHED, RUNNING, STOPPED};
 use super::format::put_header;
 use super::guards;
-use super::image::{finish, next_inode, target};
+use super::image::{finish, names, next_inode, target};
 use super::refusal::{BAD_BUFFER, IMAGE_FULL, WRONG_STATE};
 use super::view::{get16, put16, Inode, Shape, View, ADDRESS_PLACE, BLOCK, DIRECTORY, MOST_IMAGE_BLOCKS};
 use super::{desk as notes_of, Answer};
@@ -51,27 +51,39 @@ pub fn step(store: &[u8], image: &mut [u8], desk: &mut [u8]) -> Answer {
 
 /// Nothing is locked: lock the root, or the next inode, or finish.
 fn free_step(image: &mut [u8], desk: &[u8], notes: Desk) -> Option<Desk> {
-    let shape = Shape { n: notes.n, b: notes.blocks };
+    let shape = notes.image();
     let next = if is_copied(desk, notes.n, 1) { next_inode(&View::of(image, shape), desk, notes.n) } else { Some(1) };
     if let Some(i) = next {
         return Some(Desk { locked: i, copied: 0, ..notes });
     }
-    finish(image, shape);
+    let v = View::of(image, shape);
+    let (names, map) = (names(&v), v.named());
+    finish(image, shape, &names, &map);
     Some(Desk { state: FINISHED, ..notes })
 }
 
 /// An inode is locked: its next block, or, none being left, its attributes. None if the image has no block for it.
 fn locked_step(store: &[u8], shape: Shape, image: &mut [u8], desk: &mut [u8], notes: Desk) -> Option<Desk> {
-    let (i, k) = (notes.locked, notes.copied);
-    let inode = View::of(store, shape).inode(i);
-    let copy = Shape { n: shape.n, b: notes.blocks };
-    if k >= inode.blocks() {
-        Inode { links: 0, ..inode }.put(image, copy, i);
-        desk[15 + i] = 1;
-        return Some(Desk { locked: 0, copied: 0, ..notes });
+    let inode = View::of(store, shape).inode(notes.locked);
+    if notes.copied >= inode.blocks() {
+        return Some(close(image, desk, notes, inode));
     }
-    let own = get16(store, shape.kth(store, i, k));
-    let c = target(&View::of_copy(image, copy, i, inode.is_long()), own)?;
+    let own = get16(store, shape.kth(store, notes.locked, notes.copied));
+    let c = target(&View::of_copy(image, notes.image(), notes.locked, inode.is_long()), own)?;
+    Some(copy_block(store, shape, image, desk, notes, inode, own, c))
+}
+
+/// The attributes of the locked inode, all of whose blocks are copied.
+pub fn close(image: &mut [u8], desk: &mut [u8], notes: Desk, inode: Inode) -> Desk {
+    Inode { links: 0, ..inode }.put(image, notes.image(), notes.locked);
+    desk[15 + notes.locked] = 1;
+    Desk { locked: 0, copied: 0, ..notes }
+}
+
+/// The next block of the locked inode, the store's block `own`, goes to block c.
+#[allow(clippy::too_many_arguments)]
+pub fn copy_block(store: &[u8], shape: Shape, image: &mut [u8], desk: &[u8], notes: Desk, inode: Inode, own: usize, c: usize) -> Desk {
+    let (i, k, copy) = (notes.locked, notes.copied, notes.image());
     let (from, to) = (shape.block(own), copy.block(c));
     let block = &mut image[to..to + BLOCK];
     if inode.is_long() && k == ADDRESS_PLACE {
@@ -84,7 +96,7 @@ fn locked_step(store: &[u8], shape: Shape, image: &mut [u8], desk: &mut [u8], no
     }
     let at = copy.kth(image, i, k);
     put16(image, at, c);
-    Some(Desk { copied: k + 1, ..notes })
+    Desk { copied: k + 1, ..notes }
 }
 
 /// Of a block's four entries, those that are marked and name a copied inode are zeroed.

@@ -1,5 +1,5 @@
 //! The desk: its header by value, its copied bytes and its mark words.
-use super::view::{get16, put16, MOST_BLOCKS, MOST_IMAGE_BLOCKS, MOST_INODES};
+use super::view::{get16, put16, Shape, MOST_BLOCKS, MOST_IMAGE_BLOCKS, MOST_INODES};
 
 pub const IDLE: u8 = 0;
 pub const RUNNING: u8 = 1;
@@ -47,6 +47,11 @@ impl Desk {
         d[12..16].copy_from_slice(&self.steps.to_le_bytes());
     }
 
+    /// The counts of the copy's image.
+    pub fn image(self) -> Shape {
+        Shape { n: self.n, b: self.blocks }
+    }
+
     pub fn running(self) -> bool {
         self.state == RUNNING
     }
@@ -62,12 +67,16 @@ impl Desk {
             && d[16..16 + self.n].iter().fold(0, |all, &x| all | x) <= 1
     }
 
+    /// A running copy has had at most so many steps.
+    pub fn most_steps(self) -> u32 {
+        ((MOST_BLOCKS + 2) * self.n) as u32
+    }
+
     fn counts_fit(self) -> bool {
-        let most = ((MOST_BLOCKS + 2) * self.n) as u32;
         if self.running() {
-            return self.locked <= self.n && self.copied <= MOST_BLOCKS && self.steps <= most;
+            return self.locked <= self.n && self.copied <= MOST_BLOCKS && self.steps <= self.most_steps();
         }
-        self.locked == 0 && self.copied == 0 && self.steps <= most + 1
+        self.locked == 0 && self.copied == 0 && self.steps <= self.most_steps() + 1
     }
 }
 

@@ -54,7 +54,7 @@ fn image_fits(store: &[u8], stored: Shape, image: &[u8], desk: Desk) -> bool {
 }
 
 /// No address is above the block count, and a long file of which twelve blocks are copied has its address block.
-fn addresses_fit(v: &View, desk: Desk) -> bool {
+pub fn addresses_fit(v: &View, desk: Desk) -> bool {
     v.direct_addresses().fold(0, u16::max) as usize <= desk.blocks
         && v.further_addresses().fold(0, u16::max) as usize <= desk.blocks
         && !(desk.copied >= DIRECT && v.has_further(desk.locked) && v.addresses_of(desk.locked)[ADDRESS_PLACE] == [0; 2])

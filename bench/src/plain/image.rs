@@ -26,15 +26,40 @@ fn cut_entry(image: &mut [u8], shape: Shape, d: usize, slot: usize, i: usize) {
     }
 }
 
-/// The inode numbers in the image's slots, 0 for an empty one: of every directory, the slots of the blocks that its addresses name.
-fn slot_inodes<'a>(v: &View<'a>) -> impl Iterator<Item = usize> + 'a {
+/// How many slots of image directories name each inode; at 0, and above the inodes, nothing is said.
+pub type Names = [u16; MOST_INODES + 1];
+
+/// The inode numbers in the slots of the blocks that these addresses name, 0 for an empty one.
+fn slots_at<'a>(v: &View<'a>, addresses: &'a [u8; 24]) -> impl Iterator<Item = usize> + 'a {
     let blocks = v.blocks;
+    let named = addresses.as_chunks::<2>().0.iter().filter_map(move |&a| blocks.get((u16::from_le_bytes(a) as usize).wrapping_sub(1)));
+    named.flat_map(|block| block.as_chunks::<16>().0).map(|e| u16::from_le_bytes([e[0], e[1]]) as usize)
+}
+
+/// The same of all image directories.
+fn slot_inodes<'a>(v: &View<'a>) -> impl Iterator<Item = usize> + 'a {
+    let v = *v;
     let directories = v.attributes.iter().zip(v.addresses).filter(|(a, _)| a[0] == DIRECTORY);
-    directories
-        .flat_map(|(_, addresses)| addresses.as_chunks::<2>().0)
-        .filter_map(move |&a| blocks.get((u16::from_le_bytes(a) as usize).wrapping_sub(1)))
-        .flat_map(|block| block.as_chunks::<16>().0)
-        .map(|e| u16::from_le_bytes([e[0], e[1]]) as usize)
+    directories.flat_map(move |(_, addresses)| slots_at(&v, addresses))
+}
+
+pub fn names(v: &View) -> Names {
+    let mut names = [0; MOST_INODES + 1];
+    count(slot_inodes(v), &mut names);
+    names
+}
+
+/// One directory's slots more.
+pub fn count_directory(v: &View, d: usize, names: &mut Names) {
+    count(slots_at(v, &v.addresses[d - 1]), names);
+}
+
+fn count(inodes: impl Iterator<Item = usize>, names: &mut Names) {
+    for i in inodes {
+        if let Some(count) = names.get_mut(i) {
+            *count += 1;
+        }
+    }
 }
 
 /// The lowest uncopied inode that an image directory names.
@@ -52,17 +77,11 @@ pub fn target(v: &View, c: usize) -> Option<usize> {
 }
 
 /// Link counts, free counts and byte 8 of a finished image.
-pub fn finish(image: &mut [u8], shape: Shape) {
+pub fn finish(image: &mut [u8], shape: Shape, names: &Names, map: &Map) {
     let v = View::of(image, shape);
-    let mut counts = [0u16; MOST_INODES + 1];
-    for i in slot_inodes(&v) {
-        if i <= shape.n {
-            counts[i] += 1;
-        }
-    }
     let inodes = v.attributes.iter().filter(|a| a[0] == FREE).count();
-    let blocks = free_in(&v.named(), shape.b);
-    for (i, count) in counts.iter().enumerate().take(shape.n + 1).skip(1) {
+    let blocks = free_in(map, shape.b);
+    for (i, count) in names.iter().enumerate().take(shape.n + 1).skip(1) {
         let o = shape.attributes(i) + 2;
         image[o..o + 2].copy_from_slice(&count.to_le_bytes());
     }

@@ -1,4 +1,5 @@
 //! The papers' calls in plain Rust, with files above 768 bytes: the same checks and the same order of refusals as the proved library, over lent buffers, without a heap and without `unsafe`.
+mod burst;
 mod content;
 mod copier;
 mod desk;
@@ -12,6 +13,7 @@ mod slots;
 mod sound;
 mod view;
 
+pub use burst::burst;
 pub use content::{read, shorten, write};
 pub use copier::{start, state, step};
 pub use entries::{create, link, look_up, unlink, Kind};
@@ -40,4 +42,5 @@ mod refusal {
     pub const BUSY: u8 = 14;
     pub const WRONG_STATE: u8 = 15;
     pub const IMAGE_FULL: u8 = 16;
+    pub const BAD_COUNT: u8 = 17;
 }

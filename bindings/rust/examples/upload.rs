@@ -12,7 +12,7 @@ use std::io::Write;
 use std::os::unix::ffi::OsStrExt;
 use std::path::Path;
 
-use honecerise::{CopyState, Files, Inode, Kind, MAX_BLOCKS, MAX_FILE, MAX_INODES, MAX_NAME, Watch};
+use honecerise::{CopyState, Files, Inode, Kind, MAX_BLOCKS, MAX_FILE, MAX_INODES, MAX_NAME, MOST_BURST, Watch};
 use honecerise::{desk_len, image_len, store_len};
 
 type Outcome<T = ()> = Result<T, Box<dyn Error>>;
@@ -44,7 +44,7 @@ fn pack(directory: &Path, image_path: &Path) -> Outcome {
     take_in(&mut watch, Inode::ROOT, directory)?;
     watch.start()?;
     while watch.status()?.state == CopyState::Running {
-        watch.step()?;
+        watch.burst(MOST_BURST)?;
     }
     let copy = watch.copy().ok_or("the copy is not sound")?;
     println!("{} entries in {} steps", copy.all().count(), watch.status()?.steps);

@@ -51,6 +51,9 @@ mod c {
         pub fn honecerise_step(
             store: *const u8, store_len: usize, image: *mut u8, image_len: usize, desk: *mut u8, desk_len: usize,
         ) -> i32;
+        pub fn honecerise_burst(
+            store: *const u8, store_len: usize, image: *mut u8, image_len: usize, desk: *mut u8, desk_len: usize, count: usize,
+        ) -> i32;
         pub fn honecerise_state(
             store: *const u8, store_len: usize, image: *const u8, image_len: usize, desk: *const u8, desk_len: usize,
             state: *mut usize, locked: *mut usize, steps: *mut usize,
@@ -72,7 +75,7 @@ pub struct Lent<'a> {
 fn answer(code: i32) -> Answer {
     usize::try_from(code).map_err(|_| {
         let number = u8::try_from(code.unsigned_abs()).ok();
-        number.and_then(Refusal::from_number).expect("a negative answer is minus one of sixteen numbers: this is proved")
+        number.and_then(Refusal::from_number).expect("a negative answer is minus the number of a refusal: this is proved")
     })
 }
 
@@ -147,6 +150,10 @@ pub fn start(lent: &mut Lent<'_>) -> Answer {
 
 pub fn step(lent: &mut Lent<'_>) -> Answer {
     over!(lent, honecerise_step)
+}
+
+pub fn burst(lent: &mut Lent<'_>, count: usize) -> Answer {
+    over!(lent, honecerise_burst, count)
 }
 
 /// State, locked inode and steps.

@@ -21,12 +21,12 @@
 //! let run = watch.create_file(laps, "run1")?;
 //! watch.write(run, 0, b"71.2 70.8")?;
 //!
-//! // a copy, with a call between two of its steps
+//! // a copy, with a call between two of its steps, then steps in bursts
 //! watch.start()?;
 //! watch.step()?;
 //! watch.create_file(laps, "run2")?;
 //! while watch.status()?.state == CopyState::Running {
-//!     watch.step()?;
+//!     watch.burst(8)?;
 //! }
 //!
 //! let copy = watch.copy().expect("a finished copy");
@@ -52,6 +52,7 @@ pub use inode::{Inode, Kind};
 pub use iter::{All, Contents, Entries};
 pub use refusal::Refusal;
 pub use sizes::{
-    MAX_BLOCKS, MAX_FILE, MAX_IMAGE, MAX_INODES, MAX_NAME, MAX_SLOTS, desk_len, enough_image, image_len, most_steps, store_len,
+    MAX_BLOCKS, MAX_FILE, MAX_IMAGE, MAX_INODES, MAX_NAME, MAX_SLOTS, MOST_BURST, desk_len, enough_image, image_len, most_steps,
+    store_len,
 };
 pub use watch::{CopyState, Status, Watch};

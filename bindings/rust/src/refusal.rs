@@ -1,7 +1,8 @@
 //! Why a call was refused.
 use core::fmt;
 
-/// The sixteen refusals, by who causes them. Where several apply, the lowest is answered.
+/// The refusals, by who causes them. Where several apply, the lowest is answered, save that [`BadCount`](Refusal::BadCount)
+/// is looked at right after [`BadBuffer`](Refusal::BadBuffer).
 ///
 /// ```
 /// use honecerise::Refusal;
@@ -47,11 +48,13 @@ pub enum Refusal {
     WrongState = 15,
     /// Timing: a step had a block to copy and no image block for it. The copy is stopped, and what was locked is free again.
     ImageFull = 16,
+    /// Whoever asks for the steps: a burst of none, or of more than [`MOST_BURST`](crate::MOST_BURST).
+    BadCount = 17,
 }
 
 impl Refusal {
-    /// All sixteen, in order.
-    pub const ALL: [Refusal; 16] = [
+    /// All of them, by number.
+    pub const ALL: [Refusal; 17] = [
         Refusal::BadBuffer,
         Refusal::UnsoundStore,
         Refusal::BadDesk,
@@ -68,9 +71,10 @@ impl Refusal {
         Refusal::Busy,
         Refusal::WrongState,
         Refusal::ImageFull,
+        Refusal::BadCount,
     ];
 
-    /// Its number, 1 to 16.
+    /// Its number, 1 to 17.
     pub const fn number(self) -> u8 {
         self as u8
     }
@@ -78,7 +82,7 @@ impl Refusal {
     /// The refusal of a number, if there is one.
     pub const fn from_number(number: u8) -> Option<Refusal> {
         match number {
-            1..=16 => Some(Refusal::ALL[number as usize - 1]),
+            1..=17 => Some(Refusal::ALL[number as usize - 1]),
             _ => None,
         }
     }
@@ -101,6 +105,7 @@ impl Refusal {
             Refusal::Busy => "the copier has it locked",
             Refusal::WrongState => "a copy runs already, or none does",
             Refusal::ImageFull => "the image has no block left",
+            Refusal::BadCount => "a burst has 1 to 64 steps",
         }
     }
 }

@@ -12,6 +12,8 @@ pub const MAX_NAME: usize = 14;
 pub const MAX_FILE: usize = 2752;
 /// The most entries of a directory.
 pub const MAX_SLOTS: usize = 48;
+/// The most steps of a burst.
+pub const MOST_BURST: usize = 64;
 
 /// The length of a store of so many inodes (1 to [`MAX_INODES`]) and blocks (1 to [`MAX_BLOCKS`]).
 ///

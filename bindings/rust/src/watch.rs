@@ -9,7 +9,7 @@ use crate::{Files, Inode, MAX_INODES, Refusal, desk_len};
 pub enum CopyState {
     /// No copy since the desk was laid out.
     Idle,
-    /// A copy runs: [`Watch::step`] goes on with it.
+    /// A copy runs: [`Watch::step`] or [`Watch::burst`] goes on with it.
     Running,
     /// The image is a finished copy.
     Finished,
@@ -213,6 +213,26 @@ impl<'a> Watch<'a> {
     /// ```
     pub fn step(&mut self) -> Result<usize, Refusal> {
         ffi::step(&mut self.lent)
+    }
+
+    /// What so many single steps would do, 1 to [`MOST_BURST`](crate::MOST_BURST), in one call that examines its buffers once:
+    /// how many of them were accepted. It ends early when the copy finishes or a step is refused; a refusal of the first is
+    /// the answer, a later one only cuts the count short (after `ImageFull` the copy is stopped).
+    ///
+    /// Refuses with `BadCount`, and as [`step`](Watch::step) does.
+    ///
+    /// ```
+    /// # use honecerise::{desk_len, image_len, store_len, CopyState, MOST_BURST, Refusal, Watch};
+    /// # let (mut store, mut image, mut desk) = ([0; store_len(1, 1)], [0; image_len(1, 1)], [0; desk_len(1)]);
+    /// let mut watch = Watch::lay_out(&mut store, &mut image, &mut desk, 1, 1)?;
+    /// watch.start()?;
+    /// assert_eq!(watch.burst(0), Err(Refusal::BadCount));
+    /// assert_eq!(watch.burst(MOST_BURST)?, 3); // an empty root
+    /// assert_eq!(watch.status()?.state, CopyState::Finished);
+    /// # Ok::<(), Refusal>(())
+    /// ```
+    pub fn burst(&mut self, count: usize) -> Result<usize, Refusal> {
+        ffi::burst(&mut self.lent, count)
     }
 
     /// State, locked inode and steps.

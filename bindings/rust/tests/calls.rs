@@ -38,7 +38,7 @@ fn numbers_and_reasons() {
         assert!(refusal.to_string().ends_with(&format!("({number})")));
     }
     assert_eq!(Refusal::from_number(0), None);
-    assert_eq!(Refusal::from_number(17), None);
+    assert_eq!(Refusal::from_number(18), None);
 }
 
 #[test]
@@ -179,6 +179,46 @@ fn a_copy_and_its_timing() {
 }
 
 #[test]
+fn bursts() {
+    // the root in 3 steps, the long file in 46, the other in 18, the finish
+    let mut buffers = Buffers::new(4, 64, enough_image(4));
+    let mut w = buffers.lay_out(4, 64);
+    let f = w.create_file(Inode::ROOT, "f").unwrap();
+    let g = w.create_file(Inode::ROOT, "g").unwrap();
+    w.write(f, 0, &[7; MAX_FILE]).unwrap();
+    w.write(g, 0, &[8; 900]).unwrap();
+    for count in [1, 64] {
+        assert_eq!(w.burst(count), Err(Refusal::WrongState));
+    }
+    w.start().unwrap();
+    for count in [0, 65, 256 + 1, usize::MAX] {
+        assert_eq!(w.burst(count), Err(Refusal::BadCount));
+    }
+    assert_eq!(w.status().unwrap().steps, 0);
+    assert_eq!((w.burst(1), w.step(), w.burst(2)), (Ok(1), Ok(2), Ok(2)));
+    assert_eq!(w.status(), Ok(Status { state: CopyState::Running, locked: Some(f), steps: 4 }));
+    assert_eq!((w.burst(MOST_BURST), w.step()), (Ok(64), Err(Refusal::WrongState)));
+    assert_eq!(w.status(), Ok(Status { state: CopyState::Finished, locked: None, steps: 68 }));
+    assert_eq!(w.copy().unwrap().contents(g).unwrap().collect::<Vec<_>>().concat(), [8; 900]);
+}
+
+#[test]
+fn a_burst_that_stops() {
+    let mut buffers = Buffers::new(4, 8, 2);
+    let mut w = buffers.lay_out(4, 8);
+    let f = w.create_file(Inode::ROOT, "f").unwrap();
+    w.write(f, 0, &[7; 65]).unwrap();
+    // the image has no block for the last one: as a later step, and as the first
+    for count in [64, 5] {
+        w.start().unwrap();
+        assert_eq!(w.burst(count), Ok(5));
+        let full = if count == 64 { Refusal::WrongState } else { Refusal::ImageFull };
+        assert_eq!(w.burst(count), Err(full));
+        assert_eq!(w.status(), Ok(Status { state: CopyState::Stopped, locked: None, steps: 5 }));
+    }
+}
+
+#[test]
 fn wiring() {
     let mut buffers = Buffers::new(4, 8, 48);
     buffers.lay_out(4, 8).start().unwrap();
@@ -193,9 +233,11 @@ fn wiring() {
     buffers.store[9] = 1;
     let mut w = Watch::over(&mut buffers.store, &mut buffers.image, &mut buffers.desk);
     assert_eq!(w.step(), Err(Refusal::UnsoundStore));
+    assert_eq!((w.burst(1), w.burst(65)), (Err(Refusal::UnsoundStore), Err(Refusal::BadCount)));
     assert!(w.files().is_none());
     let mut w = Watch::over(&mut [], &mut [], &mut []);
     assert_eq!(w.start(), Err(Refusal::BadBuffer));
+    assert_eq!(w.burst(0), Err(Refusal::BadBuffer));
     assert_eq!(w.create_file(Inode::ROOT, "f"), Err(Refusal::BadBuffer));
     assert_eq!(w.status(), Err(Refusal::BadBuffer));
 }

@@ -1,11 +1,11 @@
 -- "looked at lowest first, when and only when the condition holds for that call": conditions in a table, and the order in which refusals are looked at.
 use Prim.Native.Nat.{ℕ, suc}
-use mathlib.Core.Bool.{Bool, true, _&&_}
+use mathlib.Core.Bool.{Bool, true, false, _&&_, _||_}
 use mathlib.Core.List.{List, [], _∷_}
 use lib.Dec.{eqb, ltb}
 use Rattle.bounded.specs.Search.{pick}
 use Rattle.answers.specs.declared.Refusal.{Refusal}
-use Rattle.answers.specs.declared.Refusal.the-variants.{BadBuffer, UnsoundStore, BadDesk, IllegalName, WrongInode, NameAbsent, NameTaken, NotEmpty, PastEnd, IntoItself, NoInode, NoBlocks, NoSlot, Busy, WrongState, ImageFull}
+use Rattle.answers.specs.declared.Refusal.the-variants.{BadBuffer, UnsoundStore, BadDesk, IllegalName, WrongInode, NameAbsent, NameTaken, NotEmpty, PastEnd, IntoItself, NoInode, NoBlocks, NoSlot, Busy, WrongState, ImageFull, BadCount}
 use Rattle.answers.specs.declared.Answer.{Answer}
 use Rattle.answers.specs.declared.Answer.the-variants.{Refused}
 use Rattle.answers.specs.Refusal.{refusalNumber}
@@ -26,11 +26,24 @@ firstBy f (r ∷ rs) a = pick (r .holds) (f (r .refusal)) (firstBy f rs a)
 abbrev pub firstOf : List Row → Answer → Answer
 firstOf rs a = firstBy Refused rs a
 
--- ---- the order: a list of its own, so that a table's order need not follow from numbers; it is that of the numbers, by the law `lowest-first`
+-- ---- the order: a list of its own, since it does not follow from the numbers; its numbers are `lookedAt`, by the law `looked-at`
 abbrev pub order : List Refusal
 order =
-    BadBuffer ∷ UnsoundStore ∷ BadDesk ∷ IllegalName ∷ WrongInode ∷ NameAbsent ∷ NameTaken ∷ NotEmpty
+    BadBuffer ∷ BadCount ∷ UnsoundStore ∷ BadDesk ∷ IllegalName ∷ WrongInode ∷ NameAbsent ∷ NameTaken ∷ NotEmpty
     ∷ PastEnd ∷ IntoItself ∷ NoInode ∷ NoBlocks ∷ NoSlot ∷ Busy ∷ WrongState ∷ ImageFull ∷ []
+
+-- the same by the paper's numbers: "looked at lowest first", and 17 "comes right after 1"
+abbrev pub lookedAt : List ℕ
+lookedAt = 1 ∷ 17 ∷ 2 ∷ 3 ∷ 4 ∷ 5 ∷ 6 ∷ 7 ∷ 8 ∷ 9 ∷ 10 ∷ 11 ∷ 12 ∷ 13 ∷ 14 ∷ 15 ∷ 16 ∷ []
+
+abbrev pub numbers : List Refusal → List ℕ
+numbers [] = []
+numbers (e ∷ es) = refusalNumber e ∷ numbers es
+
+-- k is one of them
+abbrev pub among : List ℕ → ℕ → Bool
+among [] k = false
+among (x ∷ xs) k = eqb x k || among xs k
 
 -- where the refusal of number k stands in a list that has it, counted from 1
 abbrev pub rankIn : List Refusal → ℕ → ℕ

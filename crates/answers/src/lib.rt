@@ -3,7 +3,7 @@ ghost use mathlib.Core.Path.{_≡_};
 ghost use Rattle.answers.specs.Refusal.{refusalNumber};
 ghost use Rattle.answers.specs.Told.{told};
 
-// The sixteen refusals of document 01, in its order.
+// The refusals of document 01, in the order of their numbers; 17 is document 02's.
 pub enum Refusal {
     BadBuffer,
     UnsoundStore,
@@ -21,6 +21,7 @@ pub enum Refusal {
     Busy,
     WrongState,
     ImageFull,
+    BadCount,
 }
 
 // What a call answers: the number that document 01 names for it, 0 where it names none, or a refusal.
@@ -50,6 +51,7 @@ pub fn refusal_number(e: Refusal) -> usize
         Refusal::Busy => 14,
         Refusal::WrongState => 15,
         Refusal::ImageFull => 16,
+        Refusal::BadCount => 17,
     }
 }
 

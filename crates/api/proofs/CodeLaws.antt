@@ -33,7 +33,7 @@ result-is n l = toZ-pos w32 n (omega arith) ∙ ap pos (omega arith)
 pub result-most : (n : ℕ) → mostResult ≤ n → pos mostResult ≡ pos (min n mostResult)
 result-most n l = ap pos (omega arith)
 
-pub refusal-fits : (k : ℕ) → k ≤ 16 → SFits w32 (codeBy k [])
+pub refusal-fits : (k : ℕ) → k ≤ 255 → SFits w32 (codeBy k [])
 refusal-fits zero l = record { sfits = omega arith }
 refusal-fits (suc k) l = record { sfits = omega arith }
 

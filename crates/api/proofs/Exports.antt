@@ -12,7 +12,8 @@ use Rattle.files.specs.Plain as alone
 use Rattle.checkpoint.specs.Live.{World, Outcome, left, live, start, step, status}
 use Rattle.checkpoint.specs.Shown.{world, shown, toldStatus}
 use Rattle.checkpoint.specs.List.{call, advances, starts}
-use Rattle.watch.specs.Made.{got, looked-up, has-read, created, written, shortened, linked, unlinked, renamed, started, stepped, asked}
+use Rattle.checkpoint.specs.Burst.{burst, one, bursts}
+use Rattle.watch.specs.Made.{got, looked-up, has-read, created, written, shortened, linked, unlinked, renamed, started, stepped, asked, stepped-many}
 use Rattle.watch.proofs.Contracts.{Gives}
 use Rattle.api.specs.Api.{Sent, codeOf, sends, sentAlone, sent, SentState, sentState}
 use Rattle.api.specs.Exported.{Exported, Asked}
@@ -38,6 +39,8 @@ use Rattle.api.proofs.honecerise_start.Kinds as start-kinds
 use Rattle.api.proofs.honecerise_start.Reads as start-reads
 use Rattle.api.proofs.honecerise_step.Kinds as step-kinds
 use Rattle.api.proofs.honecerise_step.Reads as step-reads
+use Rattle.api.proofs.honecerise_burst.Kinds as burst-kinds
+use Rattle.api.proofs.honecerise_burst.Reads as burst-reads
 use Rattle.api.proofs.honecerise_state.Kinds as state-kinds
 use Rattle.api.proofs.honecerise_state.Reads as state-reads
 
@@ -73,81 +76,88 @@ module _ (s out : List ℕ) (z : ℤ) (o : alone.PlainOutcome) (h : sends z (s �
 
 -- ---- the calls on the store alone
 pub look-up-exported : (m d : List ℕ) → Gives 2 look-up-kinds.ps look-up-kinds.r look-up-reads.Learnt (λ κs a z e.
-    Exported (call (lookUp (a .1 .0) (now (a .1 .1 .0)))) (world (now (a .0)) m d) z [] (world (now (a .0)) m d))
+    Exported (one (call (lookUp (a .1 .0) (now (a .1 .1 .0))))) (world (now (a .0)) m d) z [] (world (now (a .0)) m d))
 look-up-exported m d κs a z e h =
     let o = alone.plain (lookUp (a .1 .0) (now (a .1 .1 .0))) (now (a .0)) in
     record { received = got (told (o .answer)) []; made = looked-up (o .answer) (alone-buffers (now (a .0)) [] z o h); code = alone-code (now (a .0)) [] z o h; shown = refl }
 
 pub read-exported : (m d : List ℕ) → Gives 2 read-kinds.ps read-kinds.r read-reads.Learnt (λ κs a z e.
-    Exported (call (read (a .1 .0) (a .1 .1 .0) (now (a .1 .1 .1 .0)))) (world (now (a .0)) m d) z (now (e .1 .1 .1 .0)) (world (now (a .0)) m d))
+    Exported (one (call (read (a .1 .0) (a .1 .1 .0) (now (a .1 .1 .1 .0))))) (world (now (a .0)) m d) z (now (e .1 .1 .1 .0)) (world (now (a .0)) m d))
 read-exported m d κs a z e h =
     let o = alone.plain (read (a .1 .0) (a .1 .1 .0) (now (a .1 .1 .1 .0))) (now (a .0)) in
     record { received = got (told (o .answer)) (now (e .1 .1 .1 .0)); made = has-read (o .answer) (alone-buffers (now (a .0)) (now (e .1 .1 .1 .0)) z o h); code = alone-code (now (a .0)) (now (e .1 .1 .1 .0)) z o h; shown = refl }
 
 -- ---- the file calls over the three buffers
 pub create-file-exported : Gives 4 create-file-kinds.ps create-file-kinds.r create-file-reads.Learnt (λ κs a z e.
-    Exported (call (create (a .1 .1 .1 .0) (now (a .1 .1 .1 .1 .0)) File)) (world (now (a .0)) (now (a .1 .0)) (now (a .1 .1 .0))) z [] (world (now (e .0)) (now (e .1 .0)) (now (e .1 .1 .0))))
+    Exported (one (call (create (a .1 .1 .1 .0) (now (a .1 .1 .1 .1 .0)) File))) (world (now (a .0)) (now (a .1 .0)) (now (a .1 .1 .0))) z [] (world (now (e .0)) (now (e .1 .0)) (now (e .1 .1 .0))))
 create-file-exported κs a z e h =
     let v = (world (now (e .0)) (now (e .1 .0)) (now (e .1 .1 .0))) in
     let o = live (create (a .1 .1 .1 .0) (now (a .1 .1 .1 .1 .0)) File) (world (now (a .0)) (now (a .1 .0)) (now (a .1 .1 .0))) in
     record { received = got (told (o .answer)) []; made = created (o .answer) (same-buffers v z o h); code = same-code v z o h; shown = refl }
 
 pub create-directory-exported : Gives 4 create-directory-kinds.ps create-directory-kinds.r create-directory-reads.Learnt (λ κs a z e.
-    Exported (call (create (a .1 .1 .1 .0) (now (a .1 .1 .1 .1 .0)) Directory)) (world (now (a .0)) (now (a .1 .0)) (now (a .1 .1 .0))) z [] (world (now (e .0)) (now (e .1 .0)) (now (e .1 .1 .0))))
+    Exported (one (call (create (a .1 .1 .1 .0) (now (a .1 .1 .1 .1 .0)) Directory))) (world (now (a .0)) (now (a .1 .0)) (now (a .1 .1 .0))) z [] (world (now (e .0)) (now (e .1 .0)) (now (e .1 .1 .0))))
 create-directory-exported κs a z e h =
     let v = (world (now (e .0)) (now (e .1 .0)) (now (e .1 .1 .0))) in
     let o = live (create (a .1 .1 .1 .0) (now (a .1 .1 .1 .1 .0)) Directory) (world (now (a .0)) (now (a .1 .0)) (now (a .1 .1 .0))) in
     record { received = got (told (o .answer)) []; made = created (o .answer) (same-buffers v z o h); code = same-code v z o h; shown = refl }
 
 pub write-exported : Gives 4 write-kinds.ps write-kinds.r write-reads.Learnt (λ κs a z e.
-    Exported (call (write (a .1 .1 .1 .0) (a .1 .1 .1 .1 .0) (now (a .1 .1 .1 .1 .1 .0)))) (world (now (a .0)) (now (a .1 .0)) (now (a .1 .1 .0))) z [] (world (now (e .0)) (now (e .1 .0)) (now (e .1 .1 .0))))
+    Exported (one (call (write (a .1 .1 .1 .0) (a .1 .1 .1 .1 .0) (now (a .1 .1 .1 .1 .1 .0))))) (world (now (a .0)) (now (a .1 .0)) (now (a .1 .1 .0))) z [] (world (now (e .0)) (now (e .1 .0)) (now (e .1 .1 .0))))
 write-exported κs a z e h =
     let v = (world (now (e .0)) (now (e .1 .0)) (now (e .1 .1 .0))) in
     let o = live (write (a .1 .1 .1 .0) (a .1 .1 .1 .1 .0) (now (a .1 .1 .1 .1 .1 .0))) (world (now (a .0)) (now (a .1 .0)) (now (a .1 .1 .0))) in
     record { received = got (told (o .answer)) []; made = written (o .answer) (same-buffers v z o h); code = same-code v z o h; shown = refl }
 
 pub shorten-exported : Gives 3 shorten-kinds.ps shorten-kinds.r shorten-reads.Learnt (λ κs a z e.
-    Exported (call (shorten (a .1 .1 .1 .0) (a .1 .1 .1 .1 .0))) (world (now (a .0)) (now (a .1 .0)) (now (a .1 .1 .0))) z [] (world (now (e .0)) (now (e .1 .0)) (now (e .1 .1 .0))))
+    Exported (one (call (shorten (a .1 .1 .1 .0) (a .1 .1 .1 .1 .0)))) (world (now (a .0)) (now (a .1 .0)) (now (a .1 .1 .0))) z [] (world (now (e .0)) (now (e .1 .0)) (now (e .1 .1 .0))))
 shorten-exported κs a z e h =
     let v = (world (now (e .0)) (now (e .1 .0)) (now (e .1 .1 .0))) in
     let o = live (shorten (a .1 .1 .1 .0) (a .1 .1 .1 .1 .0)) (world (now (a .0)) (now (a .1 .0)) (now (a .1 .1 .0))) in
     record { received = got (told (o .answer)) []; made = shortened (o .answer) (same-buffers v z o h); code = same-code v z o h; shown = refl }
 
 pub link-exported : Gives 4 link-kinds.ps link-kinds.r link-reads.Learnt (λ κs a z e.
-    Exported (call (link (a .1 .1 .1 .0) (now (a .1 .1 .1 .1 .0)) (a .1 .1 .1 .1 .1 .0))) (world (now (a .0)) (now (a .1 .0)) (now (a .1 .1 .0))) z [] (world (now (e .0)) (now (e .1 .0)) (now (e .1 .1 .0))))
+    Exported (one (call (link (a .1 .1 .1 .0) (now (a .1 .1 .1 .1 .0)) (a .1 .1 .1 .1 .1 .0)))) (world (now (a .0)) (now (a .1 .0)) (now (a .1 .1 .0))) z [] (world (now (e .0)) (now (e .1 .0)) (now (e .1 .1 .0))))
 link-exported κs a z e h =
     let v = (world (now (e .0)) (now (e .1 .0)) (now (e .1 .1 .0))) in
     let o = live (link (a .1 .1 .1 .0) (now (a .1 .1 .1 .1 .0)) (a .1 .1 .1 .1 .1 .0)) (world (now (a .0)) (now (a .1 .0)) (now (a .1 .1 .0))) in
     record { received = got (told (o .answer)) []; made = linked (o .answer) (same-buffers v z o h); code = same-code v z o h; shown = refl }
 
 pub unlink-exported : Gives 4 unlink-kinds.ps unlink-kinds.r unlink-reads.Learnt (λ κs a z e.
-    Exported (call (unlink (a .1 .1 .1 .0) (now (a .1 .1 .1 .1 .0)))) (world (now (a .0)) (now (a .1 .0)) (now (a .1 .1 .0))) z [] (world (now (e .0)) (now (e .1 .0)) (now (e .1 .1 .0))))
+    Exported (one (call (unlink (a .1 .1 .1 .0) (now (a .1 .1 .1 .1 .0))))) (world (now (a .0)) (now (a .1 .0)) (now (a .1 .1 .0))) z [] (world (now (e .0)) (now (e .1 .0)) (now (e .1 .1 .0))))
 unlink-exported κs a z e h =
     let v = (world (now (e .0)) (now (e .1 .0)) (now (e .1 .1 .0))) in
     let o = live (unlink (a .1 .1 .1 .0) (now (a .1 .1 .1 .1 .0))) (world (now (a .0)) (now (a .1 .0)) (now (a .1 .1 .0))) in
     record { received = got (told (o .answer)) []; made = unlinked (o .answer) (same-buffers v z o h); code = same-code v z o h; shown = refl }
 
 pub rename-exported : Gives 5 rename-kinds.ps rename-kinds.r rename-reads.Learnt (λ κs a z e.
-    Exported (call (rename (a .1 .1 .1 .0) (now (a .1 .1 .1 .1 .0)) (a .1 .1 .1 .1 .1 .0) (now (a .1 .1 .1 .1 .1 .1 .0)))) (world (now (a .0)) (now (a .1 .0)) (now (a .1 .1 .0))) z [] (world (now (e .0)) (now (e .1 .0)) (now (e .1 .1 .0))))
+    Exported (one (call (rename (a .1 .1 .1 .0) (now (a .1 .1 .1 .1 .0)) (a .1 .1 .1 .1 .1 .0) (now (a .1 .1 .1 .1 .1 .1 .0))))) (world (now (a .0)) (now (a .1 .0)) (now (a .1 .1 .0))) z [] (world (now (e .0)) (now (e .1 .0)) (now (e .1 .1 .0))))
 rename-exported κs a z e h =
     let v = (world (now (e .0)) (now (e .1 .0)) (now (e .1 .1 .0))) in
     let o = live (rename (a .1 .1 .1 .0) (now (a .1 .1 .1 .1 .0)) (a .1 .1 .1 .1 .1 .0) (now (a .1 .1 .1 .1 .1 .1 .0))) (world (now (a .0)) (now (a .1 .0)) (now (a .1 .1 .0))) in
     record { received = got (told (o .answer)) []; made = renamed (o .answer) (same-buffers v z o h); code = same-code v z o h; shown = refl }
 
--- ---- start, step and state
+-- ---- start, step, burst and state
 pub start-exported : Gives 3 start-kinds.ps start-kinds.r start-reads.Learnt (λ κs a z e.
-    Exported starts (world (now (a .0)) (now (a .1 .0)) (now (a .1 .1 .0))) z [] (world (now (a .0)) (now (e .1 .0)) (now (e .1 .1 .0))))
+    Exported (one starts) (world (now (a .0)) (now (a .1 .0)) (now (a .1 .1 .0))) z [] (world (now (a .0)) (now (e .1 .0)) (now (e .1 .1 .0))))
 start-exported κs a z e h =
     let v = (world (now (a .0)) (now (e .1 .0)) (now (e .1 .1 .0))) in
     let o = start (now (a .0)) (now (a .1 .0)) (now (a .1 .1 .0)) in
     record { received = got (told (o .answer)) []; made = started (o .answer) (same-buffers v z o h); code = same-code v z o h; shown = refl }
 
 pub step-exported : Gives 3 step-kinds.ps step-kinds.r step-reads.Learnt (λ κs a z e.
-    Exported advances (world (now (a .0)) (now (a .1 .0)) (now (a .1 .1 .0))) z [] (world (now (a .0)) (now (e .1 .0)) (now (e .1 .1 .0))))
+    Exported (one advances) (world (now (a .0)) (now (a .1 .0)) (now (a .1 .1 .0))) z [] (world (now (a .0)) (now (e .1 .0)) (now (e .1 .1 .0))))
 step-exported κs a z e h =
     let v = (world (now (a .0)) (now (e .1 .0)) (now (e .1 .1 .0))) in
     let o = step (now (a .0)) (now (a .1 .0)) (now (a .1 .1 .0)) in
     record { received = got (told (o .answer)) []; made = stepped (o .answer) (same-buffers v z o h); code = same-code v z o h; shown = refl }
+
+pub burst-exported : Gives 3 burst-kinds.ps burst-kinds.r burst-reads.Learnt (λ κs a z e.
+    Exported (bursts (a .1 .1 .1 .0)) (world (now (a .0)) (now (a .1 .0)) (now (a .1 .1 .0))) z [] (world (now (a .0)) (now (e .1 .0)) (now (e .1 .1 .0))))
+burst-exported κs a z e h =
+    let v = (world (now (a .0)) (now (e .1 .0)) (now (e .1 .1 .0))) in
+    let o = burst (a .1 .1 .1 .0) (world (now (a .0)) (now (a .1 .0)) (now (a .1 .1 .0))) in
+    record { received = got (told (o .answer)) []; made = stepped-many (o .answer) (same-buffers v z o h); code = same-code v z o h; shown = refl }
 
 state-numbers : (t : Told) (ns ms : List ℕ) → t .number ≡ 0 → ns ≡ sentState t ms .numbers → ns ≡ t .values
 state-numbers t ns ms e h = rw e at h

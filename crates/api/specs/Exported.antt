@@ -4,20 +4,21 @@ use mathlib.Core.Path.{_≡_}
 use mathlib.Core.List.{List, [], _∷_}
 use lib.IntN.{ℤ}
 use Rattle.checkpoint.specs.Live.{World}
-use Rattle.checkpoint.specs.List.{Event, asks}
+use Rattle.checkpoint.specs.List.{asks}
+use Rattle.checkpoint.specs.Burst.{Act, one}
 use Rattle.watch.specs.Made.{Received, Did}
 use Rattle.api.specs.Api.{codeOf, codeBy}
 
--- a call made on w answered c and left v, and a read's out-buffer out ([] for the other calls): so it is the call e, and its caller could have been told a
-pub record Exported (e : Event) (w : World) (c : ℤ) (out : List ℕ) (v : World) : Type 0 where
+-- a call made on w answered c and left v, and a read's out-buffer out ([] for the other calls): so it is the call x, and its caller could have been told a
+pub record Exported (x : Act) (w : World) (c : ℤ) (out : List ℕ) (v : World) : Type 0 where
   pub received : Received
-  pub made : Did e w received v
+  pub made : Did x w received v
   pub code : c ≡ codeOf (received .answer)
   pub shown : out ≡ received .out
 
 -- the state question answered c and left the three numbers ns; accepted, they are what it tells
 pub record Asked (w : World) (c : ℤ) (ns : List ℕ) : Type 0 where
   pub received : Received
-  pub made : Did asks w received w
+  pub made : Did (one asks) w received w
   pub code : c ≡ codeBy (received .answer .number) (0 ∷ [])
   pub numbers : received .answer .number ≡ 0 → ns ≡ received .answer .values

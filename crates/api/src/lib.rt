@@ -11,6 +11,7 @@ ghost use Rattle.files.specs.Effect.{lookUp, read, create, write, shorten, link
 ghost use Rattle.files.specs.Plain as alone;
 ghost use Rattle.checkpoint.specs.Live.{live, start, step, status};
 ghost use Rattle.checkpoint.specs.Shown.{world, shown, toldStatus};
+ghost use Rattle.checkpoint.specs.Burst.{burst};
 ghost use Rattle.api.specs.Api.{sends, sentLaid, sentAlone, sent, sendsState, sentState, checked};
 use crate::code::code;
 use crate::code::refused;
@@ -176,6 +177,18 @@ pub extern "C" fn honecerise_step(store: &[u8], image: &mut [u8], desk: &mut [u8
     ensures { λ r. ⌜ sends r (now (store .entry) ∷ now (image .exit) ∷ now (desk .exit) ∷ []) ≡ sent (shown (step (now (store .entry)) (now (image .entry)) (now (desk .entry)))) ⌝ }
 {
     code(watch::step(store, image, desk))
+}
+
+#[no_mangle]
+pub extern "C" fn honecerise_burst(
+    store: &[u8],
+    image: &mut [u8],
+    desk: &mut [u8],
+    count: usize,
+) -> i32
+    ensures { λ r. ⌜ sends r (now (store .entry) ∷ now (image .exit) ∷ now (desk .exit) ∷ []) ≡ sent (shown (burst count (world (now (store .entry)) (now (image .entry)) (now (desk .entry))))) ⌝ }
+{
+    code(watch::burst(store, image, desk, count))
 }
 
 #[no_mangle]

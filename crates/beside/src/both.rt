@@ -1,8 +1,11 @@
-// An event done by the library and, a file call that was not answered 14, by the plain store; what they answer and leave is compared.
+// An event done by the library and, a file call that was not answered 14, by the plain store, a burst by single steps; what they answer and leave is compared.
 ghost use Prim.Native.Nat.{_≤_};
 ghost use lib.ListN.{length};
+use crate::burst::do_burst;
 use crate::calls;
+use crate::calls::Both;
 use crate::calls::Got;
+use crate::calls::same_answer;
 use chance::event;
 use chance::event::Event;
 use chance::event::spell;
@@ -14,10 +17,6 @@ const BUSY: usize = 14;
 
 // What an out-buffer holds before a read.
 const FILLER: u8 = 170;
-
-fn same_answer(a: Got, b: Got) -> bool {
-    a.number == b.number && a.value == b.value
-}
 
 // The plain store reads the same.
 fn read_alike(e: Event, a: Got, out: &[u8], beside: &[u8]) -> bool {
@@ -92,14 +91,8 @@ fn put_first(e: Event, name: &mut [u8]) -> usize
     spell(e.name, &mut *name)
 }
 
-// What the library answered, and whether the plain store does the same.
-pub struct Both {
-    pub got: Got,
-    pub alike: bool,
-}
-
 // The bytes that a write writes are all alike.
-pub fn do_both(
+fn do_call(
     e: Event,
     fill: u8,
     n: usize,
@@ -122,4 +115,22 @@ pub fn do_both(
     note(e, a, n, beside, store, taken);
     let alike = compare(e, f, g, a, &out, store, beside, &name, &other);
     Both { got: a, alike }
+}
+
+pub fn do_both(
+    e: Event,
+    fill: u8,
+    n: usize,
+    store: &mut [u8],
+    image: &mut [u8],
+    desk: &mut [u8],
+    beside: &mut [u8],
+    taken: &mut [u8; 384],
+) -> Both
+    requires { ⌜ n ≤ 8 ⌝ }
+{
+    if e.what == event::BURST {
+        return do_burst(e.count, store, image, desk);
+    }
+    do_call(e, fill, n, store, image, desk, beside, taken)
 }

@@ -1,11 +1,12 @@
 -- A loop that notes in a list each value it meets.
 use mathlib.Core.Path.{_≡_, refl, sym, ap, ap₂, _∙_, subst}
+use mathlib.Core.Logic.{_≢_, _⊎_, inl, inr}
 use mathlib.Core.Bool.{Bool, true, false, not, _||_}
 use mathlib.Core.List.{List}
 use Prim.Native.Nat.{ℕ, zero, suc, _+_, _≤_, _<_}
 use native.Mathlib.Decide.{ℕ-discrete}
 use native.Mathlib.Omega.{arith}
-use borrow.Author.Tests.{eq-eqb, ne-eqb}
+use borrow.Author.Tests.{eq-eqb, ne-eqb, eqb-true}
 use lib.Dec.{eqb}
 use lib.ListN.{getD, set, replicate, getD-replicate, length-replicate, length-set}
 use lib.Seq.{getD-set-same, getD-set-other}
@@ -65,7 +66,42 @@ module _ (f : ℕ → ℕ) (lo n : ℕ) where
     each = λ v g b. s .each v g b ∙ sym (ap one (some-skips (λ k. eqb (f k) v) m w (λ k c. ne-eqb (f (m + k)) v (λ y. let z = e k c in omega arith))));
   }
 
--- what a place of the list says
+-- ---- another function
+-- the same values
+pub seen-ext : (f g : ℕ → ℕ) (lo n m : ℕ) (l : List ℕ) → ((k : ℕ) → k < m → g k ≡ f k) → Seen f lo n m l → Seen g lo n m l
+seen-ext f g lo n m l e s = record {
+  long = s .long;
+  each = λ v b c. s .each v b c ∙ ap one (same-test (someBelow (λ k. eqb (f k) v) m) (someBelow (λ k. eqb (g k) v) m)
+      (λ h. let r = some-at (λ k. eqb (f k) v) m h in some-of (λ k. eqb (g k) v) m (r .0) (r .1) (ap (λ (y : ℕ). eqb y v) (e (r .0) (r .1)) ∙ r .2))
+      (λ h. let r = some-at (λ k. eqb (g k) v) m h in some-of (λ k. eqb (f k) v) m (r .0) (r .1) (ap (λ (y : ℕ). eqb y v) (sym (e (r .0) (r .1))) ∙ r .2)));
+}
+
+-- at x, and perhaps elsewhere, a value that needed no note becomes a
+module _ (f g : ℕ → ℕ) (lo n m x a : ℕ) (l : List ℕ) (u : x < m) (new : g x ≡ a) (h : a < n) (e : (k : ℕ) → k < m → (g k ≡ f k) ⊎ ((f k < lo) × (g k ≡ a))) (s : Seen f lo n m l) where
+  there : (v : ℕ) → lo ≤ v → v ≢ a → someBelow (λ k. eqb (f k) v) m ≡ someBelow (λ k. eqb (g k) v) m
+  there v b q =
+      same-test (someBelow (λ k. eqb (f k) v) m) (someBelow (λ k. eqb (g k) v) m)
+      (λ t. let r = some-at (λ k. eqb (f k) v) m t in some-of (λ k. eqb (g k) v) m (r .0) (r .1) (on (r .0) (eqb-true (f (r .0)) v (r .2)) (e (r .0) (r .1))))
+      (λ t. let r = some-at (λ k. eqb (g k) v) m t in some-of (λ k. eqb (f k) v) m (r .0) (r .1) (back (r .0) (eqb-true (g (r .0)) v (r .2)) (e (r .0) (r .1))))
+    where
+      on : (k : ℕ) → f k ≡ v → (g k ≡ f k) ⊎ ((f k < lo) × (g k ≡ a)) → eqb (g k) v ≡ true
+      on k z (inl y) = eq-eqb (g k) v (y ∙ z)
+      on k z (inr y) = let w = y .0 in absurd (omega arith)
+
+      back : (k : ℕ) → g k ≡ v → (g k ≡ f k) ⊎ ((f k < lo) × (g k ≡ a)) → eqb (f k) v ≡ true
+      back k z (inl y) = eq-eqb (f k) v (sym y ∙ z)
+      back k z (inr y) = absurd (q (sym z ∙ y .1))
+
+  pub seen-change : Seen g lo n m (set l a 1)
+  seen-change = record { long = length-set l a 1 ∙ s .long; each = λ v b c. at v b c (ℕ-discrete v a) }
+    where
+      at : (v : ℕ) → lo ≤ v → v < n → Dec (v ≡ a) → getD (set l a 1) v 0 ≡ one (someBelow (λ k. eqb (g k) v) m)
+      at v b c (yes q) =
+          ap (λ (j : ℕ). getD (set l a 1) j 0) q ∙ getD-set-same l a 1 0 (omega (arith, s .long))
+          ∙ sym (ap one (some-of (λ k. eqb (g k) v) m x u (eq-eqb (g x) v (new ∙ sym q))))
+      at v b c (no q) = getD-set-other l a v 1 0 q ∙ s .each v b c ∙ ap one (there v b q)
+
+-- ---- what a place of the list says
 one-zero : (b : Bool) → one b ≡ 0 → b ≡ false
 one-zero true e = absurd (omega arith)
 one-zero false e = refl

@@ -2,13 +2,14 @@
 use mathlib.Core.Path.{_≡_, refl, sym, ap, _∙_}
 use mathlib.Core.Bool.{Bool}
 use mathlib.Core.Logic.{_≢_}
+use mathlib.Core.List.{List}
 use Prim.Native.Nat.{ℕ, _+_, _≤_, _<_}
 use native.Mathlib.Decide.{ℕ-discrete}
 use native.Mathlib.Omega.{arith}
 use borrow.Author.Tests.{eq-eqb, ne-eqb}
 use lib.Dec.{eqb}
 use Rattle.bounded.specs.Update.{upd}
-use Rattle.bounded.specs.Count.{one, count, tally}
+use Rattle.bounded.specs.Count.{one, count, tally, Tallied}
 use Rattle.bounded.proofs.UpdateLaws.{ElseBelow, changed, upd-same, upd-other}
 use Rattle.bounded.proofs.CountLaws.{count-ext, count-at, unmet}
 
@@ -51,6 +52,9 @@ tally-rest f g m p i l h e r v y q = let b = tally-filled f g m p i l h e r v y 
 -- the same values
 pub tally-same : (f g : ℕ → ℕ) (m : ℕ) → ((q : ℕ) → q < m → g q ≡ f q) → (v : ℕ) → tally g m v ≡ tally f m v
 tally-same f g m h v = count-ext (λ k. eqb (g k) v) (λ k. eqb (f k) v) m (λ k b. ap (λ (x : ℕ). eqb x v) (h k b))
+
+pub tallied-ext : (f g : ℕ → ℕ) (lo n m : ℕ) (l : List ℕ) → ((q : ℕ) → q < m → g q ≡ f q) → Tallied f lo n m l → Tallied g lo n m l
+tallied-ext f g lo n m l h t = record { long = t .long; each = λ v a b. t .each v a b ∙ sym (tally-same f g m h v) }
 
 -- a value that one number alone has is met once
 pub met-one : (f : ℕ → ℕ) (m p v : ℕ) → 1 ≤ v → p < m → f p ≡ v → ((q : ℕ) → q < m → f q ≡ v → q ≡ p) → tally f m v ≡ 1

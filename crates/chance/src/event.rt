@@ -28,6 +28,8 @@ pub const ASK: usize = 10;
 
 pub const STEP: usize = 11;
 
+pub const BURST: usize = 12;
+
 // Names by number: so many, and after them one that no entry may have.
 const NAMES: usize = 64;
 
@@ -37,6 +39,9 @@ const FEW_NAMES: usize = 4;
 const MOST_BYTES: usize = 2760;
 
 pub const OUT_BYTES: usize = 64;
+
+// A burst makes 1 to so many steps.
+pub const MOST_BURST: usize = 64;
 
 // Counts of inodes, blocks and image blocks; whether the list fills a directory; how many directories it makes before all else.
 pub struct Shape {
@@ -57,6 +62,7 @@ pub struct Event {
     pub inode: usize,
     pub offset: usize,
     pub length: usize,
+    pub count: usize,
 }
 
 // What chance starts from, for an event or, at number 0, for a list.
@@ -136,7 +142,7 @@ pub fn shape_of(seed: u64, list: u64) -> Shape
     }
 }
 
-// Out of a hundred: so many for each call that is not a step.
+// Out of a hundred: so many for each call that is no single step.
 fn kind_of(w: usize) -> usize {
     match w {
         0..=8 => CREATE_FILE,
@@ -150,6 +156,7 @@ fn kind_of(w: usize) -> usize {
         59..=60 => READ,
         61..=67 => START,
         68..=69 => ASK,
+        70..=77 => BURST,
         _ => STEP,
     }
 }
@@ -216,6 +223,15 @@ fn draw_length(b: u64) -> usize {
     }
 }
 
+// Steps of a burst: mostly few, so that calls fall between; at times any number that is allowed, or one that is not.
+fn draw_count(b: u64) -> usize {
+    match draw(b, 70, 12) {
+        0..=7 => 1 + draw(b, 71, 6),
+        8..=10 => 1 + draw(b, 71, MOST_BURST),
+        _ => (MOST_BURST + 1) * draw(b, 71, 3),
+    }
+}
+
 // A directory, in one of those made before it.
 fn trunk_event(b: u64, k: usize) -> Event
     requires { ⌜ (1 ≤ k) × (k ≤ 4) ⌝ }
@@ -229,6 +245,7 @@ fn trunk_event(b: u64, k: usize) -> Event
         inode: 0,
         offset: 0,
         length: 0,
+        count: 0,
     }
 }
 
@@ -244,6 +261,7 @@ fn later_event(b: u64, wide: bool, n: usize) -> Event
         inode: draw_inode(b, wide, n),
         offset: draw_offset(b),
         length: draw_length(b),
+        count: draw_count(b),
     }
 }
 

@@ -85,6 +85,10 @@ fn call(e: Event, fill: u64) {
         }
         event::START => word(b"go"),
         event::ASK => word(b"ask"),
+        event::BURST => {
+            word(b"bu");
+            number(e.count);
+        }
         _ => word(b"st"),
     }
     word(b"\n");

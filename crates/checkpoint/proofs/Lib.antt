@@ -6,6 +6,9 @@ pub mod RefusedLaws
 pub mod RowLaws
 pub mod TableLaws
 pub mod CopierTables
+pub mod BurstLaws
+pub mod BurstTables
+pub mod SteadyLaws
 pub mod Call
 pub mod Copy
 pub mod Step

@@ -12,7 +12,7 @@ use Rattle.sound.specs.Sound.{inodesIn}
 use Rattle.sound.specs.declared.Form.the-variants.{Store}
 use Rattle.sound.specs.Test.{isSound}
 use Rattle.answers.specs.declared.Refusal.{Refusal}
-use Rattle.answers.specs.declared.Refusal.the-variants.{BadBuffer, UnsoundStore, BadDesk, WrongState, ImageFull}
+use Rattle.answers.specs.declared.Refusal.the-variants.{BadBuffer, UnsoundStore, BadDesk, WrongState, ImageFull, BadCount}
 use Rattle.answers.specs.declared.Answer.{Answer}
 use Rattle.answers.specs.declared.Answer.the-variants.{Done, Refused}
 use Rattle.answers.specs.Refusal.{refusalNumber}
@@ -21,7 +21,10 @@ use Rattle.files.proofs.PlainLaws.{never}
 use Rattle.checkpoint.specs.Fit.{isRunning, notesFit, bothFramed, allFramed}
 use Rattle.checkpoint.specs.Copier.{stepOf, Step, lock, copy, close, finish, full}
 use Rattle.checkpoint.specs.Live.{World, Outcome, left, refuse, decision, leavesIn, live, doStep, started, start, step}
+use Rattle.checkpoint.specs.Shown.{world}
+use Rattle.checkpoint.specs.Burst.{burst}
 use Rattle.checkpoint.proofs.DecisionLaws.{chained, three-is, start-is}
+use Rattle.checkpoint.proofs.BurstTables.{Ends, lengths, number, first, counts, ends}
 
 abbrev pub Keeps : List ℕ → List ℕ → List ℕ → Outcome → Type 0
 Keeps s m d o = (e : Refusal) → o .answer ≡ Refused e → o ≡ refuse e s m d
@@ -82,6 +85,19 @@ module _ (s m d : List ℕ) where
 
   pub step-full : step s m d .answer ≡ Refused ImageFull → step s m d ≡ left (Refused ImageFull) s m (putDesk d (stopping (deskOf d)))
   step-full h = ⊎-elim (λ w. absurd (w .0 refl)) (λ w. w .1) (step-keeps ImageFull h)
+
+  -- a burst gets 1, 17, or the refusal of its first step
+  burst-keeps : (k : ℕ) → KeepsBut16 (burst k (world s m d))
+  burst-keeps k = go (ends k (world s m d))
+    where
+      go : Ends k (world s m d) → KeepsBut16 (burst k (world s m d))
+      go (lengths f o t) = subst KeepsBut16 (sym o) (not-16 BadBuffer refl)
+      go (number f a o t) = subst KeepsBut16 (sym o) (not-16 BadCount refl)
+      go (first f a r o t) = subst KeepsBut16 (sym o) step-keeps
+      go (counts f a r o) = λ e h. never _ e (sym o ∙ h)
+
+  pub burst-refused : (k : ℕ) (e : Refusal) → (e ≡ ImageFull → ⊥) → burst k (world s m d) .answer ≡ Refused e → burst k (world s m d) ≡ refuse e s m d
+  burst-refused k e n h = ⊎-elim (λ w. w .1) (λ w. absurd (n (w .0))) (burst-keeps k e h)
 
 -- a file call
 leaves-keeps : (w : World) (p : Planned) → Keeps (w .store) (w .image) (w .desk) (leavesIn w p)

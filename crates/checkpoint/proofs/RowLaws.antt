@@ -14,7 +14,7 @@ use Rattle.answers.specs.declared.Answer.{Answer}
 use Rattle.answers.specs.declared.Answer.the-variants.{Done, Refused}
 use Rattle.answers.specs.Order.{Row, firstOf, inOrder, rank}
 use Rattle.files.proofs.PlainLaws.{never}
-use Rattle.checkpoint.specs.Table.{liveRows, lookUpTable, readTable, createTable, writeTable, shortenTable, linkTable, unlinkTable, renameTable, startTable, stepTable}
+use Rattle.checkpoint.specs.Table.{liveRows, lookUpTable, readTable, createTable, writeTable, shortenTable, linkTable, unlinkTable, renameTable, startTable, stepTable, burstTable}
 
 abbrev placed : Row → ℕ
 placed r = rank (r .refusal)
@@ -156,6 +156,10 @@ module _ (s m d : List ℕ) where
   pub step-in-order : inOrder 0 (stepTable s m d) ≡ true
   unfolding stepTable
   step-in-order = refl
+
+  pub burst-in-order : (k : ℕ) → inOrder 0 (burstTable k s m d) ≡ true
+  unfolding burstTable stepTable
+  burst-in-order k = refl
 
   pub status-in-order : inOrder 0 (liveRows s m d) ≡ true
   status-in-order = refl

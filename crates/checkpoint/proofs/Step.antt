@@ -8,5 +8,6 @@ pub mod FinishLaws
 pub mod FinishSeen
 pub mod LockLaws
 pub mod PasteLaws
+pub mod RowChange
 pub mod StartImageLaws
 pub mod StartLaws

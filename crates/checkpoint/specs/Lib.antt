@@ -5,8 +5,9 @@ pub mod Notes
 pub mod Copier
 pub mod Live
 pub mod Shown
-pub mod Table
 pub mod List
+pub mod Burst
+pub mod Table
 pub mod Finished
 pub mod Progress
 pub mod Demand

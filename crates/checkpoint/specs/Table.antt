@@ -1,7 +1,7 @@
 -- "Given by number, looked at lowest first, when and only when the condition holds for that call": the conditions of each call on a store in a table. s is the store, m the image.
 use Prim.Native.Nat.{ℕ, _+_, _-_, max}
 use mathlib.Core.Bool.{Bool, true, false, not, _&&_, _||_}
-use mathlib.Core.List.{List, [], _∷_, _++_}
+use mathlib.Core.List.{List, [], _∷_, _++_, tail}
 use lib.Dec.{eqb, ltb}
 use lib.ListN.{length}
 use Rattle.files.specs.Guard.{storeRows}
@@ -18,12 +18,13 @@ use Rattle.names.specs.Name.{legalName}
 use Rattle.directory.specs.Slot.{findSlot, emptySlot, inodeAt}
 use Rattle.desk.specs.Desk.{deskOf}
 use Rattle.sound.specs.Sound.{inodesIn, blocksIn}
-use Rattle.answers.specs.declared.Refusal.the-variants.{IllegalName, WrongInode, NameAbsent, NameTaken, NotEmpty, PastEnd, IntoItself, NoInode, NoBlocks, NoSlot, Busy, WrongState, ImageFull}
+use Rattle.answers.specs.declared.Refusal.the-variants.{BadBuffer, IllegalName, WrongInode, NameAbsent, NameTaken, NotEmpty, PastEnd, IntoItself, NoInode, NoBlocks, NoSlot, Busy, WrongState, ImageFull, BadCount}
 use Rattle.answers.specs.Order.{Row, row}
 use Rattle.entries.specs.Plan.{holdsNone, isBelow}
 use Rattle.checkpoint.specs.Fit.{isRunning, bothFramed, allFramed}
 use Rattle.checkpoint.specs.Busy.{anyLocked}
 use Rattle.checkpoint.specs.Live.{guardRows}
+use Rattle.checkpoint.specs.Burst.{countAllowed}
 
 -- ---- conditions
 abbrev pub found : Found → Bool
@@ -155,3 +156,10 @@ stepTable s m desk =
     ++ (row (not (isRunning desk)) WrongState
     ∷ row (not (eqb i 0) && (ltb k (blocksUsed (sizeOf s i)) && allTo (namedBy (longBut m i (isLong s i)) m (inodesIn s)) (deskOf desk .blocks))) ImageFull
     ∷ [])
+
+-- a burst of k steps: "17 when the number of steps is outside 1 to 64; it comes right after 1"; then what its first step looks at after 1
+unfoldable pub burstTable : ℕ → List ℕ → List ℕ → List ℕ → List Row
+burstTable k s m desk =
+    row (not (bothFramed s desk)) BadBuffer
+    ∷ row (not (countAllowed k)) BadCount
+    ∷ tail (stepTable s m desk)

@@ -16,7 +16,7 @@ use Rattle.text.specs.Hex.{hexCount, takeHex}
 use Rattle.text.specs.declared.Number.{Number}
 use Rattle.text.specs.declared.Number.the-variants.{Value, NoNumber}
 use Rattle.commands.specs.declared.Command.{Command}
-use Rattle.commands.specs.declared.Command.the-variants.{New, PokeStore, PokeImage, PokeDesk, LayStore, LayDesk, CheckStore, CheckImage, Read, File, Start, Step, Ask, Bad}
+use Rattle.commands.specs.declared.Command.the-variants.{New, PokeStore, PokeImage, PokeDesk, LayStore, LayDesk, CheckStore, CheckImage, Read, File, Start, Step, Burst, Ask, Bad}
 use Rattle.commands.specs.declared.Call.the-variants.{LookUp, CreateFile, CreateDirectory, Write, Shorten, Link, Unlink, Rename}
 
 -- ---- The forms: `#` is a number, `*` and `+` are bytes in hex, for the first and the second of two buffers; any other field is itself
@@ -49,6 +49,7 @@ forms =
     ∷ form "mv # * # +" (λ dir name to new. File (Rename dir name to new))
     ∷ form "go" (λ _ _ _ _. Start)
     ∷ form "st" (λ _ _ _ _. Step)
+    ∷ form "bu #" (λ count _ _ _. Burst count)
     ∷ form "ask" (λ _ _ _ _. Ask)
     ∷ []
 

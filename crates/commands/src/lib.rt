@@ -28,6 +28,7 @@ pub enum Command {
     File(Call),
     Start,
     Step,
+    Burst(usize),
     Ask,
     Bad,
 }

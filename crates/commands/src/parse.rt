@@ -122,7 +122,8 @@ fn asked(j: usize, a: usize, b: usize, c: usize, d: usize) -> Command
         16 => Command::File(Call::Rename(a, b, c, d)),
         17 => Command::Start,
         18 => Command::Step,
-        19 => Command::Ask,
+        19 => Command::Burst(a),
+        20 => Command::Ask,
         _ => Command::Bad,
     }
 }
@@ -132,7 +133,7 @@ pub fn parse(cmd: &[u8], name: &mut [u8], other: &mut [u8]) -> Command
     ensures { λ r. ⌜ parsed r (now (name .exit)) (now (other .exit)) ≡ parseCommand (now (cmd .entry)) (now (name .entry)) (now (other .entry)) ⌝ }
 {
     let forms: &[u8] =
-        b"new # # #\npoke store # #\npoke image # #\npoke desk # #\nlay store # #\nlay desk #\nchk store\nchk image\nlk # *\nmk # * f\nmk # * d\nrd # # #\nwr # # *\nsh # #\nln # * #\nrm # *\nmv # * # +\ngo\nst\nask";
+        b"new # # #\npoke store # #\npoke image # #\npoke desk # #\nlay store # #\nlay desk #\nchk store\nchk image\nlk # *\nmk # * f\nmk # * d\nrd # # #\nwr # # *\nsh # #\nln # * #\nrm # *\nmv # * # +\ngo\nst\nbu #\nask";
     let a = name.len();
     let b = other.len();
     let Found::At(j) = form_of(forms, cmd, a, b) else {

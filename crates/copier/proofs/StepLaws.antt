@@ -1,17 +1,17 @@
 -- Which of the five things a step does, by what the code has tested. s is the store, m the image, d the desk, n the inode count.
 use Prim.Native.Nat.{ℕ, _+_, _≤_, _<_}
-use mathlib.Core.Path.{_≡_, sym, ap, ap₂, _∙_}
+use mathlib.Core.Path.{_≡_, refl, sym, ap, ap₂, _∙_}
 use mathlib.Core.Bool.{Bool, true, false, not, _&&_}
 use mathlib.Core.List.{List}
 use native.Mathlib.Omega.{arith}
 use borrow.Author.Tests.{lt-ltb, le-ltb, eq-eqb, ne-eqb, not-true, not-false}
 use lib.ListN.{length}
-use Rattle.bounded.specs.Search.{pick, onFound}
+use Rattle.bounded.specs.Search.{pick, firstFrom, onFound}
 use Rattle.bounded.specs.declared.Found.{Found}
 use Rattle.bounded.specs.declared.Found.the-variants.{At, Absent}
 use Rattle.bounded.proofs.BoolLaws.{holds}
 use Rattle.bounded.proofs.SearchLaws.{found-lowest}
-use Rattle.layout.specs.Sizes.{rootInode, addressCount, mostBlocks, blockBytes}
+use Rattle.layout.specs.Sizes.{rootInode, mostInodes, addressCount, mostBlocks, blockBytes}
 use Rattle.layout.specs.Inode.{sizeOf, inodeOf, putAttributes, addressIndex}
 use Rattle.layout.specs.Fits.{InodeFits}
 use Rattle.layout.specs.declared.inode.Inode.{Inode}
@@ -42,18 +42,28 @@ module _ (m d : List ℕ) (n : ℕ) (r : Bool) (e : r ≡ isCopied d n rootInode
   unfolding freeStep
   free-root q = ap (λ (t : Bool). pick t (onFound (nextInode m d n) lock finish) (lock rootInode)) (sym e ∙ not-true r q)
 
-  module _ (q : not r ≡ false) (f : Found) (g : f ≡ nextInode m d n) where
-    free-next : freeStep m d n ≡ onFound f lock finish
-    unfolding freeStep
-    free-next =
-        ap (λ (t : Bool). pick t (onFound (nextInode m d n) lock finish) (lock rootInode)) (sym e ∙ not-false r q)
-        ∙ ap (λ (y : Found). onFound y lock finish) (sym g)
+  pub free-next : not r ≡ false → (f : Found) → f ≡ nextInode m d n → freeStep m d n ≡ onFound f lock finish
+  unfolding freeStep
+  free-next q f g =
+      ap (λ (t : Bool). pick t (onFound (nextInode m d n) lock finish) (lock rootInode)) (sym e ∙ not-false r q)
+      ∙ ap (λ (y : Found). onFound y lock finish) (sym g)
 
-    pub free-lock : (i : ℕ) → f ≡ At i → freeStep m d n ≡ lock i
-    free-lock i h = free-next ∙ ap (λ (y : Found). onFound y lock finish) h
+module _ (m d : List ℕ) (n : ℕ) (f : Found) (g : freeStep m d n ≡ onFound f lock finish) where
+  pub free-lock : (i : ℕ) → f ≡ At i → freeStep m d n ≡ lock i
+  free-lock i h = g ∙ ap (λ (y : Found). onFound y lock finish) h
 
-    pub free-finish : f ≡ Absent → freeStep m d n ≡ finish
-    free-finish h = free-next ∙ ap (λ (y : Found). onFound y lock finish) h
+  pub free-finish : f ≡ Absent → freeStep m d n ≡ finish
+  free-finish h = g ∙ ap (λ (y : Found). onFound y lock finish) h
+
+-- the numbers that are locked
+pub lock-few : (m d : List ℕ) (n i : ℕ) → n ≤ mostInodes → freeStep m d n ≡ lock i → i ≤ mostInodes
+unfolding freeStep nextInode
+lock-few m d n i few = go (isCopied d n rootInode) (firstFrom (λ j. not (isCopied d n j) && inodeNamed m n j) 1 n) refl
+  where
+    go : (t : Bool) (f : Found) → firstFrom (λ j. not (isCopied d n j) && inodeNamed m n j) 1 n ≡ f → pick t (onFound f lock finish) (lock rootInode) ≡ lock i → i ≤ 256
+    go true (At j) e q = let l = found-lowest (λ j. not (isCopied d n j) && inodeNamed m n j) 1 n j e .below in let y : j ≡ i = cc in omega arith
+    go true Absent e q = let y : _≡_ {A = ℕ} 0 1 = cc in absurd (omega arith)
+    go false f e q = let y : 1 ≡ i = cc in omega arith
 
 -- ---- inode i is locked
 module _ (s m : List ℕ) (n b i k u : ℕ) (e : u ≡ blocksUsed (sizeOf s i)) where
@@ -128,11 +138,6 @@ module _ (d : List ℕ) (h next : Desk) (e : h ≡ deskOf d) where
     pub finish-done : (a : List ℕ) → a ≡ finishImage m n (h .blocks) → next ≡ finishing h → t ≡ putDesk d next
         → (s : List ℕ) → left (Done (next .steps)) s a t ≡ doStep s m d n finish
     finish-done a p q w s = same-left s (rw (q, e)) (p ∙ ap (λ (y : Desk). finishImage m n (y .blocks)) e) (w ∙ ap (putDesk d) (q ∙ ap finishing e))
-
--- ---- the numbers that a search finds
-pub next-few : (m d : List ℕ) (n i : ℕ) (f : Found) → f ≡ nextInode m d n → f ≡ At i → i ≤ n
-unfolding nextInode
-next-few m d n i f g h = let l = found-lowest (λ i. not (isCopied d n i) && inodeNamed m n i) 1 n i (sym g ∙ h) .below in omega arith
 
 -- ---- the block that a block step takes
 pub locked-few : {s : List ℕ} {n : ℕ} {h : Desk} → Locked s n h → h .transferred < blocksUsed (sizeOf s (h .locked)) → h .transferred < mostBlocks

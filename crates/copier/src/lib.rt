@@ -2,16 +2,21 @@
 ghost use mathlib.Core.Path.{_≡_};
 ghost use mathlib.Core.Bool.{true};
 ghost use mathlib.Core.List.{List};
-ghost use Prim.Native.Nat.{ℕ, _+_, _<_, _≤_};
+ghost use Prim.Native.Nat.{ℕ, _+_, _*_, _<_, _≤_};
 ghost use lib.ListN.{length};
+ghost use Rattle.bounded.specs.Count.{Tallied};
+ghost use Rattle.layout.specs.Sizes.{mostInodes, mostImageBlocks, mostBlocks};
 ghost use Rattle.layout.specs.Inode.{sizeOf};
-ghost use Rattle.blocks.specs.Block.{blocksUsed};
+ghost use Rattle.blocks.specs.Block.{blocksUsed, isLong};
+ghost use Rattle.blocks.specs.Map.{Maps};
+ghost use Rattle.directory.specs.Slot.{mostSlots};
 ghost use Rattle.desk.specs.Sizes.{deskHeaderBytes};
 ghost use Rattle.desk.specs.Desk.{deskOf};
 ghost use Rattle.sound.specs.Sound.{inodesIn};
 ghost use Rattle.answers.specs.declared.Answer.the-variants.{Done, Refused};
 ghost use Rattle.answers.specs.declared.Refusal.the-variants.{ImageFull};
 ghost use Rattle.checkpoint.specs.Fit.{isRunning};
+ghost use Rattle.checkpoint.specs.Image.{imageNaming};
 ghost use Rattle.checkpoint.specs.Copier.{lock, copy, close, finish, full, freeStep, lockedStep, stepOf, stepDesk};
 ghost use Rattle.checkpoint.specs.Live.{left, doStep};
 ghost use Rattle.checkpoint.specs.Shown.{world};
@@ -20,17 +25,19 @@ ghost use Rattle.tallies.specs.Addressed.{Addressed};
 ghost use Rattle.copier.specs.Held.{Held, Locked, Target, FreeImage, OpenImage};
 use answers::Answer;
 use answers::Refusal;
+use blocks::free;
 use bounded::Found;
 use content::apply::kth_used;
 use desk::Desk;
 use layout::inode;
 use layout::inode::Inode;
 use layout::sizes::BLOCK_BYTES;
+use layout::sizes::INODE_PLACES;
 use layout::sizes::ROOT;
 use transfer::target_block;
 
 // 1 and 2: inode i is locked.
-fn lock(d: &mut [u8], h: Desk, i: usize) -> Answer
+pub fn lock(d: &mut [u8], h: Desk, i: usize) -> Answer
     requires { ⌜ (h ≡ deskOf (now d)) × (deskHeaderBytes ≤ length (now d)) × (h .steps + 1 < 4294967296) × (i < 65536) ⌝ }
     ensures { λ r. ⌜ (r ≡ Done (deskOf (now (d .entry)) .steps + 1)) × (now (d .exit) ≡ stepDesk (now (d .entry)) (lock i)) ⌝ }
 {
@@ -69,12 +76,19 @@ pub fn close(s: &[u8], m: &mut [u8], d: &mut [u8], h: Desk, n: usize) -> Answer
     Answer::Done(freed.steps as usize)
 }
 
-// 5: nothing is left to copy.
-fn finish(m: &mut [u8], d: &mut [u8], h: Desk, n: usize) -> Answer
-    requires { ⌜ Held (now d) n h × FreeImage (now m) n h ⌝ }
+// 5: nothing is left to copy. The map has the image's named blocks, counts has how often it names each inode.
+pub fn finish(
+    m: &mut [u8],
+    d: &mut [u8],
+    h: Desk,
+    n: usize,
+    map: &[u8],
+    counts: &[u16; INODE_PLACES],
+) -> Answer
+    requires { ⌜ Held (now d) n h × Addressed (now m) n × (h .blocks ≤ mostImageBlocks) × Maps (isLong (now m)) (now m) n (mostBlocks * n) (now map) × Tallied (imageNaming (now m) n) 1 (mostInodes + 1) (mostSlots * n) (now counts) ⌝ }
     ensures { λ r. ⌜ ((s : List ℕ) → left r s (now (m .exit)) (now (d .exit)) ≡ doStep s (now (m .entry)) (now (d .entry)) n finish) ⌝ }
 {
-    tallies::finish_image(&mut *m, n, h.blocks as usize);
+    tallies::finish_image(&mut *m, n, h.blocks as usize, map, counts);
     let ended = h.finish();
     ended.write(&mut *d);
     Answer::Done(ended.steps as usize)
@@ -90,15 +104,17 @@ pub fn stop(d: &mut [u8], h: Desk) -> Answer
 }
 
 // Nothing is locked.
-pub fn free_step(m: &mut [u8], d: &mut [u8], h: Desk, n: usize) -> Answer
+fn free_step(m: &mut [u8], d: &mut [u8], h: Desk, n: usize) -> Answer
     requires { ⌜ Held (now d) n h × FreeImage (now m) n h ⌝ }
     ensures { λ r. ⌜ ((s : List ℕ) → left r s (now (m .exit)) (now (d .exit)) ≡ doStep s (now (m .entry)) (now (d .entry)) n (freeStep (now (m .entry)) (now (d .entry)) n)) ⌝ }
 {
     if !tallies::is_copied(&*d, n, ROOT) {
         return lock(&mut *d, h, ROOT);
     }
-    let Found::At(i) = tallies::next_inode(&*m, &*d, n) else {
-        return finish(&mut *m, &mut *d, h, n);
+    let counts = tallies::count_names(&*m, n);
+    let Found::At(i) = tallies::lowest_named(&counts, &*d, n) else {
+        let map = free::named_blocks(&*m, n, 0, false);
+        return finish(&mut *m, &mut *d, h, n, &map, &counts);
     };
     lock(&mut *d, h, i)
 }

@@ -1,6 +1,9 @@
 // The record of a copy under way, kept from answers and stores alone, and what is asked of it.
 ghost use Prim.Native.Nat.{_≤_};
 use crate::tried::BLOCKS;
+use crate::tried::BURST_FINISHES;
+use crate::tried::BURST_STEPS;
+use crate::tried::BURST_STOPS;
 use crate::tried::CROSSED;
 use crate::tried::ENTRIES;
 use crate::tried::FINISHES;
@@ -8,6 +11,8 @@ use crate::tried::LONG;
 use crate::tried::tally;
 use beside::calls::Got;
 use chance::event;
+use chance::event::Event;
+use chance::event::MOST_BURST;
 use judge::again::blocks_again;
 use judge::again::files_crossed;
 use judge::again::files_long;
@@ -24,7 +29,12 @@ const UNTIMELY: usize = 15;
 
 const FULL: usize = 16;
 
+const BAD_COUNT: usize = 17;
+
 const MOST_MOMENTS: usize = 512;
+
+// More than a copy of a list's store has.
+const MOST_STEPS: usize = 1000;
 
 // From a start to the finish: how many moments there were, none where no copy is under way; and accepted steps since the latest start.
 pub struct Copy {
@@ -49,7 +59,7 @@ fn remember(store: &[u8], moments: &mut [u8; 2097152], m: usize) {
 }
 
 // What has become of blocks and files since the first moment, counted at a finish.
-fn count_changes(first: &[u8], store: &[u8], image: &[u8], n: usize, tried: &mut [u64; 26])
+fn count_changes(first: &[u8], store: &[u8], image: &[u8], n: usize, tried: &mut [u64; 30])
     requires { ⌜ n ≤ 8 ⌝ }
 {
     tally(&mut *tried, BLOCKS, blocks_again(first, store, n));
@@ -65,7 +75,7 @@ fn finish_right(
     image: &[u8],
     moments: &[u8; 2097152],
     taken: &[u8; 384],
-    tried: &mut [u64; 26],
+    tried: &mut [u64; 30],
 ) -> bool
     requires { ⌜ n ≤ 8 ⌝ }
 {
@@ -80,8 +90,53 @@ fn finish_right(
         && of_its_time(moments, m, image, n)
 }
 
-// An accepted step: it is counted, and the one that sets image byte 8 finishes the copy.
+// Steps so far, by what an accepted step or burst answers: a step these, a burst its own. 0 where the answer can't be.
+fn steps_told(e: Event, value: usize, copy: Copy) -> usize {
+    let before = copy.steps;
+    if e.what == event::STEP {
+        return if 1 <= value && value - 1 == before {
+            value
+        } else {
+            0
+        };
+    }
+    if e.count < value {
+        return 0;
+    }
+    if MOST_STEPS < before {
+        return 0;
+    }
+    if MOST_BURST < value {
+        0
+    } else {
+        before + value
+    }
+}
+
+// A burst that ended early, but not by a finish, was stopped by a refusal, and so was the copy.
+fn is_stopped(e: Event, value: usize) -> bool {
+    e.what == event::BURST && value < e.count
+}
+
+// What a burst did, and whether it finished the copy.
+fn count_burst(e: Event, value: usize, finished: bool, tried: &mut [u64; 30]) {
+    if e.what != event::BURST {
+        return;
+    }
+    if MOST_BURST < value {
+        return;
+    }
+    tally(&mut *tried, BURST_STEPS, value);
+    if finished {
+        tally(&mut *tried, BURST_FINISHES, 1);
+    } else if is_stopped(e, value) {
+        tally(&mut *tried, BURST_STOPS, 1);
+    }
+}
+
+// An accepted step or burst: its steps are counted, and the one that sets image byte 8 finishes the copy.
 fn stepped(
+    e: Event,
     value: usize,
     copy: Copy,
     n: usize,
@@ -89,27 +144,25 @@ fn stepped(
     image: &[u8],
     moments: &[u8; 2097152],
     taken: &[u8; 384],
-    tried: &mut [u64; 26],
+    tried: &mut [u64; 30],
 ) -> Next
     requires { ⌜ n ≤ 8 ⌝ }
 {
     let m = copy.moments;
-    let counted = 1 <= value && value - 1 == copy.steps && value <= 46 * n + 1 && 0 < m;
-    if byte(image, 8) != 1 {
-        let copy = Copy {
-            moments: m,
-            steps: value,
-        };
+    let steps = steps_told(e, value, copy);
+    let counted = copy.steps < steps && steps <= 46 * n + 1 && 0 < m;
+    let finished = byte(image, 8) == 1;
+    count_burst(e, value, finished, &mut *tried);
+    if !finished {
+        let moments = if is_stopped(e, value) { 0 } else { m };
+        let copy = Copy { moments, steps };
         return Next {
             copy,
             right: counted,
         };
     }
     let right = finish_right(m, n, store, image, moments, taken, tried);
-    let copy = Copy {
-        moments: 0,
-        steps: value,
-    };
+    let copy = Copy { moments: 0, steps };
     Next {
         copy,
         right: counted && right,
@@ -142,16 +195,19 @@ fn called(copy: Copy, store: &[u8], moments: &mut [u8; 2097152]) -> Copy {
     }
 }
 
-// 1 to 3 never come. 14 and 16 come while a copy runs, 15 to a start then and to a step at other times.
+// 1 to 3 never come. 14 and 16 come while a copy runs, 15 to a start then and to steps at other times, 17 to a burst at any.
 fn refusal_right(what: usize, number: usize, running: bool) -> bool {
     if number <= 3 {
         return false;
     }
-    if number == UNTIMELY && what == event::STEP {
+    if number == UNTIMELY && event::STEP <= what {
         return !running;
     }
     if number == UNTIMELY {
         return running && what == event::START;
+    }
+    if number == BAD_COUNT {
+        return what == event::BURST;
     }
     number < BUSY || running
 }
@@ -168,7 +224,7 @@ fn refused(what: usize, number: usize, copy: Copy) -> Next {
 }
 
 pub fn follow(
-    what: usize,
+    e: Event,
     a: Got,
     copy: Copy,
     n: usize,
@@ -176,15 +232,16 @@ pub fn follow(
     image: &[u8],
     moments: &mut [u8; 2097152],
     taken: &mut [u8; 384],
-    tried: &mut [u64; 26],
+    tried: &mut [u64; 30],
 ) -> Next
     requires { ⌜ n ≤ 8 ⌝ }
 {
+    let what = e.what;
     if a.number != 0 {
         return refused(what, a.number, copy);
     }
-    if what == event::STEP {
-        return stepped(a.value, copy, n, store, image, moments, taken, tried);
+    if event::STEP <= what {
+        return stepped(e, a.value, copy, n, store, image, moments, taken, tried);
     }
     if what == event::ASK {
         let right = a.value == copy.steps;

@@ -195,7 +195,7 @@ module _ (s : List ℕ) (l : ℕ) where
       go (no e) = omega arith
 
   -- with none locked it makes no difference what is told of it
-  told : (m : List ℕ) (i : ℕ) → 1 ≤ i → longBut m l (lockedLong s l) i ≡ longBut m l (isLong s l) i
+  pub told : (m : List ℕ) (i : ℕ) → 1 ≤ i → longBut m l (lockedLong s l) i ≡ longBut m l (isLong s l) i
   unfolding longBut
   told m i h = go (ℕ-discrete l 0)
     where

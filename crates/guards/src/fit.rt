@@ -171,7 +171,7 @@ fn direct_fit(m: &[u8], n: usize, b: usize) -> bool
 }
 
 // The largest address in the address block a.
-fn largest_further(m: &[u8], n: usize, a: usize) -> u16
+pub fn largest_further(m: &[u8], n: usize, a: usize) -> u16
     requires { ⌜ (n ≤ mostInodes) × (1 ≤ a) × (a ≤ mostImageBlocks) × (blockAt n a + blockBytes ≤ length (now m)) ⌝ }
     ensures { λ r. ⌜ (r ≡ most (furtherOf (now (m .entry)) n a) furtherCount) × (r < 65536) ⌝ }
 {
@@ -222,7 +222,7 @@ fn addresses_fit(m: &[u8], n: usize, b: usize, l: usize, long: bool) -> bool
 }
 
 // The locked inode l is to have an address block: by the store, since its size in the image is not yet written.
-fn locked_long(s: &[u8], n: usize, l: usize) -> bool
+pub fn locked_long(s: &[u8], n: usize, l: usize) -> bool
     requires { ⌜ (n ≤ mostInodes) × (headerBytes + inodeBytes * n ≤ length (now s)) × (l ≤ n) ⌝ }
     ensures { λ r. ⌜ r ≡ lockedLong (now (s .entry)) l ⌝ }
 {

@@ -12,7 +12,7 @@ use layout::header::Header;
 use sound::Form;
 
 // What 1 asks of every call on the three buffers.
-fn both_framed(store: &[u8], desk: &[u8]) -> bool
+pub fn both_framed(store: &[u8], desk: &[u8]) -> bool
     ensures { λ r. ⌜ r ≡ bothFramed (now (store .entry)) (now (desk .entry)) ⌝ }
 {
     if !check::framed(Form::Store, store) {
@@ -22,7 +22,7 @@ fn both_framed(store: &[u8], desk: &[u8]) -> bool
 }
 
 // 2 and 3, where 1 does not come: one check of the store, then the desk and the image of a running copy, beside the store that is sound by then.
-fn after_lengths(store: &[u8], image: &[u8], desk: &[u8]) -> Guard
+pub fn after_lengths(store: &[u8], image: &[u8], desk: &[u8]) -> Guard
     requires { ⌜ bothFramed (now store) (now desk) ≡ true ⌝ }
     ensures { λ r. ⌜ r ≡ guardBy (now (store .entry)) (guardRows true (now (store .entry)) (now (image .entry)) (now (desk .entry))) ⌝ }
 {

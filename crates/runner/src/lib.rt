@@ -22,6 +22,7 @@ pub fn run(
         Command::File(c) => reply(calls::call(c, store, image, desk, name, other)),
         Command::Start => reply(watch::start(store, image, desk)),
         Command::Step => reply(watch::step(store, image, desk)),
+        Command::Burst(k) => reply(watch::burst(store, image, desk, k)),
         Command::Ask => calls::state(store, image, desk),
         _ => buffers::run(command, store, image, desk),
     }

@@ -12,22 +12,23 @@ use lib.ListN.{length, getD, set, take, drop}
 use Rattle.bounded.specs.Count.{Tallied, tally, countTo}
 use Rattle.bounded.specs.Search.{pick, firstFrom}
 use Rattle.bounded.proofs.BoolLaws.{chain-end}
-use Rattle.bounded.proofs.CountLaws.{tally-skip, tally-one, tally-skips, tally-past, count-some-is, count-ext}
+use Rattle.bounded.proofs.CountLaws.{tally-skip, tally-one, tally-skips, tally-past, count-some-is}
 use Rattle.bounded.proofs.ReflectLaws.{r-fails}
 use Rattle.bounded.proofs.SearchLaws.{first-ext}
+use Rattle.bounded.proofs.SeenLaws.{seen-ext}
 use Rattle.octets.specs.Octets.{part}
 use Rattle.octets.proofs.PartLaws.{cut}
 use Rattle.octets.proofs.NumLaws.{length-num}
 use Rattle.layout.specs.Sizes.{mostInodes, mostImageBlocks, mostBlocks, addressCount, isComplete}
 use Rattle.layout.specs.Header.{putFree, putComplete}
 use Rattle.layout.specs.Inode.{kindOf, directoryKind, addressIndex, putLinks, inodeFree}
-use Rattle.blocks.specs.Block.{blockAt, isLong, kthBlock}
-use Rattle.blocks.specs.Free.{longBut, blockFree}
+use Rattle.blocks.specs.Block.{blockAt, isLong, kthBlock, rowBy, rowOf}
+use Rattle.blocks.specs.Free.{longBut}
 use Rattle.blocks.specs.Fits.{RowsFit}
 use Rattle.blocks.specs.Map.{lacks, Maps}
 use Rattle.blocks.proofs.KthLaws.{kth-direct}
 use Rattle.blocks.proofs.MapLaws.{map-count}
-use Rattle.blocks.proofs.LongLaws.{named-flags, fit-flags, long-own}
+use Rattle.blocks.proofs.LongLaws.{but-else, row-flags, fit-flags}
 use Rattle.names.specs.Entry.{entryInode}
 use Rattle.directory.specs.Slot.{mostSlots, slotAt, entryOf}
 use Rattle.desk.specs.Desk.{copiedOf}
@@ -150,17 +151,18 @@ module _ (d : List ℕ) (n i : ℕ) where
   copied-read x l h e = chain-end _ _ _ (le-leb 1 i l) (chain-end _ _ _ (le-leb i n h) (ap (λ (y : ℕ). eqb y 1) e))
 
 -- ---- nothing is locked: no inode has the number 0, so each is long by its own size
-module _ (m : List ℕ) (n : ℕ) where
-  pub rows-free : RowsFit (isLong m) m n → RowsFit (longBut m 0 false) m n
-  rows-free = fit-flags (isLong m) (longBut m 0 false) m n (long-own m false)
+module _ (m : List ℕ) (n none : ℕ) (told : Bool) (e : none ≡ 0) where
+  own : (i : ℕ) → 1 ≤ i → longBut m none told i ≡ isLong m i
+  own i l = but-else m none told i (λ z. omega arith)
 
-  count-free : (map : List ℕ) (b : ℕ) → b ≤ mostImageBlocks → Maps (longBut m 0 false) m n (mostBlocks * n) map → countTo (lacks map) b ≡ countTo (blockFree m n) b
-  count-free map b l h =
-      map-count (longBut m 0 false) m n map h b l
-      ∙ count-ext _ _ b (λ k _. ap not (named-flags (isLong m) (longBut m 0 false) m n (long-own m false) (k + 1)))
+  pub rows-free : RowsFit (isLong m) m n → RowsFit (longBut m none told) m n
+  rows-free = fit-flags (isLong m) (longBut m none told) m n own
 
-pub finish-read : (m map t u v : List ℕ) (n b i k : ℕ) → b ≤ mostImageBlocks → Maps (longBut m 0 false) m n (mostBlocks * n) map
+  pub maps-free : (map : List ℕ) → Maps (longBut m none told) m n (mostBlocks * n) map → Maps (isLong m) m n (mostBlocks * n) map
+  maps-free map h = seen-ext (rowBy (longBut m none told) m n) (rowOf m n) 1 4097 (mostBlocks * n) map (λ x _. sym (row-flags (isLong m) (longBut m none told) m n own x)) h
+
+pub finish-read : (m map t u v : List ℕ) (n b i k : ℕ) → b ≤ mostImageBlocks → Maps (isLong m) m n (mostBlocks * n) map
     → i ≡ countTo (inodeFree m) n → k ≡ countTo (lacks map) b → t ≡ putCounts m m n n → u ≡ putFree t i k → v ≡ putComplete u isComplete → v ≡ finishImage m n b
 unfolding finishImage
 finish-read m map t u v n b i k l s e f p q r =
-    r ∙ ap (λ (x : List ℕ). putComplete x 1) (q ∙ rw (p, e, f, count-free m n map b l s))
+    r ∙ ap (λ (x : List ℕ). putComplete x 1) (q ∙ rw (p, e, f, map-count (isLong m) m n map s b l))

@@ -1,4 +1,4 @@
-// What is read off an image in one pass each: how often its directories name each inode, the next inode to copy, and the counts that a finish writes. m is the image, d the desk, n the count of inodes.
+// What is read off an image: how often its directories name each inode, the next inode to copy by these counts, and what a finish writes. m is the image, d the desk, n the count of inodes.
 ghost use mathlib.Core.Path.{_≡_};
 ghost use mathlib.Core.Bool.{not, _&&_};
 ghost use Prim.Native.Nat.{ℕ, _+_, _*_, _-_, _<_, _≤_};
@@ -7,19 +7,18 @@ ghost use lib.ListN.{length, getD};
 ghost use Rattle.bounded.specs.Count.{Tallied};
 ghost use Rattle.bounded.specs.Search.{firstFrom};
 ghost use Rattle.octets.specs.Octets.{part};
-ghost use Rattle.layout.specs.Sizes.{mostInodes, mostImageBlocks, addressCount};
+ghost use Rattle.layout.specs.Sizes.{mostInodes, mostImageBlocks, mostBlocks, addressCount};
 ghost use Rattle.layout.specs.Inode.{kindOf, directoryKind};
 ghost use Rattle.blocks.specs.Block.{isLong};
-ghost use Rattle.blocks.specs.Fits.{RowsFit};
+ghost use Rattle.blocks.specs.Map.{Maps};
 ghost use Rattle.names.specs.Entry.{entryBytes, entryInode};
 ghost use Rattle.directory.specs.Slot.{mostSlots, slotsInBlock};
 ghost use Rattle.desk.specs.Sizes.{deskLength};
 ghost use Rattle.sound.specs.Place.{placeOf};
 ghost use Rattle.checkpoint.specs.Image.{imageNaming};
 ghost use Rattle.checkpoint.specs.Notes.{isCopied};
-ghost use Rattle.checkpoint.specs.Copier.{nextInode, putCounts, finishImage};
+ghost use Rattle.checkpoint.specs.Copier.{putCounts, finishImage};
 ghost use Rattle.tallies.specs.Addressed.{Addressed};
-use blocks::free;
 use blocks::map;
 use bounded::Found;
 use directory::SLOTS_IN_BLOCK;
@@ -76,7 +75,7 @@ fn count_directory(m: &[u8], n: usize, e: usize, counts: &mut [u16])
 }
 
 // How often each inode is named by the image's directories: one pass over their slots.
-fn count_names(m: &[u8], n: usize) -> [u16; INODE_PLACES]
+pub fn count_names(m: &[u8], n: usize) -> [u16; INODE_PLACES]
     requires { ⌜ Addressed (now m) n ⌝ }
     ensures { λ r. ⌜ Tallied (imageNaming (now (m .entry)) n) 1 (mostInodes + 1) (mostSlots * n) r ⌝ }
 {
@@ -102,7 +101,7 @@ pub fn is_copied(d: &[u8], n: usize, i: usize) -> bool
 }
 
 // The lowest uncopied inode that the counts have.
-fn lowest_named(counts: &[u16; INODE_PLACES], d: &[u8], n: usize) -> Found
+pub fn lowest_named(counts: &[u16; INODE_PLACES], d: &[u8], n: usize) -> Found
     requires { ⌜ (n ≤ mostInodes) × (deskLength n ≤ length (now d)) ⌝ }
     ensures { λ r. ⌜ r ≡ firstFrom (λ i. not (isCopied (now (d .entry)) n i) && not (eqb (getD (now (counts .entry)) i 0) 0)) 1 n ⌝ }
 {
@@ -116,14 +115,6 @@ fn lowest_named(counts: &[u16; INODE_PLACES], d: &[u8], n: usize) -> Found
     Found::Absent
 }
 
-pub fn next_inode(m: &[u8], d: &[u8], n: usize) -> Found
-    requires { ⌜ Addressed (now m) n × (deskLength n ≤ length (now d)) ⌝ }
-    ensures { λ r. ⌜ r ≡ nextInode (now (m .entry)) (now (d .entry)) n ⌝ }
-{
-    let counts = count_names(m, n);
-    lowest_named(&counts, d, n)
-}
-
 // The link counts of all inodes.
 fn put_counts(m: &mut [u8], n: usize, counts: &[u16; INODE_PLACES])
     requires { ⌜ Addressed (now m) n × Tallied (imageNaming (now m) n) 1 (mostInodes + 1) (mostSlots * n) (now counts) ⌝ }
@@ -135,15 +126,13 @@ fn put_counts(m: &mut [u8], n: usize, counts: &[u16; INODE_PLACES])
 }
 
 // The finished image: everything is counted before a byte is written. Nothing is locked any more, so an inode is long by its own size.
-pub fn finish_image(m: &mut [u8], n: usize, b: usize)
-    requires { ⌜ Addressed (now m) n × RowsFit (isLong (now m)) (now m) n × (b ≤ mostImageBlocks) ⌝ }
+pub fn finish_image(m: &mut [u8], n: usize, b: usize, map: &[u8], counts: &[u16; INODE_PLACES])
+    requires { ⌜ Addressed (now m) n × (b ≤ mostImageBlocks) × Maps (isLong (now m)) (now m) n (mostBlocks * n) (now map) × Tallied (imageNaming (now m) n) 1 (mostInodes + 1) (mostSlots * n) (now counts) ⌝ }
     ensures { λ _. ⌜ now (m .exit) ≡ finishImage (now (m .entry)) n b ⌝ }
 {
-    let counts = count_names(&*m, n);
-    let map = free::named_blocks(&*m, n, 0, false);
     let inodes = inode::free_inodes(&*m, n);
-    let blocks = map::free_blocks(&map, b);
-    put_counts(&mut *m, n, &counts);
+    let blocks = map::free_blocks(map, b);
+    put_counts(&mut *m, n, counts);
     header::put_free(&mut *m, inodes as u16, blocks as u16);
     header::put_complete(&mut *m, COMPLETE);
 }

@@ -34,7 +34,7 @@ fn made_again(e: Event, a: Got, first: &[u8]) -> bool {
 }
 
 // An accepted call during a copy.
-fn count_live(e: Event, a: Got, first: &[u8], tried: &mut [u64; 26]) {
+fn count_live(e: Event, a: Got, first: &[u8], tried: &mut [u64; 30]) {
     if made_again(e, a, first) {
         tally(&mut *tried, INODES, 1);
     } else if e.what == event::RENAME && e.dir != e.to {
@@ -43,7 +43,7 @@ fn count_live(e: Event, a: Got, first: &[u8], tried: &mut [u64; 26]) {
 }
 
 // What is told of the trial at its end.
-fn count(e: Event, a: Got, running: bool, first: &[u8], tried: &mut [u64; 26]) {
+fn count(e: Event, a: Got, running: bool, first: &[u8], tried: &mut [u64; 30]) {
     tally(&mut *tried, EVENTS, 1);
     tally(&mut *tried, a.number, 1);
     if running && a.number == 0 {
@@ -62,7 +62,7 @@ fn turn(
     beside: &mut [u8],
     moments: &mut [u8; 2097152],
     taken: &mut [u8; 384],
-    tried: &mut [u64; 26],
+    tried: &mut [u64; 30],
 ) -> Next
     requires { ⌜ n ≤ 8 ⌝ }
 {
@@ -81,7 +81,7 @@ fn turn(
         return Next { copy, right: false };
     }
     count(e, a, 0 < copy.moments, moment(moments, 0), &mut *tried);
-    follow(e.what, a, copy, n, store, image, moments, taken, tried)
+    follow(e, a, copy, n, store, image, moments, taken, tried)
 }
 
 // The events of a list, on buffers laid out: 0, or the number of the event that shows a difference, the first being 1.
@@ -95,7 +95,7 @@ fn run_events(
     beside: &mut [u8],
     moments: &mut [u8; 2097152],
     taken: &mut [u8; 384],
-    tried: &mut [u64; 26],
+    tried: &mut [u64; 30],
 ) -> u64
     requires { ⌜ Small shape ⌝ }
 {
@@ -144,7 +144,7 @@ fn run_fresh(
     beside: &mut [u8],
     moments: &mut [u8; 2097152],
     taken: &mut [u8; 384],
-    tried: &mut [u64; 26],
+    tried: &mut [u64; 30],
 ) -> u64
     requires { ⌜ Small shape ⌝ }
 {
@@ -169,7 +169,7 @@ fn run_fresh(
 }
 
 // Runs a list, and answers as above.
-pub fn run(seed: u64, list: u64, moments: &mut [u8; 2097152], tried: &mut [u64; 26]) -> u64 {
+pub fn run(seed: u64, list: u64, moments: &mut [u8; 2097152], tried: &mut [u64; 30]) -> u64 {
     let shape = event::shape_of(seed, list);
     let n = shape.inodes;
     let s = length_of(n, shape.blocks);

@@ -21,7 +21,7 @@ fn main() {
     let seed = word(1, 1) as u64;
     let lists = word(2, 1000) as u64;
     let mut moments = [0u8; 2097152];
-    let mut tried = [0u64; 26];
+    let mut tried = [0u64; 30];
     for l in 0..lists {
         let wrong = list::run(seed, l, &mut moments, &mut tried);
         if wrong != 0 {

@@ -13,7 +13,8 @@ use Rattle.format.specs.Format.{laidOut, layOutStore, layOutDesk}
 use Rattle.files.specs.Effect.{lookUp, read, create, write, shorten, link, unlink, rename}
 use Rattle.checkpoint.specs.Shown.{world, toldStatus}
 use Rattle.checkpoint.specs.List.{call, advances, asks, starts}
-use Rattle.watch.specs.Made.{got, Did, looked-up, has-read, created, written, shortened, linked, unlinked, renamed, started, stepped, asked}
+use Rattle.checkpoint.specs.Burst.{one, bursts}
+use Rattle.watch.specs.Made.{got, Did, looked-up, has-read, created, written, shortened, linked, unlinked, renamed, started, stepped, asked, stepped-many}
 use Rattle.files.proofs.plain.look_up.Kinds as look-up-kinds
 use Rattle.files.proofs.plain.look_up.Reads as look-up-reads
 use Rattle.files.proofs.plain.read.Kinds as read-kinds
@@ -34,6 +35,8 @@ use Rattle.copystart.proofs.start.start.Kinds as start-kinds
 use Rattle.copystart.proofs.start.start.Reads as start-reads
 use Rattle.copystep.proofs.step.Kinds as step-kinds
 use Rattle.copystep.proofs.step.Reads as step-reads
+use Rattle.bursts.proofs.burst.Kinds as burst-kinds
+use Rattle.bursts.proofs.burst.Reads as burst-reads
 use Rattle.guards.proofs.state.state.Kinds as state-kinds
 use Rattle.guards.proofs.state.state.Reads as state-reads
 use Rattle.checker.proofs.check.check.Kinds as check-kinds
@@ -49,49 +52,53 @@ Gives n ps r learnt D = (κs : Lfts n) (a : Dens κs ps) (z : resT r κs .Denot)
 
 -- ---- the calls on the store alone
 pub look-up-made : (m d : List ℕ) → Gives 2 look-up-kinds.ps look-up-kinds.r look-up-reads.Learnt (λ κs a z e.
-    Did (call (lookUp (a .1 .0) (now (a .1 .1 .0)))) (world (now (a .0)) m d) (got (told z) []) (world (now (a .0)) m d))
+    Did (one (call (lookUp (a .1 .0) (now (a .1 .1 .0))))) (world (now (a .0)) m d) (got (told z) []) (world (now (a .0)) m d))
 look-up-made m d κs a z e h = looked-up z h
 
 pub read-made : (m d : List ℕ) → Gives 2 read-kinds.ps read-kinds.r read-reads.Learnt (λ κs a z e.
-    Did (call (read (a .1 .0) (a .1 .1 .0) (now (a .1 .1 .1 .0)))) (world (now (a .0)) m d) (got (told z) (now (e .1 .1 .1 .0))) (world (now (a .0)) m d))
+    Did (one (call (read (a .1 .0) (a .1 .1 .0) (now (a .1 .1 .1 .0))))) (world (now (a .0)) m d) (got (told z) (now (e .1 .1 .1 .0))) (world (now (a .0)) m d))
 read-made m d κs a z e h = has-read z h
 
 -- ---- the file calls over the three buffers
 pub create-made : Gives 4 create-kinds.ps create-kinds.r create-reads.Learnt (λ κs a z e.
-    Did (call (create (a .1 .1 .1 .0) (now (a .1 .1 .1 .1 .0)) (a .1 .1 .1 .1 .1 .0))) (world (now (a .0)) (now (a .1 .0)) (now (a .1 .1 .0))) (got (told z) []) (world (now (e .0)) (now (e .1 .0)) (now (e .1 .1 .0))))
+    Did (one (call (create (a .1 .1 .1 .0) (now (a .1 .1 .1 .1 .0)) (a .1 .1 .1 .1 .1 .0)))) (world (now (a .0)) (now (a .1 .0)) (now (a .1 .1 .0))) (got (told z) []) (world (now (e .0)) (now (e .1 .0)) (now (e .1 .1 .0))))
 create-made κs a z e h = created z h
 
 pub write-made : Gives 4 write-kinds.ps write-kinds.r write-reads.Learnt (λ κs a z e.
-    Did (call (write (a .1 .1 .1 .0) (a .1 .1 .1 .1 .0) (now (a .1 .1 .1 .1 .1 .0)))) (world (now (a .0)) (now (a .1 .0)) (now (a .1 .1 .0))) (got (told z) []) (world (now (e .0)) (now (e .1 .0)) (now (e .1 .1 .0))))
+    Did (one (call (write (a .1 .1 .1 .0) (a .1 .1 .1 .1 .0) (now (a .1 .1 .1 .1 .1 .0))))) (world (now (a .0)) (now (a .1 .0)) (now (a .1 .1 .0))) (got (told z) []) (world (now (e .0)) (now (e .1 .0)) (now (e .1 .1 .0))))
 write-made κs a z e h = written z h
 
 pub shorten-made : Gives 3 shorten-kinds.ps shorten-kinds.r shorten-reads.Learnt (λ κs a z e.
-    Did (call (shorten (a .1 .1 .1 .0) (a .1 .1 .1 .1 .0))) (world (now (a .0)) (now (a .1 .0)) (now (a .1 .1 .0))) (got (told z) []) (world (now (e .0)) (now (e .1 .0)) (now (e .1 .1 .0))))
+    Did (one (call (shorten (a .1 .1 .1 .0) (a .1 .1 .1 .1 .0)))) (world (now (a .0)) (now (a .1 .0)) (now (a .1 .1 .0))) (got (told z) []) (world (now (e .0)) (now (e .1 .0)) (now (e .1 .1 .0))))
 shorten-made κs a z e h = shortened z h
 
 pub link-made : Gives 4 link-kinds.ps link-kinds.r link-reads.Learnt (λ κs a z e.
-    Did (call (link (a .1 .1 .1 .0) (now (a .1 .1 .1 .1 .0)) (a .1 .1 .1 .1 .1 .0))) (world (now (a .0)) (now (a .1 .0)) (now (a .1 .1 .0))) (got (told z) []) (world (now (e .0)) (now (e .1 .0)) (now (e .1 .1 .0))))
+    Did (one (call (link (a .1 .1 .1 .0) (now (a .1 .1 .1 .1 .0)) (a .1 .1 .1 .1 .1 .0)))) (world (now (a .0)) (now (a .1 .0)) (now (a .1 .1 .0))) (got (told z) []) (world (now (e .0)) (now (e .1 .0)) (now (e .1 .1 .0))))
 link-made κs a z e h = linked z h
 
 pub unlink-made : Gives 4 unlink-kinds.ps unlink-kinds.r unlink-reads.Learnt (λ κs a z e.
-    Did (call (unlink (a .1 .1 .1 .0) (now (a .1 .1 .1 .1 .0)))) (world (now (a .0)) (now (a .1 .0)) (now (a .1 .1 .0))) (got (told z) []) (world (now (e .0)) (now (e .1 .0)) (now (e .1 .1 .0))))
+    Did (one (call (unlink (a .1 .1 .1 .0) (now (a .1 .1 .1 .1 .0))))) (world (now (a .0)) (now (a .1 .0)) (now (a .1 .1 .0))) (got (told z) []) (world (now (e .0)) (now (e .1 .0)) (now (e .1 .1 .0))))
 unlink-made κs a z e h = unlinked z h
 
 pub rename-made : Gives 5 rename-kinds.ps rename-kinds.r rename-reads.Learnt (λ κs a z e.
-    Did (call (rename (a .1 .1 .1 .0) (now (a .1 .1 .1 .1 .0)) (a .1 .1 .1 .1 .1 .0) (now (a .1 .1 .1 .1 .1 .1 .0)))) (world (now (a .0)) (now (a .1 .0)) (now (a .1 .1 .0))) (got (told z) []) (world (now (e .0)) (now (e .1 .0)) (now (e .1 .1 .0))))
+    Did (one (call (rename (a .1 .1 .1 .0) (now (a .1 .1 .1 .1 .0)) (a .1 .1 .1 .1 .1 .0) (now (a .1 .1 .1 .1 .1 .1 .0))))) (world (now (a .0)) (now (a .1 .0)) (now (a .1 .1 .0))) (got (told z) []) (world (now (e .0)) (now (e .1 .0)) (now (e .1 .1 .0))))
 rename-made κs a z e h = renamed z h
 
--- ---- start, step and state
+-- ---- start, step, burst and state
 pub start-made : Gives 3 start-kinds.ps start-kinds.r start-reads.Learnt (λ κs a z e.
-    Did starts (world (now (a .0)) (now (a .1 .0)) (now (a .1 .1 .0))) (got (told z) []) (world (now (a .0)) (now (e .1 .0)) (now (e .1 .1 .0))))
+    Did (one starts) (world (now (a .0)) (now (a .1 .0)) (now (a .1 .1 .0))) (got (told z) []) (world (now (a .0)) (now (e .1 .0)) (now (e .1 .1 .0))))
 start-made κs a z e h = started z h
 
 pub step-made : Gives 3 step-kinds.ps step-kinds.r step-reads.Learnt (λ κs a z e.
-    Did advances (world (now (a .0)) (now (a .1 .0)) (now (a .1 .1 .0))) (got (told z) []) (world (now (a .0)) (now (e .1 .0)) (now (e .1 .1 .0))))
+    Did (one advances) (world (now (a .0)) (now (a .1 .0)) (now (a .1 .1 .0))) (got (told z) []) (world (now (a .0)) (now (e .1 .0)) (now (e .1 .1 .0))))
 step-made κs a z e h = stepped z h
 
+pub burst-made : Gives 3 burst-kinds.ps burst-kinds.r burst-reads.Learnt (λ κs a z e.
+    Did (bursts (a .1 .1 .1 .0)) (world (now (a .0)) (now (a .1 .0)) (now (a .1 .1 .0))) (got (told z) []) (world (now (a .0)) (now (e .1 .0)) (now (e .1 .1 .0))))
+burst-made κs a z e h = stepped-many z h
+
 pub state-made : Gives 3 state-kinds.ps state-kinds.r state-reads.Learnt (λ κs a z e.
-    Did asks (world (now (a .0)) (now (a .1 .0)) (now (a .1 .1 .0))) (got (toldStatus z) []) (world (now (a .0)) (now (a .1 .0)) (now (a .1 .1 .0))))
+    Did (one asks) (world (now (a .0)) (now (a .1 .0)) (now (a .1 .1 .0))) (got (toldStatus z) []) (world (now (a .0)) (now (a .1 .0)) (now (a .1 .1 .0))))
 state-made κs a z e h = asked z h
 
 -- ---- the layout calls, of which `FirstDemand` (specs/Answered.antt) has the same hypothesis

@@ -14,20 +14,20 @@ use Rattle.answers.specs.declared.Answer.{Answer}
 use Rattle.answers.specs.declared.Answer.the-variants.{Done, Refused}
 use Rattle.answers.specs.Told.{Told, told}
 use Rattle.answers.specs.Order.{row}
-use Rattle.answers.proofs.RefusalLaws.{lowest-first}
+use Rattle.answers.proofs.RefusalLaws.{looked-at}
 use Rattle.format.specs.Format.{LaidOut, laidOut, freshStore, freshDesk, layOutStore, layOutDesk}
 use Rattle.checkpoint.specs.Live.{World}
-use Rattle.checkpoint.specs.List.{Event}
+use Rattle.checkpoint.specs.Burst.{Act}
 use Rattle.watch.specs.Made.{Received, Did}
 use Rattle.watch.specs.Answered.{ByTable, Answers, result, holds, passes, LayAnswers, FirstDemand}
-use Rattle.watch.proofs.AnswerLaws.{answered, at-most}
+use Rattle.watch.proofs.AnswerLaws.{answered, known-by}
 use Rattle.watch.proofs.KeepLaws.{keeps, out-keeps, stops}
 use Rattle.watch.proofs.MadeLaws.{did}
 
-calls : {e : Event} {w v : World} {a : Received} → Did e w a v → Answers e w a v
-calls {e} {w} {v} {a} d =
+calls : {x : Act} {w v : World} {a : Received} → Did x w a v → Answers x w a v
+calls {x} {w} {v} {a} d =
     let h = did d in
-    rw (h .world, h .got) (record { answered = answered w e; keeps = keeps w e; out = out-keeps w e; stops = stops w e })
+    rw (h .world, h .got) (record { answered = answered w x; keeps = keeps w x; out = out-keeps w x; stops = stops w x })
 
 -- ---- a layout call: b says whether count and length are allowed, fresh is what it lays out
 lay-by : (b : Bool) (s fresh : List ℕ) (t : Told) → t ≡ pick b (laidOut (Done 0) fresh) (laidOut (Refused BadBuffer) s) .answer → ByTable (0 ∷ []) (row (not b) BadBuffer ∷ []) t
@@ -41,12 +41,12 @@ lay-keeps false s fresh t r h n = ap (λ (o : LaidOut). o .buffer) h
 lays : (b : Bool) (s fresh t : List ℕ) (r : Answer) → laidOut r t ≡ pick b (laidOut (Done 0) fresh) (laidOut (Refused BadBuffer) s) → LayAnswers (row (not b) BadBuffer ∷ []) s r t
 lays b s fresh t r h =
     let p = lay-by b s fresh (told r) (ap (λ (o : LaidOut). o .answer) h) in
-    record { answered = record { by = p; in-order = refl; sixteen = at-most p }; keeps = lay-keeps b s fresh t r h }
+    record { answered = record { by = p; in-order = refl; known = known-by p }; keeps = lay-keeps b s fresh t r h }
 
 pub first-demand : FirstDemand
 unfolding layOutStore layOutDesk
 first-demand = record {
-  lowest-first = lowest-first;
+  looked-at = looked-at;
   calls = λ d. calls d;
   lays-store = λ {s} {t} r n b h. lays (allowed mostStoreBlocks n b (length s)) s (freshStore n b) t r h;
   lays-desk = λ {desk} {t} r n h. lays (deskAllowed n (length desk)) desk (freshDesk n) t r h;

@@ -1,12 +1,12 @@
--- What a refused call leaves, on any world: everything as it was, save that 16, which comes to a step alone, stops the copy.
+-- What a refused call leaves, on any world: everything as it was, save that 16, which comes to a step, or to a burst by its first step, stops the copy.
 use Prim.Native.Nat.{ℕ, _≤_}
 use mathlib.Core.Path.{_≡_, refl, ap, _∙_}
-use mathlib.Core.Bool.{Bool, true, _&&_}
+use mathlib.Core.Bool.{Bool, true, not, _&&_}
 use mathlib.Core.List.{List, [], _∷_, _++_}
 use mathlib.Core.Logic.{_⊎_, inl, inr}
 use native.Mathlib.Omega.{arith}
-use borrow.Author.Tests.{eqb-true, ltb-true, not-false}
-use lib.Dec.{ltb}
+use borrow.Author.Tests.{eqb-true, eqb-false, not-true, not-false}
+use lib.Dec.{eqb}
 use lib.ListN.{length}
 use Rattle.sound.specs.Test.{framedB}
 use Rattle.sound.specs.declared.Form.the-variants.{Store}
@@ -15,7 +15,7 @@ use Rattle.desk.specs.Sizes.{deskHeaderBytes}
 use Rattle.desk.specs.Desk.{deskOf, putDesk}
 use Rattle.desk.specs.Next.{stopping}
 use Rattle.answers.specs.declared.Refusal.{Refusal}
-use Rattle.answers.specs.declared.Refusal.the-variants.{BadBuffer, UnsoundStore, BadDesk, IllegalName, WrongInode, NameAbsent, NameTaken, NotEmpty, PastEnd, IntoItself, NoInode, NoBlocks, NoSlot, Busy, WrongState, ImageFull}
+use Rattle.answers.specs.declared.Refusal.the-variants.{BadBuffer, UnsoundStore, BadDesk, IllegalName, WrongInode, NameAbsent, NameTaken, NotEmpty, PastEnd, IntoItself, NoInode, NoBlocks, NoSlot, Busy, WrongState, ImageFull, BadCount}
 use Rattle.answers.specs.declared.Answer.{Answer}
 use Rattle.answers.specs.declared.Answer.the-variants.{Done, Refused}
 use Rattle.answers.specs.Refusal.{refusalNumber}
@@ -26,14 +26,16 @@ use Rattle.checkpoint.specs.Fit.{deskFramed}
 use Rattle.checkpoint.specs.Live.{World, Outcome, live, start, step}
 use Rattle.checkpoint.specs.Shown.{world, numberOf}
 use Rattle.checkpoint.specs.Table.{liveRows, lookUpTable, readTable, createTable, writeTable, shortenTable, linkTable, unlinkTable, renameTable, startTable, stepTable}
-use Rattle.checkpoint.specs.List.{Event, call, advances, asks, starts, outcome, next, refusalOf}
+use Rattle.checkpoint.specs.List.{call, advances, asks, starts, outcome, next, refusalOf}
+use Rattle.checkpoint.specs.Burst.{burst, Act, one, bursts}
 use Rattle.checkpoint.specs.Progress.{Stopped}
 use Rattle.checkpoint.proofs.Copy.FitLaws.{desk-framed-is}
-use Rattle.checkpoint.proofs.RefusedLaws.{Keeps, live-refused, start-refused, step-refused, step-full}
+use Rattle.checkpoint.proofs.RefusedLaws.{Keeps, live-refused, start-refused, step-refused, step-full, burst-refused}
+use Rattle.checkpoint.proofs.BurstTables.{Ends, lengths, number, first, counts, ends}
 use Rattle.checkpoint.proofs.Run.Stops.{stop-leaves}
 use Rattle.checkpoint.proofs.Run.Busies.{out-kept}
-use Rattle.watch.specs.Answered.{ByTable, result, holds, passes, tableOf, lentTo}
-use Rattle.watch.specs.Claim.{outAfter}
+use Rattle.watch.specs.Answered.{ByTable, result, holds, passes, tableOf, lentTo, GetsFull, by-step, by-first}
+use Rattle.watch.specs.Claim.{outcomeOf, nextOf, outAfter}
 use Rattle.watch.proofs.AnswerLaws.{by-table}
 
 -- ---- 16
@@ -55,6 +57,7 @@ is-full NoSlot h = absurd (omega arith)
 is-full Busy h = absurd (omega arith)
 is-full WrongState h = absurd (omega arith)
 is-full ImageFull h = refl
+is-full BadCount h = absurd (omega arith)
 
 answer-full : (a : Answer) → numberOf a ≡ refusalNumber ImageFull → a ≡ Refused ImageFull
 answer-full (Done x) h = absurd (omega arith)
@@ -63,28 +66,33 @@ answer-full (Refused e) h = ap Refused (is-full e h)
 -- a table without it does not give it
 abbrev lacksFull : List Row → Bool
 lacksFull [] = true
-lacksFull (r ∷ rs) = ltb (refusalNumber (r .refusal)) (refusalNumber ImageFull) && lacksFull rs
+lacksFull (r ∷ rs) = not (eqb (refusalNumber (r .refusal)) (refusalNumber ImageFull)) && lacksFull rs
 
 not-full : {vs : List ℕ} {rs : List Row} {t : Told} → ByTable vs rs t → lacksFull rs ≡ true → t .number ≡ refusalNumber ImageFull → ⊥
 not-full result l h = omega arith
 not-full (holds {r} {rs} p) l h =
-    let k = ltb-true (refusalNumber (r .refusal)) (refusalNumber ImageFull) (and-left (ltb (refusalNumber (r .refusal)) (refusalNumber ImageFull)) (lacksFull rs) l) in
-    omega arith
-not-full (passes {r} {rs} p b) l h = not-full b (and-right (ltb (refusalNumber (r .refusal)) (refusalNumber ImageFull)) (lacksFull rs) l) h
+    eqb-false (refusalNumber (r .refusal)) (refusalNumber ImageFull) (not-true (eqb (refusalNumber (r .refusal)) (refusalNumber ImageFull)) (and-left (not (eqb (refusalNumber (r .refusal)) (refusalNumber ImageFull))) (lacksFull rs) l)) h
+not-full (passes {r} {rs} p b) l h = not-full b (and-right (not (eqb (refusalNumber (r .refusal)) (refusalNumber ImageFull))) (lacksFull rs) l) h
 
-step-alone : (w : World) (e : Event) → (e ≡ advances) ⊎ (lacksFull (tableOf e w) ≡ true)
+-- it comes to a step or a burst alone
+data Tries : Act → Type 0 where
+  a-step : Tries (one advances)
+  a-burst : {k : ℕ} → Tries (bursts k)
+
+step-alone : (w : World) (x : Act) → Tries x ⊎ (lacksFull (tableOf x w) ≡ true)
 unfolding tableOf lookUpTable readTable createTable writeTable shortenTable linkTable unlinkTable renameTable startTable
-step-alone w (call (lookUp d name)) = inr refl
-step-alone w (call (read i o out)) = inr refl
-step-alone w (call (create d name k)) = inr refl
-step-alone w (call (write i o xs)) = inr refl
-step-alone w (call (shorten i z)) = inr refl
-step-alone w (call (link d name i)) = inr refl
-step-alone w (call (unlink d name)) = inr refl
-step-alone w (call (rename d name e other)) = inr refl
-step-alone w starts = inr refl
-step-alone w advances = inl refl
-step-alone w asks = inr refl
+step-alone w (one (call (lookUp d name))) = inr refl
+step-alone w (one (call (read i o out))) = inr refl
+step-alone w (one (call (create d name k))) = inr refl
+step-alone w (one (call (write i o xs))) = inr refl
+step-alone w (one (call (shorten i z))) = inr refl
+step-alone w (one (call (link d name i))) = inr refl
+step-alone w (one (call (unlink d name))) = inr refl
+step-alone w (one (call (rename d name e other))) = inr refl
+step-alone w (one starts) = inr refl
+step-alone w (one advances) = inl a-step
+step-alone w (one asks) = inr refl
+step-alone w (bursts k) = inl a-burst
 
 -- the guards let it through
 framed-if-full : (s m d : List ℕ) {vs : List ℕ} {rs : List Row} {t : Told} → ByTable vs (liveRows s m d ++ rs) t → t .number ≡ refusalNumber ImageFull → deskFramed d ≡ true
@@ -102,16 +110,31 @@ module _ (w : World) where
 
   desk-there : refusalOf advances w ≡ refusalNumber ImageFull → deskHeaderBytes ≤ length (w .desk)
   unfolding tableOf stepTable
-  desk-there h = let l = desk-framed-is (w .desk) .to (framed-if-full (w .store) (w .image) (w .desk) (by-table w advances) h) .1 .1 in omega arith
+  desk-there h = let l = desk-framed-is (w .desk) .to (framed-if-full (w .store) (w .image) (w .desk) (by-table w (one advances)) h) .1 .1 in omega arith
 
   full-stops : refusalOf advances w ≡ refusalNumber ImageFull → Stopped w (next advances w)
   full-stops h = rw (full-leaves h) (stop-leaves w (desk-there h))
 
-  pub stops : (e : Event) → refusalOf e w ≡ refusalNumber ImageFull → (e ≡ advances) × Stopped w (next e w)
-  stops e h = elim (step-alone w e) [
-    | inl s ↦ (s, rw s (full-stops (rw s at h)))
-    | inr l ↦ absurd (not-full (by-table w e) l h)
+  -- a burst's is that of its first step
+  burst-full : (k : ℕ) → numberOf (burst k w .answer) ≡ refusalNumber ImageFull → burst k w ≡ step (w .store) (w .image) (w .desk)
+  burst-full k h = go (ends k w)
+    where
+      go : Ends k w → burst k w ≡ step (w .store) (w .image) (w .desk)
+      go (lengths f e t) = absurd (omega (arith, ap (λ (o : Outcome). numberOf (o .answer)) e))
+      go (number f a e t) = absurd (omega (arith, ap (λ (o : Outcome). numberOf (o .answer)) e))
+      go (first f a r e t) = e
+      go (counts f a r e) = absurd (omega (arith, ap numberOf e))
+
+  pub stops : (x : Act) → outcomeOf x w .answer .number ≡ refusalNumber ImageFull → GetsFull w x × Stopped w (nextOf x w)
+  unfolding next outcome
+  stops x h = elim (step-alone w x) [
+    | inl s ↦ go s h
+    | inr l ↦ absurd (not-full (by-table w x) l h)
   ]
+    where
+      go : {y : Act} → Tries y → outcomeOf y w .answer .number ≡ refusalNumber ImageFull → GetsFull w y × Stopped w (nextOf y w)
+      go a-step q = (by-step, full-stops q)
+      go (a-burst {k}) q = let e = burst-full k q in let r = rw e at q in (by-first r, rw e (full-stops r))
 
   -- ---- the other refusals
   -- an outcome that keeps the buffers if it is a refusal
@@ -122,16 +145,18 @@ module _ (w : World) where
       go (Done x) h = absurd (n (ap numberOf h))
       go (Refused e) h = ap (λ (q : Outcome). world (q .store) (q .image) (q .desk)) (k e h)
 
-  pub keeps : (e : Event) → (refusalOf e w ≡ 0 → ⊥) → (refusalOf e w ≡ refusalNumber ImageFull → ⊥) → next e w ≡ w
-  unfolding next outcome
-  keeps (call c) n f = kept (live c w) (live-refused c w) n
-  keeps starts n f = kept (start (w .store) (w .image) (w .desk)) (start-refused (w .store) (w .image) (w .desk)) n
-  keeps advances n f = kept (step (w .store) (w .image) (w .desk)) (λ e h. step-refused (w .store) (w .image) (w .desk) e (λ z. f (ap numberOf h ∙ ap refusalNumber z)) h) n
-  keeps asks n f = refl
+  pub keeps : (x : Act) → (outcomeOf x w .answer .number ≡ 0 → ⊥) → (outcomeOf x w .answer .number ≡ refusalNumber ImageFull → ⊥) → nextOf x w ≡ w
+  unfolding outcome
+  keeps (one (call c)) n f = kept (live c w) (live-refused c w) n
+  keeps (one starts) n f = kept (start (w .store) (w .image) (w .desk)) (start-refused (w .store) (w .image) (w .desk)) n
+  keeps (one advances) n f = kept (step (w .store) (w .image) (w .desk)) (λ e h. step-refused (w .store) (w .image) (w .desk) e (λ z. f (ap numberOf h ∙ ap refusalNumber z)) h) n
+  keeps (one asks) n f = refl
+  keeps (bursts k) n f = kept (burst k w) (λ e h. burst-refused (w .store) (w .image) (w .desk) k e (λ z. f (ap numberOf h ∙ ap refusalNumber z)) h) n
 
   -- a read's out-buffer
-  pub out-keeps : (e : Event) → (refusalOf e w ≡ 0 → ⊥) → outAfter e w ≡ lentTo e
-  out-keeps (call c) n = out-kept c w (λ a. n (eqb-true (refusalOf (call c) w) 0 a))
-  out-keeps starts n = refl
-  out-keeps advances n = refl
-  out-keeps asks n = refl
+  pub out-keeps : (x : Act) → (outcomeOf x w .answer .number ≡ 0 → ⊥) → outAfter x w ≡ lentTo x
+  out-keeps (one (call c)) n = out-kept c w (λ a. n (eqb-true (refusalOf (call c) w) 0 a))
+  out-keeps (one starts) n = refl
+  out-keeps (one advances) n = refl
+  out-keeps (one asks) n = refl
+  out-keeps (bursts k) n = refl

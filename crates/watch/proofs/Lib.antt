@@ -1,8 +1,11 @@
 pub mod ReturnLaws
 pub mod OutLaws
+pub mod SinglesLaws
 pub mod MadeLaws
-pub mod Claim
 pub mod AnswerLaws
 pub mod KeepLaws
+pub mod WholeLaws
+pub mod NextLaws
+pub mod Claim
 pub mod FirstDemand
 pub mod Contracts

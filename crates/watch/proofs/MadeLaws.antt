@@ -9,33 +9,34 @@ use Rattle.files.specs.Effect.{Call}
 use Rattle.files.specs.Plain.{PlainShown}
 use Rattle.checkpoint.specs.Live.{World, left, storeAlone, live}
 use Rattle.checkpoint.specs.Shown.{world, Shown, shown}
-use Rattle.checkpoint.specs.List.{Event, call, outcome, next, run}
+use Rattle.checkpoint.specs.List.{call, outcome, run}
+use Rattle.checkpoint.specs.Burst.{Act, one, singles}
 use Rattle.checkpoint.proofs.TableLaws.{look-up-alone, read-alone}
-use Rattle.watch.specs.Made.{Received, got, Did, looked-up, has-read, created, written, shortened, linked, unlinked, renamed, started, stepped, asked, Made, none, then}
-use Rattle.watch.specs.Claim.{outAfter, received}
+use Rattle.watch.specs.Made.{Received, got, Did, looked-up, has-read, created, written, shortened, linked, unlinked, renamed, started, stepped, asked, stepped-many, Made, none, then}
+use Rattle.watch.specs.Claim.{outcomeOf, nextOf, outAfter, received}
 use Rattle.watch.proofs.OutLaws.{no-out, look-up-out, read-out}
+use Rattle.watch.proofs.SinglesLaws.{singles-next}
 
 -- the world that is left, and what the caller gets, are the definition's
-pub record AsDefined (e : Event) (w : World) (a : Received) (v : World) : Type 0 where
-  pub world : v ≡ next e w
-  pub got : a ≡ got (outcome e w .answer) (outAfter e w)
+pub record AsDefined (x : Act) (w : World) (a : Received) (v : World) : Type 0 where
+  pub world : v ≡ nextOf x w
+  pub got : a ≡ got (outcomeOf x w .answer) (outAfter x w)
 
 module _ (w : World) where
   -- an outcome is shown as it is defined
-  by-outcome : (e : Event) (t : Told) (s m d out : List ℕ) → record { answer = t; store = s; image = m; desk = d } ≡ outcome e w → out ≡ outAfter e w → AsDefined e w (got t out) (world s m d)
-  unfolding next
-  by-outcome e t s m d out h k = record { world = ap (λ (o : Shown). world (o .store) (o .image) (o .desk)) h; got = ap₂ got (ap (λ (o : Shown). o .answer) h) k }
+  by-outcome : (x : Act) (t : Told) (s m d out : List ℕ) → record { answer = t; store = s; image = m; desk = d } ≡ outcomeOf x w → out ≡ outAfter x w → AsDefined x w (got t out) (world s m d)
+  by-outcome x t s m d out h k = record { world = ap (λ (o : Shown). world (o .store) (o .image) (o .desk)) h; got = ap₂ got (ap (λ (o : Shown). o .answer) h) k }
 
   -- a call over the three buffers
-  by-live : (c : Call) → storeAlone c ≡ false → (r : Answer) (v : World) → shown (left r (v .store) (v .image) (v .desk)) ≡ shown (live c w) → AsDefined (call c) w (got (told r) []) v
+  by-live : (c : Call) → storeAlone c ≡ false → (r : Answer) (v : World) → shown (left r (v .store) (v .image) (v .desk)) ≡ shown (live c w) → AsDefined (one (call c)) w (got (told r) []) v
   unfolding outcome
-  by-live c n r v h = by-outcome (call c) (told r) (v .store) (v .image) (v .desk) [] h (sym (no-out w c n))
+  by-live c n r v h = by-outcome (one (call c)) (told r) (v .store) (v .image) (v .desk) [] h (sym (no-out w c n))
 
   -- one on the store alone
   abbrev beside : PlainShown → Shown
   beside o = record { answer = o .answer; store = o .store; image = w .image; desk = w .desk }
 
-pub did : {e : Event} {w v : World} {a : Received} → Did e w a v → AsDefined e w a v
+pub did : {x : Act} {w v : World} {a : Received} → Did x w a v → AsDefined x w a v
 unfolding outcome
 did {w = w} (looked-up {dir} {name} r h) = by-outcome w _ (told r) _ _ _ _ (ap (beside w) h ∙ sym (ap shown (look-up-alone w dir name))) (sym (look-up-out w dir name))
 did {w = w} (has-read {inode} {offset} {out} r h) = by-outcome w _ (told r) _ _ _ _ (ap (beside w) h ∙ sym (ap shown (read-alone w inode offset out))) (ap (λ (o : PlainShown). o .out) h ∙ sym (read-out w inode offset out))
@@ -48,18 +49,19 @@ did {w = w} {v = v} (renamed r h) = by-live w _ refl r v h
 did {w = w} (started r h) = by-outcome w _ (told r) _ _ _ [] h refl
 did {w = w} (stepped r h) = by-outcome w _ (told r) _ _ _ [] h refl
 did {w = w} (asked r h) = by-outcome w _ _ _ _ _ [] (ap (λ (t : Told). record { answer = t; store = w .store; image = w .image; desk = w .desk }) h) refl
+did {w = w} (stepped-many r h) = by-outcome w _ (told r) _ _ _ [] h refl
 
-pub record AllDefined (es : List Event) (w : World) (rs : List Received) (u : World) : Type 0 where
-  pub world : u ≡ run es w
-  pub got : rs ≡ received es w
+pub record AllDefined (xs : List Act) (w : World) (rs : List Received) (u : World) : Type 0 where
+  pub world : u ≡ run (singles xs w) w
+  pub got : rs ≡ received xs w
 
-pub made : {es : List Event} {w u : World} {rs : List Received} → Made es w rs u → AllDefined es w rs u
-unfolding run received
+pub made : {xs : List Act} {w u : World} {rs : List Received} → Made xs w rs u → AllDefined xs w rs u
+unfolding run received singles
 made none = record { world = refl; got = refl }
-made (then {e} {es} {a} {rs} {w} {v} {u} d m) =
+made (then {x} {xs} {a} {rs} {w} {v} {u} d m) =
     let h = did d in
     let k = made m in
     record {
-      world = k .world ∙ ap (run es) (h .world);
-      got = ap₂ (λ (x : Received) (xs : List Received). x ∷ xs) (h .got) (k .got ∙ ap (received es) (h .world));
+      world = k .world ∙ ap (λ (y : World). run (singles xs y) y) (h .world) ∙ sym (singles-next x xs w);
+      got = ap₂ (λ (y : Received) (ys : List Received). y ∷ ys) (h .got) (k .got ∙ ap (received xs) (h .world));
     }

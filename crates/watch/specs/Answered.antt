@@ -1,6 +1,6 @@
--- Demand 1, of the calls' code: "The answer of each public call, for all bytes and numbers handed to it, is its result or one of the sixteen refusals of document 01", and which.
+-- Demand 1, of the calls' code: "The answer of each public call, for all bytes and numbers handed to it, is its result or one of the sixteen refusals of document 01", and which. F-2: "Demand 1's refusals take in 17 and the numbers that later requests add".
 -- "A refusal changes no lent buffer, save that 16 marks the copy stopped and unlocks what was being copied."
-use Prim.Native.Nat.{ℕ, _+_, _-_, _≤_, min, max}
+use Prim.Native.Nat.{ℕ, _+_, _-_, min, max}
 use mathlib.Core.Path.{_≡_}
 use mathlib.Core.Bool.{Bool, true, false, not}
 use mathlib.Core.List.{List, [], _∷_}
@@ -15,16 +15,16 @@ use Rattle.sound.specs.declared.Form.{Form}
 use Rattle.sound.specs.Sound.{Sound, inodesIn}
 use Rattle.sound.specs.Test.{isSound}
 use Rattle.answers.specs.declared.Answer.{Answer}
-use Rattle.answers.specs.declared.Refusal.{Refusal}
 use Rattle.answers.specs.declared.Refusal.the-variants.{BadBuffer, ImageFull}
 use Rattle.answers.specs.Refusal.{refusalNumber}
 use Rattle.answers.specs.Told.{Told, told}
-use Rattle.answers.specs.Order.{Row, row, rank, inOrder}
+use Rattle.answers.specs.Order.{Row, row, order, lookedAt, numbers, among, inOrder}
 use Rattle.format.specs.Format.{laidOut, layOutStore, layOutDesk}
 use Rattle.files.specs.Effect.{lookUp, read, create, write, shorten, link, unlink, rename, given}
 use Rattle.checkpoint.specs.Live.{World}
-use Rattle.checkpoint.specs.Table.{orZero, inodeFor, lookUpTable, readTable, createTable, writeTable, shortenTable, linkTable, unlinkTable, renameTable, startTable, stepTable, askTable}
-use Rattle.checkpoint.specs.List.{Event, call, advances, asks, starts}
+use Rattle.checkpoint.specs.Table.{orZero, inodeFor, lookUpTable, readTable, createTable, writeTable, shortenTable, linkTable, unlinkTable, renameTable, startTable, stepTable, askTable, burstTable}
+use Rattle.checkpoint.specs.List.{call, advances, asks, starts, refusalOf, acceptedSteps}
+use Rattle.checkpoint.specs.Burst.{triesOf, Act, one, bursts}
 use Rattle.checkpoint.specs.Progress.{Stopped}
 use Rattle.watch.specs.Made.{Received, Did}
 
@@ -35,56 +35,64 @@ pub data ByTable (vs : List ℕ) : List Row → Told → Type 0 where
   holds : {r : Row} {rs : List Row} → r .holds ≡ true → ByTable vs (r ∷ rs) (record { number = refusalNumber (r .refusal); values = [] })
   passes : {r : Row} {rs : List Row} {t : Told} → r .holds ≡ false → ByTable vs rs t → ByTable vs (r ∷ rs) t
 
--- the table stands in the order of looking; no number is above the sixteenth's
+-- the table stands in the order of looking; the number is one that is looked at, or 0
 pub record Answered (vs : List ℕ) (rs : List Row) (t : Told) : Type 0 where
   pub by : ByTable vs rs t
   pub in-order : inOrder 0 rs ≡ true
-  pub sixteen : t .number ≤ refusalNumber ImageFull
+  pub known : among (0 ∷ lookedAt) (t .number) ≡ true
 
 -- ---- the calls in lists
 -- the conditions of each call
-unfoldable pub tableOf : Event → World → List Row
-tableOf (call (lookUp d name)) w = lookUpTable (w .store) d name
-tableOf (call (read i o out)) w = readTable (w .store) i o
-tableOf (call (create d name k)) w = createTable (w .store) (w .image) (w .desk) d name
-tableOf (call (write i o xs)) w = writeTable (w .store) (w .image) (w .desk) i o xs
-tableOf (call (shorten i z)) w = shortenTable (w .store) (w .image) (w .desk) i z
-tableOf (call (link d name i)) w = linkTable (w .store) (w .image) (w .desk) d name i
-tableOf (call (unlink d name)) w = unlinkTable (w .store) (w .image) (w .desk) d name
-tableOf (call (rename d name e other)) w = renameTable (w .store) (w .image) (w .desk) d name e other
-tableOf starts w = startTable (w .store) (w .image) (w .desk)
-tableOf advances w = stepTable (w .store) (w .image) (w .desk)
-tableOf asks w = askTable (w .store) (w .image) (w .desk)
+unfoldable pub tableOf : Act → World → List Row
+tableOf (one (call (lookUp d name))) w = lookUpTable (w .store) d name
+tableOf (one (call (read i o out))) w = readTable (w .store) i o
+tableOf (one (call (create d name k))) w = createTable (w .store) (w .image) (w .desk) d name
+tableOf (one (call (write i o xs))) w = writeTable (w .store) (w .image) (w .desk) i o xs
+tableOf (one (call (shorten i z))) w = shortenTable (w .store) (w .image) (w .desk) i z
+tableOf (one (call (link d name i))) w = linkTable (w .store) (w .image) (w .desk) d name i
+tableOf (one (call (unlink d name))) w = unlinkTable (w .store) (w .image) (w .desk) d name
+tableOf (one (call (rename d name e other))) w = renameTable (w .store) (w .image) (w .desk) d name e other
+tableOf (one starts) w = startTable (w .store) (w .image) (w .desk)
+tableOf (one advances) w = stepTable (w .store) (w .image) (w .desk)
+tableOf (one asks) w = askTable (w .store) (w .image) (w .desk)
+tableOf (bursts k) w = burstTable k (w .store) (w .image) (w .desk)
 
--- "Create and look up answer the inode, read its count, write and shorten the new size, step the steps so far"; state "gives state, locked inode and steps"; the others 0
-unfoldable pub resultOf : Event → World → List ℕ
-resultOf (call (lookUp d name)) w = inodeFor (w .store) d name ∷ []
-resultOf (call (read i o out)) w = min (length out) (sizeOf (w .store) i - o) ∷ []
-resultOf (call (create d name k)) w = orZero (freeInode (w .store) (inodesIn (w .store))) ∷ []
-resultOf (call (write i o xs)) w = max (sizeOf (w .store) i) (o + length xs) ∷ []
-resultOf (call (shorten i z)) w = z ∷ []
-resultOf (call (link d name i)) w = 0 ∷ []
-resultOf (call (unlink d name)) w = 0 ∷ []
-resultOf (call (rename d name e other)) w = 0 ∷ []
-resultOf starts w = 0 ∷ []
-resultOf advances w = (deskOf (w .desk) .steps + 1) ∷ []
-resultOf asks w = deskOf (w .desk) .state ∷ deskOf (w .desk) .locked ∷ deskOf (w .desk) .steps ∷ []
+-- "Create and look up answer the inode, read its count, write and shorten the new size, step the steps so far"; state "gives state, locked inode and steps"; a burst "reports how many were accepted"; the others 0
+unfoldable pub resultOf : Act → World → List ℕ
+resultOf (one (call (lookUp d name))) w = inodeFor (w .store) d name ∷ []
+resultOf (one (call (read i o out))) w = min (length out) (sizeOf (w .store) i - o) ∷ []
+resultOf (one (call (create d name k))) w = orZero (freeInode (w .store) (inodesIn (w .store))) ∷ []
+resultOf (one (call (write i o xs))) w = max (sizeOf (w .store) i) (o + length xs) ∷ []
+resultOf (one (call (shorten i z))) w = z ∷ []
+resultOf (one (call (link d name i))) w = 0 ∷ []
+resultOf (one (call (unlink d name))) w = 0 ∷ []
+resultOf (one (call (rename d name e other))) w = 0 ∷ []
+resultOf (one starts) w = 0 ∷ []
+resultOf (one advances) w = (deskOf (w .desk) .steps + 1) ∷ []
+resultOf (one asks) w = deskOf (w .desk) .state ∷ deskOf (w .desk) .locked ∷ deskOf (w .desk) .steps ∷ []
+resultOf (bursts k) w = acceptedSteps (triesOf k w) w 0 ∷ []
 
 -- the out-buffer that came in, [] for a call that has none
-abbrev pub lentTo : Event → List ℕ
-lentTo (call c) = given c
-lentTo starts = []
-lentTo advances = []
-lentTo asks = []
+abbrev pub lentTo : Act → List ℕ
+lentTo (one (call c)) = given c
+lentTo (one starts) = []
+lentTo (one advances) = []
+lentTo (one asks) = []
+lentTo (bursts k) = []
 
--- the call e made on the world w: its caller got a, and v was left
-pub record Answers (e : Event) (w : World) (a : Received) (v : World) : Type 0 where
-  pub answered : Answered (resultOf e w) (tableOf e w) (a .answer)
+-- the calls that 16 may answer: a step, or a burst whose first step gets it
+pub data GetsFull (w : World) : Act → Type 0 where
+  by-step : GetsFull w (one advances)
+  by-first : {k : ℕ} → refusalOf advances w ≡ refusalNumber ImageFull → GetsFull w (bursts k)
+
+-- the call x made on the world w: its caller got a, and v was left
+pub record Answers (x : Act) (w : World) (a : Received) (v : World) : Type 0 where
+  pub answered : Answered (resultOf x w) (tableOf x w) (a .answer)
   -- "A refusal changes no lent buffer"
   pub keeps : (a .answer .number ≡ 0 → ⊥) → (a .answer .number ≡ refusalNumber ImageFull → ⊥) → v ≡ w
-  pub out : (a .answer .number ≡ 0 → ⊥) → a .out ≡ lentTo e
-  -- "save that 16 marks the copy stopped and unlocks what was being copied"; it comes to a step alone
-  pub stops : a .answer .number ≡ refusalNumber ImageFull → (e ≡ advances) × Stopped w v
+  pub out : (a .answer .number ≡ 0 → ⊥) → a .out ≡ lentTo x
+  -- "save that 16 marks the copy stopped and unlocks what was being copied"
+  pub stops : a .answer .number ≡ refusalNumber ImageFull → GetsFull w x × Stopped w v
 
 -- ---- the layout calls: refusal 1 "by the numbers told"
 abbrev pub storeLayTable : List ℕ → ℕ → ℕ → List Row
@@ -100,9 +108,9 @@ pub record LayAnswers (rs : List Row) (s : List ℕ) (r : Answer) (t : List ℕ)
 
 -- ---- demand 1: each call as its contract promises it. The check refuses nothing: it "takes any bytes and answers yes or no"; demand 2: "The soundness check says yes to a store that meets its conditions and no to every other."
 pub record FirstDemand : Type 0 where
-  -- "looked at lowest first"
-  pub lowest-first : (f : Refusal) → rank f ≡ refusalNumber f
-  pub calls : {e : Event} {w v : World} {a : Received} → Did e w a v → Answers e w a v
+  -- "looked at lowest first"; 17 "comes right after 1"
+  pub looked-at : numbers order ≡ 1 ∷ 17 ∷ 2 ∷ 3 ∷ 4 ∷ 5 ∷ 6 ∷ 7 ∷ 8 ∷ 9 ∷ 10 ∷ 11 ∷ 12 ∷ 13 ∷ 14 ∷ 15 ∷ 16 ∷ []
+  pub calls : {x : Act} {w v : World} {a : Received} → Did x w a v → Answers x w a v
   pub lays-store : {s t : List ℕ} (r : Answer) (inodes blocks : ℕ) → laidOut r t ≡ layOutStore s inodes blocks → LayAnswers (storeLayTable s inodes blocks) s r t
   pub lays-desk : {desk t : List ℕ} (r : Answer) (inodes : ℕ) → laidOut r t ≡ layOutDesk desk inodes → LayAnswers (deskLayTable desk inodes) desk r t
   pub checks : (f : Form) (s : List ℕ) (r : Bool) → r ≡ isSound f s → Reflects r (Sound f s)

@@ -11,7 +11,8 @@ use Rattle.files.specs.Plain.{plain, plainLeft, plainShown}
 use Rattle.checkpoint.specs.declared.Status.{Status}
 use Rattle.checkpoint.specs.Live.{World, left, live, start, step, status}
 use Rattle.checkpoint.specs.Shown.{world, shown, toldStatus}
-use Rattle.checkpoint.specs.List.{Event, call, advances, asks, starts}
+use Rattle.checkpoint.specs.List.{call, advances, asks, starts}
+use Rattle.checkpoint.specs.Burst.{burst, Act, one, bursts}
 
 -- what a caller gets: the answer by the paper's numbers, and a read's out-buffer ([] for the other calls)
 pub record Received : Type 0 where
@@ -22,45 +23,49 @@ abbrev pub got : Told → List ℕ → Received
 got t out = record { answer = t; out = out }
 
 -- one call: the world that was lent, what the caller got, and the world that was left. A buffer that is not lent to be written stays.
-pub data Did : Event → World → Received → World → Type 0 where
+pub data Did : Act → World → Received → World → Type 0 where
   -- "Look up and read take the store alone" (files/src/plain.rt)
   looked-up : {dir : ℕ} {name : List ℕ} {w : World} (r : Answer)
       → plainShown (plainLeft r (w .store) []) ≡ plainShown (plain (lookUp dir name) (w .store))
-      → Did (call (lookUp dir name)) w (got (told r) []) w
+      → Did (one (call (lookUp dir name))) w (got (told r) []) w
   has-read : {inode offset : ℕ} {out filled : List ℕ} {w : World} (r : Answer)
       → plainShown (plainLeft r (w .store) filled) ≡ plainShown (plain (read inode offset out) (w .store))
-      → Did (call (read inode offset out)) w (got (told r) filled) w
+      → Did (one (call (read inode offset out))) w (got (told r) filled) w
   -- the file calls over the three buffers (watch/src/lib.rt)
   created : {dir : ℕ} {name : List ℕ} {kind : Kind} {w v : World} (r : Answer)
       → shown (left r (v .store) (v .image) (v .desk)) ≡ shown (live (create dir name kind) w)
-      → Did (call (create dir name kind)) w (got (told r) []) v
+      → Did (one (call (create dir name kind))) w (got (told r) []) v
   written : {inode offset : ℕ} {bytes : List ℕ} {w v : World} (r : Answer)
       → shown (left r (v .store) (v .image) (v .desk)) ≡ shown (live (write inode offset bytes) w)
-      → Did (call (write inode offset bytes)) w (got (told r) []) v
+      → Did (one (call (write inode offset bytes))) w (got (told r) []) v
   shortened : {inode size : ℕ} {w v : World} (r : Answer)
       → shown (left r (v .store) (v .image) (v .desk)) ≡ shown (live (shorten inode size) w)
-      → Did (call (shorten inode size)) w (got (told r) []) v
+      → Did (one (call (shorten inode size))) w (got (told r) []) v
   linked : {dir : ℕ} {name : List ℕ} {inode : ℕ} {w v : World} (r : Answer)
       → shown (left r (v .store) (v .image) (v .desk)) ≡ shown (live (link dir name inode) w)
-      → Did (call (link dir name inode)) w (got (told r) []) v
+      → Did (one (call (link dir name inode))) w (got (told r) []) v
   unlinked : {dir : ℕ} {name : List ℕ} {w v : World} (r : Answer)
       → shown (left r (v .store) (v .image) (v .desk)) ≡ shown (live (unlink dir name) w)
-      → Did (call (unlink dir name)) w (got (told r) []) v
+      → Did (one (call (unlink dir name))) w (got (told r) []) v
   renamed : {dir : ℕ} {name : List ℕ} {to-dir : ℕ} {to-name : List ℕ} {w v : World} (r : Answer)
       → shown (left r (v .store) (v .image) (v .desk)) ≡ shown (live (rename dir name to-dir to-name) w)
-      → Did (call (rename dir name to-dir to-name)) w (got (told r) []) v
+      → Did (one (call (rename dir name to-dir to-name))) w (got (told r) []) v
   -- start, step and state (copystart/src/start.rt, copystep/src/lib.rt, guards/src/state.rt)
   started : {w : World} {image desk : List ℕ} (r : Answer)
       → shown (left r (w .store) image desk) ≡ shown (start (w .store) (w .image) (w .desk))
-      → Did starts w (got (told r) []) (world (w .store) image desk)
+      → Did (one starts) w (got (told r) []) (world (w .store) image desk)
   stepped : {w : World} {image desk : List ℕ} (r : Answer)
       → shown (left r (w .store) image desk) ≡ shown (step (w .store) (w .image) (w .desk))
-      → Did advances w (got (told r) []) (world (w .store) image desk)
+      → Did (one advances) w (got (told r) []) (world (w .store) image desk)
   asked : {w : World} (r : Status)
       → toldStatus r ≡ toldStatus (status (w .store) (w .image) (w .desk))
-      → Did asks w (got (toldStatus r) []) w
+      → Did (one asks) w (got (toldStatus r) []) w
+  -- up to 64 steps in one call (bursts/src/lib.rt)
+  stepped-many : {k : ℕ} {w : World} {image desk : List ℕ} (r : Answer)
+      → shown (left r (w .store) image desk) ≡ shown (burst k w)
+      → Did (bursts k) w (got (told r) []) (world (w .store) image desk)
 
 -- a list of calls, one after another: from which world, what their callers got, and to which world
-pub data Made : List Event → World → List Received → World → Type 0 where
+pub data Made : List Act → World → List Received → World → Type 0 where
   none : {w : World} → Made [] w [] w
-  then : {e : Event} {es : List Event} {a : Received} {rs : List Received} {w v u : World} → Did e w a v → Made es v rs u → Made (e ∷ es) w (a ∷ rs) u
+  then : {x : Act} {xs : List Act} {a : Received} {rs : List Received} {w v u : World} → Did x w a v → Made xs v rs u → Made (x ∷ xs) w (a ∷ rs) u

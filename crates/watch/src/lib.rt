@@ -23,7 +23,8 @@ pub use format::lay_out_store;
 pub use files::plain::look_up;
 pub use files::plain::read;
 
-// Start a copy, step, and ask its state.
+// Start a copy, step, take up to 64 steps, and ask its state.
+pub use bursts::burst;
 pub use copystart::start::start;
 pub use copystep::step;
 pub use guards::state::state;

@@ -17,6 +17,7 @@ pub enum Call {
     Rename(usize, Name, usize, Name),
     Start,
     Step,
+    Burst(usize),
     Ask,
 }
 
@@ -61,6 +62,7 @@ impl fmt::Display for Call {
             Call::Rename(d, name, e, to) => write!(f, "mv {d} {} {e} {}", Hex(name), Hex(to)),
             Call::Start => f.write_str("go"),
             Call::Step => f.write_str("st"),
+            Call::Burst(count) => write!(f, "bu {count}"),
             Call::Ask => f.write_str("ask"),
         }
     }

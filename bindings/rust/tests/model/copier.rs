@@ -151,6 +151,23 @@ impl Copier {
         Ok(self.steps)
     }
 
+    /// "The call does what that many single steps would, ends early when the copy finishes or a step is refused, and reports how
+    /// many were accepted. If the very first is refused, that refusal is the answer."
+    pub fn burst(&mut self, store: &Store, count: usize) -> Answer {
+        if !(1..=64).contains(&count) {
+            return Err(17);
+        }
+        for done in 0..count {
+            match self.step(store) {
+                Ok(_) if self.state == State::Finished => return Ok(done + 1),
+                Ok(_) => {}
+                Err(refusal) if done == 0 => return Err(refusal),
+                Err(_) => return Ok(done),
+            }
+        }
+        Ok(count)
+    }
+
     fn lock_or_finish(&mut self) {
         let uncopied = |i: &usize| !self.copied.contains(i);
         let next = Some(1).filter(uncopied).or_else(|| self.image.entries().map(|(_, _, e)| e.inode).filter(uncopied).min());

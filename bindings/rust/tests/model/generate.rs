@@ -22,8 +22,10 @@ enum Mood {
 pub struct Aim {
     mood: Mood,
     names: usize,
-    /// Steps in a hundred calls, while a copy runs.
+    /// Steps and bursts in a hundred calls, while a copy runs.
     pace: usize,
+    /// Bursts in a hundred of these.
+    bursts: usize,
 }
 
 pub fn sizes(random: &mut Random) -> (Sizes, Aim) {
@@ -40,7 +42,7 @@ pub fn sizes(random: &mut Random) -> (Sizes, Aim) {
     };
     let image_blocks = if random.percent(70) { 44 * inodes } else { random.between(1, blocks + 4) };
     let names = if mood == Mood::Slots { 60 } else { random.between(3, 12) };
-    (Sizes { inodes, blocks, image_blocks }, Aim { mood, names, pace: random.between(15, 60) })
+    (Sizes { inodes, blocks, image_blocks }, Aim { mood, names, pace: random.between(15, 60), bursts: random.below(50) })
 }
 
 /// Calls before the first random one: a directory with nearly all its slots used.
@@ -88,13 +90,25 @@ fn entry(random: &mut Random, store: &Store, suits: impl Fn(usize, &Entry) -> bo
 pub fn next(random: &mut Random, aim: &Aim, session: &Session) -> Call {
     let running = session.copier.state == State::Running;
     match random.below(100) {
+        n if running && n < aim.pace && random.percent(aim.bursts) => Call::Burst(steps(random)),
         n if running && n < aim.pace => Call::Step,
         n if !running && n < 12 => Call::Start,
         97 => Call::Start,
+        98 if random.percent(50) => Call::Burst(steps(random)),
         98 => Call::Step,
         99 => Call::Ask,
         _ if running && random.percent(40) => aimed(random, aim, session),
         _ => file_call(random, aim, &session.store),
+    }
+}
+
+/// Of a burst: mostly few, so that calls fall between; any that are allowed, the most, or too many and none.
+fn steps(random: &mut Random) -> usize {
+    match random.below(12) {
+        0 => [0, 65, 256 + 1, usize::MAX][random.below(4)],
+        1 => random.between(62, 64),
+        2 | 3 => random.between(1, 64),
+        _ => random.between(1, 6),
     }
 }
 

@@ -83,7 +83,7 @@ fn calls_at_random() {
     println!("{lists} lists from seed {seed}: {tally:?}");
     // the lists reach what they aim at
     if calls >= CALLS {
-        assert!((4..=16).all(|number| tally.refused[number] > 0), "a refusal never came: {:?}", tally.refused);
+        assert!((4..=17).all(|number| tally.refused[number] > 0), "a refusal never came: {:?}", tally.refused);
         assert_eq!(tally.refused[1..4], [0; 3], "1 to 3 never come on buffers that only the library writes");
         let aims = [
             tally.finishes,
@@ -97,6 +97,9 @@ fn calls_at_random() {
             tally.crossed_copied,
             tally.crossed_uncopied,
             tally.crossed_idle,
+            tally.burst_steps,
+            tally.burst_finishes,
+            tally.burst_stops,
         ];
         assert!(aims.into_iter().all(|count| count > 100), "the lists miss their aim: {tally:?}");
     }

@@ -38,7 +38,7 @@ impl Buffers {
 pub struct Tally {
     pub calls: usize,
     /// By number of the refusal.
-    pub refused: [usize; 17],
+    pub refused: [usize; 18],
     pub finishes: usize,
     /// Entries that the claim about a finished copy was about.
     pub claimed: usize,
@@ -55,6 +55,10 @@ pub struct Tally {
     pub crossed_uncopied: usize,
     /// Writes and shortenings that crossed 768 bytes while no copy ran.
     pub crossed_idle: usize,
+    /// Steps accepted in bursts, copies that a burst finished, and copies that it stopped after steps of its own.
+    pub burst_steps: usize,
+    pub burst_finishes: usize,
+    pub burst_stops: usize,
 }
 
 impl Tally {
@@ -71,6 +75,9 @@ impl Tally {
         self.crossed_copied += other.crossed_copied;
         self.crossed_uncopied += other.crossed_uncopied;
         self.crossed_idle += other.crossed_idle;
+        self.burst_steps += other.burst_steps;
+        self.burst_finishes += other.burst_finishes;
+        self.burst_stops += other.burst_stops;
         self.refused.iter_mut().zip(other.refused).for_each(|(sum, count)| *sum += count);
     }
 }
@@ -110,6 +117,7 @@ fn make(watch: &mut Watch, call: &Call) -> (Answer, Vec<u8>) {
         Call::Rename(d, name, e, to) => nothing(watch.rename(Inode(*d), name, Inode(*e), to)),
         Call::Start => nothing(watch.start()),
         Call::Step => watch.step(),
+        Call::Burst(count) => watch.burst(*count),
         Call::Ask => watch.status().map(|_| 0),
     };
     (answer.map_err(Refusal::number), out)
@@ -159,6 +167,7 @@ impl Session {
         match call {
             Call::Start => self.start(answer)?,
             Call::Step => self.step(answer)?,
+            Call::Burst(count) => self.burst(*count, answer)?,
             Call::Ask => {
                 agree("answer", answer, Ok(0))?;
                 agree("a question changes nothing", self.buffers == self.before, true)?;
@@ -198,6 +207,43 @@ impl Session {
             self.image()?;
         }
         if answer.is_ok() && self.copier.state == State::Finished { self.finish() } else { Ok(()) }
+    }
+
+    /// A burst against the model's, and against the single steps of the library that it stands for.
+    fn burst(&mut self, count: usize, answer: Answer) -> Result<(), String> {
+        let was = self.copier.state;
+        agree("answer", answer, self.copier.burst(&self.store, count))?;
+        let mut singly = self.before.clone();
+        let tried = match answer {
+            Err(17) => 0,
+            Err(_) => 1,
+            Ok(done) if self.copier.state == State::Finished => done,
+            Ok(done) => count.min(done + 1),
+        };
+        for _ in 0..tried {
+            _ = singly.watch().step();
+        }
+        agree("single steps leave the same bytes", self.buffers == singly, true)?;
+        let done = answer.unwrap_or(0);
+        self.steps += done;
+        self.tally.burst_steps += done;
+        if answer == Err(16) {
+            agree("16 leaves the image", self.buffers.image == self.before.image, true)?;
+        }
+        if was == State::Running && self.copier.state == State::Stopped {
+            agree("16 comes only with too few blocks", self.sizes.image_blocks < enough_image(self.sizes.inodes), true)?;
+            self.tally.burst_stops += usize::from(done > 0);
+        }
+        if was != State::Running || answer == Err(17) {
+            return Ok(());
+        }
+        self.status()?;
+        self.image()?;
+        if self.copier.state != State::Finished {
+            return Ok(());
+        }
+        self.tally.burst_finishes += 1;
+        self.finish()
     }
 
     fn file_call(&mut self, call: &Call, answer: Answer, out: Vec<u8>) -> Result<(), String> {

@@ -25,7 +25,7 @@ pub fn shrink(mut list: List) -> List {
             list = pass(list, part);
         }
         if list.calls.len() == before {
-            return fewer_bytes(list);
+            return smaller(list);
         }
     }
 }
@@ -63,18 +63,23 @@ fn failing(mut list: List) -> Option<List> {
     Some(list)
 }
 
-fn fewer_bytes(mut list: List) -> List {
+/// Writes of fewer bytes, and bursts of fewer steps.
+fn smaller(mut list: List) -> List {
     let mut k = 0;
-    // a shorter write may fail earlier, and then the list ends there
+    // a smaller call may fail earlier, and then the list ends there
     while let Some(call) = list.calls.get(k) {
-        let shorter = match call {
+        let call = match call {
             Call::Write(inode, offset, bytes) if !bytes.is_empty() => {
-                let mut calls = list.calls.clone();
-                calls[k] = Call::Write(*inode, *offset, bytes[..bytes.len() / 2].to_vec());
-                failing(List { sizes: list.sizes, calls })
+                Some(Call::Write(*inode, *offset, bytes[..bytes.len() / 2].to_vec()))
             }
+            Call::Burst(count) if *count > 1 => Some(Call::Burst(count / 2)),
             _ => None,
         };
+        let shorter = call.and_then(|call| {
+            let mut calls = list.calls.clone();
+            calls[k] = call;
+            failing(List { sizes: list.sizes, calls })
+        });
         match shorter {
             Some(shorter) => list = shorter,
             None => k += 1,

@@ -221,7 +221,7 @@ impl Store {
             Call::Link(directory, name, inode) => self.link(*directory, name, *inode, locked),
             Call::Unlink(directory, name) => self.unlink(*directory, name, locked),
             Call::Rename(directory, name, to, to_name) => self.rename(*directory, name, *to, to_name, locked),
-            Call::Start | Call::Step | Call::Ask => unreachable!("no file call"),
+            Call::Start | Call::Step | Call::Burst(_) | Call::Ask => unreachable!("no file call"),
         }
     }
 

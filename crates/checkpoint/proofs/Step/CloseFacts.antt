@@ -17,7 +17,7 @@ use Rattle.layout.specs.Sizes.{addressPlace, mostBlocks, blockBytes, mostDirect
 use Rattle.layout.specs.Inode.{kindOf, sizeOf, parentOf, inodeOf, freeKind, fileKind, directoryKind}
 use Rattle.blocks.specs.Block.{blockOf, blocksUsed, bytesPlace, isLong, kthBy, kthBlock, bytesBlock, rowBy}
 use Rattle.ledger.proofs.BytesLaws.{place-used, place-bytes}
-use Rattle.blocks.proofs.LongLaws.{but-here, but-else}
+use Rattle.blocks.proofs.LongLaws.{but-here}
 use Rattle.checkpoint.specs.Fit.{imageLong}
 use Rattle.layout.specs.Fits.{InodeFits}
 use Rattle.directory.specs.Slot.{slots, entryOf}
@@ -28,13 +28,14 @@ use Rattle.desk.proofs.DeskLaws.{length-putDesk, length-putCopied, desk-putDesk
 use Rattle.sound.specs.Inode.{InodeSound}
 use Rattle.sound.specs.Sound.{blocksIn}
 use Rattle.sound.specs.Counted.{SoundStore}
-use Rattle.changes.proofs.SameLaws.{InInode, NewInode, same-long, put-attributes, attributes-blocks, attributes-new}
+use Rattle.changes.proofs.SameLaws.{InInode, NewInode}
 use Rattle.changes.proofs.KeepLaws.{body-of, inode-kept}
 use Rattle.changes.proofs.StoreLaws.{dir-of, blocks-of, dir-short}
 use Rattle.checkpoint.specs.Notes.{isCopied}
 use Rattle.checkpoint.specs.Copier.{close, copiedBlock, unlinkedInode, stepImage, stepDesk}
 use Rattle.checkpoint.proofs.Copy.Laid.{DeskLaid, Open, Laid}
 use Rattle.checkpoint.proofs.Copy.SeenLaws.{copied-is, copied-like}
+use Rattle.checkpoint.proofs.Step.RowChange as rows
 use Rattle.checkpoint.proofs.Step.PasteLaws.{pasted, file-block, slot-pasted}
 
 -- the locked inode, in use in a sound store, has all its blocks copied
@@ -113,48 +114,33 @@ module _ {n b : ℕ} {s m d : List ℕ} (c : Closing n b s m d) where
   fits = let f = c .laid .frame in let e = f .long in record { low = low; high = high; few = f .most-inodes; area = omega arith }
 
   pub in-inode : InInode m m′ n l
-  in-inode = put-attributes m n l fits (unlinkedInode (inodeOf s n l))
+  in-inode = rows.in-inode s m n l fits
 
   pub new : NewInode m′ l (unlinkedInode (inodeOf s n l))
-  new = attributes-new m n l fits (unlinkedInode (inodeOf s n l))
+  new = rows.new-inode s m n l fits
 
   pub new-kind : kindOf m′ l ≡ kindOf s l
-  new-kind = new .kind ∙ (unfold inodeOf in refl)
+  new-kind = rows.new-kind s m n l fits
 
   pub new-size : sizeOf m′ l ≡ sizeOf s l
-  new-size = new .size ∙ (unfold inodeOf in refl)
+  new-size = rows.new-size s m n l fits
 
   pub new-parent : parentOf m′ l ≡ parentOf s l
   new-parent = new .parent ∙ (unfold inodeOf in refl)
 
   -- it is long by its size now, as it was by the store's
   pub long-after : (i : ℕ) → 1 ≤ i → i ≤ n → isLong m′ i ≡ imageLong s m d i
-  long-after i o q = elim (ℕ-discrete i l) as (λ _. isLong m′ i ≡ imageLong s m d i) [
-    | yes e ↦ ap (isLong m′) e ∙ same-long s m′ l new-kind new-size ∙ sym (but-here m l (isLong s l) i e)
-    | no e ↦ let g = in-inode .others i o q e in same-long m m′ i (g .kind) (g .size) ∙ sym (but-else m l (isLong s l) i e)
-  ]
-
-  kth-after : (i : ℕ) → 1 ≤ i → i ≤ n → (k : ℕ) → k < mostBlocks → kthBy (imageLong s m d i) m′ n i k ≡ kthBy (imageLong s m d i) m n i k
-  kth-after i o q k a =
-      each-else (λ i. 1 ≤ i → i ≤ n → kthBy (imageLong s m d i) m′ n i k ≡ kthBy (imageLong s m d i) m n i k) l i
-      (λ _ _. attributes-blocks m n l fits (unlinkedInode (inodeOf s n l)) (imageLong s m d l) k a)
-      (λ z x y.
-      ap (λ (w : Bool). kthBy w m′ n i k) (sym (long-after i x y)) ∙ in-inode .others i x y z .blocks k a
-      ∙ ap (λ (w : Bool). kthBy w m n i k) (sym (but-else m l (isLong s l) i z))) o q
+  long-after = rows.long-after s m n l fits
 
   pub same-blocks : (i : ℕ) → 1 ≤ i → i ≤ n → (k : ℕ) → k < mostBlocks → kthBlock m′ n i k ≡ kthBy (imageLong s m d i) m n i k
-  same-blocks i o q k a = ap (λ (w : Bool). kthBy w m′ n i k) (long-after i o q) ∙ kth-after i o q k a
+  same-blocks = rows.same-blocks s m n l fits
 
   own-block : (k : ℕ) → k < mostBlocks → kthBlock m′ n l k ≡ kthBy (isLong s l) m n l k
   own-block k a = same-blocks l low high k a ∙ ap (λ (w : Bool). kthBy w m n l k) (but-here m l (isLong s l) l refl)
 
   -- with nothing locked any more the row is what it was
   pub close-row : (x : ℕ) → x < mostBlocks * n → rowBy (imageLong s m′ d′) m′ n x ≡ rowBy (imageLong s m d) m n x
-  unfolding rowBy
-  close-row x q =
-      let z = ap (λ (v : Desk). v .locked) desk-closed in
-      ap (λ (w : Bool). kthBy w m′ n (x / 44 + 1) (x % 44)) (but-else m′ (deskOf d′ .locked) (isLong s (deskOf d′ .locked)) (x / 44 + 1) (λ y. omega arith))
-      ∙ same-blocks (x / 44 + 1) (omega arith) (omega arith) (x % 44) (omega arith)
+  close-row = rows.close-row s m n l fits (deskOf d′ .locked) (isLong s (deskOf d′ .locked)) (ap (λ (v : Desk). v .locked) desk-closed)
 
   pub long-over : isLong s l ≡ true → mostDirectBytes < sizeOf s l
   unfolding isLong

@@ -16,8 +16,8 @@ finish-requires c κs = search needs
 write-requires : tie.Need-write-requires
 write-requires c κs = search needs
 
-cast-t9 : tie.Need-cast-t9
-cast-t9 c = search needs
+cast-t11 : tie.Need-cast-t11
+cast-t11 c = search needs
 
 same-length : tie.Need-same-length
 same-length c = search needs
@@ -27,9 +27,8 @@ same-length-2 c = search needs
 
 returns : tie.Need-returns
 returns c =
-    let z = c .before .before .before .before .before .before .before .before .before .before .before .before .before in
-    let a = z .args in
-    finish-done (now (a .d)) (a .h) _ (z .pre .0 .read) (now (a .m)) (a .n) _ _ (c .before .before .before .before .before .before .before .before .finish-image .ensures) (c .before .before .before .before .before .finish .ensures) (c .before .before .before .write .ensures)
+    let a = c .before .before .before .before .before .before .before .before .before .before .before .before .before .before .args in
+    finish-done (now (a .d)) (a .h) _ (c .before .before .before .before .before .before .before .before .before .before .before .before .before .before .pre .0 .read) (now (a .m)) (a .n) _ _ (c .before .before .before .before .before .before .before .before .finish-image .ensures) (c .before .before .before .before .before .finish .ensures) (c .before .before .before .write .ensures)
 
 pub finish-spec : {M : Type 1} → statement M
 finish-spec =
@@ -39,7 +38,7 @@ finish-spec =
     finish-image-requires
     finish-requires
     write-requires
-    cast-t9
+    cast-t11
     same-length
     same-length-2
     returns)

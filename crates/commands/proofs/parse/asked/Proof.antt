@@ -85,7 +85,11 @@ unfolding asked forms
 returns-20 c = asked-is 19 (c .before .args .j) _ _ _ _ (omega arith)
 
 returns-21 : tie.Need-returns-21
-returns-21 c = asked-no (c .before .args .j) _ _ _ _ (c .match .rest)
+unfolding asked forms
+returns-21 c = asked-is 20 (c .before .args .j) _ _ _ _ (omega arith)
+
+returns-22 : tie.Need-returns-22
+returns-22 c = asked-no (c .before .args .j) _ _ _ _ (c .match .rest)
 
 pub asked-spec : {M : Type 1} → statement M
 asked-spec =
@@ -111,4 +115,5 @@ asked-spec =
     returns-18
     returns-19
     returns-20
-    returns-21)
+    returns-21
+    returns-22)

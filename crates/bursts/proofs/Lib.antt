@@ -1,0 +1,4 @@
+pub mod KeptLaws
+pub mod NamingLaws
+pub mod StepTurns
+pub mod TurnLaws

@@ -1,0 +1,48 @@
+use Rattle.bursts.proofs.TurnLaws.{rests}
+use denote.Ref.{now}
+use Rattle.copystep.proofs.StepLaws.{at-rest, at-work, ready-long}
+use borrow.Author.Needs.{needs}
+use Rattle.bursts.proofs.go_on.Statement.{statement}
+use Rattle.bursts.proofs.go_on.Tie as tie
+
+read-requires : tie.Need-read-requires
+read-requires c κs =
+    let z = c .before .before .before .before in
+    let a = z .args in
+    ready-long (now (a .s)) (now (a .m)) (now (a .d)) (z .pre .0)
+
+same-length : tie.Need-same-length
+same-length c = search needs
+
+returns : tie.Need-returns
+returns c =
+    let z = c .before .before .before .before .before .before .before in
+    let a = z .args in
+    rests (now (a .s)) (now (a .m)) (now (a .d)) (a .count) (z .pre .2) (z .pre .0) (at-rest (now (a .s)) (now (a .m)) (now (a .d)) _ (c .before .before .read .ensures) (c .if1 .taken))
+
+turns-requires : tie.Need-turns-requires
+turns-requires c κs =
+    let z = c .before .before .before .before .before .before .before .before .before in
+    let a = z .args in
+    (z .pre .0, z .pre .1, at-work (now (a .s)) (now (a .m)) (now (a .d)) _ (c .before .before .before .before .read .ensures) (c .before .before .if1 .left), z .pre .3)
+
+same-length-2 : tie.Need-same-length-2
+same-length-2 c = search needs
+
+same-length-3 : tie.Need-same-length-3
+same-length-3 c = search needs
+
+returns-2 : tie.Need-returns-2
+returns-2 c = search needs
+
+pub go-on-spec : {M : Type 1} → statement M
+go-on-spec =
+    tie.close
+    (tie.spec
+    read-requires
+    same-length
+    returns
+    turns-requires
+    same-length-2
+    same-length-3
+    returns-2)
