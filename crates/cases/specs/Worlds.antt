@@ -52,16 +52,19 @@ overTheEdge =
     ∷ advances ∷ advances ∷ advances ∷ call (write 2 768 (replicate 64 6))
     ∷ advances ∷ (replicate 12 advances ++ (call (shorten 3 768) ∷ replicate 18 advances))
 
--- a file of ten bytes
+-- an empty file, and one of ten bytes
+unfoldable pub oneFile : List Event
+oneFile = call (create 1 nameA File) ∷ []
+
 unfoldable pub tenBytes : List Event
 tenBytes = call (create 1 nameA File) ∷ call (write 2 0 (replicate 10 7)) ∷ []
 
 -- k links to file 2 in the root, by the names of one byte from a on
-unfoldable pub linked : ℕ → ℕ → List Event
-linked a zero = []
-linked a (suc k) = call (link 1 (a ∷ []) 2) ∷ linked (a + 1) k
+unfoldable pub linkedFrom : ℕ → ℕ → List Event
+linkedFrom a zero = []
+linkedFrom a (suc k) = call (link 1 (a ∷ []) 2) ∷ linkedFrom (a + 1) k
 
 -- k entries in the root, of one file
 unfoldable pub entered : ℕ → List Event
 entered zero = []
-entered (suc k) = call (create 1 nameA File) ∷ linked 98 k
+entered (suc k) = call (create 1 nameA File) ∷ linkedFrom 98 k
