@@ -1,4 +1,6 @@
-// The steps of a burst, over what it keeps from one to the next so that it is made once a call: the map of the blocks that image addresses name, and the counts of the inodes that image directories name. s is the store, m the image, d the desk, h the desk's header, n the count of inodes.
+// The steps of a burst, over what it keeps from one to the next so that it is made once a call: the map of the blocks that
+// image addresses name, and the counts of the inodes that image directories name. s is the store, m the image, d the desk, h
+// the desk's header, n the count of inodes.
 ghost use mathlib.Core.Path.{_≡_};
 ghost use mathlib.Core.Logic.{_≢_};
 ghost use mathlib.Core.Bool.{Bool, true, false, _&&_};
@@ -9,7 +11,7 @@ ghost use lib.ListN.{length};
 ghost use Rattle.bounded.specs.Count.{Tallied};
 ghost use Rattle.bounded.specs.Search.{onFound};
 ghost use Rattle.layout.specs.Sizes.{headerBytes, inodeBytes, addressCount, mostInodes, mostImageBlocks, mostBlocks};
-ghost use Rattle.layout.specs.Inode.{kindOf, sizeOf, directoryKind};
+ghost use Rattle.layout.specs.Inode.{sizeOf};
 ghost use Rattle.layout.specs.Fits.{InodeFits};
 ghost use Rattle.blocks.specs.Block.{blocksUsed, isLong, addressBlock, kthBy};
 ghost use Rattle.blocks.specs.Free.{longBut};
@@ -21,7 +23,7 @@ ghost use Rattle.checkpoint.specs.Image.{imageNaming};
 ghost use Rattle.checkpoint.specs.Copier.{lock, finish, targetBlock, freeStep};
 ghost use Rattle.checkpoint.specs.Shown.{world};
 ghost use Rattle.guards.specs.Fit.{furtherRightOf};
-ghost use Rattle.bursts.specs.Turn.{Mapped, Counted, Going, Kept, Took};
+ghost use Rattle.bursts.specs.Turn.{namesStayB, Mapped, Counted, Going, Kept, Took};
 use crate::Turn;
 use answers::Refusal;
 use blocks::free;
@@ -125,7 +127,7 @@ fn block_step(
 // Neither the blocks of inode i nor its close change what the image's directories name. Those of a long file may: its addresses go into a block that, on odd bytes, is a directory's too.
 fn names_stay(s: &[u8], m: &[u8], n: usize, i: usize) -> bool
     requires { ⌜ InodeFits (now s) n i × InodeFits (now m) n i ⌝ }
-    ensures { λ r. ⌜ (r ≡ true → (kindOf (now (m .entry)) i ≢ directoryKind) × (kindOf (now (s .entry)) i ≢ directoryKind) × (isLong (now (s .entry)) i ≡ false)) ⌝ }
+    ensures { λ r. ⌜ r ≡ namesStayB (now (s .entry)) (now (m .entry)) i ⌝ }
 {
     if inode::kind(m, n, i) == DIRECTORY {
         return false;
@@ -236,5 +238,6 @@ pub fn free_step(
     if holds {
         return Turn::Goes;
     }
+    // the next step would be refused with 3: this one was accepted
     Turn::Ends
 }
