@@ -1,5 +1,7 @@
 // The record of a copy under way, kept from answers and stores alone, and what is asked of it.
 ghost use Prim.Native.Nat.{_≤_};
+use crate::finished::find;
+use crate::finished::is_right;
 use crate::tried::BLOCKS;
 use crate::tried::BURST_FINISHES;
 use crate::tried::BURST_STEPS;
@@ -17,11 +19,8 @@ use judge::again::blocks_again;
 use judge::again::files_crossed;
 use judge::again::files_long;
 use judge::copy::MOMENT_BYTES;
-use judge::copy::kept_entries;
 use judge::copy::moment;
-use judge::copy::of_its_time;
 use judge::fields::byte;
-use watch::Form;
 
 const BUSY: usize = 14;
 
@@ -67,7 +66,7 @@ fn count_changes(first: &[u8], store: &[u8], image: &[u8], n: usize, tried: &mut
     tally(&mut *tried, LONG, files_long(image, n));
 }
 
-// The finished copy is a sound image of n inodes, has every entry that it owes, and nothing that is not of its time.
+// Whether the finished copy is right; what it shows is counted.
 fn finish_right(
     m: usize,
     n: usize,
@@ -79,15 +78,11 @@ fn finish_right(
 ) -> bool
     requires { ⌜ n ≤ 8 ⌝ }
 {
-    let first = moment(moments, 0);
-    let owed = kept_entries(first, image, n, taken);
+    let found = find(m, n, image, moments, taken);
     tally(&mut *tried, FINISHES, 1);
-    tally(&mut *tried, ENTRIES, owed.entries);
-    count_changes(first, store, image, n, &mut *tried);
-    owed.there
-        && byte(image, 0) == n
-        && watch::check(Form::Image, image)
-        && of_its_time(moments, m, image, n)
+    tally(&mut *tried, ENTRIES, found.owed);
+    count_changes(moment(moments, 0), store, image, n, &mut *tried);
+    is_right(found)
 }
 
 // Steps so far, by what an accepted step or burst answers: a step these, a burst its own. 0 where the answer can't be.

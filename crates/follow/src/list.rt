@@ -2,19 +2,20 @@
 ghost use Prim.Native.Nat.{_+_, _*_, _≤_};
 ghost use mathlib.Core.Path.{_≡_};
 ghost use Rattle.chance.specs.Small.{Small};
+use crate::copy::Copy;
+use crate::copy::Next;
+use crate::copy::follow;
+use crate::tried::EVENTS;
+use crate::tried::INODES;
+use crate::tried::LISTS;
+use crate::tried::MOVES;
+use crate::tried::tally;
 use beside::both::do_both;
+use beside::calls::ALIKE;
 use beside::calls::Got;
 use chance::event;
 use chance::event::Event;
 use chance::event::Shape;
-use follow::copy::Copy;
-use follow::copy::Next;
-use follow::copy::follow;
-use follow::tried::EVENTS;
-use follow::tried::INODES;
-use follow::tried::LISTS;
-use follow::tried::MOVES;
-use follow::tried::tally;
 use judge::copy::moment;
 use judge::fields::kind;
 
@@ -51,7 +52,8 @@ fn count(e: Event, a: Got, running: bool, first: &[u8], tried: &mut [u64; 30]) {
     }
 }
 
-fn turn(
+// An event done by both, compared, and the copy followed.
+pub fn turn(
     e: Event,
     fill: u8,
     n: usize,
@@ -77,7 +79,7 @@ fn turn(
         &mut *taken,
     );
     let a = b.got;
-    if !b.alike {
+    if b.differs != ALIKE {
         return Next { copy, right: false };
     }
     count(e, a, 0 < copy.moments, moment(moments, 0), &mut *tried);

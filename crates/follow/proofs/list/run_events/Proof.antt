@@ -2,8 +2,8 @@ use Prim.Native.Nat.{_-_, _≤_}
 use mathlib.Core.Path.{_≡_}
 use lib.ListN.{length}
 use borrow.Author.Needs.{needs}
-use Rattle.trial.proofs.list.run_events.Statement.{statement}
-use Rattle.trial.proofs.list.run_events.Tie as tie
+use Rattle.follow.proofs.list.run_events.Statement.{statement}
+use Rattle.follow.proofs.list.run_events.Tie as tie
 
 abbrev Inv-loop : tie.InvT-loop
 Inv-loop seed list shape store₀ image₀ desk₀ beside₀ moments₀ taken₀ tried₀ copy₀ k₀ store image desk beside moments taken tried copy k = (1 ≤ k) × (k ≤ 400) × (length store ≡ length store₀) × (length image ≡ length image₀) × (length desk ≡ length desk₀) × (length beside ≡ length beside₀)

@@ -1,0 +1,84 @@
+// A list of events from a laid-out store on, with a copy under way; the one behind it finishes the copy.
+ghost use Prim.Native.Nat.{_≤_};
+use chance::event;
+use chance::event::Event;
+use follow::copy::Copy;
+use follow::list::turn;
+
+pub const INODES: usize = 8;
+
+const BLOCKS: usize = 59;
+
+const EVENTS: usize = 20;
+
+// A call on an entry; x is the inode that it links, or the name that it gets in the same directory.
+pub fn on_entry(what: usize, dir: usize, name: usize, x: usize) -> Event {
+    Event {
+        what,
+        dir,
+        name,
+        to: dir,
+        other: x,
+        inode: x,
+        offset: 0,
+        length: 0,
+        count: 0,
+    }
+}
+
+// A read or a write.
+pub fn on_file(what: usize, inode: usize, offset: usize, length: usize) -> Event {
+    Event {
+        what,
+        dir: 0,
+        name: 0,
+        to: 0,
+        other: 0,
+        inode,
+        offset,
+        length,
+        count: 0,
+    }
+}
+
+fn steps(count: usize) -> Event {
+    Event {
+        what: event::BURST,
+        dir: 0,
+        name: 0,
+        to: 0,
+        other: 0,
+        inode: 0,
+        offset: 0,
+        length: 0,
+        count,
+    }
+}
+
+// Names 0 to 4 are `a`, `ab`, `ac`, `ad` and `ae`. Inode 2 is a directory with the long file 4 and a second link to the file 3; 5 is an empty file,
+// and 6 a file that is unlinked when the root is copied, and whose number goes to another file, in directory 2.
+fn nth(k: usize) -> Event {
+    match k {
+        0 => on_entry(event::CREATE_DIRECTORY, 1, 0, 0),
+        1 => on_entry(event::CREATE_FILE, 1, 1, 0),
+        2 => on_file(event::WRITE, 3, 0, 100),
+        3 => on_entry(event::CREATE_FILE, 2, 0, 0),
+        4 => on_file(event::WRITE, 4, 0, 1000),
+        5 => on_file(event::WRITE, 4, 800, 50),
+        6 => on_entry(event::LINK, 2, 1, 3),
+        7 => on_entry(event::CREATE_FILE, 1, 2, 0),
+        8 => on_entry(event::CREATE_FILE, 1, 3, 0),
+        9 => on_file(event::WRITE, 6, 0, 10),
+        10 => on_entry(event::START, 0, 0, 0),
+        11 => steps(3),
+        12 => on_entry(event::UNLINK, 1, 3, 0),
+        13 => on_entry(event::CREATE_FILE, 2, 2, 0),
+        14 => on_file(event::WRITE, 6, 0, 20),
+        15 => on_entry(event::RENAME, 1, 2, 4),
+        16 => steps(7),
+        17 => on_file(event::WRITE, 3, 0, 5),
+        18 => on_file(event::WRITE, 3, 70, 5),
+        19 => steps(10),
+        _ => steps(64),
+    }
+}

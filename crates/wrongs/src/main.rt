@@ -1,0 +1,38 @@
+// Finished copies, plain stores and bursts with one thing wrong each, and answers that can't be: what the trial finds of each.
+// A line of the input says what is wrong (`copy`, `plain`, `burst`, `answer`), how it is called, and what makes it wrong: commands of `replay`, or
+// numbers. The three are parted by a `:`, commands by a `;`.
+mod cases;
+mod history;
+mod lines;
+mod print;
+
+use chance::print::difference;
+use libc::STDIN_FILENO;
+
+// The list that a difference is printed of, and the event that shows it: a burst.
+const LIST: u64 = 0;
+
+const EVENT: u64 = 20;
+
+fn main() {
+    let mut text = io::large_buffer();
+    let n = io::read_full(STDIN_FILENO, &mut text);
+    let mut store = [0u8; 4048];
+    let mut image = [0u8; 4368];
+    let mut desk = [0u8; 88];
+    let mut moments = [0u8; 2097152];
+    let mut taken = [0u8; 384];
+    let m = history::run(&mut store, &mut image, &mut desk, &mut moments, &mut taken);
+    let mut half = image;
+    let mut notes = desk;
+    lines::all(
+        &text[..n],
+        m,
+        &store,
+        &mut image,
+        &mut desk,
+        &mut moments,
+        &mut taken,
+    );
+    difference(1, LIST, EVENT);
+}
