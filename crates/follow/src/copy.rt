@@ -190,21 +190,24 @@ fn called(copy: Copy, store: &[u8], moments: &mut [u8; 2097152]) -> Copy {
     }
 }
 
-// 1 to 3 never come. 14 and 16 come while a copy runs, 15 to a start then and to steps at other times, 17 to a burst at any.
+// 1 to 3 never come, 4 to 13 to file calls; 14 to those that change something and 16 to steps, while a copy runs; 15 to a start then and to steps
+// at other times; 17 to a burst at any.
 fn refusal_right(what: usize, number: usize, running: bool) -> bool {
-    if number <= 3 {
-        return false;
+    match number {
+        0..=3 => false,
+        4..=13 => what <= event::READ,
+        BUSY => running && what < event::LOOK_UP,
+        UNTIMELY => {
+            if what == event::START {
+                running
+            } else {
+                event::STEP <= what && !running
+            }
+        }
+        FULL => running && event::STEP <= what,
+        BAD_COUNT => what == event::BURST,
+        _ => false,
     }
-    if number == UNTIMELY && event::STEP <= what {
-        return !running;
-    }
-    if number == UNTIMELY {
-        return running && what == event::START;
-    }
-    if number == BAD_COUNT {
-        return what == event::BURST;
-    }
-    number < BUSY || running
 }
 
 // A refused event; 16 ends the copy.

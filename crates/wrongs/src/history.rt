@@ -1,5 +1,4 @@
 // A list of events from a laid-out store on, with a copy under way; the one behind it finishes the copy.
-ghost use Prim.Native.Nat.{_≤_};
 use chance::event;
 use chance::event::Event;
 use follow::copy::Copy;
@@ -7,7 +6,7 @@ use follow::list::turn;
 
 pub const INODES: usize = 8;
 
-const BLOCKS: usize = 59;
+pub const BLOCKS: usize = 59;
 
 const EVENTS: usize = 20;
 
@@ -81,4 +80,72 @@ fn nth(k: usize) -> Event {
         19 => steps(10),
         _ => steps(64),
     }
+}
+
+// The copy under way after the events; one with no moment where an event is not right.
+pub fn run(
+    store: &mut [u8],
+    image: &mut [u8],
+    desk: &mut [u8],
+    beside: &mut [u8],
+    moments: &mut [u8; 2097152],
+    taken: &mut [u8; 384],
+    tried: &mut [u64; 30],
+) -> Copy {
+    let mut copy = Copy {
+        moments: 0,
+        steps: 0,
+    };
+    for k in 0..EVENTS {
+        let next = turn(
+            nth(k),
+            (k + 1) as u8,
+            INODES,
+            copy,
+            &mut *store,
+            &mut *image,
+            &mut *desk,
+            &mut *beside,
+            &mut *moments,
+            &mut *taken,
+            &mut *tried,
+        );
+        if !next.right {
+            return Copy {
+                moments: 0,
+                steps: 0,
+            };
+        }
+        copy = next.copy;
+    }
+    copy
+}
+
+// Whether the copy is finished, and found right.
+pub fn finish(
+    copy: Copy,
+    store: &mut [u8],
+    image: &mut [u8],
+    desk: &mut [u8],
+    beside: &mut [u8],
+    moments: &mut [u8; 2097152],
+    taken: &mut [u8; 384],
+    tried: &mut [u64; 30],
+) -> bool {
+    let e = nth(EVENTS);
+    let next = turn(
+        e,
+        0,
+        INODES,
+        copy,
+        store,
+        image,
+        desk,
+        beside,
+        moments,
+        taken,
+        tried,
+    );
+    let after = next.copy;
+    next.right && after.moments == 0
 }

@@ -7,9 +7,10 @@ mod lines;
 mod print;
 
 use chance::print::difference;
+use chance::print::word;
 use libc::STDIN_FILENO;
 
-// The list that a difference is printed of, and the event that shows it: a burst.
+// The list that a difference is printed of, up to an event that is a burst.
 const LIST: u64 = 0;
 
 const EVENT: u64 = 20;
@@ -18,19 +19,46 @@ fn main() {
     let mut text = io::large_buffer();
     let n = io::read_full(STDIN_FILENO, &mut text);
     let mut store = [0u8; 4048];
+    let mut beside = [0u8; 4048];
     let mut image = [0u8; 4368];
     let mut desk = [0u8; 88];
     let mut moments = [0u8; 2097152];
     let mut taken = [0u8; 384];
-    let m = history::run(&mut store, &mut image, &mut desk, &mut moments, &mut taken);
-    let mut half = image;
-    let mut notes = desk;
-    lines::all(
-        &text[..n],
-        m,
-        &store,
+    let mut tried = [0u64; 30];
+    watch::lay_out_store(&mut store, history::INODES, history::BLOCKS);
+    watch::lay_out_store(&mut beside, history::INODES, history::BLOCKS);
+    watch::lay_out_desk(&mut desk, history::INODES);
+    let copy = history::run(
+        &mut store,
         &mut image,
         &mut desk,
+        &mut beside,
+        &mut moments,
+        &mut taken,
+        &mut tried,
+    );
+    let mut whole = image;
+    let mut done = desk;
+    let right = history::finish(
+        copy,
+        &mut store,
+        &mut whole,
+        &mut done,
+        &mut beside,
+        &mut moments,
+        &mut taken,
+        &mut tried,
+    );
+    word(b"the list");
+    print::verdict(right);
+    word(b"\n");
+    lines::all(
+        &text[..n],
+        copy.moments,
+        &store,
+        &image,
+        &desk,
+        &whole,
         &mut moments,
         &mut taken,
     );
