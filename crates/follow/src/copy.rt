@@ -11,6 +11,7 @@ use crate::tried::ENTRIES;
 use crate::tried::FINISHES;
 use crate::tried::LONG;
 use crate::tried::tally;
+use beside::calls::ALIKE;
 use beside::calls::Got;
 use chance::event;
 use chance::event::Event;
@@ -41,10 +42,24 @@ pub struct Copy {
     pub steps: usize,
 }
 
-// The copy after an event, and whether all that is known of it is right.
+// What is wrong of an event, besides what differs from what is done beside it: a refusal out of its time, a start during a copy, a count of steps,
+// a finished copy.
+pub const REFUSAL: usize = 6;
+
+pub const START: usize = 7;
+
+pub const STEPS: usize = 8;
+
+pub const FINISH: usize = 9;
+
+// The copy after an event, and what is wrong: `ALIKE` if nothing is.
 pub struct Next {
     pub copy: Copy,
-    pub right: bool,
+    pub wrong: usize,
+}
+
+fn wrong_unless(right: bool, what: usize) -> usize {
+    if right { ALIKE } else { what }
 }
 
 // The store is moment m.
@@ -153,14 +168,15 @@ fn stepped(
         let copy = Copy { moments, steps };
         return Next {
             copy,
-            right: counted,
+            wrong: wrong_unless(counted, STEPS),
         };
     }
     let right = finish_right(m, n, store, image, moments, taken, tried);
     let copy = Copy { moments: 0, steps };
+    let finish = wrong_unless(right, FINISH);
     Next {
         copy,
-        right: counted && right,
+        wrong: if counted { finish } else { STEPS },
     }
 }
 
@@ -218,7 +234,10 @@ fn refused(what: usize, number: usize, copy: Copy) -> Next {
         moments,
         steps: copy.steps,
     };
-    Next { copy, right }
+    Next {
+        copy,
+        wrong: wrong_unless(right, REFUSAL),
+    }
 }
 
 pub fn follow(
@@ -242,14 +261,14 @@ pub fn follow(
         return stepped(e, a.value, copy, n, store, image, moments, taken, tried);
     }
     if what == event::ASK {
-        let right = a.value == copy.steps;
-        return Next { copy, right };
+        let wrong = wrong_unless(a.value == copy.steps, STEPS);
+        return Next { copy, wrong };
     }
     if what == event::START {
-        let right = copy.moments == 0;
+        let wrong = wrong_unless(copy.moments == 0, START);
         let copy = started(store, moments, taken);
-        return Next { copy, right };
+        return Next { copy, wrong };
     }
     let copy = called(copy, store, moments);
-    Next { copy, right: true }
+    Next { copy, wrong: ALIKE }
 }

@@ -80,7 +80,10 @@ pub fn turn(
     );
     let a = b.got;
     if b.differs != ALIKE {
-        return Next { copy, right: false };
+        return Next {
+            copy,
+            wrong: b.differs,
+        };
     }
     count(e, a, 0 < copy.moments, moment(moments, 0), &mut *tried);
     follow(e, a, copy, n, store, image, moments, taken, tried)
@@ -119,7 +122,7 @@ fn run_events(
             &mut *taken,
             &mut *tried,
         );
-        if !next.right {
+        if next.wrong != ALIKE {
             return k;
         }
         copy = next.copy;

@@ -2,8 +2,9 @@
 use crate::history::INODES;
 use crate::history::on_entry;
 use crate::history::on_file;
+use crate::history::refill;
+use crate::history::steps;
 use crate::print;
-use beside::both::do_both;
 use beside::burst::compare;
 use beside::calls::Got;
 use chance::event;
@@ -15,6 +16,7 @@ use commands::parse::parse;
 use follow::copy::Copy;
 use follow::copy::follow;
 use follow::finished::find;
+use follow::list::turn;
 use text::Number;
 use text::numbers::number;
 use text::pieces::piece;
@@ -53,59 +55,117 @@ fn alter(commands: &[u8], store: &mut [u8], image: &mut [u8], desk: &mut [u8]) {
             &mut *image,
             &mut *desk,
         ) {
-            word(b": not made");
+            word(b" not made");
         }
     }
 }
 
-// A finished copy is changed as if it were a store.
-pub fn copy(commands: &[u8], whole: &[u8; 4368], m: usize, moments: &[u8], taken: &[u8]) {
-    let mut wrong = *whole;
+// A finished copy is changed as if it were a store; the copy's last step is to have left it.
+pub fn copy(
+    commands: &[u8],
+    copy: Copy,
+    store: &[u8],
+    whole: &[u8],
+    moments: &mut [u8; 2097152],
+    taken: &mut [u8; 384],
+) {
+    let mut wrong = [0u8; 4368];
     let mut image = [0u8; 16];
     let mut desk = [0u8; 88];
+    let mut tried = [0u64; 30];
+    refill(&mut wrong, whole);
     watch::lay_out_desk(&mut desk, INODES);
     alter(commands, &mut wrong, &mut image, &mut desk);
-    print::found(find(m, INODES, &wrong, moments, taken));
+    let found = find(copy.moments, INODES, &wrong, &*moments, &*taken);
+    let a = Got {
+        number: 0,
+        value: 1,
+    };
+    let next = follow(
+        steps(1),
+        a,
+        copy,
+        INODES,
+        store,
+        &wrong,
+        moments,
+        taken,
+        &mut tried,
+    );
+    print::wrong(next.wrong);
+    print::found(found);
 }
 
 // An event done by the library, and by a plain store that is wrong.
-fn beside_wrong(e: Event, commands: &[u8], store: &[u8; 4048]) {
-    let mut right = *store;
-    let mut wrong = *store;
+fn beside_wrong(e: Event, commands: &[u8], store: &[u8], moments: &mut [u8; 2097152]) {
+    let mut right = [0u8; 4048];
+    let mut wrong = [0u8; 4048];
     let mut image = [0u8; 16];
     let mut desk = [0u8; 88];
     let mut taken = [0u8; 384];
+    let mut tried = [0u64; 30];
+    refill(&mut right, store);
+    refill(&mut wrong, store);
     watch::lay_out_desk(&mut desk, INODES);
     alter(commands, &mut wrong, &mut image, &mut desk);
-    let both = do_both(
+    let copy = Copy {
+        moments: 0,
+        steps: 0,
+    };
+    let next = turn(
         e,
         1,
         INODES,
+        copy,
         &mut right,
         &mut image,
         &mut desk,
         &mut wrong,
+        moments,
         &mut taken,
+        &mut tried,
     );
-    print::differs(both.differs);
+    print::wrong(next.wrong);
 }
 
-pub fn plain(commands: &[u8], store: &[u8; 4048]) {
-    word(b": look up");
-    beside_wrong(on_entry(event::LOOK_UP, 1, 1, 0), commands, store);
-    word(b": read");
-    beside_wrong(on_file(event::READ, 3, 0, 0), commands, store);
-    word(b": write");
-    beside_wrong(on_file(event::WRITE, 3, 0, 10), commands, store);
+pub fn plain(commands: &[u8], store: &[u8], moments: &mut [u8; 2097152]) {
+    word(b" look up");
+    beside_wrong(
+        on_entry(event::LOOK_UP, 1, 1, 0),
+        commands,
+        store,
+        &mut *moments,
+    );
+    word(b", read");
+    beside_wrong(
+        on_file(event::READ, 3, 0, 0),
+        commands,
+        store,
+        &mut *moments,
+    );
+    word(b", write");
+    beside_wrong(
+        on_file(event::WRITE, 3, 0, 10),
+        commands,
+        store,
+        &mut *moments,
+    );
+    word(b", unlink");
+    beside_wrong(on_entry(event::UNLINK, 1, 1, 0), commands, store, moments);
 }
 
 // A burst, and single steps on an image or a desk that is wrong.
-pub fn burst(commands: &[u8], store: &[u8; 4048], half: &[u8; 4368], notes: &[u8; 88]) {
-    let mut spare = *store;
-    let mut image = *half;
-    let mut desk = *notes;
-    let mut other = *half;
-    let mut wrong = *notes;
+pub fn burst(commands: &[u8], store: &[u8], half: &[u8], notes: &[u8]) {
+    let mut spare = [0u8; 4048];
+    let mut image = [0u8; 4368];
+    let mut other = [0u8; 4368];
+    let mut desk = [0u8; 88];
+    let mut wrong = [0u8; 88];
+    refill(&mut spare, store);
+    refill(&mut image, half);
+    refill(&mut other, half);
+    refill(&mut desk, notes);
+    refill(&mut wrong, notes);
     alter(commands, &mut spare, &mut other, &mut wrong);
     let both = compare(
         MOST_BURST,
@@ -115,8 +175,7 @@ pub fn burst(commands: &[u8], store: &[u8; 4048], half: &[u8; 4368], notes: &[u8
         &mut other,
         &mut wrong,
     );
-    word(b":");
-    print::differs(both.differs);
+    print::wrong(both.differs);
 }
 
 // Number k of a line of them, 0 for none.
@@ -146,5 +205,5 @@ pub fn answer(
     };
     let e = on_entry(nth_number(numbers, 0), 1, 1, 0);
     let next = follow(e, a, copy, INODES, store, half, moments, taken, &mut tried);
-    print::verdict(next.right);
+    print::wrong(next.wrong);
 }

@@ -1,4 +1,5 @@
 // A list of events from a laid-out store on, with a copy under way; the one behind it finishes the copy.
+use beside::calls::ALIKE;
 use chance::event;
 use chance::event::Event;
 use follow::copy::Copy;
@@ -8,17 +9,31 @@ pub const INODES: usize = 8;
 
 pub const BLOCKS: usize = 59;
 
-const EVENTS: usize = 20;
+const EVENTS: usize = 23;
 
-// A call on an entry; x is the inode that it links, or the name that it gets in the same directory.
-pub fn on_entry(what: usize, dir: usize, name: usize, x: usize) -> Event {
+// A call on an entry; a link has an inode.
+pub fn on_entry(what: usize, dir: usize, name: usize, inode: usize) -> Event {
     Event {
         what,
         dir,
         name,
-        to: dir,
-        other: x,
-        inode: x,
+        to: 0,
+        other: 0,
+        inode,
+        offset: 0,
+        length: 0,
+        count: 0,
+    }
+}
+
+fn rename(dir: usize, name: usize, to: usize, other: usize) -> Event {
+    Event {
+        what: event::RENAME,
+        dir,
+        name,
+        to,
+        other,
+        inode: 0,
         offset: 0,
         length: 0,
         count: 0,
@@ -40,7 +55,7 @@ pub fn on_file(what: usize, inode: usize, offset: usize, length: usize) -> Event
     }
 }
 
-fn steps(count: usize) -> Event {
+pub fn steps(count: usize) -> Event {
     Event {
         what: event::BURST,
         dir: 0,
@@ -54,8 +69,9 @@ fn steps(count: usize) -> Event {
     }
 }
 
-// Names 0 to 4 are `a`, `ab`, `ac`, `ad` and `ae`. Inode 2 is a directory with the long file 4 and a second link to the file 3; 5 is an empty file,
-// and 6 a file that is unlinked when the root is copied, and whose number goes to another file, in directory 2.
+// Names 0 to 4 are `a`, `ab`, `ac`, `ad` and `ae`. Inode 2 is a directory with the long file 4, a second link to the file 3, and the directory 7,
+// which has the file 8 and is moved to the root when that is copied, so that neither is in the copy; 5 is an empty file; 6 is a file that is
+// unlinked when the root is copied, and its number goes to another file, in directory 2.
 fn nth(k: usize) -> Event {
     match k {
         0 => on_entry(event::CREATE_DIRECTORY, 1, 0, 0),
@@ -68,16 +84,19 @@ fn nth(k: usize) -> Event {
         7 => on_entry(event::CREATE_FILE, 1, 2, 0),
         8 => on_entry(event::CREATE_FILE, 1, 3, 0),
         9 => on_file(event::WRITE, 6, 0, 10),
-        10 => on_entry(event::START, 0, 0, 0),
-        11 => steps(3),
-        12 => on_entry(event::UNLINK, 1, 3, 0),
-        13 => on_entry(event::CREATE_FILE, 2, 2, 0),
-        14 => on_file(event::WRITE, 6, 0, 20),
-        15 => on_entry(event::RENAME, 1, 2, 4),
-        16 => steps(7),
-        17 => on_file(event::WRITE, 3, 0, 5),
-        18 => on_file(event::WRITE, 3, 70, 5),
-        19 => steps(10),
+        10 => on_entry(event::CREATE_DIRECTORY, 2, 3, 0),
+        11 => on_entry(event::CREATE_FILE, 7, 0, 0),
+        12 => on_entry(event::START, 0, 0, 0),
+        13 => steps(3),
+        14 => on_entry(event::UNLINK, 1, 3, 0),
+        15 => rename(2, 3, 1, 3),
+        16 => on_entry(event::CREATE_FILE, 2, 2, 0),
+        17 => on_file(event::WRITE, 6, 0, 20),
+        18 => rename(1, 2, 1, 4),
+        19 => steps(7),
+        20 => on_file(event::WRITE, 3, 0, 5),
+        21 => on_file(event::WRITE, 3, 70, 5),
+        22 => steps(10),
         _ => steps(64),
     }
 }
@@ -110,7 +129,7 @@ pub fn run(
             &mut *taken,
             &mut *tried,
         );
-        if !next.right {
+        if next.wrong != ALIKE {
             return Copy {
                 moments: 0,
                 steps: 0,
@@ -121,7 +140,7 @@ pub fn run(
     copy
 }
 
-// Whether the copy is finished, and found right.
+// What is wrong of the finish, told as of an event.
 pub fn finish(
     copy: Copy,
     store: &mut [u8],
@@ -131,7 +150,7 @@ pub fn finish(
     moments: &mut [u8; 2097152],
     taken: &mut [u8; 384],
     tried: &mut [u64; 30],
-) -> bool {
+) -> usize {
     let e = nth(EVENTS);
     let next = turn(
         e,
@@ -146,6 +165,13 @@ pub fn finish(
         taken,
         tried,
     );
-    let after = next.copy;
-    next.right && after.moments == 0
+    next.wrong
+}
+
+// The bytes of one buffer, to another if it has room.
+pub fn refill(to: &mut [u8], from: &[u8]) {
+    if to.len() < from.len() {
+        return;
+    }
+    octets::copy_range(to, 0, from, 0, from.len());
 }

@@ -1,6 +1,7 @@
 // The lines of the input.
 use crate::cases;
 use chance::print::word;
+use follow::copy::Copy;
 use text::pieces::is_word;
 use text::pieces::piece;
 use text::pieces::pieces;
@@ -11,11 +12,11 @@ const COLON: u8 = 58;
 
 fn line(
     text: &[u8],
-    m: usize,
-    store: &[u8; 4048],
-    half: &[u8; 4368],
-    notes: &[u8; 88],
-    whole: &[u8; 4368],
+    copy: Copy,
+    store: &[u8],
+    half: &[u8],
+    notes: &[u8],
+    whole: &[u8],
     moments: &mut [u8; 2097152],
     taken: &mut [u8; 384],
 ) {
@@ -24,10 +25,11 @@ fn line(
     word(what);
     word(b": ");
     word(piece(text, COLON, 1));
+    word(b":");
     if is_word(what, b"copy") {
-        cases::copy(how, whole, m, &*moments, &*taken);
+        cases::copy(how, copy, store, whole, moments, taken);
     } else if is_word(what, b"plain") {
-        cases::plain(how, store);
+        cases::plain(how, store, moments);
     } else if is_word(what, b"burst") {
         cases::burst(how, store, half, notes);
     } else {
@@ -38,11 +40,11 @@ fn line(
 
 pub fn all(
     text: &[u8],
-    m: usize,
-    store: &[u8; 4048],
-    half: &[u8; 4368],
-    notes: &[u8; 88],
-    whole: &[u8; 4368],
+    copy: Copy,
+    store: &[u8],
+    half: &[u8],
+    notes: &[u8],
+    whole: &[u8],
     moments: &mut [u8; 2097152],
     taken: &mut [u8; 384],
 ) {
@@ -51,7 +53,7 @@ pub fn all(
         if each.len() != 0 {
             line(
                 each,
-                m,
+                copy,
                 store,
                 half,
                 notes,

@@ -11,9 +11,9 @@ use chance::print::word;
 use libc::STDIN_FILENO;
 
 // The list that a difference is printed of, up to an event that is a burst.
-const LIST: u64 = 0;
+const LIST: u64 = 19;
 
-const EVENT: u64 = 20;
+const EVENT: u64 = 11;
 
 fn main() {
     let mut text = io::large_buffer();
@@ -37,9 +37,11 @@ fn main() {
         &mut taken,
         &mut tried,
     );
-    let mut whole = image;
-    let mut done = desk;
-    let right = history::finish(
+    let mut whole = [0u8; 4368];
+    let mut done = [0u8; 88];
+    history::refill(&mut whole, &image);
+    history::refill(&mut done, &desk);
+    let wrong = history::finish(
         copy,
         &mut store,
         &mut whole,
@@ -49,12 +51,12 @@ fn main() {
         &mut taken,
         &mut tried,
     );
-    word(b"the list");
-    print::verdict(right);
+    word(b"the list:");
+    print::wrong(wrong);
     word(b"\n");
     lines::all(
         &text[..n],
-        copy.moments,
+        copy,
         &store,
         &image,
         &desk,

@@ -2,18 +2,10 @@
 use beside::calls;
 use chance::print::number;
 use chance::print::word;
+use follow::copy;
 use follow::finished::Found;
-use follow::finished::is_right;
 
 const SLOTS: usize = 48;
-
-pub fn verdict(right: bool) {
-    if right {
-        word(b": right");
-    } else {
-        word(b": wrong");
-    }
-}
 
 // A finding about an inode; 0 for none.
 fn inode(what: &[u8], i: usize) {
@@ -32,7 +24,7 @@ fn entry(what: &[u8], x: usize) {
     }
 }
 
-fn wrong(what: &[u8], right: bool) {
+fn unless(right: bool, what: &[u8]) {
     if !right {
         word(what);
     }
@@ -40,24 +32,27 @@ fn wrong(what: &[u8], right: bool) {
 
 // All that was found of a copy.
 pub fn found(f: Found) {
-    verdict(is_right(f));
-    wrong(b", unsound", f.sound);
-    entry(b", no entry", f.missing);
-    entry(b", of no moment entry", f.entry);
-    inode(b", of no moment inode", f.inode);
-    inode(b", links of inode", f.links);
-    wrong(b", free inodes", f.free_inodes);
-    wrong(b", free blocks", f.free_blocks);
+    unless(f.sound, b", unsound");
+    entry(b", entry missing", f.missing);
+    entry(b", entry of no moment", f.entry);
+    inode(b", inode of no moment", f.inode);
+    inode(b", link count of", f.links);
+    unless(f.free_inodes, b", free inodes");
+    unless(f.free_blocks, b", free blocks");
 }
 
-// What is not as beside.
-pub fn differs(d: usize) {
-    match d {
-        calls::ALIKE => word(b" alike"),
-        calls::ANSWER => word(b" answer"),
-        calls::OUT => word(b" out-buffer"),
-        calls::STORE => word(b" store"),
-        calls::IMAGE => word(b" image"),
-        _ => word(b" desk"),
+// What is wrong of an event.
+pub fn wrong(what: usize) {
+    match what {
+        calls::ALIKE => word(b" right"),
+        calls::ANSWER => word(b" wrong answer"),
+        calls::OUT => word(b" wrong out-buffer"),
+        calls::STORE => word(b" wrong store"),
+        calls::IMAGE => word(b" wrong image"),
+        calls::DESK => word(b" wrong desk"),
+        copy::REFUSAL => word(b" wrong refusal"),
+        copy::START => word(b" wrong start"),
+        copy::STEPS => word(b" wrong steps"),
+        _ => word(b" wrong copy"),
     }
 }
