@@ -2,6 +2,7 @@
 use crate::cases;
 use chance::print::word;
 use follow::copy::Copy;
+use libc::STDIN_FILENO;
 use text::pieces::is_word;
 use text::pieces::piece;
 use text::pieces::pieces;
@@ -38,7 +39,7 @@ fn line(
     word(b"\n");
 }
 
-pub fn all(
+fn each_line(
     text: &[u8],
     copy: Copy,
     store: &[u8],
@@ -49,10 +50,10 @@ pub fn all(
     taken: &mut [u8; 384],
 ) {
     for k in 0..pieces(text, NEWLINE) {
-        let each = piece(text, NEWLINE, k);
-        if each.len() != 0 {
+        let next = piece(text, NEWLINE, k);
+        if next.len() != 0 {
             line(
-                each,
+                next,
                 copy,
                 store,
                 half,
@@ -63,4 +64,19 @@ pub fn all(
             );
         }
     }
+}
+
+// All lines of the input.
+pub fn all(
+    copy: Copy,
+    store: &[u8],
+    half: &[u8],
+    notes: &[u8],
+    whole: &[u8],
+    moments: &mut [u8; 2097152],
+    taken: &mut [u8; 384],
+) {
+    let mut text = io::large_buffer();
+    let n = io::read_full(STDIN_FILENO, &mut text);
+    each_line(&text[..n], copy, store, half, notes, whole, moments, taken);
 }

@@ -8,7 +8,6 @@ mod print;
 
 use chance::print::difference;
 use chance::print::word;
-use libc::STDIN_FILENO;
 
 // The list that a difference is printed of, up to an event that is a burst.
 const LIST: u64 = 19;
@@ -16,8 +15,6 @@ const LIST: u64 = 19;
 const EVENT: u64 = 11;
 
 fn main() {
-    let mut text = io::large_buffer();
-    let n = io::read_full(STDIN_FILENO, &mut text);
     let mut store = [0u8; 4048];
     let mut beside = [0u8; 4048];
     let mut image = [0u8; 4368];
@@ -55,7 +52,6 @@ fn main() {
     print::wrong(wrong);
     word(b"\n");
     lines::all(
-        &text[..n],
         copy,
         &store,
         &image,
