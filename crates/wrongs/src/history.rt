@@ -140,38 +140,41 @@ pub fn run(
     copy
 }
 
-// What is wrong of the finish, told as of an event.
-pub fn finish(
-    copy: Copy,
-    store: &mut [u8],
-    image: &mut [u8],
-    desk: &mut [u8],
-    beside: &mut [u8],
-    moments: &mut [u8; 2097152],
-    taken: &mut [u8; 384],
-    tried: &mut [u64; 30],
-) -> usize {
-    let e = nth(EVENTS);
-    let next = turn(
-        e,
-        0,
-        INODES,
-        copy,
-        store,
-        image,
-        desk,
-        beside,
-        moments,
-        taken,
-        tried,
-    );
-    next.wrong
-}
-
 // The bytes of one buffer, to another if it has room.
 pub fn refill(to: &mut [u8], from: &[u8]) {
     if to.len() < from.len() {
         return;
     }
     octets::copy_range(to, 0, from, 0, from.len());
+}
+
+// The copy under way is finished in another image, on a copy of the desk; what is wrong of that event.
+pub fn finish(
+    copy: Copy,
+    store: &mut [u8],
+    half: &[u8],
+    notes: &[u8],
+    whole: &mut [u8],
+    beside: &mut [u8],
+    moments: &mut [u8; 2097152],
+    taken: &mut [u8; 384],
+    tried: &mut [u64; 30],
+) -> usize {
+    let mut desk = [0u8; 88];
+    refill(&mut desk, notes);
+    refill(&mut *whole, half);
+    let next = turn(
+        nth(EVENTS),
+        0,
+        INODES,
+        copy,
+        store,
+        whole,
+        &mut desk,
+        beside,
+        moments,
+        taken,
+        tried,
+    );
+    next.wrong
 }

@@ -35,14 +35,12 @@ fn main() {
         &mut tried,
     );
     let mut whole = [0u8; 4368];
-    let mut done = [0u8; 88];
-    history::refill(&mut whole, &image);
-    history::refill(&mut done, &desk);
     let wrong = history::finish(
         copy,
         &mut store,
+        &image,
+        &desk,
         &mut whole,
-        &mut done,
         &mut beside,
         &mut moments,
         &mut taken,
