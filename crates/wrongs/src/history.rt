@@ -1,7 +1,9 @@
 // A list of events from a laid-out store on, with a copy under way; the one behind it finishes the copy.
+use crate::print;
 use beside::calls::ALIKE;
 use chance::event;
 use chance::event::Event;
+use chance::print::word;
 use follow::copy::Copy;
 use follow::list::turn;
 
@@ -102,7 +104,7 @@ fn nth(k: usize) -> Event {
 }
 
 // The copy under way after the events; one with no moment where an event is not right.
-pub fn run(
+fn run_events(
     store: &mut [u8],
     image: &mut [u8],
     desk: &mut [u8],
@@ -149,7 +151,7 @@ pub fn refill(to: &mut [u8], from: &[u8]) {
 }
 
 // The copy under way is finished in another image, on a copy of the desk; what is wrong of that event.
-pub fn finish(
+fn finish(
     copy: Copy,
     store: &mut [u8],
     half: &[u8],
@@ -177,4 +179,42 @@ pub fn finish(
         tried,
     );
     next.wrong
+}
+
+// The list on buffers laid out, and whether it is right, printed; answers the copy as it was before its finish. That is in whole, all else as it was then.
+pub fn run(
+    store: &mut [u8],
+    image: &mut [u8],
+    desk: &mut [u8],
+    whole: &mut [u8],
+    moments: &mut [u8; 2097152],
+    taken: &mut [u8; 384],
+) -> Copy {
+    let mut beside = [0u8; 4048];
+    let mut tried = [0u64; 30];
+    watch::lay_out_store(&mut beside, INODES, BLOCKS);
+    let copy = run_events(
+        &mut *store,
+        &mut *image,
+        &mut *desk,
+        &mut beside,
+        &mut *moments,
+        &mut *taken,
+        &mut tried,
+    );
+    let wrong = finish(
+        copy,
+        store,
+        image,
+        desk,
+        whole,
+        &mut beside,
+        moments,
+        taken,
+        &mut tried,
+    );
+    word(b"the list:");
+    print::wrong(wrong);
+    word(b"\n");
+    copy
 }

@@ -7,7 +7,6 @@ mod lines;
 mod print;
 
 use chance::print::difference;
-use chance::print::word;
 
 // The list that a difference is printed of, up to an event that is a burst.
 const LIST: u64 = 19;
@@ -16,39 +15,21 @@ const EVENT: u64 = 11;
 
 fn main() {
     let mut store = [0u8; 4048];
-    let mut beside = [0u8; 4048];
     let mut image = [0u8; 4368];
     let mut desk = [0u8; 88];
+    let mut whole = [0u8; 4368];
     let mut moments = [0u8; 2097152];
     let mut taken = [0u8; 384];
-    let mut tried = [0u64; 30];
     watch::lay_out_store(&mut store, history::INODES, history::BLOCKS);
-    watch::lay_out_store(&mut beside, history::INODES, history::BLOCKS);
     watch::lay_out_desk(&mut desk, history::INODES);
     let copy = history::run(
         &mut store,
         &mut image,
         &mut desk,
-        &mut beside,
-        &mut moments,
-        &mut taken,
-        &mut tried,
-    );
-    let mut whole = [0u8; 4368];
-    let wrong = history::finish(
-        copy,
-        &mut store,
-        &image,
-        &desk,
         &mut whole,
-        &mut beside,
         &mut moments,
         &mut taken,
-        &mut tried,
     );
-    word(b"the list:");
-    print::wrong(wrong);
-    word(b"\n");
     lines::all(
         copy,
         &store,

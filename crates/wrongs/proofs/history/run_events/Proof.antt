@@ -2,8 +2,8 @@ use Prim.Native.Nat.{_-_, _≤_}
 use mathlib.Core.Path.{_≡_}
 use lib.ListN.{length}
 use borrow.Author.Needs.{needs}
-use Rattle.wrongs.proofs.history.run.Statement.{statement}
-use Rattle.wrongs.proofs.history.run.Tie as tie
+use Rattle.wrongs.proofs.history.run_events.Statement.{statement}
+use Rattle.wrongs.proofs.history.run_events.Tie as tie
 
 abbrev Inv-loop : tie.InvT-loop
 Inv-loop store₀ image₀ desk₀ beside₀ moments₀ taken₀ tried₀ copy₀ k₀ store image desk beside moments taken tried copy k = (k ≤ 23) × (length store ≡ length store₀) × (length image ≡ length image₀) × (length desk ≡ length desk₀) × (length beside ≡ length beside₀)
@@ -65,8 +65,8 @@ same-length-8 c = search needs
 returns-2 : tie.Need-returns-2 Inv-loop μ-loop
 returns-2 c = search needs
 
-pub run-spec : {M : Type 1} → statement M
-run-spec =
+pub run-events-spec : {M : Type 1} → statement M
+run-events-spec =
     tie.close
     (tie.spec
     Inv-loop
