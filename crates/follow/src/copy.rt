@@ -42,8 +42,8 @@ pub struct Copy {
     pub steps: usize,
 }
 
-// What is wrong of an event, besides what differs from what is done beside it: a refusal out of its time, a start during a copy, a count of steps,
-// a finished copy.
+// What is wrong of an event, besides what differs from what is done beside it: a refusal out of its
+// time, a start during a copy, a count of steps, a finished copy.
 pub const REFUSAL: usize = 6;
 
 pub const START: usize = 7;
@@ -206,8 +206,8 @@ fn called(copy: Copy, store: &[u8], moments: &mut [u8; 2097152]) -> Copy {
     }
 }
 
-// 1 to 3 never come, 4 to 13 to file calls; 14 to those that change something and 16 to steps, while a copy runs; 15 to a start then and to steps
-// at other times; 17 to a burst at any.
+// 1 to 3 never come, 4 to 13 to file calls; 14 to those that change something and 16 to steps,
+// while a copy runs; 15 to a start then and to steps at other times; 17 to a burst at any.
 fn refusal_right(what: usize, number: usize, running: bool) -> bool {
     match number {
         0..=3 => false,

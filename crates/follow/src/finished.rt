@@ -10,9 +10,10 @@ use judge::counts::wrong_links;
 use judge::fields::byte;
 use watch::Form;
 
-// How many entries it owes; whether it is a sound image of its inodes; the first entry that it owes and has not, the first entry and the first
-// inode of no moment, the first inode with a wrong link count, each 0 for none; and whether its free counts are true. An entry is told by 48
-// times its directory, and its slot.
+// How many entries it owes; whether it is a sound image of its inodes; the first entry that it owes
+// and has not, the first entry and the first inode of no moment, the first inode with a wrong link
+// count, each 0 for none; and whether its free counts are true. An entry is told by 48 times its
+// directory, and its slot.
 pub struct Found {
     pub owed: usize,
     pub sound: bool,
@@ -24,7 +25,8 @@ pub struct Found {
     pub free_blocks: bool,
 }
 
-// The copy of n inodes has m moments; taken are the places of entries that were taken out since the first.
+// The copy of n inodes has m moments; taken are the places of entries that were taken out since the
+// first.
 pub fn find(m: usize, n: usize, image: &[u8], moments: &[u8], taken: &[u8]) -> Found
     requires { ⌜ n ≤ 256 ⌝ }
     ensures { λ r. ⌜ r .owed ≤ 48 * n ⌝ }
@@ -42,7 +44,8 @@ pub fn find(m: usize, n: usize, image: &[u8], moments: &[u8], taken: &[u8]) -> F
     }
 }
 
-// A sound image that has every entry that it owes, nothing that is not of its time, and true counts.
+// A sound image that has every entry that it owes, nothing that is not of its time, and true
+// counts.
 pub fn is_right(f: Found) -> bool {
     f.sound
         && f.missing == 0

@@ -1,4 +1,5 @@
-// A copy under way in a list of events, followed by answers and stores alone; whole lists; and what was tried.
+// A copy under way in a list of events, followed by answers and stores alone; whole lists; and what
+// was tried.
 pub mod copy;
 pub mod finished;
 pub mod list;

@@ -89,7 +89,8 @@ pub fn turn(
     follow(e, a, copy, n, store, image, moments, taken, tried)
 }
 
-// The events of a list, on buffers laid out: 0, or the number of the event that shows a difference, the first being 1.
+// The events of a list, on buffers laid out: 0, or the number of the event that shows a difference,
+// the first being 1.
 fn run_events(
     seed: u64,
     list: u64,

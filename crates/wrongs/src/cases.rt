@@ -186,7 +186,8 @@ fn nth_number(numbers: &[u8], k: usize) -> usize {
     }
 }
 
-// An answer, in numbers: of which event, the refusal or 0, the value; and how many moments and steps the copy has had.
+// An answer, in numbers: of which event, the refusal or 0, the value; and how many moments and
+// steps the copy has had.
 pub fn answer(
     numbers: &[u8],
     store: &[u8],

@@ -1,4 +1,5 @@
-// A list of events from a laid-out store on, with a copy under way; the one behind it finishes the copy.
+// A list of events from a laid-out store on, with a copy under way; the one behind it finishes the
+// copy.
 use crate::print;
 use beside::calls::ALIKE;
 use chance::event;
@@ -71,8 +72,9 @@ pub fn steps(count: usize) -> Event {
     }
 }
 
-// Names 0 to 4 are `a`, `ab`, `ac`, `ad` and `ae`. Inode 2 is a directory with the long file 4, a second link to the file 3, and the directory 7,
-// which has the file 8 and is moved to the root when that is copied, so that neither is in the copy; 5 is an empty file; 6 is a file that is
+// Names 0 to 4 are `a`, `ab`, `ac`, `ad` and `ae`. Inode 2 is a directory with the long file 4, a
+// second link to the file 3, and the directory 7, which has the file 8 and is moved to the root
+// when that is copied, so that neither is in the copy; 5 is an empty file; 6 is a file that is
 // unlinked when the root is copied, and its number goes to another file, in directory 2.
 fn nth(k: usize) -> Event {
     match k {
@@ -150,7 +152,8 @@ pub fn refill(to: &mut [u8], from: &[u8]) {
     octets::copy_range(to, 0, from, 0, from.len());
 }
 
-// The copy under way is finished in another image, on a copy of the desk; what is wrong of that event.
+// The copy under way is finished in another image, on a copy of the desk; what is wrong of that
+// event.
 fn finish(
     copy: Copy,
     store: &mut [u8],
@@ -181,7 +184,8 @@ fn finish(
     next.wrong
 }
 
-// The list on buffers laid out, and whether it is right, printed; answers the copy as it was before its finish. That is in whole, all else as it was then.
+// The list on buffers laid out; prints whether it is right, and answers the copy as it was before
+// its finish. The finished image is in whole; image and desk stay as they were before.
 pub fn run(
     store: &mut [u8],
     image: &mut [u8],

@@ -1,6 +1,7 @@
-// Finished copies, plain stores and bursts with one thing wrong each, and answers that can't be: what the trial finds of each.
-// A line of the input says what is wrong (`copy`, `plain`, `burst`, `answer`), how it is called, and what makes it wrong: commands of `replay`, or
-// numbers. The three are parted by a `:`, commands by a `;`.
+// Finished copies, plain stores and bursts with one thing wrong each, and answers that can't be:
+// what the trial finds of each. A line of the input says what is wrong (`copy`, `plain`, `burst`,
+// `answer`), how it is called, and what makes it wrong: commands of `replay`, or numbers. The three
+// are parted by a `:`, commands by a `;`.
 mod cases;
 mod history;
 mod lines;
