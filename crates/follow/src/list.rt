@@ -2,19 +2,20 @@
 ghost use Prim.Native.Nat.{_+_, _*_, _≤_};
 ghost use mathlib.Core.Path.{_≡_};
 ghost use Rattle.chance.specs.Small.{Small};
+use crate::copy::Copy;
+use crate::copy::Next;
+use crate::copy::follow;
+use crate::tried::EVENTS;
+use crate::tried::INODES;
+use crate::tried::LISTS;
+use crate::tried::MOVES;
+use crate::tried::tally;
 use beside::both::do_both;
+use beside::calls::ALIKE;
 use beside::calls::Got;
 use chance::event;
 use chance::event::Event;
 use chance::event::Shape;
-use follow::copy::Copy;
-use follow::copy::Next;
-use follow::copy::follow;
-use follow::tried::EVENTS;
-use follow::tried::INODES;
-use follow::tried::LISTS;
-use follow::tried::MOVES;
-use follow::tried::tally;
 use judge::copy::moment;
 use judge::fields::kind;
 
@@ -51,7 +52,8 @@ fn count(e: Event, a: Got, running: bool, first: &[u8], tried: &mut [u64; 30]) {
     }
 }
 
-fn turn(
+// An event done by both, compared, and the copy followed.
+pub fn turn(
     e: Event,
     fill: u8,
     n: usize,
@@ -77,14 +79,18 @@ fn turn(
         &mut *taken,
     );
     let a = b.got;
-    if !b.alike {
-        return Next { copy, right: false };
+    if b.differs != ALIKE {
+        return Next {
+            copy,
+            wrong: b.differs,
+        };
     }
     count(e, a, 0 < copy.moments, moment(moments, 0), &mut *tried);
     follow(e, a, copy, n, store, image, moments, taken, tried)
 }
 
-// The events of a list, on buffers laid out: 0, or the number of the event that shows a difference, the first being 1.
+// The events of a list, on buffers laid out: 0, or the number of the event that shows a difference,
+// the first being 1.
 fn run_events(
     seed: u64,
     list: u64,
@@ -117,7 +123,7 @@ fn run_events(
             &mut *taken,
             &mut *tried,
         );
-        if !next.right {
+        if next.wrong != ALIKE {
             return k;
         }
         copy = next.copy;

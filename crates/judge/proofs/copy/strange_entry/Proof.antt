@@ -1,7 +1,7 @@
 use Prim.Native.Nat.{_-_, _≤_}
 use borrow.Author.Needs.{needs}
-use Rattle.judge.proofs.copy.names_right.Statement.{statement}
-use Rattle.judge.proofs.copy.names_right.Tie as tie
+use Rattle.judge.proofs.copy.strange_entry.Statement.{statement}
+use Rattle.judge.proofs.copy.strange_entry.Tie as tie
 
 abbrev Inv-loop : tie.InvT-loop
 Inv-loop moments m copy n p₀ p-end p = p ≤ p-end
@@ -21,6 +21,9 @@ names-requires c κs = search needs
 stood-requires : tie.Need-stood-requires Inv-loop μ-loop
 stood-requires c κs = search needs
 
+entry-at-requires : tie.Need-entry-at-requires Inv-loop μ-loop
+entry-at-requires c κs = search needs
+
 returns : tie.Need-returns Inv-loop μ-loop
 returns c = search needs
 
@@ -36,8 +39,8 @@ loop-again c = search needs
 returns-2 : tie.Need-returns-2 Inv-loop μ-loop
 returns-2 c = search needs
 
-pub names-right-spec : {M : Type 1} → statement M
-names-right-spec =
+pub strange-entry-spec : {M : Type 1} → statement M
+strange-entry-spec =
     tie.close
     (tie.spec
     Inv-loop
@@ -46,6 +49,7 @@ names-right-spec =
     loop-holds
     names-requires
     stood-requires
+    entry-at-requires
     returns
     add-p
     loop-less

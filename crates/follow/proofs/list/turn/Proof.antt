@@ -1,6 +1,6 @@
 use borrow.Author.Needs.{needs}
-use Rattle.trial.proofs.list.turn.Statement.{statement}
-use Rattle.trial.proofs.list.turn.Tie as tie
+use Rattle.follow.proofs.list.turn.Statement.{statement}
+use Rattle.follow.proofs.list.turn.Tie as tie
 
 do-both-requires : tie.Need-do-both-requires
 do-both-requires c κs = search needs

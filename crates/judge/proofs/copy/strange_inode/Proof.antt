@@ -1,7 +1,7 @@
 use Prim.Native.Nat.{_-_, _≤_}
 use borrow.Author.Needs.{needs}
-use Rattle.judge.proofs.copy.inodes_right.Statement.{statement}
-use Rattle.judge.proofs.copy.inodes_right.Tie as tie
+use Rattle.judge.proofs.copy.strange_inode.Statement.{statement}
+use Rattle.judge.proofs.copy.strange_inode.Tie as tie
 
 abbrev Inv-loop : tie.InvT-loop
 Inv-loop moments m copy n k₀ k = k ≤ n
@@ -36,8 +36,8 @@ loop-again c = search needs
 returns-2 : tie.Need-returns-2 Inv-loop μ-loop
 returns-2 c = search needs
 
-pub inodes-right-spec : {M : Type 1} → statement M
-inodes-right-spec =
+pub strange-inode-spec : {M : Type 1} → statement M
+strange-inode-spec =
     tie.close
     (tie.spec
     Inv-loop

@@ -2,20 +2,23 @@ use Prim.Native.Nat.{_-_, _≤_}
 use mathlib.Core.Path.{_≡_}
 use lib.ListN.{length}
 use borrow.Author.Needs.{needs}
-use Rattle.trial.proofs.list.run_events.Statement.{statement}
-use Rattle.trial.proofs.list.run_events.Tie as tie
+use Rattle.wrongs.proofs.history.run_events.Statement.{statement}
+use Rattle.wrongs.proofs.history.run_events.Tie as tie
 
 abbrev Inv-loop : tie.InvT-loop
-Inv-loop seed list shape store₀ image₀ desk₀ beside₀ moments₀ taken₀ tried₀ copy₀ k₀ store image desk beside moments taken tried copy k = (1 ≤ k) × (k ≤ 400) × (length store ≡ length store₀) × (length image ≡ length image₀) × (length desk ≡ length desk₀) × (length beside ≡ length beside₀)
+Inv-loop store₀ image₀ desk₀ beside₀ moments₀ taken₀ tried₀ copy₀ k₀ store image desk beside moments taken tried copy k = (k ≤ 23) × (length store ≡ length store₀) × (length image ≡ length image₀) × (length desk ≡ length desk₀) × (length beside ≡ length beside₀)
 
 abbrev μ-loop : tie.MeasureT-loop
-μ-loop seed list shape store₀ image₀ desk₀ beside₀ moments₀ taken₀ tried₀ copy₀ k₀ store image desk beside moments taken tried copy k = 400 - k
+μ-loop store₀ image₀ desk₀ beside₀ moments₀ taken₀ tried₀ copy₀ k₀ store image desk beside moments taken tried copy k = 23 - k
 
 loop-holds : tie.Need-loop-holds Inv-loop μ-loop
 loop-holds c = search needs
 
-nth-event-requires : tie.Need-nth-event-requires Inv-loop μ-loop
-nth-event-requires c κs = search needs
+nth-requires : tie.Need-nth-requires Inv-loop μ-loop
+nth-requires c κs = search needs
+
+add-turn : tie.Need-add-turn Inv-loop μ-loop
+add-turn c = search needs
 
 cast-turn : tie.Need-cast-turn Inv-loop μ-loop
 cast-turn c = search needs
@@ -69,7 +72,8 @@ run-events-spec =
     Inv-loop
     μ-loop
     loop-holds
-    nth-event-requires
+    nth-requires
+    add-turn
     cast-turn
     turn-requires
     same-length
