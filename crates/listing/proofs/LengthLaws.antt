@@ -144,10 +144,11 @@ listing-most : (m d : List ℕ) → length (listing m d) ≤ mostListing (inodes
 unfolding listing
 listing-most m d = both (headText m d) (entriesFrom m (inodesIn m) 0 (mostSlots * inodesIn m)) mostHead (mostEntryText * (mostSlots * inodesIn m)) (head-most m d) (entries-most m (inodesIn m) 0 (mostSlots * inodesIn m))
 
-pub printed-most : (o : Bool) (v : ℕ) (f : Bool) (m d : List ℕ) → length (printedText o v f m d) ≤ mostPrinted (inodesIn m)
+-- f is whether there is a listing, n then its image's inode count
+pub printed-most : (o : Bool) (v : ℕ) (f : Bool) (m d : List ℕ) (n : ℕ) → (f ≡ true → inodesIn m ≡ n) → length (printedText o v f m d) ≤ mostPrinted n
 unfolding printedText
-printed-most o v f m d = both (replyText o v) (pick f (listing m d) []) mostReply (mostListing (inodesIn m)) (reply-most o v) (go f)
+printed-most o v f m d n h = both (replyText o v) (pick f (listing m d) []) mostReply (mostListing n) (reply-most o v) (go f h)
   where
-    go : (b : Bool) → length (pick b (listing m d) []) ≤ mostListing (inodesIn m)
-    go true = listing-most m d
-    go false = omega arith
+    go : (b : Bool) → (b ≡ true → inodesIn m ≡ n) → length (pick b (listing m d) []) ≤ mostListing n
+    go true h = let e = h refl in let l = listing-most m d in omega arith
+    go false h = omega arith
