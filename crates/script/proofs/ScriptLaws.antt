@@ -6,26 +6,37 @@ use mathlib.Core.List.{List, [], _∷_}
 use lib.ListN.{length, take, drop, replicate}
 use lib.Seq.{take-all}
 use Rattle.octets.specs.Octets.{part}
-use Rattle.sound.specs.Sound.{Sound}
+use native.Mathlib.Omega.{arith}
+use Rattle.sound.specs.Sound.{Sound, inodesIn}
 use Rattle.sound.specs.declared.Form.the-variants.{Image}
 use Rattle.answers.specs.declared.Answer.{Answer}
 use Rattle.format.specs.Format.{LaidOut, laidOut, layOutStore, layOutDesk}
 use Rattle.text.specs.Pieces.{findFrom}
+use Rattle.listing.specs.Listing.{printedText, mostPrinted, Listable}
 use Rattle.checkpoint.specs.Live.{World}
 use Rattle.checkpoint.specs.Shown.{world}
 use Rattle.lines.specs.Lines.{linesIn, mostScriptBytes, scriptLines}
 use Rattle.lines.proofs.LineLaws.{line-splits, lines-end}
 use Rattle.session.specs.Reply.{Ran, ran, lineRuns, worldAfter}
-use Rattle.session.specs.Script.{linesRun, FinishesSound, scriptInodes, scriptBlocks, fresh}
+use Rattle.session.specs.Script.{printed, linesRun, FinishesSound, scriptInodes, scriptBlocks, fresh}
 use Rattle.session.specs.declared.Reply.{Reply}
 
 pub after-line : (l : List ℕ) (w : World) (r : Reply) (s m d : List ℕ) → ran r (world s m d) ≡ lineRuns l w → world s m d ≡ worldAfter l w
 after-line l w r s m d e = ap (λ (x : Ran). world (x .store) (x .image) (x .desk)) e
 
--- a copy that has finished in the line is sound
-pub finished-sound : (l : List ℕ) (w : World) (r : Reply) (s m d : List ℕ) → FinishesSound w → ran r (world s m d) ≡ lineRuns l w → r .finished ≡ true → Sound Image m
+-- the text of what was run
+pub printed-line : (l : List ℕ) (w : World) (r : Reply) (s m d : List ℕ) → ran r (world s m d) ≡ lineRuns l w → printedText (r .ok) (r .number) (r .finished) m d ≡ printed l w
+unfolding printed
+printed-line l w r s m d e = ap (λ (x : Ran). printedText (x .reply .ok) (x .reply .number) (x .reply .finished) (x .image) (x .desk)) e
+
+-- a copy that has finished in the line can be listed
+pub finished-listable : (l : List ℕ) (w : World) (r : Reply) (s m d out : List ℕ) → FinishesSound w → mostPrinted scriptInodes ≤ length out → ran r (world s m d) ≡ lineRuns l w
+    → r .finished ≡ true → Listable out m
 unfolding linesRun
-finished-sound l w r s m d h e f = subst (λ (x : Ran). x .reply .finished ≡ true → Sound Image (x .image)) (sym e) (h [] l) f
+finished-listable l w r s m d out h room e f =
+    let x = subst (λ (x : Ran). x .reply .finished ≡ true → Sound Image (x .image) × (inodesIn (x .image) ≡ scriptInodes)) (sym e) (h [] l) f in
+    let n = x .1 in
+    record { sound = x .0; room = omega (arith, room) }
 
 -- and so it is for the lines after it
 pub later-sound : (l : List ℕ) (w v : World) → v ≡ worldAfter l w → FinishesSound w → FinishesSound v

@@ -14,15 +14,6 @@ use crate::print;
 use lines::Next;
 use lines::line_from;
 
-// Runs one line, and prints what it is answered.
-fn answer(line: &[u8], store: &mut [u8], image: &mut [u8], desk: &mut [u8])
-    requires { ⌜ (headerBytes ≤ length (now image)) × (deskHeaderBytes ≤ length (now desk)) × FinishesSound (world (now store) (now image) (now desk)) ⌝ }
-    ensures { λ _. ⌜ world (now (store .exit)) (now (image .exit)) (now (desk .exit)) ≡ worldAfter (now (line .entry)) (world (now (store .entry)) (now (image .entry)) (now (desk .entry))) ⌝ }
-{
-    let r = session::run::run(line, &mut *store, &mut *image, &mut *desk);
-    print::line(r, &*image, &*desk);
-}
-
 // The line that starts at a place; where the next one starts.
 fn one(script: &[u8], at: usize, store: &mut [u8], image: &mut [u8], desk: &mut [u8]) -> usize
     requires { ⌜ (at < length (now script)) × (headerBytes ≤ length (now image)) × (deskHeaderBytes ≤ length (now desk)) × FinishesSound (world (now store) (now image) (now desk)) ⌝ }
@@ -32,7 +23,7 @@ fn one(script: &[u8], at: usize, store: &mut [u8], image: &mut [u8], desk: &mut 
     let Next::Line(end) = line_from(script, at) else {
         return script.len() + 1;
     };
-    answer(&script[at..end], store, image, desk);
+    print::line(&script[at..end], store, image, desk);
     end + 1
 }
 

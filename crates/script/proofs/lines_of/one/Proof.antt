@@ -31,17 +31,17 @@ ends c = line-ends _ _ _ (c .before .before .before .before .before .before .bef
 lies : (c : tie.After-known-told) → Splits (now (c .before .before .before .before .before .before .before .before .args .script)) (c .before .before .before .before .before .before .before .before .args .at) (findFrom (now (c .before .before .before .before .before .before .before .before .args .script)) 10 (c .before .before .before .before .before .before .before .before .args .at))
 lies c = line-splits _ _ (c .before .before .before .before .before .before .before .before .pre .0)
 
-sub-answer : tie.Need-sub-answer
-sub-answer c = omega (arith, ends c, lies c .from)
+sub-line : tie.Need-sub-line
+sub-line c = omega (arith, ends c, lies c .from)
 
-part-answer-start : tie.Need-part-answer-start
-part-answer-start c = omega (arith, ends c, lies c .from)
+part-line-start : tie.Need-part-line-start
+part-line-start c = omega (arith, ends c, lies c .from)
 
-part-answer-end : tie.Need-part-answer-end
-part-answer-end c = omega (arith, ends c, lies c .to)
+part-line-end : tie.Need-part-line-end
+part-line-end c = omega (arith, ends c, lies c .to)
 
-answer-requires : tie.Need-answer-requires
-answer-requires c κs = search needs
+line-requires : tie.Need-line-requires
+line-requires c κs = search needs
 
 add-result-2 : tie.Need-add-result-2
 add-result-2 c = omega (arith, ends (c .before .before .before .before .before .before .before .before .before .before .before), lies (c .before .before .before .before .before .before .before .before .before .before .before) .to)
@@ -56,7 +56,7 @@ same-length-3 : tie.Need-same-length-3
 same-length-3 c = search needs
 
 returns-2 : tie.Need-returns-2
-returns-2 c = (ap (λ (e : ℕ). e + 1) (ends (c .before .before .before .before .before .before .before .before .before .before .before)), cut-line _ _ (c .before .before .before .before .before .before .before .before .before .before .before .before .end .given .0 .0) _ _ (ends (c .before .before .before .before .before .before .before .before .before .before .before)) (c .before .before .before .before .before .before .answer .ensures))
+returns-2 c = (ap (λ (e : ℕ). e + 1) (ends (c .before .before .before .before .before .before .before .before .before .before .before)), cut-line _ _ (c .before .before .before .before .before .before .before .before .before .before .before .before .end .given .0 .0) _ _ (ends (c .before .before .before .before .before .before .before .before .before .before .before)) (c .before .before .before .before .before .before .line .ensures))
 
 pub one-spec : {M : Type 1} → statement M
 one-spec =
@@ -67,10 +67,10 @@ one-spec =
     enum-told
     add-result
     returns
-    sub-answer
-    part-answer-start
-    part-answer-end
-    answer-requires
+    sub-line
+    part-line-start
+    part-line-end
+    line-requires
     add-result-2
     same-length
     same-length-2
