@@ -38,31 +38,6 @@ finished-listable l w r s m d out h room e f =
     let n = x .1 in
     record { sound = x .0; room = omega (arith, room) }
 
--- and so it is for the lines after it
-pub later-sound : (l : List ℕ) (w v : World) → v ≡ worldAfter l w → FinishesSound w → FinishesSound v
-unfolding linesRun
-later-sound l w v e h = rw e (λ ls. h (l ∷ ls))
-
--- the line that was found at a place
-pub cut-line : (s : List ℕ) (at e : ℕ) (w v : World) → e ≡ findFrom s 10 at → v ≡ worldAfter (take (e - at) (drop at s)) w → v ≡ worldAfter (part s at (findFrom s 10 at - at)) w
-unfolding part
-cut-line s at e w v q h = h ∙ rw q refl
-
--- a line in its turn
-pub line-turn : (s : List ℕ) (at next : ℕ) (w v : World) → at < length s → next ≡ findFrom s 10 at + 1 → v ≡ worldAfter (part s at (findFrom s 10 at - at)) w
-    → linesRun (linesIn (drop at s)) w ≡ linesRun (linesIn (drop next s)) v
-unfolding linesRun
-line-turn s at next w v l e h = rw (line-splits s at l .lines, e, h) refl
-
-pub all-run : (s : List ℕ) (at : ℕ) (w : World) → length s ≤ at → linesRun (linesIn (drop at s)) w ≡ w
-unfolding linesRun
-all-run s at w l = rw (lines-end s at l) refl
-
--- all of a script that was read, on the fresh buffers
-pub whole-script : (s : List ℕ) (w : World) → length s ≤ mostScriptBytes → w ≡ fresh → linesRun (linesIn s) w ≡ linesRun (scriptLines s) fresh
-unfolding scriptLines
-whole-script s w l e = rw (e, take-all mostScriptBytes s l) refl
-
 -- the fresh buffers are those that were laid out
 pub laid-fresh : (s d t u : List ℕ) (a b : Answer) → s ≡ replicate 4624 0 → d ≡ replicate 160 0 → laidOut a t ≡ layOutStore s scriptInodes scriptBlocks → laidOut b u ≡ layOutDesk d scriptInodes
     → world t (replicate 8720 0) u ≡ fresh
