@@ -1,22 +1,17 @@
--- Laws of a script's lines: each is run on what the one before it left.
-use Prim.Native.Nat.{ℕ, _+_, _-_, _≤_, _<_}
-use mathlib.Core.Path.{_≡_, refl, sym, ap, _∙_, subst}
+-- Laws of one line: the buffers that it leaves, its text, and the fresh buffers.
+use Prim.Native.Nat.{ℕ, _≤_}
+use mathlib.Core.Path.{_≡_, refl, sym, ap, subst}
 use mathlib.Core.Bool.{true}
-use mathlib.Core.List.{List, [], _∷_}
-use lib.ListN.{length, take, drop, replicate}
-use lib.Seq.{take-all}
-use Rattle.octets.specs.Octets.{part}
+use mathlib.Core.List.{List, []}
 use native.Mathlib.Omega.{arith}
+use lib.ListN.{length, replicate}
 use Rattle.sound.specs.Sound.{Sound, inodesIn}
 use Rattle.sound.specs.declared.Form.the-variants.{Image}
 use Rattle.answers.specs.declared.Answer.{Answer}
 use Rattle.format.specs.Format.{LaidOut, laidOut, layOutStore, layOutDesk}
-use Rattle.text.specs.Pieces.{findFrom}
 use Rattle.listing.specs.Listing.{printedText, mostPrinted, Listable}
 use Rattle.checkpoint.specs.Live.{World}
 use Rattle.checkpoint.specs.Shown.{world}
-use Rattle.lines.specs.Lines.{linesIn, mostScriptBytes, scriptLines}
-use Rattle.lines.proofs.LineLaws.{line-splits, lines-end}
 use Rattle.session.specs.Reply.{Ran, ran, lineRuns, worldAfter}
 use Rattle.session.specs.Script.{printed, linesRun, FinishesSound, scriptInodes, scriptBlocks, fresh}
 use Rattle.session.specs.declared.Reply.{Reply}

@@ -272,7 +272,7 @@ module _ {M : Type 1} (𝓤 : URA M) (H : Heap 𝓤) (A : Atoms 𝓤) (W : Given
     asks-print h = qed W (Tokens ∷ Owned ∷ []) ∵ says ! h $ frame ! $ done !
 
   module _ (𝓣 : Tables 𝓤 H) (fm : FmC 𝓤 H (W .laws) (𝓣 .C)) (known-start : Triple 𝓤 (𝓣 .C #lines·start) (StartC 𝓤 H A mem run)) (known-line : Triple 𝓤 (𝓣 .C #lines·line) (LineC 𝓤 H A mem run)) (known-after : Triple 𝓤 (𝓣 .C #lines·after) (AfterC 𝓤 H A mem run)) (known-print : Triple 𝓤 (𝓣 .C #script·print·line) (PrintC 𝓤 H A mem run))
-    (rooms : Room u8 (length s₀)) (roomm : Room u8 (length m₀)) (roomd : Room u8 (length d₀)) (typed : WT vs) (big-image : headerBytes ≤ length m₀) (big-desk : deskHeaderBytes ≤ length d₀) (few : length (now s) ≤ mostScriptBytes) (begins : world s₀ m₀ d₀ ≡ fresh) (l₀ l₁ l₂ l₃ l₄ l₅ l₆ l₇ l₈ l₉ l₁₀ l₁₁ l₁₂ l₁₃ l₁₄ l₁₅ l₁₆ l₁₇ l₁₈ : ℕ) where
+      (rooms : Room u8 (length s₀)) (roomm : Room u8 (length m₀)) (roomd : Room u8 (length d₀)) (typed : WT vs) (big-image : headerBytes ≤ length m₀) (big-desk : deskHeaderBytes ≤ length d₀) (few : length (now s) ≤ mostScriptBytes) (begins : world s₀ m₀ d₀ ≡ fresh) (l₀ l₁ l₂ l₃ l₄ l₅ l₆ l₇ l₈ l₉ l₁₀ l₁₁ l₁₂ l₁₃ l₁₄ l₁₅ l₁₆ l₁₇ l₁₈ : ℕ) where
     abbrev C : Calls 𝓤 H
     C = 𝓣 .C
 
