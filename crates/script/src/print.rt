@@ -13,7 +13,10 @@ use libc::STDOUT_FILENO;
 use listing::put_printed;
 use text::pieces::front;
 
-// Runs a line. All that it prints is at the start of out, up to the answer.
+// No line prints more: `mostPrinted` of a store of 16 inodes.
+const MOST_PRINTED: usize = 93831;
+
+// Runs a line, and puts all that it prints at the start of out; where that ends.
 fn put_line(
     out: &mut [u8],
     line: &[u8],
@@ -29,12 +32,12 @@ fn put_line(
     put_printed(out, r.ok, r.number, r.finished, &*image, &*desk)
 }
 
-// Runs a line, and writes what it prints: no line prints more than out can hold.
+// Runs a line, and writes what it prints.
 pub fn line(line: &[u8], store: &mut [u8], image: &mut [u8], desk: &mut [u8])
     requires { ⌜ (headerBytes ≤ length (now image)) × (deskHeaderBytes ≤ length (now desk)) × FinishesSound (world (now store) (now image) (now desk)) ⌝ }
     ensures { λ _. ⌜ world (now (store .exit)) (now (image .exit)) (now (desk .exit)) ≡ worldAfter (now (line .entry)) (world (now (store .entry)) (now (image .entry)) (now (desk .entry))) ⌝ }
 {
-    let mut out = [0u8; 93831];
+    let mut out = [0u8; MOST_PRINTED];
     let end = put_line(&mut out, line, &mut *store, &mut *image, &mut *desk);
     io::write_all(STDOUT_FILENO, front(&out, end));
 }
