@@ -24,8 +24,8 @@ use Rattle.checkpoint.specs.Shown.{Shown, shown, toldStatus}
 use Rattle.api.specs.Api.{mostResult, codeBy, codeOf, Fits, Sent, sends, sentLaid, sentAlone, sent, sendsState, sentState}
 
 -- ---- numbers of 32 bits
-result-fits : (n : ℕ) → n ≤ mostResult → SFits w32 (pos n)
-result-fits n l = record { sfits = omega arith }
+number-fits : (n : ℕ) → n ≤ mostResult → SFits w32 (pos n)
+number-fits n l = record { sfits = omega arith }
 
 pub result-is : (n : ℕ) → n ≤ mostResult → toZ w32 n ≡ pos n
 result-is n l = toZ-pos w32 n (omega arith)
@@ -45,7 +45,7 @@ negated e k h =
     ap (λ (z : ℤ). pos 0 -ℤ z) (toZ-pos w32 k (omega arith)) ∙ minus k ∙ ap (λ (n : ℕ). codeBy n []) h
 
 code-fits : (a : Answer) → Fits (told a) → SFits w32 (codeOf (told a))
-code-fits (Done n) l = result-fits n l
+code-fits (Done n) l = number-fits n l
 code-fits (Refused e) l = refusal-fits (refusalNumber e) (number-range e .1)
 
 -- the result in an answer that fits
@@ -57,7 +57,7 @@ pub back : {z y : ℤ} → z ≡ y → SFits w32 y → toZ w32 (ofZ w32 z) ≡ y
 back {z} {y} e f = ap (λ (u : ℤ). toZ w32 (ofZ w32 u)) e ∙ toZ-ofZ w32 y f
 
 pub done-code : (a : Answer) (n : ℕ) (z : ℤ) → Fits (told a) → a ≡ Done n → z ≡ pos n → toZ w32 (ofZ w32 z) ≡ codeOf (told a)
-done-code a n z l e f = back f (result-fits n (done-fits a n l e)) ∙ ap (λ (x : Answer). codeOf (told x)) (sym e)
+done-code a n z l e f = back f (number-fits n (done-fits a n l e)) ∙ ap (λ (x : Answer). codeOf (told x)) (sym e)
 
 pub refused-code : (a : Answer) (r : Refusal) (z : ℤ) → a ≡ Refused r → z ≡ codeBy (refusalNumber r) [] → toZ w32 (ofZ w32 z) ≡ codeOf (told a)
 refused-code a r z e f = back f (refusal-fits _ (number-range r .1)) ∙ ap (λ (x : Answer). codeOf (told x)) (sym e)

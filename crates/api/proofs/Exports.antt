@@ -15,10 +15,9 @@ use Rattle.desk.specs.Sizes.{deskAllowed}
 use Rattle.sound.specs.Test.{isSound}
 use Rattle.entries.specs.declared.Kind.the-variants.{File, Directory}
 use Rattle.answers.specs.declared.Refusal.the-variants.{BadBuffer}
-use Rattle.answers.specs.declared.Answer.{Answer}
 use Rattle.answers.specs.declared.Answer.the-variants.{Done, Refused}
 use Rattle.answers.specs.Told.{Told, told}
-use Rattle.format.specs.Format.{LaidOut, laidOut, freshStore, freshDesk, layOutStore, layOutDesk}
+use Rattle.format.specs.Format.{laidOut, freshStore, freshDesk, layOutStore, layOutDesk}
 use Rattle.files.specs.Effect.{lookUp, read, create, write, shorten, link, unlink, rename}
 use Rattle.files.specs.Plain as alone
 use Rattle.checkpoint.specs.Live.{World, Outcome, left, live, start, step, status}

@@ -2,7 +2,7 @@
 use Prim.Native.Nat.{ℕ, zero, suc, _+_, _*_, _≤_}
 use mathlib.Core.Path.{_≡_, refl, subst}
 use mathlib.Core.Bool.{Bool, true, false, not, _&&_}
-use mathlib.Core.List.{List, [], _∷_}
+use mathlib.Core.List.{List, []}
 use native.Mathlib.Omega.{arith}
 use borrow.Author.Tests.{leb-true, ltb-false, not-false}
 use lib.Dec.{leb, ltb}
@@ -10,13 +10,12 @@ use lib.ListN.{length, getD}
 use Rattle.bounded.specs.Search.{pick}
 use Rattle.bounded.specs.declared.Found.{Found}
 use Rattle.bounded.specs.declared.Found.the-variants.{At, Absent}
-use Rattle.bounded.proofs.BoolLaws.{never, and-left, and-right, or-false-r}
+use Rattle.bounded.proofs.BoolLaws.{never, and-right, or-false-r}
 use Rattle.bounded.proofs.SearchLaws.{by-pick, found-lowest}
 use Rattle.bounded.proofs.EachLaws.{All}
-use Rattle.layout.specs.Sizes.{mostInodes, mostFileBytes}
+use Rattle.layout.specs.Sizes.{mostInodes, mostStoreBlocks, mostFileBytes}
 use Rattle.layout.specs.Inode.{sizeOf, fileKind, isFile, isDirectory, inodeFree, freeInode}
 use Rattle.blocks.specs.Block.{allowed}
-use Rattle.layout.specs.Sizes.{mostStoreBlocks}
 use Rattle.names.specs.Name.{legalName}
 use Rattle.directory.specs.Slot.{findSlot, inodeAt}
 use Rattle.desk.specs.Sizes.{stopped, stepsAnInode, deskAllowed}

@@ -22,7 +22,7 @@ codeBy (suc k) xs = negsuc k
 abbrev pub codeOf : Told → ℤ
 codeOf t = codeBy (t .number) (t .values)
 
--- for the code: the largest number of 32 bits with a sign, and that a result, 0 for none, is none above it; every public call's is so (proofs/ResultLaws.antt)
+-- for the code: the largest number of 32 bits with a sign, and that an answer's result, 0 for none, is not above it. Every public call's fits (proofs/ResultLaws.antt)
 abbrev pub mostResult : ℕ
 mostResult = 2147483647
 
