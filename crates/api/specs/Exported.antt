@@ -15,7 +15,7 @@ use Rattle.checkpoint.specs.Burst.{Act, one}
 use Rattle.watch.specs.Made.{Received, Did}
 use Rattle.api.specs.Api.{codeOf, codeBy, formTold}
 
--- a call made on w answered c and left v, and a read's out-buffer out ([] for the other calls): so it is the call x, and its caller could have been told a
+-- a call made on w answered c and left v, and a read's out-buffer out ([] for the other calls): so it is the call x, whose caller got `received`
 pub record Exported (x : Act) (w : World) (c : ℤ) (out : List ℕ) (v : World) : Type 0 where
   pub received : Received
   pub made : Did x w received v
@@ -31,7 +31,7 @@ pub record Asked (w : World) (ms : List ℕ) (c : ℤ) (ns : List ℕ) : Type 0 
   pub kept : (received .answer .number ≡ 0 → ⊥) → ns ≡ ms
 
 -- ---- the calls that are in no list; `made` is the hypothesis of `FirstDemand` (watch/specs/Answered.antt)
--- a layout call, by whose definition o is left, answered c and left t
+-- a layout call answered c and left t; o is what its definition gives
 pub record LaysOut (o : LaidOut) (c : ℤ) (t : List ℕ) : Type 0 where
   pub answer : Answer
   pub made : laidOut answer t ≡ o
