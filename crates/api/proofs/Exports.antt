@@ -2,11 +2,22 @@
 -- a are the arguments, z is the result, e the parameters at exit; m and d are an image and a desk that the call does not have.
 use Prim.Native.Nat.{ℕ}
 use mathlib.Core.Path.{_≡_, refl, ap}
+use mathlib.Core.Bool.{Bool, true, false}
 use mathlib.Core.List.{List, [], _∷_}
+use borrow.Author.Tests.{ne-eqb}
 use lib.IntN.{ℤ}
+use lib.ListN.{length}
 use denote.Ref.{now}
+use Rattle.bounded.specs.Search.{pick}
+use Rattle.layout.specs.Sizes.{mostStoreBlocks}
+use Rattle.blocks.specs.Block.{allowed}
+use Rattle.desk.specs.Sizes.{deskAllowed}
+use Rattle.sound.specs.Test.{isSound}
 use Rattle.entries.specs.declared.Kind.the-variants.{File, Directory}
+use Rattle.answers.specs.declared.Refusal.the-variants.{BadBuffer}
+use Rattle.answers.specs.declared.Answer.the-variants.{Done, Refused}
 use Rattle.answers.specs.Told.{Told, told}
+use Rattle.format.specs.Format.{laidOut, freshStore, freshDesk, layOutStore, layOutDesk}
 use Rattle.files.specs.Effect.{lookUp, read, create, write, shorten, link, unlink, rename}
 use Rattle.files.specs.Plain as alone
 use Rattle.checkpoint.specs.Live.{World, Outcome, left, live, start, step, status}
@@ -15,8 +26,14 @@ use Rattle.checkpoint.specs.List.{call, advances, starts}
 use Rattle.checkpoint.specs.Burst.{burst, one, bursts}
 use Rattle.watch.specs.Made.{got, looked-up, has-read, created, written, shortened, linked, unlinked, renamed, started, stepped, asked, stepped-many}
 use Rattle.watch.proofs.Contracts.{Gives}
-use Rattle.api.specs.Api.{Sent, codeOf, sends, sentAlone, sent, SentState, sentState}
-use Rattle.api.specs.Exported.{Exported, Asked}
+use Rattle.api.specs.Api.{Sent, codeOf, sends, sentLaid, sentAlone, sent, SentState, sentState, formTold, checked}
+use Rattle.api.specs.Exported.{Exported, Asked, LaysOut, Checks}
+use Rattle.api.proofs.honecerise_lay_out_store.Kinds as lay-store-kinds
+use Rattle.api.proofs.honecerise_lay_out_store.Reads as lay-store-reads
+use Rattle.api.proofs.honecerise_lay_out_desk.Kinds as lay-desk-kinds
+use Rattle.api.proofs.honecerise_lay_out_desk.Reads as lay-desk-reads
+use Rattle.api.proofs.honecerise_check.Kinds as check-kinds
+use Rattle.api.proofs.honecerise_check.Reads as check-reads
 use Rattle.api.proofs.honecerise_look_up.Kinds as look-up-kinds
 use Rattle.api.proofs.honecerise_look_up.Reads as look-up-reads
 use Rattle.api.proofs.honecerise_read.Kinds as read-kinds
@@ -73,6 +90,24 @@ module _ (s out : List ℕ) (z : ℤ) (o : alone.PlainOutcome) (h : sends z (s �
 
   alone-code : z ≡ codeOf (told (o .answer))
   alone-code = ap (λ (x : Sent). x .code) h
+
+-- ---- the layout calls: b says whether count and length are allowed, fresh is what is laid out
+lays-out : (b : Bool) (s fresh t : List ℕ) (z : ℤ) → sends z (t ∷ []) ≡ sentLaid (pick b (laidOut (Done 0) fresh) (laidOut (Refused BadBuffer) s)) → LaysOut (pick b (laidOut (Done 0) fresh) (laidOut (Refused BadBuffer) s)) z t
+lays-out true s fresh t z h = record { answer = Done 0; made = ap (λ (x : Sent). laidOut (Done 0) (first (x .buffers))) h; code = ap (λ (x : Sent). x .code) h }
+lays-out false s fresh t z h = record { answer = Refused BadBuffer; made = ap (λ (x : Sent). laidOut (Refused BadBuffer) (first (x .buffers))) h; code = ap (λ (x : Sent). x .code) h }
+
+pub lay-store-exported : Gives 1 lay-store-kinds.ps lay-store-kinds.r lay-store-reads.Learnt (λ κs a z e. LaysOut (layOutStore (now (a .0)) (a .1 .0) (a .1 .1 .0)) z (now (e .0)))
+unfolding layOutStore
+lay-store-exported κs a z e h = lays-out (allowed mostStoreBlocks (a .1 .0) (a .1 .1 .0) (length (now (a .0)))) (now (a .0)) (freshStore (a .1 .0) (a .1 .1 .0)) (now (e .0)) z h
+
+pub lay-desk-exported : Gives 1 lay-desk-kinds.ps lay-desk-kinds.r lay-desk-reads.Learnt (λ κs a z e. LaysOut (layOutDesk (now (a .0)) (a .1 .0)) z (now (e .0)))
+unfolding layOutDesk
+lay-desk-exported κs a z e h = lays-out (deskAllowed (a .1 .0) (length (now (a .0)))) (now (a .0)) (freshDesk (a .1 .0)) (now (e .0)) z h
+
+-- ---- the check
+pub check-exported : Gives 1 check-kinds.ps check-kinds.r check-reads.Learnt (λ κs a z e. Checks (a .0) (now (a .1 .0)) z)
+unfolding checked
+check-exported κs a z e h = record { answer = isSound (formTold (a .0)) (now (a .1 .0)); made = refl; code = h }
 
 -- ---- the calls on the store alone
 pub look-up-exported : (m d : List ℕ) → Gives 2 look-up-kinds.ps look-up-kinds.r look-up-reads.Learnt (λ κs a z e.
@@ -162,13 +197,19 @@ burst-exported κs a z e h =
 state-numbers : (t : Told) (ns ms : List ℕ) → t .number ≡ 0 → ns ≡ sentState t ms .numbers → ns ≡ t .values
 state-numbers t ns ms e h = rw e at h
 
+state-kept : (t : Told) (ns ms : List ℕ) → (t .number ≡ 0 → ⊥) → ns ≡ sentState t ms .numbers → ns ≡ ms
+state-kept t ns ms e h = rw (ne-eqb (t .number) 0 e) at h
+
 pub state-exported : Gives 6 state-kinds.ps state-kinds.r state-reads.Learnt (λ κs a z e.
-    Asked (world (now (a .0)) (now (a .1 .0)) (now (a .1 .1 .0))) z (now (e .1 .1 .1 .0) ∷ now (e .1 .1 .1 .1 .0) ∷ now (e .1 .1 .1 .1 .1 .0) ∷ []))
+    Asked (world (now (a .0)) (now (a .1 .0)) (now (a .1 .1 .0)))
+    (now (a .1 .1 .1 .0) ∷ now (a .1 .1 .1 .1 .0) ∷ now (a .1 .1 .1 .1 .1 .0) ∷ []) z (now (e .1 .1 .1 .0) ∷ now (e .1 .1 .1 .1 .0) ∷ now (e .1 .1 .1 .1 .1 .0) ∷ []))
 state-exported κs a z e h =
     let r = status (now (a .0)) (now (a .1 .0)) (now (a .1 .1 .0)) in
+    let q = ap (λ (x : SentState). x .numbers) h in
     record {
       received = got (toldStatus r) [];
       made = asked r refl;
       code = ap (λ (x : SentState). x .code) h;
-      numbers = λ n. state-numbers (toldStatus r) _ _ n (ap (λ (x : SentState). x .numbers) h);
+      numbers = λ n. state-numbers (toldStatus r) _ _ n q;
+      kept = λ n. state-kept (toldStatus r) _ _ n q;
     }
