@@ -1,4 +1,4 @@
--- Demand 1, of the calls' code: "The answer of each public call, for all bytes and numbers handed to it, is its result or one of the sixteen refusals of document 01", seventeen with 17, and which.
+-- Demand 1, of the calls' code: "The answer of each public call, for all bytes and numbers handed to it, is its result or one of the sixteen refusals of document 01", eighteen with 17 and 21, and which.
 -- "A refusal changes no lent buffer, save that 16 marks the copy stopped and unlocks what was being copied."
 use Prim.Native.Nat.{ℕ, _+_, _-_, min, max}
 use mathlib.Core.Path.{_≡_}
@@ -108,8 +108,8 @@ pub record LayAnswers (rs : List Row) (s : List ℕ) (r : Answer) (t : List ℕ)
 
 -- ---- demand 1: each call as its contract promises it. The check refuses nothing: it "takes any bytes and answers yes or no"; demand 2: "The soundness check says yes to a store that meets its conditions and no to every other."
 pub record FirstDemand : Type 0 where
-  -- "looked at lowest first"; 17 "comes right after 1"
-  pub looked-at : numbers order ≡ 1 ∷ 17 ∷ 2 ∷ 3 ∷ 4 ∷ 5 ∷ 6 ∷ 7 ∷ 8 ∷ 9 ∷ 10 ∷ 11 ∷ 12 ∷ 13 ∷ 14 ∷ 15 ∷ 16 ∷ []
+  -- "looked at lowest first"; 17 "comes right after 1", 21 is "looked at first"
+  pub looked-at : numbers order ≡ 21 ∷ 1 ∷ 17 ∷ 2 ∷ 3 ∷ 4 ∷ 5 ∷ 6 ∷ 7 ∷ 8 ∷ 9 ∷ 10 ∷ 11 ∷ 12 ∷ 13 ∷ 14 ∷ 15 ∷ 16 ∷ []
   pub calls : {x : Act} {w v : World} {a : Received} → Did x w a v → Answers x w a v
   pub lays-store : {s t : List ℕ} (r : Answer) (inodes blocks : ℕ) → laidOut r t ≡ layOutStore s inodes blocks → LayAnswers (storeLayTable s inodes blocks) s r t
   pub lays-desk : {desk t : List ℕ} (r : Answer) (inodes : ℕ) → laidOut r t ≡ layOutDesk desk inodes → LayAnswers (deskLayTable desk inodes) desk r t
