@@ -21,7 +21,8 @@ use Rattle.checkpoint.specs.declared.Status.{Status}
 use Rattle.checkpoint.specs.declared.Status.the-variants.{Is, NoStatus}
 use Rattle.checkpoint.specs.Live.{left}
 use Rattle.checkpoint.specs.Shown.{Shown, shown, toldStatus}
-use Rattle.api.specs.Api.{mostResult, codeBy, codeOf, sends, sentLaid, sentAlone, sent, sendsState, sentState}
+use Rattle.dealer.specs.Deal.{Dealt, turn}
+use Rattle.api.specs.Api.{mostResult, codeBy, codeOf, sends, sentLaid, sentAlone, sent, sendsState, sentState, sentDealt}
 
 -- ---- numbers of 32 bits
 result-fits : (n : ℕ) → n ≤ mostResult → SFits w32 (pos n)
@@ -74,6 +75,9 @@ module _ (a : Answer) (z : ℤ) (f : z ≡ codeOf (told a)) where
 
   pub sent-three : (s m d : List ℕ) (o : Shown) → shown (left a s m d) ≡ o → sends (toZ w32 (ofZ w32 z)) (s ∷ m ∷ d ∷ []) ≡ sent o
   sent-three s m d o e = ap (λ (c : ℤ). sends c (s ∷ m ∷ d ∷ [])) came ∙ ap sent e
+
+  pub sent-dealt : (cs : List ℕ) (o : Dealt) → turn a cs ≡ o → sends (toZ w32 (ofZ w32 z)) (cs ∷ []) ≡ sentDealt o
+  sent-dealt cs o e = ap (λ (c : ℤ). sends c (cs ∷ [])) came ∙ ap sentDealt e
 
 -- ---- the state question
 pub state-told : (r : Status) (t : Told) (a l k : ℕ) (ns : List ℕ) → toldStatus r ≡ t → r ≡ Is a l k → sendsState (pos 0) (a ∷ l ∷ k ∷ []) ≡ sentState t ns

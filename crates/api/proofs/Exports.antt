@@ -2,10 +2,17 @@
 -- a are the arguments, z is the result, e the parameters at exit; m and d are an image and a desk that the call does not have.
 use Prim.Native.Nat.{ℕ}
 use mathlib.Core.Path.{_≡_, refl, ap}
+use mathlib.Core.Bool.{Bool, true, false}
 use mathlib.Core.List.{List, [], _∷_}
 use lib.IntN.{ℤ}
+use lib.ListN.{replicate}
 use denote.Ref.{now}
 use Rattle.entries.specs.declared.Kind.the-variants.{File, Directory}
+use Rattle.bounded.specs.Search.{pick}
+use Rattle.bounded.specs.Table.{table}
+use Rattle.answers.specs.declared.Answer.{Answer}
+use Rattle.answers.specs.declared.Answer.the-variants.{Done, Refused}
+use Rattle.answers.specs.declared.Refusal.the-variants.{BadTurn}
 use Rattle.answers.specs.Told.{Told, told}
 use Rattle.files.specs.Effect.{lookUp, read, create, write, shorten, link, unlink, rename}
 use Rattle.files.specs.Plain as alone
@@ -15,8 +22,9 @@ use Rattle.checkpoint.specs.List.{call, advances, starts}
 use Rattle.checkpoint.specs.Burst.{burst, one, bursts}
 use Rattle.watch.specs.Made.{got, looked-up, has-read, created, written, shortened, linked, unlinked, renamed, started, stepped, asked, stepped-many}
 use Rattle.watch.proofs.Contracts.{Gives}
-use Rattle.api.specs.Api.{Sent, codeOf, sends, sentAlone, sent, SentState, sentState}
-use Rattle.api.specs.Exported.{Exported, Asked}
+use Rattle.dealer.specs.Deal.{bays, served, gets, turn, turnAllowed}
+use Rattle.api.specs.Api.{Sent, codeOf, sends, sentAlone, sent, SentState, sentState, maskFlags, sentDealt}
+use Rattle.api.specs.Exported.{Exported, Asked, Dealing}
 use Rattle.api.proofs.honecerise_look_up.Kinds as look-up-kinds
 use Rattle.api.proofs.honecerise_look_up.Reads as look-up-reads
 use Rattle.api.proofs.honecerise_read.Kinds as read-kinds
@@ -41,6 +49,8 @@ use Rattle.api.proofs.honecerise_step.Kinds as step-kinds
 use Rattle.api.proofs.honecerise_step.Reads as step-reads
 use Rattle.api.proofs.honecerise_burst.Kinds as burst-kinds
 use Rattle.api.proofs.honecerise_burst.Reads as burst-reads
+use Rattle.api.proofs.honecerise_deal.Kinds as deal-kinds
+use Rattle.api.proofs.honecerise_deal.Reads as deal-reads
 use Rattle.api.proofs.honecerise_state.Kinds as state-kinds
 use Rattle.api.proofs.honecerise_state.Reads as state-reads
 
@@ -172,3 +182,15 @@ state-exported κs a z e h =
       code = ap (λ (x : SentState). x .code) h;
       numbers = λ n. state-numbers (toldStatus r) _ _ n (ap (λ (x : SentState). x .numbers) h);
     }
+
+-- ---- the dealer
+dealt-as : (v : Bool) (x : ℕ) (cs none : List ℕ) (z : ℤ) (counts : List ℕ) → sends z (counts ∷ []) ≡ sentDealt (pick v (turn (Done x) cs) (turn (Refused BadTurn) none))
+    → (a : Answer) × (turn a counts ≡ pick v (turn (Done x) cs) (turn (Refused BadTurn) none)) × (z ≡ codeOf (told a))
+dealt-as true x cs none z counts h = (Done x, ap (λ (s : Sent). turn (Done x) (first (s .buffers))) h, ap (λ (s : Sent). s .code) h)
+dealt-as false x cs none z counts h = (Refused BadTurn, ap (λ (s : Sent). turn (Refused BadTurn) (first (s .buffers))) h, ap (λ (s : Sent). s .code) h)
+
+pub deal-exported : Gives 1 deal-kinds.ps deal-kinds.r deal-reads.Learnt (λ κs a z e. Dealing (a .0) (a .1 .0) (a .1 .1 .0) z (now (e .1 .1 .1 .0)))
+deal-exported κs a z e h =
+    let f = maskFlags (a .0) in
+    let d = dealt-as (turnAllowed (a .1 .0) (a .1 .1 .0)) (served f (a .1 .1 .0) (a .1 .0)) (table (gets f (a .1 .1 .0) (a .1 .0)) bays) (replicate bays 0) z (now (e .1 .1 .1 .0)) h in
+    record { answer = d .0; made = d .1; code = d .2 }

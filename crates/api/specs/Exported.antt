@@ -3,11 +3,14 @@ use Prim.Native.Nat.{ℕ}
 use mathlib.Core.Path.{_≡_}
 use mathlib.Core.List.{List, [], _∷_}
 use lib.IntN.{ℤ}
+use Rattle.answers.specs.declared.Answer.{Answer}
+use Rattle.answers.specs.Told.{told}
 use Rattle.checkpoint.specs.Live.{World}
 use Rattle.checkpoint.specs.List.{asks}
 use Rattle.checkpoint.specs.Burst.{Act, one}
 use Rattle.watch.specs.Made.{Received, Did}
-use Rattle.api.specs.Api.{codeOf, codeBy}
+use Rattle.dealer.specs.Deal.{turn, dealt}
+use Rattle.api.specs.Api.{codeOf, codeBy, maskFlags}
 
 -- a call made on w answered c and left v, and a read's out-buffer out ([] for the other calls): so it is the call x, and its caller could have been told a
 pub record Exported (x : Act) (w : World) (c : ℤ) (out : List ℕ) (v : World) : Type 0 where
@@ -22,3 +25,10 @@ pub record Asked (w : World) (c : ℤ) (ns : List ℕ) : Type 0 where
   pub made : Did (one asks) w received w
   pub code : c ≡ codeBy (received .answer .number) (0 ∷ [])
   pub numbers : received .answer .number ≡ 0 → ns ≡ received .answer .values
+
+-- a call of the dealer was told the mask, steps and bay, answered c and left the counts: so it is a call
+-- of the dealer (`Call`, in `dealer`), of which the four claims speak, with the flags of that mask
+pub record Dealing (mask steps last : ℕ) (c : ℤ) (counts : List ℕ) : Type 0 where
+  pub answer : Answer
+  pub made : turn answer counts ≡ dealt (maskFlags mask) steps last
+  pub code : c ≡ codeOf (told answer)

@@ -1,5 +1,5 @@
--- The hypothesis of a call in specs/Claims.antt is the contract of the code: what a caller learns of `deal`, whatever the arguments.
--- a are the arguments, z is the result.
+-- The hypothesis of a call in specs/Claims.antt, and of demand 1 (watch/specs/Answered.antt), is the
+-- contract of the code: what a caller learns of `deal`, whatever the arguments a. z is the result.
 use mathlib.Core.Path.{_≡_}
 use contract.Lifetimes.{Lfts}
 use denote.Triple.Clauses.{AtExit}

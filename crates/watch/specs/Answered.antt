@@ -15,7 +15,7 @@ use Rattle.sound.specs.declared.Form.{Form}
 use Rattle.sound.specs.Sound.{Sound, inodesIn}
 use Rattle.sound.specs.Test.{isSound}
 use Rattle.answers.specs.declared.Answer.{Answer}
-use Rattle.answers.specs.declared.Refusal.the-variants.{BadBuffer, ImageFull}
+use Rattle.answers.specs.declared.Refusal.the-variants.{BadBuffer, ImageFull, BadTurn}
 use Rattle.answers.specs.Refusal.{refusalNumber}
 use Rattle.answers.specs.Told.{Told, told}
 use Rattle.answers.specs.Order.{Row, row, order, lookedAt, numbers, among, inOrder}
@@ -26,6 +26,7 @@ use Rattle.checkpoint.specs.Table.{orZero, inodeFor, lookUpTable, readTable, cr
 use Rattle.checkpoint.specs.List.{call, advances, asks, starts, refusalOf, acceptedSteps}
 use Rattle.checkpoint.specs.Burst.{triesOf, Act, one, bursts}
 use Rattle.checkpoint.specs.Progress.{Stopped}
+use Rattle.dealer.specs.Deal.{served, turn, turnAllowed, dealt}
 use Rattle.watch.specs.Made.{Received, Did}
 
 -- ---- "Given by number, looked at lowest first, when and only when the condition holds for that call"
@@ -106,6 +107,10 @@ pub record LayAnswers (rs : List Row) (s : List ℕ) (r : Answer) (t : List ℕ)
   pub answered : Answered (0 ∷ []) rs (told r)
   pub keeps : (told r .number ≡ 0 → ⊥) → t ≡ s
 
+-- ---- the dealer: 21, "looked at first"
+abbrev pub dealTable : ℕ → ℕ → List Row
+dealTable steps last = row (not (turnAllowed steps last)) BadTurn ∷ []
+
 -- ---- demand 1: each call as its contract promises it. The check refuses nothing: it "takes any bytes and answers yes or no"; demand 2: "The soundness check says yes to a store that meets its conditions and no to every other."
 pub record FirstDemand : Type 0 where
   -- "looked at lowest first"; 17 "comes right after 1", 21 is "looked at first"
@@ -113,4 +118,5 @@ pub record FirstDemand : Type 0 where
   pub calls : {x : Act} {w v : World} {a : Received} → Did x w a v → Answers x w a v
   pub lays-store : {s t : List ℕ} (r : Answer) (inodes blocks : ℕ) → laidOut r t ≡ layOutStore s inodes blocks → LayAnswers (storeLayTable s inodes blocks) s r t
   pub lays-desk : {desk t : List ℕ} (r : Answer) (inodes : ℕ) → laidOut r t ≡ layOutDesk desk inodes → LayAnswers (deskLayTable desk inodes) desk r t
+  pub deals : {counts : List ℕ} (r : Answer) (flags : List Bool) (steps last : ℕ) → turn r counts ≡ dealt flags steps last → Answered (served flags last steps ∷ []) (dealTable steps last) (told r)
   pub checks : (f : Form) (s : List ℕ) (r : Bool) → r ≡ isSound f s → Reflects r (Sound f s)

@@ -29,6 +29,10 @@ pub use copystart::start::start;
 pub use copystep::step;
 pub use guards::state::state;
 
+// Deal the steps of a turn among the bays of a charging case, which takes no buffer.
+pub use dealer::Turn;
+pub use dealer::deal;
+
 // The other file calls.
 pub fn create(
     store: &mut [u8],
