@@ -2,7 +2,6 @@
 use Prim.Native.Nat.{ℕ, _<_}
 use mathlib.Core.Path.{_≡_, refl, sym, ap, _∙_}
 use mathlib.Core.Bool.{Bool, true, false}
-use mathlib.Core.List.{List}
 use native.Mathlib.Omega.{arith}
 use lib.ListN.{getD, replicate, getD-replicate}
 use Rattle.bounded.specs.Search.{pick}
@@ -12,7 +11,7 @@ use Rattle.answers.specs.declared.Answer.the-variants.{Done, Refused}
 use Rattle.answers.specs.declared.Refusal.the-variants.{BadTurn}
 use Rattle.answers.specs.Refusal.{refusalNumber}
 use Rattle.answers.specs.Told.{Told, told}
-use Rattle.dealer.specs.Deal.{bays, served, gets, Dealt, turn, turnAllowed, dealt}
+use Rattle.dealer.specs.Deal.{bays, served, gets, Dealt, turn, turnAllowed}
 use Rattle.dealer.specs.Claims.{Call, Answers, given}
 use Rattle.dealer.proofs.TurnLaws.{Allowed, allowed-is}
 

@@ -1,16 +1,16 @@
 -- The four claims, of every call and of every sixteen calls in a row.
 use Prim.Native.Nat.{ℕ, _+_, _≤_, _<_}
-use mathlib.Core.Path.{_≡_, refl, sym, ap, subst, _∙_}
+use mathlib.Core.Path.{_≡_, sym, subst, _∙_}
 use mathlib.Core.Bool.{true, false}
 use native.Mathlib.Omega.{arith}
 use Rattle.bounded.proofs.SumLaws.{sum-ext}
-use Rattle.dealer.specs.Deal.{bays, runs, served, gets}
+use Rattle.dealer.specs.Deal.{bays, runs, gets}
 use Rattle.dealer.specs.Claims.{Call, Answers, given, SomeRuns, AddsUp, OnlyRunning, Even, Claims}
 use Rattle.dealer.proofs.Circle.{served-below}
 use Rattle.dealer.proofs.Rounds.{even-gets}
 use Rattle.dealer.proofs.AddsUp.{serves-running, adds-up, stays, none-get}
 use Rattle.dealer.proofs.Dealing.{gets-none}
-use Rattle.dealer.proofs.CallLaws.{Accepted, accepted, Gave, steps, nothing, gave}
+use Rattle.dealer.proofs.CallLaws.{accepted, Gave, steps, nothing, gave}
 use Rattle.dealer.proofs.Fairness.{fair}
 
 sums : (c : Call) (y : ℕ) → Answers c y → AddsUp c y

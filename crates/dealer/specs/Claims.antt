@@ -1,4 +1,5 @@
--- What a charging case may rely on, of calls of the dealer's code. Of the code this knows the contract of `deal`, and nothing else: each call has it as its one hypothesis (proofs/Contract.antt holds it to the code's).
+-- What a charging case may rely on, of calls of the dealer's code. Of the code this knows the contract of
+-- `deal`, and nothing else: each call has it as its one hypothesis (proofs/Contract.antt holds it to the code's).
 use Prim.Native.Nat.{ℕ, _+_, _≤_, _<_}
 use mathlib.Core.Path.{_≡_}
 use mathlib.Core.Bool.{Bool, true, false}
@@ -52,7 +53,8 @@ pub data Turns : ℕ → List Call → Type 0 where
   none : {b : ℕ} → Turns b []
   then : {c : Call} {cs : List Call} (x : ℕ) → Answers c x → Turns x cs → Turns (c .last) (c ∷ cs)
 
--- "a bay that runs throughout gets a step within sixteen turns, whichever others start or end": in any sixteen turns in a row
+-- "a bay that runs throughout gets a step within sixteen turns, whichever others start or end":
+-- in any sixteen turns in a row
 abbrev pub Fair : Type 0
 Fair =
     (b : ℕ) (cs : List Call) → Turns b cs → length cs ≡ bays

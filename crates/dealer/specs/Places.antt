@@ -1,4 +1,5 @@
--- Places round the circle, by which the code reckons steps: place d + 1 is that of the bay d + 1 on from the bay told.
+-- Places round the circle, by which the code reckons steps: place d + 1 is that of the bay d + 1 on from
+-- the bay told.
 use Prim.Native.Nat.{ℕ, _+_, _-_, _%_}
 use mathlib.Core.Bool.{Bool}
 use mathlib.Core.List.{List}

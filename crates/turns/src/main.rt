@@ -1,4 +1,5 @@
-// Deals turns by lines of text: reads commands from standard input, one a line, and prints for each what the dealer answers.
+// Deals turns by lines of text: reads commands from standard input, one a line, and prints for each what
+// the dealer answers.
 mod answer;
 mod flags;
 

@@ -1,6 +1,5 @@
 -- `turns::answer::put_counts` meets its contract. Assumes nothing.
 use Prim.Native.Nat.{_+_, _-_, _*_, _≤_}
-use native.Mathlib.Omega.{arith}
 use borrow.Author.Needs.{needs}
 use Rattle.turns.proofs.answer.put_counts.Statement.{statement}
 use Rattle.turns.proofs.answer.put_counts.Tie as tie
