@@ -43,7 +43,9 @@ fn every_number_of_steps_after_every_bay() {
 #[test]
 fn refused() {
     for mask in [0, 1, 0xffff] {
-        for (steps, last) in [(0, 0), (65, 0), (1, 16), (0, 16), (usize::MAX, 3), (1, usize::MAX), (257, 1), (1, 272), (1 << 32, 1)] {
+        for (steps, last) in
+            [(0, 0), (65, 0), (1, 16), (0, 16), (usize::MAX, 3), (1, usize::MAX), (257, 1), (1, 272), (1 << 32, 1)]
+        {
             assert_eq!(deal(flags(mask), steps, last), Err(Refusal::BadTurn), "{steps} {last}");
         }
     }
