@@ -13,7 +13,8 @@ use Rattle.answers.specs.Refusal.{refusalNumber}
 use Rattle.answers.specs.Told.{Told, told}
 use Rattle.dealer.specs.Deal.{bays, served, gets, Dealt, turn, turnAllowed}
 use Rattle.dealer.specs.Claims.{Call, Answers, given}
-use Rattle.dealer.proofs.TurnLaws.{Allowed, allowed-is}
+use Rattle.dealer.specs.Places.{Allowed}
+use Rattle.dealer.proofs.TurnLaws.{allowed-is}
 
 -- a call that answered y
 pub record Accepted (c : Call) (y : ℕ) : Type 0 where
