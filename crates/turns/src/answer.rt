@@ -1,6 +1,6 @@
 // A line `deal FLAGS STEPS LAST`, and what it is answered: `ok`, the sixteen counts and the bay, or `no`
 // and the refusal's number; `err` for any other line.
-ghost use Prim.Native.Nat.{_+_, _≤_};
+ghost use Prim.Native.Nat.{_≤_};
 use crate::flags::are_flags;
 use crate::flags::flags;
 use answers::Answer;
