@@ -62,10 +62,9 @@ extern "C" {
 #define HONECERISE_MOST_TURN       64u /* steps of a case's turn: 1 to 64                       */
 
 /*
- * The deepest stack of any call, below its caller's frame, with room to spare. By the frames in the
- * disassembly along the deepest path of calls, step takes about 10,600 bytes, write 10,000 and every
- * other call less than 6,000; memset, memcpy and strlen come on top. bindings/c/stack.c paints a
- * stack, makes all calls on it and looks how far they came.
+ * The deepest stack of any call, below its caller's frame, with room to spare: burst takes about
+ * 10,700 bytes, step 10,500, write 10,200 and every other call less than 6,000 (bindings/c/stack.c
+ * paints a stack, makes all calls on it and looks how far they came).
  */
 #define HONECERISE_STACK        12288u
 
@@ -227,7 +226,7 @@ int32_t honecerise_step(const uint8_t *store, size_t store_length,
 
 /* Does what so many single steps would, 1 to HONECERISE_MOST_BURST, and answers how many of this call
  * were accepted. It ends early when the copy finishes or a step is refused: if that is the first, its
- * refusal is the answer; a later one only cuts the count short, and 16 then stands in the state.
+ * refusal is the answer; a later one only cuts the count short, and after 16 the copy is stopped.
  * 15, 16, 17. */
 int32_t honecerise_burst(const uint8_t *store, size_t store_length,
                          uint8_t *image, size_t image_length,

@@ -129,20 +129,26 @@ impl Worst {
 /// The table of copies.
 pub fn run() -> Worst {
     println!(
-        "\n{:<14} {:>6} {:>6} {:>11} {:>11} {:>8} {:>11} {:>10} {:>10} {:>9} {:>12}",
-        "copy of", "by", "calls", "proved ns", "Rust ns", "ratio", "checks ns", "to checks", "memcpy ns", "to memcpy", "zero image"
+        "\n{:<14} {:>6} {:>6} {:>11} {:>11} {:>8} {:>11} {:>10} {:>9} {:>10} {:>9} {:>12}",
+        "copy of", "by", "calls", "proved ns", "Rust ns", "ratio", "checks ns", "to checks", "of steps", "memcpy ns", "to memcpy", "zero image"
     );
     let mut worst = Worst::default();
     let cases = [("an empty", scenes::empty(), 1000), ("a typical", scenes::typical(), 200), ("a full store", scenes::full(), 40), ("long files", scenes::long(), 40)];
     for (name, start, rounds) in &cases {
+        // the time by single steps, which come first
+        let mut by_steps = 0.0;
         for (by, way) in WAYS {
             let expected = compare(by, start, name);
             let rounds = if by == By::Bursts(64) { 5 * rounds } else { *rounds };
             let (calls, t) = (expected.answers.len(), time(&expected, rounds));
             let (to_plain, to_checks) = (t.proved / t.plain, t.proved / t.checks);
+            if by == By::Steps {
+                by_steps = t.proved;
+            }
+            let of_steps = format!("1/{:.1}", by_steps / t.proved);
             println!(
-                "{:<14} {:>6} {:>6} {:>11.0} {:>11.0} {:>8} {:>11.0} {:>10} {:>10.0} {:>9.1} {:>12.0}",
-                name, way, calls, t.proved, t.plain, shown(to_plain, TO_RUST), t.checks, shown(to_checks, by.to_checks()), t.bytes, t.proved / t.bytes, t.zeros
+                "{:<14} {:>6} {:>6} {:>11.0} {:>11.0} {:>8} {:>11.0} {:>10} {:>9} {:>10.0} {:>9.1} {:>12.0}",
+                name, way, calls, t.proved, t.plain, shown(to_plain, TO_RUST), t.checks, shown(to_checks, by.to_checks()), of_steps, t.bytes, t.proved / t.bytes, t.zeros
             );
             worst.note(by, to_plain, to_checks);
         }

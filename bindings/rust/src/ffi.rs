@@ -77,7 +77,7 @@ pub struct Lent<'a> {
 fn answer(code: i32) -> Answer {
     usize::try_from(code).map_err(|_| {
         let number = u8::try_from(code.unsigned_abs()).ok();
-        number.and_then(Refusal::from_number).expect("a negative answer is minus one of eighteen numbers: this is proved")
+        number.and_then(Refusal::from_number).expect("a negative answer is minus the number of a refusal: this is proved")
     })
 }
 

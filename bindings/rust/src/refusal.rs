@@ -1,7 +1,7 @@
 //! Why a call was refused.
 use core::fmt;
 
-/// The eighteen refusals, by who causes them. Where several apply, the lowest is answered, save that [`BadCount`](Refusal::BadCount)
+/// The refusals, by who causes them. Where several apply, the lowest is answered, save that [`BadCount`](Refusal::BadCount)
 /// is looked at right after [`BadBuffer`](Refusal::BadBuffer). [`BadTurn`](Refusal::BadTurn) comes to [`deal`](crate::deal) alone.
 ///
 /// ```
@@ -48,7 +48,7 @@ pub enum Refusal {
     WrongState = 15,
     /// Timing: a step had a block to copy and no image block for it. The copy is stopped, and what was locked is free again.
     ImageFull = 16,
-    /// Timing: a burst of no steps, or of more than [`MOST_BURST`](crate::MOST_BURST).
+    /// Whoever asks for the steps: a burst of none, or of more than [`MOST_BURST`](crate::MOST_BURST).
     BadCount = 17,
     /// The charging case: a turn of no steps, or of more than [`MOST_TURN`](crate::MOST_TURN), or a last bay that is none of the
     /// [`BAYS`](crate::BAYS).
@@ -56,7 +56,7 @@ pub enum Refusal {
 }
 
 impl Refusal {
-    /// All eighteen, by number.
+    /// All of them, by number.
     pub const ALL: [Refusal; 18] = [
         Refusal::BadBuffer,
         Refusal::UnsoundStore,

@@ -217,7 +217,7 @@ impl<'a> Watch<'a> {
 
     /// What so many single steps would do, 1 to [`MOST_BURST`](crate::MOST_BURST), in one call that examines its buffers once:
     /// how many of them were accepted. It ends early when the copy finishes or a step is refused; a refusal of the first is
-    /// the answer, a later one only cuts the count short.
+    /// the answer, a later one only cuts the count short (after `ImageFull` the copy is stopped).
     ///
     /// Refuses with `BadCount`, and as [`step`](Watch::step) does.
     ///

@@ -1,29 +1,32 @@
 -- The map of named blocks that a burst keeps, as the code goes through it. s is the store, m the image, n and b the counts of inodes and image blocks; long tells which inodes have an address block.
 use Prim.Native.Nat.{ℕ, _+_, _*_, _-_, _/_, _%_, _≤_, _<_}
 use mathlib.Core.Path.{_≡_, refl, sym, ap, _∙_}
+use mathlib.Core.Logic.{_≢_}
 use mathlib.Core.Bool.{Bool, true, false, not, _&&_}
 use mathlib.Core.List.{List}
 use native.Mathlib.Decide.{ℕ-discrete}
 use native.Mathlib.Omega.{arith}
-use borrow.Author.Tests.{leb-true, le-leb, lt-leb}
-use lib.Dec.{leb}
+use borrow.Author.Tests.{leb-true, le-leb, lt-leb, eq-eqb, ne-eqb, eqb-false, not-true}
+use lib.Dec.{eqb, leb}
 use Rattle.bounded.specs.Search.{firstFrom}
 use Rattle.bounded.specs.declared.Found.{Found}
 use Rattle.bounded.specs.declared.Found.the-variants.{At}
-use Rattle.bounded.proofs.BoolLaws.{and-false-l, chain-end}
+use Rattle.bounded.proofs.BoolLaws.{and-left, and-right, and-false-l, chain-end}
 use Rattle.bounded.proofs.SearchLaws.{first-ext}
 use Rattle.bounded.proofs.SeenLaws.{seen-ext}
 use Rattle.layout.specs.Sizes.{addressCount, addressPlace, mostBlocks, mostImageBlocks}
+use Rattle.layout.specs.Inode.{kindOf, directoryKind}
 use Rattle.blocks.specs.Block.{isLong, addressBlock, furtherOf, kthBy, kthBlock, rowBy}
 use Rattle.blocks.specs.Free.{namedBy, lowestBy, longBut}
 use Rattle.blocks.specs.Fits.{RowsFit}
 use Rattle.blocks.specs.Map.{lacks, Maps}
 use Rattle.blocks.proofs.KthLaws.{kth-direct, kth-further, few-alike}
 use Rattle.blocks.proofs.MapLaws.{map-free}
-use Rattle.blocks.proofs.LongLaws.{but-here, but-else}
+use Rattle.blocks.proofs.LongLaws.{but-else}
 use Rattle.checkpoint.specs.Copier.{targetBlock}
-use Rattle.guards.specs.Fit.{furtherRightOf, lockedLong}
+use Rattle.guards.specs.Fit.{lockedLong}
 use Rattle.guards.proofs.FitLaws.{told}
+use Rattle.bursts.specs.Turn.{namesStayB}
 use Rattle.transfer.proofs.NamedLaws.{target-own, target-other}
 
 -- ---- the place of a block by the map
@@ -96,5 +99,23 @@ module _ (s m : List ℕ) (n i : ℕ) where
       go x (yes e) = few-alike m n (x / 44 + 1) (x % 44) (longBut m i (isLong s i) (x / 44 + 1)) (isLong m (x / 44 + 1)) (ap (addressBlock m n) e ∙ z) (omega arith)
       go x (no e) = ap (λ (y : Bool). kthBy y m n (x / 44 + 1) (x % 44)) (but-else m i (isLong s i) (x / 44 + 1) e)
 
-  pub further-own : (b : ℕ) (x : Bool) → x ≡ isLong s i → (r : Bool) → r ≡ furtherRightOf (longBut m i x i) m n b i → r ≡ furtherRightOf (isLong s i) m n b i
-  further-own b x e r g = g ∙ ap (λ (y : Bool). furtherRightOf y m n b i) (but-here m i x i refl ∙ e)
+-- ---- whether the counts stay at the close of inode i
+module _ (s m : List ℕ) (i : ℕ) where
+  pub stay-image : kindOf m i ≡ directoryKind → false ≡ namesStayB s m i
+  stay-image e = rw (eq-eqb (kindOf m i) directoryKind e)
+
+  module _ (file : kindOf m i ≢ directoryKind) where
+    pub stay-store : kindOf s i ≡ directoryKind → false ≡ namesStayB s m i
+    stay-store e = rw (ne-eqb (kindOf m i) directoryKind file, eq-eqb (kindOf s i) directoryKind e)
+
+    pub stay-long : kindOf s i ≢ directoryKind → not (isLong s i) ≡ namesStayB s m i
+    stay-long e = rw (ne-eqb (kindOf m i) directoryKind file, ne-eqb (kindOf s i) directoryKind e)
+
+  pub stay-is : namesStayB s m i ≡ true → (kindOf m i ≢ directoryKind) × (kindOf s i ≢ directoryKind) × (isLong s i ≡ false)
+  stay-is h =
+      let a = and-left _ _ h in
+      let b = and-right (not (eqb (kindOf m i) directoryKind)) _ h in (
+        eqb-false (kindOf m i) directoryKind (not-true _ a),
+        eqb-false (kindOf s i) directoryKind (not-true _ (and-left _ _ b)),
+        not-true _ (and-right (not (eqb (kindOf s i) directoryKind)) _ b),
+      )

@@ -10,8 +10,7 @@ use lib.ListN.{length}
 use Rattle.bounded.specs.Search.{pick}
 use Rattle.bounded.proofs.BoolLaws.{and-left, and-right, and-false-l, chain-end}
 use Rattle.bounded.proofs.ReflectLaws.{r-le}
-use Rattle.layout.specs.Sizes.{mostInodes, isComplete, notComplete}
-use Rattle.layout.specs.declared.header.Header.{Header}
+use Rattle.layout.specs.Sizes.{isComplete, notComplete}
 use Rattle.layout.specs.Header.{headerOf}
 use Rattle.desk.specs.Sizes.{deskHeaderBytes, running, stepsAnInode}
 use Rattle.desk.specs.declared.Desk.{Desk}
@@ -99,9 +98,6 @@ module _ (s m d : List ℕ) (n : ℕ) (map counts : List ℕ) (z : Kept (world s
   turn-long = let f = desk-framed-is d .to (z .steady .desk) .1 .1 in omega arith
 
   module _ (h : Desk) (r : h ≡ deskOf d) where
-    pub turn-few : h .inodes ≤ mostInodes
-    turn-few = let f = desk-framed-is d .to (z .steady .desk) .1 .0 in let q = ap (λ (v : Desk). v .inodes) r in omega arith
-
     pub turn-late : stepsAnInode * h .inodes < h .steps → Took (Stops BadDesk) (world s m d) n m d map counts
     turn-late l k c =
         let q = ap (λ (v : Desk). v .inodes) r in

@@ -2,7 +2,7 @@
 use Prim.Native.Nat.{ℕ, suc, _+_, _*_}
 use mathlib.Core.Path.{_≡_}
 use mathlib.Core.Logic.{_≢_}
-use mathlib.Core.Bool.{true, false}
+use mathlib.Core.Bool.{Bool, true, false, not, _&&_}
 use mathlib.Core.List.{List}
 use lib.Dec.{eqb}
 use Rattle.bounded.specs.Count.{Tallied}
@@ -35,6 +35,10 @@ Mapped w n map = Maps (imageLong (w .store) (w .image) (w .desk)) (w .image) n (
 -- no block of inode l, while it is copied, changes what the image's directories name: it is none of them, and no address goes into a block of one
 abbrev pub NamesStay : World → ℕ → Type 0
 NamesStay w l = (kindOf (w .image) l ≢ directoryKind) × (isLong (w .store) l ≡ false)
+
+-- what decides at the close of inode i that the counts stay: neither image nor store has a directory there, and the file is not long
+abbrev pub namesStayB : List ℕ → List ℕ → ℕ → Bool
+namesStayB s m i = not (eqb (kindOf m i) directoryKind) && (not (eqb (kindOf s i) directoryKind) && not (isLong s i))
 
 -- the counts say how often the image's directories name each inode, unless the locked one changes it
 abbrev pub Counted : World → ℕ → List ℕ → Type 0

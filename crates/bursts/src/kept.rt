@@ -1,4 +1,6 @@
-// The steps of a burst, over what it keeps from one to the next so that it is made once a call: the map of the blocks that image addresses name, and the counts of the inodes that image directories name. s is the store, m the image, d the desk, h the desk's header, n the count of inodes.
+// The steps of a burst, over what it keeps from one to the next so that it is made once a call: the map of the blocks that
+// image addresses name, and the counts of the inodes that image directories name. s is the store, m the image, d the desk, h
+// the desk's header, n the count of inodes.
 ghost use mathlib.Core.Path.{_≡_};
 ghost use mathlib.Core.Logic.{_≢_};
 ghost use mathlib.Core.Bool.{Bool, true, false, _&&_};
@@ -9,7 +11,7 @@ ghost use lib.ListN.{length};
 ghost use Rattle.bounded.specs.Count.{Tallied};
 ghost use Rattle.bounded.specs.Search.{onFound};
 ghost use Rattle.layout.specs.Sizes.{headerBytes, inodeBytes, addressCount, mostInodes, mostImageBlocks, mostBlocks};
-ghost use Rattle.layout.specs.Inode.{kindOf, sizeOf, directoryKind};
+ghost use Rattle.layout.specs.Inode.{sizeOf};
 ghost use Rattle.layout.specs.Fits.{InodeFits};
 ghost use Rattle.blocks.specs.Block.{blocksUsed, isLong, addressBlock, kthBy};
 ghost use Rattle.blocks.specs.Free.{longBut};
@@ -21,7 +23,7 @@ ghost use Rattle.checkpoint.specs.Image.{imageNaming};
 ghost use Rattle.checkpoint.specs.Copier.{lock, finish, targetBlock, freeStep};
 ghost use Rattle.checkpoint.specs.Shown.{world};
 ghost use Rattle.guards.specs.Fit.{furtherRightOf};
-ghost use Rattle.bursts.specs.Turn.{Mapped, Counted, Going, Kept, Took};
+ghost use Rattle.bursts.specs.Turn.{namesStayB, Mapped, Counted, Going, Kept, Took};
 use crate::Turn;
 use answers::Refusal;
 use blocks::free;
@@ -125,7 +127,7 @@ fn block_step(
 // Neither the blocks of inode i nor its close change what the image's directories name. Those of a long file may: its addresses go into a block that, on odd bytes, is a directory's too.
 fn names_stay(s: &[u8], m: &[u8], n: usize, i: usize) -> bool
     requires { ⌜ InodeFits (now s) n i × InodeFits (now m) n i ⌝ }
-    ensures { λ r. ⌜ (r ≡ true → (kindOf (now (m .entry)) i ≢ directoryKind) × (kindOf (now (s .entry)) i ≢ directoryKind) × (isLong (now (s .entry)) i ≡ false)) ⌝ }
+    ensures { λ r. ⌜ r ≡ namesStayB (now (s .entry)) (now (m .entry)) i ⌝ }
 {
     if inode::kind(m, n, i) == DIRECTORY {
         return false;
@@ -188,15 +190,27 @@ fn next_lock(d: &[u8], n: usize, counts: &[u16; INODE_PLACES]) -> Found
     tallies::lowest_named(counts, d, n)
 }
 
+// None of the addresses that the image has for inode i, by its address block a, is above b; they count if it is long in the store.
+fn further_fit(s: &[u8], m: &[u8], n: usize, b: usize, i: usize, a: usize) -> bool
+    requires { ⌜ InodeFits (now s) n i × Sized (now m) n b × (a ≡ addressBlock (now m) n i) × (1 ≤ a) × (a ≤ b) ⌝ }
+    ensures { λ r. ⌜ r ≡ furtherRightOf (isLong (now (s .entry)) i) (now (m .entry)) n b i ⌝ }
+{
+    if !blocks::is_long(s, n, i) {
+        return true;
+    }
+    fit::largest_further(m, n, a) as usize <= b
+}
+
 // Inode i is to be locked: 3 stays away, by the 32 addresses that count from then on if it is long in the store. In a run its twelfth image address is 0, and there are none.
 fn may_hold(s: &[u8], m: &[u8], n: usize, b: usize, i: usize, map: &mut [u8; BLOCK_PLACES]) -> bool
     requires { ⌜ InodeFits (now s) n i × Sized (now m) n b × (addressBlock (now m) n i ≤ b) × (furtherRightOf (isLong (now s) i) (now m) n b i ≡ true → RowsFit (longBut (now m) i (isLong (now s) i)) (now m) n) ⌝ }
     ensures { λ r. ⌜ (r ≡ furtherRightOf (isLong (now (s .entry)) i) (now (m .entry)) n b i) × (r ≡ true → Maps (isLong (now (m .entry))) (now (m .entry)) n (mostBlocks * n) (now (map .entry)) → Maps (longBut (now (m .entry)) i (isLong (now (s .entry)) i)) (now (m .entry)) n (mostBlocks * n) (now (map .exit))) ⌝ }
 {
-    if blocks::kth_block(m, n, i, ADDRESS_PLACE) == 0 {
+    let a = blocks::kth_block(m, n, i, ADDRESS_PLACE) as usize;
+    if a < 1 {
         return true;
     }
-    if !fit::further_fit_of(m, n, b, i, blocks::is_long(s, n, i), i) {
+    if !further_fit(s, m, n, b, i, a) {
         return false;
     }
     *map = map_of(s, m, n, i);
@@ -224,5 +238,6 @@ pub fn free_step(
     if holds {
         return Turn::Goes;
     }
+    // the next step would be refused with 3: this one was accepted
     Turn::Ends
 }

@@ -171,7 +171,7 @@ fn direct_fit(m: &[u8], n: usize, b: usize) -> bool
 }
 
 // The largest address in the address block a.
-fn largest_further(m: &[u8], n: usize, a: usize) -> u16
+pub fn largest_further(m: &[u8], n: usize, a: usize) -> u16
     requires { ⌜ (n ≤ mostInodes) × (1 ≤ a) × (a ≤ mostImageBlocks) × (blockAt n a + blockBytes ≤ length (now m)) ⌝ }
     ensures { λ r. ⌜ (r ≡ most (furtherOf (now (m .entry)) n a) furtherCount) × (r < 65536) ⌝ }
 {
@@ -183,7 +183,7 @@ fn largest_further(m: &[u8], n: usize, a: usize) -> u16
 }
 
 // None in the address block of inode i, if it has one, is above b; its own number is known not to be. Inode l has one as told by long.
-pub fn further_fit_of(m: &[u8], n: usize, b: usize, l: usize, long: bool, i: usize) -> bool
+fn further_fit_of(m: &[u8], n: usize, b: usize, l: usize, long: bool, i: usize) -> bool
     requires { ⌜ Sized (now m) n b × (1 ≤ i) × (i ≤ n) × (addressBlock (now m) n i ≤ b) ⌝ }
     ensures { λ r. ⌜ r ≡ furtherRightOf (longBut (now (m .entry)) l long i) (now (m .entry)) n b i ⌝ }
 {

@@ -24,6 +24,8 @@ use Rattle.watch.specs.Made.{Received, got, Did}
 use Rattle.watch.specs.Claim.{received, countTold, stepsTold, fed, replied, plainReplied, BurstIsSteps, Delivered, Claim}
 use Rattle.watch.proofs.SinglesLaws.{run-on, singles-ones, burst-steps, heard-on, replies-on, count-on}
 use Rattle.watch.proofs.MadeLaws.{did, AllDefined, made}
+use Rattle.watch.proofs.WholeLaws.{that-many, wholes, asked-ended, asked-complete}
+use Rattle.watch.proofs.NextLaws.{next-burst}
 
 -- ---- a burst that is answered
 -- its count is told
@@ -102,6 +104,9 @@ run-delivers xs w ds =
       bound = rw count (d .reported .bound);
       store = rw calls (d .as-plain .store);
       answers = rw calls (replied-numbers xs w ∙ ap by-numbers (d .as-plain .answers) ∙ plain-numbers (heard es w) (w .store));
+      ended = asked-ended xs w (ds (wholes xs) .done);
+      complete = asked-complete xs w (ds (wholes xs) .done);
+      burst = λ {k} q. rw (did q .world, did q .got) (next-burst es w ds k);
       demand = d;
     }
 
@@ -135,7 +140,7 @@ module _ (k : ℕ) (w : World) where
       go (counts f a q e) = absurd (clash (accepted advances w) q r)
 
   is-steps : BurstIsSteps k w (got (told (burst k w .answer)) []) (worldIn (burst k w))
-  is-steps = record { bytes = burst-world k w; count = its-count; first = its-first }
+  is-steps = record { bytes = burst-world k w; whole = that-many k w; count = its-count; first = its-first }
 
 -- ---- the opening start
 module _ {v w : World} {a : Received} (s : Did (one starts) v a w) where

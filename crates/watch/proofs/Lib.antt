@@ -2,8 +2,10 @@ pub mod ReturnLaws
 pub mod OutLaws
 pub mod SinglesLaws
 pub mod MadeLaws
-pub mod Claim
 pub mod AnswerLaws
 pub mod KeepLaws
+pub mod WholeLaws
+pub mod NextLaws
+pub mod Claim
 pub mod FirstDemand
 pub mod Contracts

@@ -1,4 +1,4 @@
--- Demand 1, of the calls' code: "The answer of each public call, for all bytes and numbers handed to it, is its result or one of the sixteen refusals of document 01", eighteen with 17 and 21, and which.
+-- Demand 1, of the calls' code: "The answer of each public call, for all bytes and numbers handed to it, is its result or one of the sixteen refusals of document 01", and which. F-2: "Demand 1's refusals take in 17 and the numbers that later requests add".
 -- "A refusal changes no lent buffer, save that 16 marks the copy stopped and unlocks what was being copied."
 use Prim.Native.Nat.{ℕ, _+_, _-_, min, max}
 use mathlib.Core.Path.{_≡_}

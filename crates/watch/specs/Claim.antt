@@ -1,29 +1,32 @@
 -- The calls' code and the claim together: what is delivered by every list of calls made on the code after an accepted start. The quotes are the customer's.
-use Prim.Native.Nat.{ℕ, suc, _+_, _*_, _≤_}
+use Prim.Native.Nat.{ℕ, zero, suc, _+_, _*_, _≤_}
 use mathlib.Core.Path.{_≡_}
 use mathlib.Core.Bool.{Bool, true, false}
 use mathlib.Core.List.{List, [], _∷_, _++_}
+use mathlib.Core.Logic.{_⊎_}
 use lib.Dec.{eqb}
 use lib.ListN.{length, getD}
 use Rattle.bounded.specs.Search.{pick}
-use Rattle.desk.specs.Sizes.{running, stepsAnInode}
+use Rattle.layout.specs.Sizes.{isComplete}
+use Rattle.layout.specs.Header.{headerOf}
+use Rattle.desk.specs.Sizes.{running, finished, stopped, stepsAnInode}
 use Rattle.desk.specs.Desk.{deskOf}
 use Rattle.sound.specs.Sound.{Sound}
 use Rattle.sound.specs.declared.Form.the-variants.{Image}
-use Rattle.answers.specs.declared.Answer.the-variants.{Done}
-use Rattle.answers.specs.declared.Refusal.the-variants.{Busy}
+use Rattle.answers.specs.declared.Answer.the-variants.{Done, Refused}
+use Rattle.answers.specs.declared.Refusal.the-variants.{BadBuffer, UnsoundStore, BadDesk, Busy, WrongState, ImageFull, BadCount}
 use Rattle.answers.specs.Refusal.{refusalNumber}
 use Rattle.answers.specs.Told.{told}
 use Rattle.files.specs.Effect.{Call}
 use Rattle.files.specs.Plain.{plain}
 use Rattle.checkpoint.specs.declared.Status.the-variants.{Is}
-use Rattle.checkpoint.specs.Fit.{isRunning, imageAllowed}
+use Rattle.checkpoint.specs.Fit.{isRunning, imageAllowed, bothFramed}
 use Rattle.checkpoint.specs.Live.{World, outOf}
 use Rattle.checkpoint.specs.Shown.{world, Shown, shown, toldStatus}
 use Rattle.checkpoint.specs.List.{Ready, Event, call, advances, asks, starts, outcome, accepted, run, Finish, Kept, acceptedSteps, stateAfter, plainRun}
-use Rattle.checkpoint.specs.Burst.{burst, triesOf, Act, one, bursts, singles}
+use Rattle.checkpoint.specs.Burst.{countAllowed, burst, triesOf, Act, one, bursts, singles}
 use Rattle.checkpoint.specs.Finished.{countOf, InCopy}
-use Rattle.checkpoint.specs.Progress.{noRestart}
+use Rattle.checkpoint.specs.Progress.{noRestart, Roomy}
 use Rattle.checkpoint.specs.Demand.{Demand}
 use Rattle.watch.specs.Made.{Received, got, Did, Made}
 
@@ -95,14 +98,46 @@ abbrev pub ones : List Event → List Act
 ones [] = []
 ones (e ∷ es) = one e ∷ ones es
 
+-- k single steps
+abbrev pub thatMany : ℕ → List Event
+thatMany zero = []
+thatMany (suc k) = advances ∷ thatMany k
+
+-- the steps that a list asks for
+abbrev pub stepsAsked : List Act → ℕ
+stepsAsked [] = 0
+stepsAsked (one advances ∷ xs) = suc (stepsAsked xs)
+stepsAsked (one (call c) ∷ xs) = stepsAsked xs
+stepsAsked (one asks ∷ xs) = stepsAsked xs
+stepsAsked (one starts ∷ xs) = stepsAsked xs
+stepsAsked (bursts k ∷ xs) = pick (countAllowed k) k 0 + stepsAsked xs
+
 -- ---- a burst, on any bytes: k steps were asked for on the world w, its caller got a, and v was left
 pub record BurstIsSteps (k : ℕ) (w : World) (a : Received) (v : World) : Type 0 where
   -- the bytes are those of the single steps that it tried
   pub bytes : v ≡ run (triesOf k w) w
+  -- where neither 1 nor 17 comes, they are those of k single steps: "does what that many single steps would"
+  pub whole : bothFramed (w .store) (w .desk) ≡ true → countAllowed k ≡ true → v ≡ run (thatMany k) w
   -- it "reports how many were accepted"
   pub count : a .answer .number ≡ 0 → a .answer ≡ told (Done (acceptedSteps (triesOf k w) w 0))
   -- "If the very first is refused, that refusal is the answer."
   pub first : (es : List Event) → triesOf k w ≡ advances ∷ es → accepted advances w ≡ false → a .answer ≡ outcome advances w .answer
+
+-- ---- a burst of k steps as the next call of a list that has left u; w is the world just after the start, v the one that the burst leaves
+pub record NextBurst (k : ℕ) (w u : World) (a : Received) (v : World) : Type 0 where
+  -- 1 to 3 never come
+  pub buffers : a .answer .number ≡ refusalNumber BadBuffer → ⊥
+  pub store : a .answer .number ≡ refusalNumber UnsoundStore → ⊥
+  pub desk : a .answer .number ≡ refusalNumber BadDesk → ⊥
+  -- "17 when the number of steps is outside 1 to 64", and only then
+  pub wrong : countAllowed k ≡ false → a .answer ≡ told (Refused BadCount)
+  pub allowed : countAllowed k ≡ true → a .answer .number ≡ refusalNumber BadCount → ⊥
+  -- "15 .. step while not"
+  pub late : countAllowed k ≡ true → isRunning (u .desk) ≡ false → a .answer ≡ told (Refused WrongState)
+  -- fewer steps than were asked for, or none, only where the copy runs no more
+  pub all : countAllowed k ≡ true → isRunning (v .desk) ≡ true → a .answer ≡ told (Done k)
+  -- "With 12 × N image blocks or more, 16 never comes in a run." (F-1: 44 × N)
+  pub never-full : Roomy w → a .answer .number ≡ refusalNumber ImageFull → ⊥
 
 -- ---- xs were made on the code from w to u, and their callers got rs; w is the world just after the start. "in demand 3's list the call stands for the single steps it tried": singles xs w is that list
 pub record Delivered (xs : List Act) (w : World) (rs : List Received) (u : World) : Type 0 where
@@ -121,6 +156,11 @@ pub record Delivered (xs : List Act) (w : World) (rs : List Received) (u : World
   -- "The store's bytes and every file call's answer are exactly those of a plain store without a copier, given the same file calls in the same order, the ones refused as busy left out."
   pub store : u .store ≡ plainRun (fed xs rs) (w .store)
   pub answers : replied xs rs ≡ plainReplied (fed xs rs) (w .store)
+  -- after as many steps as a copy can take were asked for, singly or in bursts, it is finished or stopped; with 44 × N image blocks it is finished
+  pub ended : noRestart (singles xs w) w ≡ true → stepsAnInode * countOf w + 1 ≤ stepsAsked xs → (deskOf (u .desk) .state ≡ finished) ⊎ (deskOf (u .desk) .state ≡ stopped)
+  pub complete : Roomy w → noRestart (singles xs w) w ≡ true → stepsAnInode * countOf w + 1 ≤ stepsAsked xs → (deskOf (u .desk) .state ≡ finished) × (headerOf (u .image) .complete ≡ isComplete)
+  -- the next call, if it is a burst
+  pub burst : {k : ℕ} {a : Received} {v : World} → Did (bursts k) u a v → NextBurst k w u a v
   -- and all else that the demands ask of such a list
   pub demand : Demand (singles xs w) w
 

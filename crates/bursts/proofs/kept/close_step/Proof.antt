@@ -1,5 +1,7 @@
+use mathlib.Core.Path.{sym, _∙_}
 use denote.Ref.{now}
 use borrow.Author.Tests.{not-false}
+use Rattle.bursts.proofs.KeptLaws.{stay-is}
 use Rattle.bursts.proofs.StepTurns.{going-held, going-locked, going-addressed, going-fits, close-addressed, close-names, close-goes}
 use borrow.Author.Needs.{needs}
 use Rattle.bursts.proofs.kept.close_step.Statement.{statement}
@@ -48,7 +50,7 @@ returns-2 : tie.Need-returns-2
 returns-2 c =
     let a = c .before .before .before .before .before .before .before .before .before .before .before .before .before .before .args in
     let p = c .before .before .before .before .before .before .before .before .before .before .before .before .before .before .pre in
-    close-goes (now (a .s)) (now (a .m)) (now (a .d)) (a .n) (a .h) (p .0) (p .2) (p .3) _ _ _ (c .before .before .before .before .before .close .ensures) _ (close-names (now (a .s)) (now (a .m)) (now (a .d)) (a .n) (a .h) (p .0) (p .2) (p .3) _ _ _ (c .before .before .before .before .before .close .ensures) (c .before .before .before .before .before .before .before .before .names-stay .ensures (not-false _ (c .if1 .left))) _ (p .1))
+    close-goes (now (a .s)) (now (a .m)) (now (a .d)) (a .n) (a .h) (p .0) (p .2) (p .3) _ _ _ (c .before .before .before .before .before .close .ensures) _ (close-names (now (a .s)) (now (a .m)) (now (a .d)) (a .n) (a .h) (p .0) (p .2) (p .3) _ _ _ (c .before .before .before .before .before .close .ensures) (stay-is _ _ _ (sym (c .before .before .before .before .before .before .before .before .names-stay .ensures) ∙ not-false _ (c .if1 .left))) _ (p .1))
 
 pub close-step-spec : {M : Type 1} → statement M
 close-step-spec =
