@@ -1,6 +1,6 @@
 -- What the promise of a call says of its answer and of its counts.
 use Prim.Native.Nat.{ℕ, _<_}
-use mathlib.Core.Path.{_≡_, refl, sym, ap, _∙_}
+use mathlib.Core.Path.{_≡_, refl, sym, ap, subst, _∙_}
 use mathlib.Core.Bool.{Bool, true, false}
 use native.Mathlib.Omega.{arith}
 use lib.ListN.{getD, replicate, getD-replicate}
@@ -14,6 +14,7 @@ use Rattle.answers.specs.Told.{Told, told}
 use Rattle.dealer.specs.Deal.{bays, served, gets, Dealt, turn, turnAllowed}
 use Rattle.dealer.specs.Claims.{Call, Answers, given}
 use Rattle.dealer.specs.Places.{Allowed}
+use Rattle.dealer.proofs.Circle.{served-below}
 use Rattle.dealer.proofs.TurnLaws.{allowed-is}
 
 -- a call that answered y
@@ -48,6 +49,12 @@ module _ (c : Call) where
       go : (v : Bool) → allowed ≡ v → turn (c .answer) (c .counts) ≡ of v → Gave
       go true e p = steps (allowed-is _ _ e) (counted p)
       go false e p = nothing (λ x hx. ap (λ (d : Dealt). getD (d .counts) x 0) p ∙ getD-replicate {A = ℕ} bays x 0 0 hx)
+
+  pub answers : allowed ≡ true → (x : ℕ) × (x < bays) × Answers c x
+  answers e =
+      let p = subst (λ (v : Bool). turn (c .answer) (c .counts) ≡ of v) e (c .promise) in
+      let hb = allowed-is (c .steps) (c .last) e .bay in
+      (served (c .flags) (c .last) (c .steps), served-below (c .flags) (c .last) (c .steps) hb, ap (λ (d : Dealt). d .answer) p)
 
   pub accepted : (y : ℕ) → Answers c y → Accepted c y
   unfolding value

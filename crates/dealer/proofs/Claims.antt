@@ -1,4 +1,4 @@
--- The four claims, of every call and of every sixteen calls in a row.
+-- The claims, of every call and of every sixteen calls in a row.
 use Prim.Native.Nat.{ℕ, _+_, _≤_, _<_}
 use mathlib.Core.Path.{_≡_, sym, subst, _∙_}
 use mathlib.Core.Bool.{true, false}
@@ -9,8 +9,8 @@ use Rattle.dealer.specs.Claims.{Call, Answers, given, SomeRuns, AddsUp, 
 use Rattle.dealer.proofs.Circle.{served-below}
 use Rattle.dealer.proofs.Rounds.{even-gets}
 use Rattle.dealer.proofs.AddsUp.{serves-running, adds-up, stays, none-get}
-use Rattle.dealer.proofs.Dealing.{gets-none}
-use Rattle.dealer.proofs.CallLaws.{accepted, Gave, steps, nothing, gave}
+use Rattle.dealer.proofs.Filling.{gets-none}
+use Rattle.dealer.proofs.CallLaws.{answers, accepted, Gave, steps, nothing, gave}
 use Rattle.dealer.proofs.Fairness.{fair}
 
 sums : (c : Call) (y : ℕ) → Answers c y → AddsUp c y
@@ -45,4 +45,4 @@ differ c x y hx hy rx ry = go (gave c)
     go (nothing g) = omega (arith, g x hx)
 
 pub claims : Claims
-claims = record { adds-up = sums; only-running = only; even = differ; fair = fair }
+claims = record { answers = answers; adds-up = sums; only-running = only; even = differ; fair = fair }

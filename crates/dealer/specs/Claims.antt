@@ -1,5 +1,6 @@
--- What a charging case may rely on, of calls of the dealer's code. Of the code this knows the contract of
--- `deal`, and nothing else: each call has it as its one hypothesis (proofs/Contract.antt holds it to the code's).
+-- What a charging case may rely on, of calls of the dealer's code. Of the code this knows the contract
+-- of `deal`, and nothing else: each call has it as its one hypothesis (proofs/Contract.antt holds it to
+-- the code's).
 use Prim.Native.Nat.{ℕ, _+_, _≤_, _<_}
 use mathlib.Core.Path.{_≡_}
 use mathlib.Core.Bool.{Bool, true, false}
@@ -9,7 +10,7 @@ use Rattle.bounded.specs.Sum.{sum}
 use Rattle.answers.specs.declared.Answer.{Answer}
 use Rattle.answers.specs.declared.Answer.the-variants.{Done}
 use Rattle.answers.specs.Told.{told}
-use Rattle.dealer.specs.Deal.{bays, runs, turn, dealt}
+use Rattle.dealer.specs.Deal.{bays, runs, turn, turnAllowed, dealt}
 
 -- a call: what the dealer was told, what it answered, and what its contract promises
 pub record Call : Type 0 where
@@ -46,11 +47,13 @@ pub record OnlyRunning (c : Call) : Type 0 where
 
 -- "two running bays differ by at most one step in a turn"
 abbrev pub Even : Call → Type 0
-Even c = (x y : ℕ) → x < bays → y < bays → runs (c .flags) x ≡ true → runs (c .flags) y ≡ true → given c x ≤ given c y + 1
+Even c =
+    (x y : ℕ) → x < bays → y < bays → runs (c .flags) x ≡ true → runs (c .flags) y ≡ true
+    → given c x ≤ given c y + 1
 
 -- "each turn is told the bay that the turn before answered": the first is told b
 pub data Turns : ℕ → List Call → Type 0 where
-  none : {b : ℕ} → Turns b []
+  no-more : {b : ℕ} → Turns b []
   then : {c : Call} {cs : List Call} (x : ℕ) → Answers c x → Turns x cs → Turns (c .last) (c ∷ cs)
 
 -- "a bay that runs throughout gets a step within sixteen turns, whichever others start or end":
@@ -62,6 +65,8 @@ Fair =
     → (c : Call) × List·Memᴰ c cs × (1 ≤ given c x)
 
 pub record Claims : Type 0 where
+  -- "It answers .. the bay last served": 21 comes to no turn but those that it names
+  pub answers : (c : Call) → turnAllowed (c .steps) (c .last) ≡ true → (x : ℕ) × (x < bays) × Answers c x
   pub adds-up : (c : Call) (x : ℕ) → Answers c x → AddsUp c x
   pub only-running : (c : Call) → OnlyRunning c
   pub even : (c : Call) → Even c

@@ -5,14 +5,14 @@ use mathlib.Core.Logic.{⊎-elim}
 use native.Mathlib.Nat.{div-le-self}
 use native.Mathlib.Omega.{arith}
 use borrow.Author.Needs.{needs}
-use Rattle.dealer.proofs.Dealing.{Dealing, begin, skips, in-round, gives, whole, Ending, not-reached, passes}
+use Rattle.dealer.proofs.Filling.{Filling, begin, skips, in-round, gives, whole, Ending, not-reached, passes}
 use Rattle.dealer.proofs.TurnLaws.{in-a-round, ends-at, same-turn}
 use Rattle.dealer.proofs.parted.Statement.{statement}
 use Rattle.dealer.proofs.parted.Tie as tie
 
 abbrev Inv-loop : tie.InvT-loop
 Inv-loop steps last n flags part rest ending counts₀ place₀ end₀ d₀ counts place end d =
-    (d ≤ 16) × Dealing flags last steps d place counts × Ending flags last ending place end
+    (d ≤ 16) × Filling flags last steps d place counts × Ending flags last ending place end
 
 abbrev μ-loop : tie.MeasureT-loop
 μ-loop steps last n flags part rest ending counts₀ place₀ end₀ d₀ counts place end d = 16 - d
@@ -82,7 +82,7 @@ returns c =
     let p = c .before .before .pre in
     let l = c .before .loop in
     let e : l .d ≡ 16 = omega arith in
-    let q = subst (λ (k : ℕ). Dealing (a .t1) (a .last) (a .steps) k (l .place) (l .counts)) e (l .inv .1) in
+    let q = subst (λ (k : ℕ). Filling (a .t1) (a .last) (a .steps) k (l .place) (l .counts)) e (l .inv .1) in
     let t = in-a-round _ (a .n) (l .place) (p .2 ∙ sym (q .place)) (λ z. omega (arith, p .1)) in
     let w = l .inv .2 in
     same-turn _ _ _ _
