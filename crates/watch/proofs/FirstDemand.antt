@@ -50,6 +50,10 @@ deal-by : (b : Bool) (x : ℕ) (cs none : List ℕ) (t : Told) → t ≡ pick b 
 deal-by true x cs none t h = rw h (passes refl result)
 deal-by false x cs none t h = rw h (holds refl)
 
+deal-zeros : (b : Bool) (x : ℕ) (cs none counts : List ℕ) (r : Answer) → turn r counts ≡ pick b (turn (Done x) cs) (turn (Refused BadTurn) none) → (told r .number ≡ 0 → ⊥) → counts ≡ none
+deal-zeros true x cs none counts r h n = absurd (n (ap (λ (d : Dealt). d .answer .number) h))
+deal-zeros false x cs none counts r h n = ap (λ (d : Dealt). d .counts) h
+
 pub first-demand : FirstDemand
 unfolding layOutStore layOutDesk
 first-demand = record {
@@ -58,7 +62,11 @@ first-demand = record {
   lays-store = λ {s} {t} r n b h. lays (allowed mostStoreBlocks n b (length s)) s (freshStore n b) t r h;
   lays-desk = λ {desk} {t} r n h. lays (deskAllowed n (length desk)) desk (freshDesk n) t r h;
   deals = λ {counts} r flags steps last h.
-      let p = deal-by (turnAllowed steps last) (served flags last steps) (table (gets flags last steps) bays) (replicate bays 0) (told r) (ap (λ (d : Dealt). d .answer) h) in
-      record { by = p; in-order = refl; known = known-by p };
+      let cs = table (gets flags last steps) bays in
+      let p = deal-by (turnAllowed steps last) (served flags last steps) cs (replicate bays 0) (told r) (ap (λ (d : Dealt). d .answer) h) in
+      record {
+        answered = record { by = p; in-order = refl; known = known-by p };
+        zeros = deal-zeros (turnAllowed steps last) (served flags last steps) cs (replicate bays 0) counts r h;
+      };
   checks = λ f s r h. rw h (is-sound f s);
 }
