@@ -1,10 +1,11 @@
 -- Each export is the public call of its name: from what a caller learns by its contract, whatever the arguments, follows that the call was made, and what its caller is told.
 -- a are the arguments, z is the result, e the parameters at exit; m and d are an image and a desk that the call does not have.
-use Prim.Native.Nat.{ℕ}
-use mathlib.Core.Path.{_≡_, refl, ap}
+use Prim.Native.Nat.{ℕ, _<_}
+use mathlib.Core.Path.{_≡_, refl, sym, ap, _∙_}
 use mathlib.Core.Bool.{Bool, true, false}
 use mathlib.Core.List.{List, [], _∷_}
-use lib.IntN.{ℤ}
+use native.Mathlib.Omega.{arith}
+use lib.IntN.{ℤ, pos, natAbs, pos-ne-negsuc}
 use lib.ListN.{replicate}
 use denote.Ref.{now}
 use Rattle.entries.specs.declared.Kind.the-variants.{File, Directory}
@@ -22,7 +23,9 @@ use Rattle.checkpoint.specs.List.{call, advances, starts}
 use Rattle.checkpoint.specs.Burst.{burst, one, bursts}
 use Rattle.watch.specs.Made.{got, looked-up, has-read, created, written, shortened, linked, unlinked, renamed, started, stepped, asked, stepped-many}
 use Rattle.watch.proofs.Contracts.{Gives}
-use Rattle.dealer.specs.Deal.{bays, served, gets, turn, turnAllowed}
+use Rattle.dealer.specs.Deal.{bays, served, gets, turn, turnAllowed, dealt}
+use Rattle.dealer.proofs.Circle.{served-below}
+use Rattle.dealer.proofs.TurnLaws.{allowed-is}
 use Rattle.api.specs.Api.{Sent, codeOf, sends, sentAlone, sent, SentState, sentState, maskFlags, sentDealt}
 use Rattle.api.specs.Exported.{Exported, Asked, Dealing}
 use Rattle.api.proofs.honecerise_look_up.Kinds as look-up-kinds
@@ -184,13 +187,39 @@ state-exported κs a z e h =
     }
 
 -- ---- the dealer
-dealt-as : (v : Bool) (x : ℕ) (cs none : List ℕ) (z : ℤ) (counts : List ℕ) → sends z (counts ∷ []) ≡ sentDealt (pick v (turn (Done x) cs) (turn (Refused BadTurn) none))
-    → (a : Answer) × (turn a counts ≡ pick v (turn (Done x) cs) (turn (Refused BadTurn) none)) × (z ≡ codeOf (told a))
-dealt-as true x cs none z counts h = (Done x, ap (λ (s : Sent). turn (Done x) (first (s .buffers))) h, ap (λ (s : Sent). s .code) h)
-dealt-as false x cs none z counts h = (Refused BadTurn, ap (λ (s : Sent). turn (Refused BadTurn) (first (s .buffers))) h, ap (λ (s : Sent). s .code) h)
+-- a bay is far below the largest result, so the code tells which it is
+told-bay : (x y : ℕ) (z : ℤ) → x < bays → z ≡ codeOf (told (Done x)) → z ≡ pos y → told (Done x) ≡ told (Done y)
+told-bay x y z l c e = let q : x ≡ y = omega (arith, ap natAbs (sym c ∙ e)) in ap (λ (n : ℕ). told (Done n)) q
+
+module _ (mask steps last : ℕ) (z : ℤ) (counts : List ℕ) (h : sends z (counts ∷ []) ≡ sentDealt (dealt (maskFlags mask) steps last)) where
+  abbrev x : ℕ
+  x = served (maskFlags mask) last steps
+
+  abbrev cs : List ℕ
+  cs = table (gets (maskFlags mask) last steps) bays
+
+  dealing : Dealing mask steps last z counts
+  dealing = go (turnAllowed steps last) refl
+    where
+      go : (v : Bool) → turnAllowed steps last ≡ v → Dealing mask steps last z counts
+      go true e =
+          let k : sends z (counts ∷ []) ≡ sentDealt (turn (Done x) cs) = rw e at h in
+          let c = ap (λ (s : Sent). s .code) k in
+          record {
+            answer = Done x;
+            made = rw e (ap (λ (s : Sent). turn (Done x) (first (s .buffers))) k);
+            code = c;
+            bay = λ y. told-bay x y z (served-below (maskFlags mask) last steps (allowed-is steps last e .bay)) c;
+          }
+      go false e =
+          let k : sends z (counts ∷ []) ≡ sentDealt (turn (Refused BadTurn) (replicate bays 0)) = rw e at h in
+          let c = ap (λ (s : Sent). s .code) k in
+          record {
+            answer = Refused BadTurn;
+            made = rw e (ap (λ (s : Sent). turn (Refused BadTurn) (first (s .buffers))) k);
+            code = c;
+            bay = λ y p. absurd (pos-ne-negsuc y 20 (sym p ∙ c));
+          }
 
 pub deal-exported : Gives 1 deal-kinds.ps deal-kinds.r deal-reads.Learnt (λ κs a z e. Dealing (a .0) (a .1 .0) (a .1 .1 .0) z (now (e .1 .1 .1 .0)))
-deal-exported κs a z e h =
-    let f = maskFlags (a .0) in
-    let d = dealt-as (turnAllowed (a .1 .0) (a .1 .1 .0)) (served f (a .1 .1 .0) (a .1 .0)) (table (gets f (a .1 .1 .0) (a .1 .0)) bays) (replicate bays 0) z (now (e .1 .1 .1 .0)) h in
-    record { answer = d .0; made = d .1; code = d .2 }
+deal-exported κs a z e h = dealing (a .0) (a .1 .0) (a .1 .1 .0) z (now (e .1 .1 .1 .0)) h

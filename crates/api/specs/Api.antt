@@ -67,7 +67,8 @@ flagsFrom mask b (suc n) = marked mask b ∷ flagsFrom mask (b + 1) n
 abbrev pub maskFlags : ℕ → List Bool
 maskFlags mask = flagsFrom mask 0 bays
 
--- "It answers sixteen counts and the bay last served."
+-- "It answers sixteen counts and the bay last served.": the counts are part of the answer, so 21 sets
+-- C's counts to 0
 abbrev pub sentDealt : Dealt → Sent
 sentDealt d = sends (codeOf (d .answer)) (d .counts ∷ [])
 

@@ -2,8 +2,9 @@
 use Prim.Native.Nat.{ℕ}
 use mathlib.Core.Path.{_≡_}
 use mathlib.Core.List.{List, [], _∷_}
-use lib.IntN.{ℤ}
+use lib.IntN.{ℤ, pos}
 use Rattle.answers.specs.declared.Answer.{Answer}
+use Rattle.answers.specs.declared.Answer.the-variants.{Done}
 use Rattle.answers.specs.Told.{told}
 use Rattle.checkpoint.specs.Live.{World}
 use Rattle.checkpoint.specs.List.{asks}
@@ -27,8 +28,10 @@ pub record Asked (w : World) (c : ℤ) (ns : List ℕ) : Type 0 where
   pub numbers : received .answer .number ≡ 0 → ns ≡ received .answer .values
 
 -- a call of the dealer was told the mask, steps and bay, answered c and left the counts: so it is a call
--- of the dealer (`Call`, in `dealer`), of which the four claims speak, with the flags of that mask
+-- of the dealer (`Call`, in `dealer`), of which `Claims` speaks, with the flags of that mask; a number
+-- that is not negative is the bay that this call answered
 pub record Dealing (mask steps last : ℕ) (c : ℤ) (counts : List ℕ) : Type 0 where
   pub answer : Answer
   pub made : turn answer counts ≡ dealt (maskFlags mask) steps last
   pub code : c ≡ codeOf (told answer)
+  pub bay : (x : ℕ) → c ≡ pos x → told answer ≡ told (Done x)

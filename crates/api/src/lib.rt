@@ -1,7 +1,7 @@
 // The calls that programs in other languages link: slices pass as a pointer and a length, numbers in the
 // machine's size. A call answers 32 bits with a sign: its result, which is never negative, or minus the
 // number of its refusal; the check answers a byte. Any bytes and numbers may be handed in; a refused call
-// changes nothing, save that 16 writes the desk, and that the dealer's counts are then 0.
+// changes nothing, save that 16 writes the desk, and that 21 sets the dealer's counts to 0.
 mod code;
 mod mask;
 
