@@ -17,7 +17,7 @@ pub fn are_flags(s: &[u8]) -> bool {
     true
 }
 
-// A digit that is missing is none.
+// A digit that is missing counts as 0.
 pub fn flags(s: &[u8]) -> [bool; BAYS] {
     let mut flags = [false; BAYS];
     for b in 0..BAYS {
