@@ -58,7 +58,7 @@ extern "C" {
 #define HONECERISE_MAX_FILE      2752u /* bytes of a file                                       */
 #define HONECERISE_MAX_SLOTS       48u /* entries of a directory                                */
 #define HONECERISE_MOST_BURST      64u /* steps of a burst: 1 to 64                             */
-#define HONECERISE_BAYS            16u /* of a charging case: 0 to 15                           */
+#define HONECERISE_BAYS            16u /* bays of a charging case: 0 to 15                      */
 #define HONECERISE_MOST_TURN       64u /* steps of a case's turn: 1 to 64                       */
 
 /*
@@ -84,9 +84,9 @@ extern "C" {
 #define HONECERISE_MOST_STEPS(inodes)           (46u * (inodes) + 1u)
 
 /* ---- refusals, by who causes them ----------------------------------------------------------
- * Where several apply, the lowest is answered, save that 17 is looked at right after 1; 21 comes to
- * honecerise_deal, and nothing else does. A call answers one when, and only when, its condition holds
- * for that call. */
+ * Where several apply, the lowest is answered, save that 17 is looked at right after 1. 21 is
+ * honecerise_deal's only refusal, and no other call's. A call answers one when, and only when, its
+ * condition holds for that call. */
 
 enum honecerise_refusal {
     /* whoever wires the buffers */
@@ -244,19 +244,24 @@ int32_t honecerise_state(const uint8_t *store, size_t store_length,
 /* ---- the charging case ---------------------------------------------------------------------
  * One radio, sixteen bays. Each turn of the case has 1 to HONECERISE_MOST_TURN steps to give away:
  * starting after the bay last served, one step goes to each running bay, in a circle, until the number
- * is used. Bit b of running says that bay b runs. counts gets the sixteen counts, bay 0's first, in
- * every case, and the answer is the bay last served, which the next turn is told:
+ * is used. Bit b of running says that bay b runs; C itself cuts a wider number that is passed to these
+ * sixteen bits. counts gets the sixteen counts, bay 0's first, in every case: a refusal sets them to 0.
+ * The answer is the bay last served, which the next turn is told:
  *
- *     last = honecerise_deal(running, steps, last, counts);
+ *     answer = honecerise_deal(running, steps, last, counts);
+ *     if (answer >= 0) last = (size_t)answer;
  *     for each bay b with counts[b] > 0: honecerise_burst(.. the watch in bay b .., counts[b]);
+ *
+ * After a refusal keep the bay you had.
  *
  * The counts add up to the steps. If no bay runs they are 0, and the bay told is answered. Two running
  * bays differ by at most one step in a turn. A bay that runs in each of sixteen turns gets a step in one
  * of them, whichever others start or end, if each turn is told the bay that the turn before answered:
  * so feed that bay to the next turn whatever the bursts did. A burst may end early, since the copy
- * finished or the watch was taken out; its steps are lost for this turn, and telling the last bay that
- * really took a step would break the promise. With as many steps a turn as bays run, every running bay
- * gets a step in every turn; only with one step a turn can a bay wait for sixteen.
+ * finished or the watch was taken out; its steps are lost for this turn. If the next turn is told the
+ * last bay that really took a step, the promise need not hold then. With at least as many steps a turn
+ * as bays run, every running bay gets a step in every turn; only with one step a turn can a bay wait for
+ * sixteen (by counting; not proved).
  *
  * Tell a bay whose copy is finished or stopped as not running (ask honecerise_state), or it goes on
  * getting its share. examples/c/case.c is such a loop. 21. */

@@ -78,7 +78,8 @@ static size_t turn(uint16_t running, size_t last)
     for (b = 0; b < HONECERISE_BAYS; b++)
         if (counts[b] > 0) {
             printf("bay %u: %u, ", (unsigned)b, counts[b]);
-            done("burst", honecerise_burst(WATCH(&bays[b]), counts[b]));
+            /* short or refused: the next state question tells */
+            (void)honecerise_burst(WATCH(&bays[b]), counts[b]);
         }
     printf("last %u\n", (unsigned)next);
     return next;
@@ -99,7 +100,7 @@ int main(void)
         if (turns == 2)
             put_in(10, 1500);
         if (turns == 4)
-            bays[14].there = 0; /* its pupil was in a hurry */
+            bays[14].there = 0; /* taken out */
     }
 
     for (b = 0; b < HONECERISE_BAYS; b++)

@@ -5,8 +5,8 @@
 //! allocation, no globals, no `std`.
 //!
 //! [`Watch`] holds the three lent buffers (store, image and desk) and has all calls. [`Files`] reads what a sound store or a
-//! finished image holds. [`deal`] parts a charging case's steps among its bays. [`Refusal`] says why a call was refused; a refused call has changed nothing,
-//! save that [`Refusal::ImageFull`] marks the copy stopped.
+//! finished image holds. [`deal`] parts a charging case's steps among its bays. [`Refusal`] says why a call was refused; a
+//! refused call has changed nothing, save that [`Refusal::ImageFull`] marks the copy stopped.
 //!
 //! ```
 //! use honecerise::{desk_len, image_len, store_len, CopyState, Inode, Refusal, Watch};

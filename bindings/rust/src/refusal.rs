@@ -2,7 +2,8 @@
 use core::fmt;
 
 /// The refusals, by who causes them. Where several apply, the lowest is answered, save that [`BadCount`](Refusal::BadCount)
-/// is looked at right after [`BadBuffer`](Refusal::BadBuffer). [`BadTurn`](Refusal::BadTurn) comes to [`deal`](crate::deal) alone.
+/// is looked at right after [`BadBuffer`](Refusal::BadBuffer). [`BadTurn`](Refusal::BadTurn) comes to
+/// [`deal`](crate::deal) alone.
 ///
 /// ```
 /// use honecerise::Refusal;
