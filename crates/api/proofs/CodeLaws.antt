@@ -1,6 +1,6 @@
 -- Laws of an answer sent as one number with a sign: it fits 32 bits, and says what the answer tells.
-use Prim.Native.Nat.{ℕ, zero, suc, min, _≤_}
-use mathlib.Core.Path.{_≡_, refl, sym, ap, _∙_}
+use Prim.Native.Nat.{ℕ, zero, suc, _≤_}
+use mathlib.Core.Path.{_≡_, refl, sym, ap, _∙_, subst}
 use mathlib.Core.List.{List, [], _∷_}
 use native.Mathlib.Omega.{arith}
 use borrow.Author.Tests.{ne-eqb}
@@ -22,17 +22,14 @@ use Rattle.checkpoint.specs.declared.Status.the-variants.{Is, NoStatus}
 use Rattle.checkpoint.specs.Live.{left}
 use Rattle.checkpoint.specs.Shown.{Shown, shown, toldStatus}
 use Rattle.dealer.specs.Deal.{Dealt, turn}
-use Rattle.api.specs.Api.{mostResult, codeBy, codeOf, sends, sentLaid, sentAlone, sent, sendsState, sentState, sentDealt}
+use Rattle.api.specs.Api.{mostResult, codeBy, codeOf, Fits, Sent, sends, sentLaid, sentAlone, sent, sendsState, sentState, sentDealt}
 
 -- ---- numbers of 32 bits
-result-fits : (n : ℕ) → n ≤ mostResult → SFits w32 (pos n)
-result-fits n l = record { sfits = omega arith }
+number-fits : (n : ℕ) → n ≤ mostResult → SFits w32 (pos n)
+number-fits n l = record { sfits = omega arith }
 
-pub result-is : (n : ℕ) → n ≤ mostResult → toZ w32 n ≡ pos (min n mostResult)
-result-is n l = toZ-pos w32 n (omega arith) ∙ ap pos (omega arith)
-
-pub result-most : (n : ℕ) → mostResult ≤ n → pos mostResult ≡ pos (min n mostResult)
-result-most n l = ap pos (omega arith)
+pub result-is : (n : ℕ) → n ≤ mostResult → toZ w32 n ≡ pos n
+result-is n l = toZ-pos w32 n (omega arith)
 
 pub refusal-fits : (k : ℕ) → k ≤ 255 → SFits w32 (codeBy k [])
 refusal-fits zero l = record { sfits = omega arith }
@@ -48,36 +45,56 @@ negated e k h =
     let r = number-range e .1 in
     ap (λ (z : ℤ). pos 0 -ℤ z) (toZ-pos w32 k (omega arith)) ∙ minus k ∙ ap (λ (n : ℕ). codeBy n []) h
 
-pub code-fits : (a : Answer) → SFits w32 (codeOf (told a))
-code-fits (Done n) = result-fits (min n mostResult) (omega arith)
-code-fits (Refused e) = refusal-fits (refusalNumber e) (number-range e .1)
+code-fits : (a : Answer) → Fits (told a) → SFits w32 (codeOf (told a))
+code-fits (Done n) l = number-fits n l
+code-fits (Refused e) l = refusal-fits (refusalNumber e) (number-range e .1)
+
+-- the result in an answer that fits
+pub done-fits : (a : Answer) (n : ℕ) → Fits (told a) → a ≡ Done n → n ≤ mostResult
+done-fits a n l e = rw e at l
 
 -- what comes back from a call is the number itself
 pub back : {z y : ℤ} → z ≡ y → SFits w32 y → toZ w32 (ofZ w32 z) ≡ y
 back {z} {y} e f = ap (λ (u : ℤ). toZ w32 (ofZ w32 u)) e ∙ toZ-ofZ w32 y f
 
-pub done-code : (a : Answer) (n : ℕ) (z : ℤ) → a ≡ Done n → z ≡ pos (min n mostResult) → toZ w32 (ofZ w32 z) ≡ codeOf (told a)
-done-code a n z e f = back f (code-fits (Done n)) ∙ ap (λ (x : Answer). codeOf (told x)) (sym e)
+pub done-code : (a : Answer) (n : ℕ) (z : ℤ) → Fits (told a) → a ≡ Done n → z ≡ pos n → toZ w32 (ofZ w32 z) ≡ codeOf (told a)
+done-code a n z l e f = back f (number-fits n (done-fits a n l e)) ∙ ap (λ (x : Answer). codeOf (told x)) (sym e)
 
 pub refused-code : (a : Answer) (r : Refusal) (z : ℤ) → a ≡ Refused r → z ≡ codeBy (refusalNumber r) [] → toZ w32 (ofZ w32 z) ≡ codeOf (told a)
-refused-code a r z e f = back f (code-fits (Refused r)) ∙ ap (λ (x : Answer). codeOf (told x)) (sym e)
+refused-code a r z e f = back f (refusal-fits _ (number-range r .1)) ∙ ap (λ (x : Answer). codeOf (told x)) (sym e)
 
--- ---- an answer and the buffers
-module _ (a : Answer) (z : ℤ) (f : z ≡ codeOf (told a)) where
-  came : toZ w32 (ofZ w32 z) ≡ codeOf (told a)
-  came = back f (code-fits a)
+-- ---- an answer and the buffers: a is what the call answered, o what its definition gives, and z what is sent for it
+module _ (a : Answer) where
+  sent-as : (z : ℤ) (bs : List (List ℕ)) (o : Sent) → Fits (told a) → z ≡ codeOf (told a) → sends (codeOf (told a)) bs ≡ o → sends (toZ w32 (ofZ w32 z)) bs ≡ o
+  sent-as z bs o l f e = ap (λ (c : ℤ). sends c bs) (back f (code-fits a l)) ∙ e
 
-  pub sent-laid : (b : List ℕ) (o : LaidOut) → laid.laidOut a b ≡ o → sends (toZ w32 (ofZ w32 z)) (b ∷ []) ≡ sentLaid o
-  sent-laid b o e = ap (λ (c : ℤ). sends c (b ∷ [])) came ∙ ap sentLaid e
+  module _ (b : List ℕ) (o : LaidOut) (e : laid.laidOut a b ≡ o) (l : Fits (o .answer)) where
+    pub laid-fits : Fits (told a)
+    laid-fits = subst Fits (sym (ap (λ (x : LaidOut). x .answer) e)) l
 
-  pub sent-alone : (s out : List ℕ) (o : alone.PlainShown) → alone.plainShown (alone.plainLeft a s out) ≡ o → sends (toZ w32 (ofZ w32 z)) (s ∷ out ∷ []) ≡ sentAlone o
-  sent-alone s out o e = ap (λ (c : ℤ). sends c (s ∷ out ∷ [])) came ∙ ap sentAlone e
+    pub sent-laid : (z : ℤ) → z ≡ codeOf (told a) → sends (toZ w32 (ofZ w32 z)) (b ∷ []) ≡ sentLaid o
+    sent-laid z f = sent-as z _ _ laid-fits f (ap sentLaid e)
 
-  pub sent-three : (s m d : List ℕ) (o : Shown) → shown (left a s m d) ≡ o → sends (toZ w32 (ofZ w32 z)) (s ∷ m ∷ d ∷ []) ≡ sent o
-  sent-three s m d o e = ap (λ (c : ℤ). sends c (s ∷ m ∷ d ∷ [])) came ∙ ap sent e
+  module _ (s out : List ℕ) (o : alone.PlainShown) (e : alone.plainShown (alone.plainLeft a s out) ≡ o) (l : Fits (o .answer)) where
+    pub alone-fits : Fits (told a)
+    alone-fits = subst Fits (sym (ap (λ (x : alone.PlainShown). x .answer) e)) l
 
-  pub sent-dealt : (cs : List ℕ) (o : Dealt) → turn a cs ≡ o → sends (toZ w32 (ofZ w32 z)) (cs ∷ []) ≡ sentDealt o
-  sent-dealt cs o e = ap (λ (c : ℤ). sends c (cs ∷ [])) came ∙ ap sentDealt e
+    pub sent-alone : (z : ℤ) → z ≡ codeOf (told a) → sends (toZ w32 (ofZ w32 z)) (s ∷ out ∷ []) ≡ sentAlone o
+    sent-alone z f = sent-as z _ _ alone-fits f (ap sentAlone e)
+
+  module _ (s m d : List ℕ) (o : Shown) (e : shown (left a s m d) ≡ o) (l : Fits (o .answer)) where
+    pub three-fits : Fits (told a)
+    three-fits = subst Fits (sym (ap (λ (x : Shown). x .answer) e)) l
+
+    pub sent-three : (z : ℤ) → z ≡ codeOf (told a) → sends (toZ w32 (ofZ w32 z)) (s ∷ m ∷ d ∷ []) ≡ sent o
+    sent-three z f = sent-as z _ _ three-fits f (ap sent e)
+
+  module _ (cs : List ℕ) (o : Dealt) (e : turn a cs ≡ o) (l : Fits (o .answer)) where
+    pub dealt-fits : Fits (told a)
+    dealt-fits = subst Fits (sym (ap (λ (x : Dealt). x .answer) e)) l
+
+    pub sent-dealt : (z : ℤ) → z ≡ codeOf (told a) → sends (toZ w32 (ofZ w32 z)) (cs ∷ []) ≡ sentDealt o
+    sent-dealt z f = sent-as z _ _ dealt-fits f (ap sentDealt e)
 
 -- ---- the state question
 pub state-told : (r : Status) (t : Told) (a l k : ℕ) (ns : List ℕ) → toldStatus r ≡ t → r ≡ Is a l k → sendsState (pos 0) (a ∷ l ∷ k ∷ []) ≡ sentState t ns

@@ -1,20 +1,24 @@
 -- Each export is the public call of its name: from what a caller learns by its contract, whatever the arguments, follows that the call was made, and what its caller is told.
 -- a are the arguments, z is the result, e the parameters at exit; m and d are an image and a desk that the call does not have.
-use Prim.Native.Nat.{ℕ, _<_}
+use Prim.Native.Nat.{ℕ}
 use mathlib.Core.Path.{_≡_, refl, sym, ap, _∙_}
 use mathlib.Core.Bool.{Bool, true, false}
 use mathlib.Core.List.{List, [], _∷_}
-use native.Mathlib.Omega.{arith}
+use borrow.Author.Tests.{ne-eqb}
 use lib.IntN.{ℤ, pos, natAbs, pos-ne-negsuc}
-use lib.ListN.{replicate}
+use lib.ListN.{length, replicate}
 use denote.Ref.{now}
-use Rattle.entries.specs.declared.Kind.the-variants.{File, Directory}
 use Rattle.bounded.specs.Search.{pick}
+use Rattle.layout.specs.Sizes.{mostStoreBlocks}
+use Rattle.blocks.specs.Block.{allowed}
+use Rattle.desk.specs.Sizes.{deskAllowed}
+use Rattle.sound.specs.Test.{isSound}
+use Rattle.entries.specs.declared.Kind.the-variants.{File, Directory}
 use Rattle.bounded.specs.Table.{table}
-use Rattle.answers.specs.declared.Answer.{Answer}
+use Rattle.answers.specs.declared.Refusal.the-variants.{BadBuffer, BadTurn}
 use Rattle.answers.specs.declared.Answer.the-variants.{Done, Refused}
-use Rattle.answers.specs.declared.Refusal.the-variants.{BadTurn}
 use Rattle.answers.specs.Told.{Told, told}
+use Rattle.format.specs.Format.{laidOut, freshStore, freshDesk, layOutStore, layOutDesk}
 use Rattle.files.specs.Effect.{lookUp, read, create, write, shorten, link, unlink, rename}
 use Rattle.files.specs.Plain as alone
 use Rattle.checkpoint.specs.Live.{World, Outcome, left, live, start, step, status}
@@ -24,10 +28,14 @@ use Rattle.checkpoint.specs.Burst.{burst, one, bursts}
 use Rattle.watch.specs.Made.{got, looked-up, has-read, created, written, shortened, linked, unlinked, renamed, started, stepped, asked, stepped-many}
 use Rattle.watch.proofs.Contracts.{Gives}
 use Rattle.dealer.specs.Deal.{bays, served, gets, turn, turnAllowed, dealt}
-use Rattle.dealer.proofs.Circle.{served-below}
-use Rattle.dealer.proofs.TurnLaws.{allowed-is}
-use Rattle.api.specs.Api.{Sent, codeOf, sends, sentAlone, sent, SentState, sentState, maskFlags, sentDealt}
-use Rattle.api.specs.Exported.{Exported, Asked, Dealing}
+use Rattle.api.specs.Api.{Sent, codeOf, sends, sentLaid, sentAlone, sent, SentState, sentState, formTold, checked, maskFlags, sentDealt}
+use Rattle.api.specs.Exported.{Exported, Asked, LaysOut, Checks, Dealing}
+use Rattle.api.proofs.honecerise_lay_out_store.Kinds as lay-store-kinds
+use Rattle.api.proofs.honecerise_lay_out_store.Reads as lay-store-reads
+use Rattle.api.proofs.honecerise_lay_out_desk.Kinds as lay-desk-kinds
+use Rattle.api.proofs.honecerise_lay_out_desk.Reads as lay-desk-reads
+use Rattle.api.proofs.honecerise_check.Kinds as check-kinds
+use Rattle.api.proofs.honecerise_check.Reads as check-reads
 use Rattle.api.proofs.honecerise_look_up.Kinds as look-up-kinds
 use Rattle.api.proofs.honecerise_look_up.Reads as look-up-reads
 use Rattle.api.proofs.honecerise_read.Kinds as read-kinds
@@ -86,6 +94,24 @@ module _ (s out : List ℕ) (z : ℤ) (o : alone.PlainOutcome) (h : sends z (s �
 
   alone-code : z ≡ codeOf (told (o .answer))
   alone-code = ap (λ (x : Sent). x .code) h
+
+-- ---- the layout calls: b says whether count and length are allowed, fresh is what is laid out
+lays-out : (b : Bool) (s fresh t : List ℕ) (z : ℤ) → sends z (t ∷ []) ≡ sentLaid (pick b (laidOut (Done 0) fresh) (laidOut (Refused BadBuffer) s)) → LaysOut (pick b (laidOut (Done 0) fresh) (laidOut (Refused BadBuffer) s)) z t
+lays-out true s fresh t z h = record { answer = Done 0; made = ap (λ (x : Sent). laidOut (Done 0) (first (x .buffers))) h; code = ap (λ (x : Sent). x .code) h }
+lays-out false s fresh t z h = record { answer = Refused BadBuffer; made = ap (λ (x : Sent). laidOut (Refused BadBuffer) (first (x .buffers))) h; code = ap (λ (x : Sent). x .code) h }
+
+pub lay-store-exported : Gives 1 lay-store-kinds.ps lay-store-kinds.r lay-store-reads.Learnt (λ κs a z e. LaysOut (layOutStore (now (a .0)) (a .1 .0) (a .1 .1 .0)) z (now (e .0)))
+unfolding layOutStore
+lay-store-exported κs a z e h = lays-out (allowed mostStoreBlocks (a .1 .0) (a .1 .1 .0) (length (now (a .0)))) (now (a .0)) (freshStore (a .1 .0) (a .1 .1 .0)) (now (e .0)) z h
+
+pub lay-desk-exported : Gives 1 lay-desk-kinds.ps lay-desk-kinds.r lay-desk-reads.Learnt (λ κs a z e. LaysOut (layOutDesk (now (a .0)) (a .1 .0)) z (now (e .0)))
+unfolding layOutDesk
+lay-desk-exported κs a z e h = lays-out (deskAllowed (a .1 .0) (length (now (a .0)))) (now (a .0)) (freshDesk (a .1 .0)) (now (e .0)) z h
+
+-- ---- the check
+pub check-exported : Gives 1 check-kinds.ps check-kinds.r check-reads.Learnt (λ κs a z e. Checks (a .0) (now (a .1 .0)) z)
+unfolding checked
+check-exported κs a z e h = record { answer = isSound (formTold (a .0)) (now (a .1 .0)); made = refl; code = h }
 
 -- ---- the calls on the store alone
 pub look-up-exported : (m d : List ℕ) → Gives 2 look-up-kinds.ps look-up-kinds.r look-up-reads.Learnt (λ κs a z e.
@@ -175,21 +201,26 @@ burst-exported κs a z e h =
 state-numbers : (t : Told) (ns ms : List ℕ) → t .number ≡ 0 → ns ≡ sentState t ms .numbers → ns ≡ t .values
 state-numbers t ns ms e h = rw e at h
 
+state-kept : (t : Told) (ns ms : List ℕ) → (t .number ≡ 0 → ⊥) → ns ≡ sentState t ms .numbers → ns ≡ ms
+state-kept t ns ms e h = rw (ne-eqb (t .number) 0 e) at h
+
 pub state-exported : Gives 6 state-kinds.ps state-kinds.r state-reads.Learnt (λ κs a z e.
-    Asked (world (now (a .0)) (now (a .1 .0)) (now (a .1 .1 .0))) z (now (e .1 .1 .1 .0) ∷ now (e .1 .1 .1 .1 .0) ∷ now (e .1 .1 .1 .1 .1 .0) ∷ []))
+    Asked (world (now (a .0)) (now (a .1 .0)) (now (a .1 .1 .0)))
+    (now (a .1 .1 .1 .0) ∷ now (a .1 .1 .1 .1 .0) ∷ now (a .1 .1 .1 .1 .1 .0) ∷ []) z (now (e .1 .1 .1 .0) ∷ now (e .1 .1 .1 .1 .0) ∷ now (e .1 .1 .1 .1 .1 .0) ∷ []))
 state-exported κs a z e h =
     let r = status (now (a .0)) (now (a .1 .0)) (now (a .1 .1 .0)) in
+    let q = ap (λ (x : SentState). x .numbers) h in
     record {
       received = got (toldStatus r) [];
       made = asked r refl;
       code = ap (λ (x : SentState). x .code) h;
-      numbers = λ n. state-numbers (toldStatus r) _ _ n (ap (λ (x : SentState). x .numbers) h);
+      numbers = λ n. state-numbers (toldStatus r) _ _ n q;
+      kept = λ n. state-kept (toldStatus r) _ _ n q;
     }
 
 -- ---- the dealer
--- a bay is far below the largest result, so the code tells which it is
-told-bay : (x y : ℕ) (z : ℤ) → x < bays → z ≡ codeOf (told (Done x)) → z ≡ pos y → told (Done x) ≡ told (Done y)
-told-bay x y z l c e = let q : x ≡ y = omega (arith, ap natAbs (sym c ∙ e)) in ap (λ (n : ℕ). told (Done n)) q
+told-bay : (x y : ℕ) (z : ℤ) → z ≡ pos x → z ≡ pos y → told (Done x) ≡ told (Done y)
+told-bay x y z c e = ap (λ (i : ℤ). told (Done (natAbs i))) (sym c ∙ e)
 
 module _ (mask steps last : ℕ) (z : ℤ) (counts : List ℕ) (h : sends z (counts ∷ []) ≡ sentDealt (dealt (maskFlags mask) steps last)) where
   abbrev x : ℕ
@@ -209,7 +240,7 @@ module _ (mask steps last : ℕ) (z : ℤ) (counts : List ℕ) (h : sends z (cou
             answer = Done x;
             made = rw e (ap (λ (s : Sent). turn (Done x) (first (s .buffers))) k);
             code = c;
-            bay = λ y. told-bay x y z (served-below (maskFlags mask) last steps (allowed-is steps last e .bay)) c;
+            bay = λ y. told-bay x y z c;
           }
       go false e =
           let k : sends z (counts ∷ []) ≡ sentDealt (turn (Refused BadTurn) (replicate bays 0)) = rw e at h in

@@ -1,11 +1,13 @@
 -- What the exported calls answer and leave: "the result if not negative, else minus the refusal's number", and the content of every lent buffer.
-use Prim.Native.Nat.{ℕ, zero, suc, _+_, min}
+use Prim.Native.Nat.{ℕ, zero, suc, _+_, _≤_}
 use mathlib.Core.Bool.{Bool}
 use mathlib.Core.List.{List, [], _∷_}
 use lib.Dec.{eqb}
 use lib.IntN.{ℤ, pos, negsuc}
+use lib.ListN.{getD}
 use Rattle.bounded.specs.Count.{one}
 use Rattle.bounded.specs.Search.{pick}
+use Rattle.sound.specs.declared.Form.{Form}
 use Rattle.sound.specs.declared.Form.the-variants.{Store, Image}
 use Rattle.sound.specs.Test.{isSound}
 use Rattle.answers.specs.Told.{Told}
@@ -15,17 +17,20 @@ use Rattle.checkpoint.specs.Shown.{Shown}
 use Rattle.marks.specs.Mark.{marked}
 use Rattle.dealer.specs.Deal.{bays, Dealt}
 
--- the largest number of 32 bits with a sign; no call's result comes near it
-abbrev pub mostResult : ℕ
-mostResult = 2147483647
-
 abbrev pub codeBy : ℕ → List ℕ → ℤ
-codeBy zero (x ∷ xs) = pos (min x mostResult)
+codeBy zero (x ∷ xs) = pos x
 codeBy zero [] = pos 0
 codeBy (suc k) xs = negsuc k
 
 abbrev pub codeOf : Told → ℤ
 codeOf t = codeBy (t .number) (t .values)
+
+-- for the code: the largest number of 32 bits with a sign, and that an answer's result, 0 for none, is not above it. Every public call's fits (proofs/ResultLaws.antt)
+abbrev pub mostResult : ℕ
+mostResult = 2147483647
+
+abbrev pub Fits : Told → Type 0
+Fits t = getD (t .values) 0 0 ≤ mostResult
 
 -- the buffers stand in the order of the call's parameters
 pub record Sent : Type 0 where
@@ -73,6 +78,9 @@ abbrev pub sentDealt : Dealt → Sent
 sentDealt d = sends (codeOf (d .answer)) (d .counts ∷ [])
 
 -- ---- the check
--- "The check is told store or image, takes any bytes and answers yes or no": 0 tells a store; 1 is yes
+-- "The check is told store or image, takes any bytes and answers yes or no": 0 tells a store, any other number an image; 1 is yes
+abbrev pub formTold : ℕ → Form
+formTold k = pick (eqb k 0) Store Image
+
 unfoldable pub checked : ℕ → List ℕ → ℕ
-checked image s = one (isSound (pick (eqb image 0) Store Image) s)
+checked image s = one (isSound (formTold image) s)

@@ -1,24 +1,20 @@
 // An answer as one number with a sign.
 ghost use mathlib.Core.Path.{_≡_};
-ghost use Prim.Native.Nat.{min};
+ghost use Prim.Native.Nat.{_≤_};
 ghost use lib.IntN.{pos};
 ghost use mathlib.Core.List.{[]};
 ghost use Rattle.answers.specs.Refusal.{refusalNumber};
 ghost use Rattle.answers.specs.Told.{told};
-ghost use Rattle.api.specs.Api.{mostResult, codeBy, codeOf};
+ghost use Rattle.api.specs.Api.{mostResult, codeBy, codeOf, Fits};
 use answers::Answer;
 use answers::Refusal;
 use answers::refusal_number;
 
-const MOST_RESULT: usize = 2147483647;
-
 fn result(n: usize) -> i32
-    ensures { λ r. ⌜ r ≡ pos (min n mostResult) ⌝ }
+    requires { ⌜ n ≤ mostResult ⌝ }
+    ensures { λ r. ⌜ r ≡ pos n ⌝ }
 {
-    if n <= MOST_RESULT {
-        return n as i32;
-    }
-    MOST_RESULT as i32
+    n as i32
 }
 
 // Minus the refusal's number.
@@ -30,6 +26,7 @@ pub fn refused(e: Refusal) -> i32
 }
 
 pub fn code(a: Answer) -> i32
+    requires { ⌜ Fits (told a) ⌝ }
     ensures { λ r. ⌜ r ≡ codeOf (told a) ⌝ }
 {
     match a {

@@ -18,15 +18,22 @@ const BUSY: usize = 14;
 // What an out-buffer holds before a read.
 const FILLER: u8 = 170;
 
-// The plain store reads the same.
-fn read_alike(e: Event, a: Got, out: &[u8], beside: &[u8]) -> bool {
+// How the plain store's read differs.
+fn read_differs(e: Event, a: Got, out: &[u8], beside: &[u8]) -> usize {
     let mut shown = [FILLER; 64];
     let b = calls::told(plain::read(beside, e.inode, e.offset, &mut shown));
-    same_answer(a, b) && same(out, &shown)
+    if !same_answer(a, b) {
+        return calls::ANSWER;
+    }
+    if same(out, &shown) {
+        calls::ALIKE
+    } else {
+        calls::OUT
+    }
 }
 
-// The plain store answers the same.
-fn plain_alike(
+// How the plain store's answer differs.
+fn plain_differs(
     e: Event,
     f: usize,
     g: usize,
@@ -35,12 +42,16 @@ fn plain_alike(
     beside: &mut [u8],
     name: &[u8],
     other: &[u8],
-) -> bool {
+) -> usize {
     if e.what == event::READ {
-        return read_alike(e, a, out, beside);
+        return read_differs(e, a, out, beside);
     }
     let b = calls::told(calls::plainly(calls::call(e, f, g), beside, name, other));
-    same_answer(a, b)
+    if same_answer(a, b) {
+        calls::ALIKE
+    } else {
+        calls::ANSWER
+    }
 }
 
 // The entries that an accepted unlink or move took out are noted, from the stores before and after it.
@@ -60,7 +71,15 @@ fn is_plain(e: Event, a: Got) -> bool {
     e.what <= event::READ && a.number != BUSY
 }
 
-// The plain store answers the same and, after every event, holds the same.
+fn stores_differ(store: &[u8], beside: &[u8]) -> usize {
+    if same(store, beside) {
+        calls::ALIKE
+    } else {
+        calls::STORE
+    }
+}
+
+// The plain store is to answer the same and, after every event, to hold the same.
 fn compare(
     e: Event,
     f: usize,
@@ -71,14 +90,15 @@ fn compare(
     beside: &mut [u8],
     name: &[u8],
     other: &[u8],
-) -> bool {
+) -> usize {
     if is_plain(e, a) {
-        if !plain_alike(e, f, g, a, out, &mut *beside, name, other) {
-            return false;
+        let d = plain_differs(e, f, g, a, out, &mut *beside, name, other);
+        if d != calls::ALIKE {
+            return d;
         }
-        return same(store, beside);
+        return stores_differ(store, beside);
     }
-    same(store, beside)
+    stores_differ(store, beside)
 }
 
 // A name, or the bytes that a write writes and that stand there already; answers how many.
@@ -113,8 +133,8 @@ fn do_call(
     let reply = runner::run(command, &mut *store, image, desk, &mut out, &name, &other);
     let a = calls::replied(reply);
     note(e, a, n, beside, store, taken);
-    let alike = compare(e, f, g, a, &out, store, beside, &name, &other);
-    Both { got: a, alike }
+    let differs = compare(e, f, g, a, &out, store, beside, &name, &other);
+    Both { got: a, differs }
 }
 
 pub fn do_both(

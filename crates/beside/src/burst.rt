@@ -1,6 +1,10 @@
 // A burst done by the library and, on copies of image and desk, as the single steps that it stands for; what they answer and leave is compared.
+use crate::calls::ALIKE;
+use crate::calls::ANSWER;
 use crate::calls::Both;
+use crate::calls::DESK;
 use crate::calls::Got;
+use crate::calls::IMAGE;
 use crate::calls::same_answer;
 use crate::calls::told;
 use chance::event::MOST_BURST;
@@ -45,8 +49,18 @@ fn singly(count: usize, store: &[u8], image: &mut [u8], desk: &mut [u8]) -> Got 
     steps(count, store, image, desk)
 }
 
+fn differs(got: Got, single: Got, image: &[u8], desk: &[u8], other: &[u8], notes: &[u8]) -> usize {
+    if !same_answer(got, single) {
+        return ANSWER;
+    }
+    if !same(image, other) {
+        return IMAGE;
+    }
+    if same(desk, notes) { ALIKE } else { DESK }
+}
+
 // other and notes are copies of image and desk.
-fn compare(
+pub fn compare(
     count: usize,
     store: &[u8],
     image: &mut [u8],
@@ -56,8 +70,8 @@ fn compare(
 ) -> Both {
     let got = told(watch::burst(store, &mut *image, &mut *desk, count));
     let single = singly(count, store, &mut *other, &mut *notes);
-    let alike = same_answer(got, single) && same(image, other) && same(desk, notes);
-    Both { got, alike }
+    let differs = differs(got, single, image, desk, other, notes);
+    Both { got, differs }
 }
 
 // More than the copies have room for: no list has it.
@@ -66,7 +80,10 @@ fn too_long() -> Both {
         number: 0,
         value: 0,
     };
-    Both { got, alike: false }
+    Both {
+        got,
+        differs: IMAGE,
+    }
 }
 
 pub fn do_burst(count: usize, store: &[u8], image: &mut [u8], desk: &mut [u8]) -> Both {

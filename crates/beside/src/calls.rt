@@ -17,10 +17,23 @@ pub struct Got {
     pub value: usize,
 }
 
-// What the library answered, and whether what is done beside it comes to the same.
+// What is done beside the library comes to the same; or the first of these differs.
+pub const ALIKE: usize = 0;
+
+pub const ANSWER: usize = 1;
+
+pub const OUT: usize = 2;
+
+pub const STORE: usize = 3;
+
+pub const IMAGE: usize = 4;
+
+pub const DESK: usize = 5;
+
+// What the library answered, and what differs.
 pub struct Both {
     pub got: Got,
-    pub alike: bool,
+    pub differs: usize,
 }
 
 pub fn same_answer(a: Got, b: Got) -> bool {

@@ -1,7 +1,7 @@
 -- A list behind its guards: while a copy goes on refusals 1 to 3 do not come, so what a list leaves can be computed without a test of the whole store at each event.
 use Prim.Native.Nat.{ℕ}
 use mathlib.Core.Path.{_≡_, refl, ap, _∙_}
-use mathlib.Core.List.{List, [], _∷_}
+use mathlib.Core.List.{List, [], _∷_, _++_}
 use Rattle.bounded.specs.Search.{pick}
 use Rattle.answers.specs.declared.Refusal.the-variants.{WrongState}
 use Rattle.sound.specs.Sound.{inodesIn, blocksIn}
@@ -40,3 +40,9 @@ pub behind-run : (n b : ℕ) (es : List Event) (w : World) → Going n b w → r
 unfolding run behindAll
 behind-run n b [] w g = refl
 behind-run n b (e ∷ es) w g = behind-run n b es (next e w) (going-next n b w e g) ∙ ap (behindAll es) (behind-is e w (fit g))
+
+-- a list in two parts
+pub behind-two : (es fs : List Event) (w v : World) → behindAll es w ≡ v → behindAll (es ++ fs) w ≡ behindAll fs v
+unfolding behindAll
+behind-two [] fs w v e = ap (behindAll fs) e
+behind-two (x ∷ es) fs w v e = behind-two es fs (behind x w) v e

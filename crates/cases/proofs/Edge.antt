@@ -42,13 +42,13 @@ use mathlib.Core.Bool.{true}
 use mathlib.Core.List.{List, [], _∷_, _++_}
 use lib.ListN.{replicate}
 use Rattle.layout.specs.Sizes.{blockBytes}
-use Rattle.checkpoint.specs.List.{outcome, next, run, accepted, starts, Event, call, advances}
+use Rattle.checkpoint.specs.List.{outcome, next, run, accepted, starts, call, advances}
 use Rattle.checkpoint.proofs.Run.Starts.{Opens, opens, opened, opened-runs}
 use Rattle.checkpoint.proofs.Run.Lists.{Going, runs}
 use Rattle.entries.specs.declared.Kind.the-variants.{File}
 use Rattle.files.specs.Effect.{create, write, shorten}
 use Rattle.cases.specs.Worlds.{fresh, nameA, nameB, overTheEdge}
-use Rattle.cases.proofs.Behind.{behind, behindAll, behind-run}
+use Rattle.cases.proofs.Behind.{behind, behindAll, behind-run, behind-two}
 
 begins : accepted starts (fresh 3 29) ≡ true
 unfolding fresh desk.deskRestZero allBelow someBelow leadsB count firstFrom first table part splice numAt toBytes putNum wordBytes digit marked withMark withoutMark entryInode isEmpty sameByte sameName nameLength entryName legalEntry entryFor plainByte isDots legalName blockOf putInBlock zeroBlock blocksUsed bytesPlace isLong furtherOf kthBy rowBy putKth putRow freeInode namedBy lowestBy longBut across added grown kept lowestFrom nthFree zeroBlocks putBlocks taken extended cutBlocks headerOf putFree putComplete putHeader headerRestZero kindOf spareOf linksOf sizeOf parentOf putLinks attributeEntry putAttributes addressOf putAddress addressesOf putAddresses inodeOf putInode slots slotAt entryOf slotHasName findSlot slotEmpty emptySlot putEntry clearEntry deskOf putDesk copiedOf putCopied marksOf putMarks markOf setMark clearMark clearNotes sameNames namingB newNameB entryB attributesB addressesB zeroTailB inodeB countedB leadB isSlot entryAt filled naming allowed deskAllowed framedB headerB freeCountsB blankBlockB blanksB bodyB isSound enter created written dropLink unlinked setParent moved putFile addBlock putSize zeroRest cutTo isKind zeroInode lessFree moreFree createPlan writePlan shortenPlan holdsNone unlinkPlan isBelow renameTo renamePlan roomIn makeRoom freshHeader emptyRoot freshStore freshDesk isLocked startImage startDesk nextInode targetBlock lockedStep freeStep stepOf copiedEntry copiedEntries copiedBlock putCounts finishImage deskFramed imageBlocks imageAllowed isRunning blocksFit deskFits lacksAddresses imageFits notesFit hasSlot slotNames inodeNamed outcome next run started start step isCopied noteMade noteTaken cutsImage cutImage zeroed guardOf anyLocked threeGuards startGuards decision live cutEntries clearMarks setMarks
@@ -62,13 +62,8 @@ unfolding fresh desk.deskRestZero allBelow someBelow leadsB count firstFrom firs
 going = runs (opened-runs 3 29 (fresh 3 29) opening refl refl .runs)
 
 -- ---- the list in four parts, each with the world that it leaves: a part is computed from bytes that are spelled out
-behind-two : (es fs : List Event) (w v : World) → behindAll es w ≡ v → behindAll (es ++ fs) w ≡ behindAll fs v
-unfolding behindAll
-behind-two [] fs w v e = ap (behindAll fs) e
-behind-two (x ∷ es) fs w v e = behind-two es fs (behind x w) v e
-
 -- numbers of two bytes from a on, k of them
-pairs : ℕ → ℕ → List ℕ
+unfoldable pub pairs : ℕ → ℕ → List ℕ
 pairs a zero = []
 pairs a (suc k) = a ∷ 0 ∷ pairs (a + 1) k
 
@@ -77,7 +72,7 @@ blocksOf : ℕ → ℕ → List ℕ
 blocksOf k x = replicate (blockBytes * k) x
 
 -- one after the other
-joined : List (List ℕ) → List ℕ
+unfoldable pub joined : List (List ℕ) → List ℕ
 joined [] = []
 joined (x ∷ xs) = x ++ joined xs
 
@@ -86,7 +81,7 @@ headerIs : ℕ → ℕ → List ℕ
 headerIs free complete = 3 ∷ 0 ∷ 29 ∷ 0 ∷ 0 ∷ 0 ∷ free ∷ 0 ∷ complete ∷ 0 ∷ 1 ∷ 0 ∷ 0 ∷ 0 ∷ 0 ∷ 0 ∷ []
 
 -- attributes: kind, links, the two bytes of the size
-inodeIs : ℕ → ℕ → ℕ → ℕ → List ℕ
+unfoldable pub inodeIs : ℕ → ℕ → ℕ → ℕ → List ℕ
 inodeIs kind links low high = kind ∷ 0 ∷ links ∷ 0 ∷ low ∷ high ∷ 0 ∷ 0 ∷ []
 
 -- the root's block: file 2 by the name `a`, file 3 by the name `b`

@@ -36,6 +36,7 @@ use Rattle.checkpoint.proofs.CopierTables.{start-table}
 use Rattle.cases.specs.Cases.{TrackCases, Writes, Creates, inodes}
 use Rattle.cases.proofs.Runs.{three-steps, finish, reused-block, moved-directory, unlinked-file, into-child}
 use Rattle.cases.proofs.Edge.{over-the-edge}
+use Rattle.cases.proofs.Witness.{fourteen-shown, fifteen-shown, end-shown, past-end-shown, at-size-shown, past-size-shown, last-slot-shown, no-slot-shown, twelfth-block}
 use Rattle.checkpoint.proofs.Run.Calls.{image-allowed}
 
 -- a create of a legal name in an empty slot
@@ -192,6 +193,15 @@ track-cases = record {
   past-size = λ w i o xs h e. ap told (past-size w i o xs h e);
   last-slot = λ w d t name k c l a b e. ap told (last-slot w d name k c l a t b e);
   no-slot = λ w d name k c l a h. ap told (no-slot w d name k c l a h);
+  fourteen-shown = fourteen-shown;
+  fifteen-shown = fifteen-shown;
+  end-shown = end-shown;
+  past-end-shown = past-end-shown;
+  at-size-shown = at-size-shown;
+  past-size-shown = past-size-shown;
+  last-slot-shown = last-slot-shown;
+  no-slot-shown = no-slot-shown;
+  twelfth-block = twelfth-block;
   reused-block = reused-block .1;
   reused-block-done = reused-block .0;
   over-the-edge = over-the-edge .1;

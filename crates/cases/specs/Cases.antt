@@ -22,12 +22,13 @@ use Rattle.sound.specs.Sound.{inodesIn, blocksIn}
 use Rattle.sound.specs.Place.{naming}
 use Rattle.content.specs.Content.{fileBytes}
 use Rattle.entries.specs.declared.Kind.{Kind}
+use Rattle.entries.specs.declared.Kind.the-variants.{File}
 use Rattle.files.specs.Effect.{create, write, rename}
 use Rattle.checkpoint.specs.Fit.{isRunning}
 use Rattle.checkpoint.specs.Busy.{isLocked}
 use Rattle.checkpoint.specs.Live.{World}
 use Rattle.checkpoint.specs.List.{Ready, call, advances, starts, outcome, next, run, Finish}
-use Rattle.cases.specs.Worlds.{fresh, nameA, reusedBlock, overTheEdge, movedDirectory, unlinkedFile, parentAndChild}
+use Rattle.cases.specs.Worlds.{fresh, nameA, oneFile, tenBytes, entered, reusedBlock, overTheEdge, movedDirectory, unlinkedFile, parentAndChild}
 
 -- the counts of the world's store
 abbrev pub inodes : World → ℕ
@@ -65,16 +66,23 @@ pub record TrackCases : Type 0 where
       → outcome (call (create d name k)) w .answer ≡ told (Done (c .inode))
   pub fifteen : (w : World) (d : ℕ) (name : List ℕ) (k : Kind) → Ready w → length name ≡ nameBytes + 1
       → outcome (call (create d name k)) w .answer ≡ told (Refused IllegalName)
+  -- on a shown store
+  pub fourteen-shown : outcome (call (create 1 (replicate nameBytes 97) File)) (fresh 2 1) .answer ≡ told (Done 2)
+  pub fifteen-shown : outcome (call (create 1 (replicate (nameBytes + 1) 97) File)) (fresh 2 1) .answer ≡ told (Refused IllegalName)
   -- F-1: "the ★ case of a write's end is now 2,752 and 2,753"
   pub to-2752 : (w : World) (i o : ℕ) (xs : List ℕ) → Writes w i o xs → o ≤ sizeOf (w .store) i → o + length xs ≡ mostFileBytes
       → outcome (call (write i o xs)) w .answer ≡ told (Done mostFileBytes)
   pub to-2753 : (w : World) (i o : ℕ) (xs : List ℕ) → Writes w i o xs → o + length xs ≡ mostFileBytes + 1
       → outcome (call (write i o xs)) w .answer ≡ told (Refused PastEnd)
+  pub end-shown : outcome (call (write 2 0 (replicate mostFileBytes 7))) (run oneFile (fresh 2 45)) .answer ≡ told (Done mostFileBytes)
+  pub past-end-shown : outcome (call (write 2 0 (replicate (mostFileBytes + 1) 7))) (run oneFile (fresh 2 45)) .answer ≡ told (Refused PastEnd)
   -- "Write at the size passes, one past gives 9."
   pub at-size : (w : World) (i o : ℕ) (xs : List ℕ) → Writes w i o xs → o ≡ sizeOf (w .store) i → o + length xs ≤ mostFileBytes
       → outcome (call (write i o xs)) w .answer ≡ told (Done (o + length xs))
   pub past-size : (w : World) (i o : ℕ) (xs : List ℕ) → Writes w i o xs → o ≡ sizeOf (w .store) i + 1
       → outcome (call (write i o xs)) w .answer ≡ told (Refused PastEnd)
+  pub at-size-shown : outcome (call (write 2 10 (7 ∷ []))) (run tenBytes (fresh 2 2)) .answer ≡ told (Done 11)
+  pub past-size-shown : outcome (call (write 2 11 (7 ∷ []))) (run tenBytes (fresh 2 2)) .answer ≡ told (Refused PastEnd)
   -- "48 entries fit, the next gives 13.": an empty slot of 48 is taken; with none left, 13
   pub last-slot : (w : World) (d t : ℕ) (name : List ℕ) (k : Kind) (c : Creates w d name) → legalName name ≡ true → slots (w .store) d ≡ mostSlots
       → t < mostSlots → slotEmpty (w .store) (inodes w) d t ≡ true
@@ -82,6 +90,11 @@ pub record TrackCases : Type 0 where
   pub no-slot : (w : World) (d : ℕ) (name : List ℕ) (k : Kind) → Creates w d name → legalName name ≡ true → slots (w .store) d ≡ mostSlots
       → ((t : ℕ) → t < mostSlots → slotEmpty (w .store) (inodes w) d t ≡ false)
       → outcome (call (create d name k)) w .answer ≡ told (Refused NoSlot)
+  -- 47 entries take one more, 48 none though a block and an inode are free; the twelfth block is taken on the way from 44 to 45
+  pub last-slot-shown : outcome (call (create 1 (96 ∷ []) File)) (run (starts ∷ entered 47) (fresh 3 13)) .answer ≡ told (Done 3)
+  pub no-slot-shown : outcome (call (create 1 (96 ∷ []) File)) (run (starts ∷ entered 48) (fresh 3 13)) .answer ≡ told (Refused NoSlot)
+  pub twelfth-block : (blocksUsed (sizeOf (run (starts ∷ entered 44) (fresh 3 13) .store) 1) ≡ 11)
+      × (blocksUsed (sizeOf (run (starts ∷ entered 45) (fresh 3 13) .store) 1) ≡ 12)
   -- "the image keeps all of 2 in block 2, and 3 in block 3 with 54 zeros."
   pub reused-block : (kthBlock (run reusedBlock (fresh 3 3) .image) 3 2 0 ≡ 2)
       × ((blockOf (run reusedBlock (fresh 3 3) .image) 3 2 ≡ replicate 64 7)

@@ -1,11 +1,11 @@
 -- The concrete stores and lists of the track cases.
-use Prim.Native.Nat.{ℕ}
+use Prim.Native.Nat.{ℕ, zero, suc, _+_}
 use mathlib.Core.List.{List, [], _∷_, _++_}
 use lib.ListN.{replicate}
 use Rattle.blocks.specs.Block.{storeLength}
 use Rattle.format.specs.Format.{freshStore, freshDesk}
 use Rattle.entries.specs.declared.Kind.the-variants.{File, Directory}
-use Rattle.files.specs.Effect.{create, write, shorten, unlink, rename}
+use Rattle.files.specs.Effect.{create, write, shorten, link, unlink, rename}
 use Rattle.checkpoint.specs.Live.{World}
 use Rattle.checkpoint.specs.List.{Event, call, advances, starts}
 
@@ -51,3 +51,20 @@ overTheEdge =
     call (create 1 nameA File) ∷ call (create 1 nameB File) ∷ call (write 2 0 (replicate 768 7)) ∷ call (write 3 0 (replicate 832 5))
     ∷ advances ∷ advances ∷ advances ∷ call (write 2 768 (replicate 64 6))
     ∷ advances ∷ (replicate 12 advances ++ (call (shorten 3 768) ∷ replicate 18 advances))
+
+-- an empty file, and one of ten bytes
+unfoldable pub oneFile : List Event
+oneFile = call (create 1 nameA File) ∷ []
+
+unfoldable pub tenBytes : List Event
+tenBytes = call (create 1 nameA File) ∷ call (write 2 0 (replicate 10 7)) ∷ []
+
+-- k links to file 2 in the root, by the names of one byte from a on
+unfoldable pub linkedFrom : ℕ → ℕ → List Event
+linkedFrom a zero = []
+linkedFrom a (suc k) = call (link 1 (a ∷ []) 2) ∷ linkedFrom (a + 1) k
+
+-- k entries in the root, of one file
+unfoldable pub entered : ℕ → List Event
+entered zero = []
+entered (suc k) = call (create 1 nameA File) ∷ linkedFrom 98 k

@@ -107,3 +107,11 @@ pub fn list(seed: u64, list: u64, k: u64) {
         call(event::nth_event(seed, list, m, shape), m % 251);
     }
 }
+
+// The list up to the event, after a line that `replay` has no answer to.
+pub fn difference(seed: u64, l: u64, event: u64) {
+    word(b"a difference in the last line of list");
+    number(l as usize);
+    word(b"\n");
+    list(seed, l, event);
+}

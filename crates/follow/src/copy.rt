@@ -1,5 +1,7 @@
 // The record of a copy under way, kept from answers and stores alone, and what is asked of it.
 ghost use Prim.Native.Nat.{_≤_};
+use crate::finished::find;
+use crate::finished::is_right;
 use crate::tried::BLOCKS;
 use crate::tried::BURST_FINISHES;
 use crate::tried::BURST_STEPS;
@@ -9,6 +11,7 @@ use crate::tried::ENTRIES;
 use crate::tried::FINISHES;
 use crate::tried::LONG;
 use crate::tried::tally;
+use beside::calls::ALIKE;
 use beside::calls::Got;
 use chance::event;
 use chance::event::Event;
@@ -17,11 +20,8 @@ use judge::again::blocks_again;
 use judge::again::files_crossed;
 use judge::again::files_long;
 use judge::copy::MOMENT_BYTES;
-use judge::copy::kept_entries;
 use judge::copy::moment;
-use judge::copy::of_its_time;
 use judge::fields::byte;
-use watch::Form;
 
 const BUSY: usize = 14;
 
@@ -42,10 +42,24 @@ pub struct Copy {
     pub steps: usize,
 }
 
-// The copy after an event, and whether all that is known of it is right.
+// What is wrong of an event, besides what differs from what is done beside it: a refusal out of its
+// time, a start during a copy, a count of steps, a finished copy.
+pub const REFUSAL: usize = 6;
+
+pub const START: usize = 7;
+
+pub const STEPS: usize = 8;
+
+pub const FINISH: usize = 9;
+
+// The copy after an event, and what is wrong: `ALIKE` if nothing is.
 pub struct Next {
     pub copy: Copy,
-    pub right: bool,
+    pub wrong: usize,
+}
+
+fn wrong_unless(right: bool, what: usize) -> usize {
+    if right { ALIKE } else { what }
 }
 
 // The store is moment m.
@@ -67,7 +81,7 @@ fn count_changes(first: &[u8], store: &[u8], image: &[u8], n: usize, tried: &mut
     tally(&mut *tried, LONG, files_long(image, n));
 }
 
-// The finished copy is a sound image of n inodes, has every entry that it owes, and nothing that is not of its time.
+// Whether the finished copy is right; what it shows is counted.
 fn finish_right(
     m: usize,
     n: usize,
@@ -79,15 +93,11 @@ fn finish_right(
 ) -> bool
     requires { ⌜ n ≤ 8 ⌝ }
 {
-    let first = moment(moments, 0);
-    let owed = kept_entries(first, image, n, taken);
+    let found = find(m, n, image, moments, taken);
     tally(&mut *tried, FINISHES, 1);
-    tally(&mut *tried, ENTRIES, owed.entries);
-    count_changes(first, store, image, n, &mut *tried);
-    owed.there
-        && byte(image, 0) == n
-        && watch::check(Form::Image, image)
-        && of_its_time(moments, m, image, n)
+    tally(&mut *tried, ENTRIES, found.owed);
+    count_changes(moment(moments, 0), store, image, n, &mut *tried);
+    is_right(found)
 }
 
 // Steps so far, by what an accepted step or burst answers: a step these, a burst its own. 0 where the answer can't be.
@@ -158,14 +168,15 @@ fn stepped(
         let copy = Copy { moments, steps };
         return Next {
             copy,
-            right: counted,
+            wrong: wrong_unless(counted, STEPS),
         };
     }
     let right = finish_right(m, n, store, image, moments, taken, tried);
     let copy = Copy { moments: 0, steps };
+    let finish = wrong_unless(right, FINISH);
     Next {
         copy,
-        right: counted && right,
+        wrong: if counted { finish } else { STEPS },
     }
 }
 
@@ -195,21 +206,24 @@ fn called(copy: Copy, store: &[u8], moments: &mut [u8; 2097152]) -> Copy {
     }
 }
 
-// 1 to 3 never come. 14 and 16 come while a copy runs, 15 to a start then and to steps at other times, 17 to a burst at any.
+// 1 to 3 never come, 4 to 13 to file calls; 14 to those that change something and 16 to steps,
+// while a copy runs; 15 to a start then and to steps at other times; 17 to a burst at any.
 fn refusal_right(what: usize, number: usize, running: bool) -> bool {
-    if number <= 3 {
-        return false;
+    match number {
+        0..=3 => false,
+        4..=13 => what <= event::READ,
+        BUSY => running && what < event::LOOK_UP,
+        UNTIMELY => {
+            if what == event::START {
+                running
+            } else {
+                event::STEP <= what && !running
+            }
+        }
+        FULL => running && event::STEP <= what,
+        BAD_COUNT => what == event::BURST,
+        _ => false,
     }
-    if number == UNTIMELY && event::STEP <= what {
-        return !running;
-    }
-    if number == UNTIMELY {
-        return running && what == event::START;
-    }
-    if number == BAD_COUNT {
-        return what == event::BURST;
-    }
-    number < BUSY || running
 }
 
 // A refused event; 16 ends the copy.
@@ -220,7 +234,10 @@ fn refused(what: usize, number: usize, copy: Copy) -> Next {
         moments,
         steps: copy.steps,
     };
-    Next { copy, right }
+    Next {
+        copy,
+        wrong: wrong_unless(right, REFUSAL),
+    }
 }
 
 pub fn follow(
@@ -244,14 +261,14 @@ pub fn follow(
         return stepped(e, a.value, copy, n, store, image, moments, taken, tried);
     }
     if what == event::ASK {
-        let right = a.value == copy.steps;
-        return Next { copy, right };
+        let wrong = wrong_unless(a.value == copy.steps, STEPS);
+        return Next { copy, wrong };
     }
     if what == event::START {
-        let right = copy.moments == 0;
+        let wrong = wrong_unless(copy.moments == 0, START);
         let copy = started(store, moments, taken);
-        return Next { copy, right };
+        return Next { copy, wrong };
     }
     let copy = called(copy, store, moments);
-    Next { copy, right: true }
+    Next { copy, wrong: ALIKE }
 }

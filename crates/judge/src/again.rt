@@ -5,6 +5,7 @@ use crate::fields::FILE;
 use crate::fields::is_long;
 use crate::fields::kind;
 use crate::fields::kth_block;
+use crate::fields::one_if;
 
 // Block q, counted through all inodes, is noted with its inode at its number; numbers from 64 on are left out.
 fn note_owner(s: &[u8], n: usize, q: usize, owners: &mut [usize; 64])
@@ -24,12 +25,6 @@ fn note_owners(s: &[u8], n: usize, owners: &mut [usize; 64])
     for q in 0..BLOCKS * n {
         note_owner(s, n, q, &mut *owners);
     }
-}
-
-fn one_if(so: bool) -> usize
-    ensures { λ r. ⌜ r ≤ 1 ⌝ }
-{
-    if so { 1 } else { 0 }
 }
 
 fn changed(x: usize, y: usize) -> usize

@@ -59,18 +59,18 @@ fn block_alike(s: &[u8], copy: &[u8], n: usize, i: usize, p: usize) -> bool
     same_bytes(s, block_at(n, a), copy, block_at(n, b), 64)
 }
 
-// Inode i has the copy's kind and, a file, its size and bytes in s.
+// Inode i has the copy's kind and size and, a file, its bytes in s.
 fn alike(s: &[u8], copy: &[u8], n: usize, i: usize) -> bool
     requires { ⌜ (n ≤ 256) × (1 ≤ i) × (i ≤ 256) ⌝ }
 {
     if kind(s, i) != kind(copy, i) {
         return false;
     }
-    if kind(copy, i) != FILE {
-        return true;
-    }
     if size(s, i) != size(copy, i) {
         return false;
+    }
+    if kind(copy, i) != FILE {
+        return true;
     }
     for p in 0..BYTES_BLOCKS {
         if !block_alike(s, copy, n, i, p) {
@@ -105,17 +105,17 @@ fn of_one_moment(moments: &[u8], m: usize, copy: &[u8], n: usize, i: usize) -> b
     false
 }
 
-// Every inode that the copy has in use is that of one moment.
-fn inodes_right(moments: &[u8], m: usize, copy: &[u8], n: usize) -> bool
+// The first inode that the copy has in use and that is of no moment, 0 for none.
+pub fn strange_inode(moments: &[u8], m: usize, copy: &[u8], n: usize) -> usize
     requires { ⌜ n ≤ 256 ⌝ }
 {
     for k in 0..n {
         let i = k + 1;
         if kind(copy, i) != 0 && !of_one_moment(moments, m, copy, n, i) {
-            return false;
+            return i;
         }
     }
-    true
+    0
 }
 
 // The place of the entry that names i; one past all places if there is none.
@@ -148,6 +148,13 @@ fn kept(s: &[u8], n: usize, taken: &[u8], place: usize) -> bool
     false
 }
 
+// How the entry at place p is told: 48 times its directory, and its slot.
+fn entry_at(p: usize) -> usize
+    requires { ⌜ p ≤ 20000 ⌝ }
+{
+    SLOTS + p
+}
+
 const THERE: usize = 1;
 
 const MISSING: usize = 2;
@@ -170,10 +177,11 @@ fn owed_at(s: &[u8], copy: &[u8], n: usize, taken: &[u8], p: usize) -> usize
     THERE
 }
 
-// How many entries the copy owes, and whether they are in it.
+// How many entries the copy owes, and the first that is not in it, 0 for none; behind that one
+// nothing is counted.
 pub struct Owed {
     pub entries: usize,
-    pub there: bool,
+    pub missing: usize,
 }
 
 pub fn kept_entries(s: &[u8], copy: &[u8], n: usize, taken: &[u8]) -> Owed
@@ -186,34 +194,27 @@ pub fn kept_entries(s: &[u8], copy: &[u8], n: usize, taken: &[u8]) -> Owed
         if x == MISSING {
             return Owed {
                 entries,
-                there: false,
+                missing: entry_at(p),
             };
         }
         entries += x;
     }
     Owed {
         entries,
-        there: true,
+        missing: 0,
     }
 }
 
-// Every entry of the copy stood at a moment, with that name.
-fn names_right(moments: &[u8], m: usize, copy: &[u8], n: usize) -> bool
+// The first entry of the copy that stood at no moment with its inode and name, 0 for none.
+pub fn strange_entry(moments: &[u8], m: usize, copy: &[u8], n: usize) -> usize
     requires { ⌜ n ≤ 256 ⌝ }
 {
     for p in 0..SLOTS * n {
         if names(copy, n, p) != 0 && !stood(moments, m, copy, n, p) {
-            return false;
+            return entry_at(p);
         }
     }
-    true
-}
-
-// What the copy has is of its time.
-pub fn of_its_time(moments: &[u8], m: usize, copy: &[u8], n: usize) -> bool
-    requires { ⌜ n ≤ 256 ⌝ }
-{
-    names_right(moments, m, copy, n) && inodes_right(moments, m, copy, n)
+    0
 }
 
 // One place, if it was emptied.

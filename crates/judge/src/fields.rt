@@ -33,8 +33,14 @@ pub fn byte(s: &[u8], o: usize) -> usize
     0
 }
 
+pub fn one_if(so: bool) -> usize
+    ensures { λ r. ⌜ r ≤ 1 ⌝ }
+{
+    if so { 1 } else { 0 }
+}
+
 // Two bytes, the low one first.
-fn pair(s: &[u8], o: usize) -> usize
+pub fn pair(s: &[u8], o: usize) -> usize
     requires { ⌜ o ≤ 10000000 ⌝ }
     ensures { λ r. ⌜ r ≤ 65535 ⌝ }
 {
@@ -45,6 +51,13 @@ pub fn kind(s: &[u8], i: usize) -> usize
     requires { ⌜ i ≤ 65535 ⌝ }
 {
     byte(s, 8 + 8 * i)
+}
+
+pub fn links(s: &[u8], i: usize) -> usize
+    requires { ⌜ i ≤ 65535 ⌝ }
+    ensures { λ r. ⌜ r ≤ 65535 ⌝ }
+{
+    pair(s, 10 + 8 * i)
 }
 
 pub fn size(s: &[u8], i: usize) -> usize

@@ -1,40 +1,36 @@
--- Laws of the lines of a script: what stands at a place is the first of the lines from there on.
+-- Laws of the lines of a script: the line at a place is the first of the lines from there on.
 use Prim.Native.Nat.{ℕ, zero, suc, _+_, _-_, _≤_, _<_}
 use mathlib.Core.Path.{_≡_, refl, sym, ap, ap₂, _∙_}
 use mathlib.Core.Bool.{Bool, true, false}
 use mathlib.Core.List.{List, [], _∷_}
 use native.Mathlib.Omega.{arith}
-use borrow.Author.Tests.{lt-ltb, le-ltb}
 use lib.Dec.{eqb}
-use lib.ListN.{length, getD, drop, drop-of-length-le}
+use lib.ListN.{length, getD, take, drop, drop-of-length-le}
 use lib.Seq.{drop-cons}
 use Rattle.bounded.specs.Search.{pick}
 use Rattle.octets.specs.Octets.{part}
 use Rattle.octets.proofs.PartLaws.{part-cons, part-one}
 use Rattle.text.specs.Pieces.{findFrom}
 use Rattle.text.proofs.PieceLaws.{place-found, place-turn, place-end}
-use Rattle.lines.specs.Lines.{begun, linesIn, lineAt}
-use Rattle.lines.specs.declared.Next.the-variants.{Line, End}
+use Rattle.lines.specs.Lines.{begun, linesIn, lineAt, nextAt}
 
-module _ (s : List ℕ) (at : ℕ) where
-  pub line-there : (e : ℕ) → at < length s → e ≡ findFrom s 10 at → Line e ≡ lineAt s at
-  unfolding lineAt
-  line-there e l p = rw (lt-ltb at (length s) l, p) refl
+-- the line as the code cuts it out
+pub cut-line : (s : List ℕ) (at e : ℕ) → e ≡ findFrom s 10 at → take (e - at) (drop at s) ≡ lineAt s at
+unfolding lineAt part
+cut-line s at e h = rw h refl
 
-  pub line-end : length s ≤ at → End ≡ lineAt s at
-  unfolding lineAt
-  line-end l = rw (le-ltb at (length s) l) refl
+-- past the end there is nothing
+pub line-past : (s : List ℕ) (at e : ℕ) → e ≡ findFrom s 10 at → e < at → [] ≡ lineAt s at
+unfolding lineAt part
+line-past s at e h l = let z : findFrom s 10 at - at ≡ 0 = omega arith in rw z refl
 
-  -- what was found at a place
-  pub line-ends : (e : ℕ) → at < length s → Line e ≡ lineAt s at → e ≡ findFrom s 10 at
-  line-ends e l p = let q : Line e ≡ Line (findFrom s 10 at) = p ∙ sym (line-there (findFrom s 10 at) l refl) in cc
-
-  pub line-not-end : at < length s → End ≡ lineAt s at → ⊥
-  line-not-end l p = let q : End ≡ Line (findFrom s 10 at) = p ∙ sym (line-there (findFrom s 10 at) l refl) in let z : _≡_ {A = ℕ} 0 1 = cc in omega arith
+pub next-is : (s : List ℕ) (at e : ℕ) → e ≡ findFrom s 10 at → e + 1 ≡ nextAt s at
+unfolding nextAt
+next-is s at e h = rw h refl
 
 -- ---- the first line, and the lines after it
 -- e is where the line at `at` ends
-pub record Splits (s : List ℕ) (at e : ℕ) : Type 0 where
+record Splits (s : List ℕ) (at e : ℕ) : Type 0 where
   pub from : at ≤ e
   pub to : e ≤ length s
   pub lines : linesIn (drop at s) ≡ part s at (e - at) ∷ linesIn (drop (e + 1) s)
@@ -82,5 +78,14 @@ module _ (s : List ℕ) where
       go true h i = here at (omega arith) h
       go false h i = more at (omega arith) h i
 
-  pub line-splits : (at : ℕ) → at < length s → Splits s at (findFrom s 10 at)
-  line-splits at l = splits (length s - (at + 1)) at (omega arith)
+  pub lines-first : (at : ℕ) → at < length s → linesIn (drop at s) ≡ lineAt s at ∷ linesIn (drop (nextAt s at) s)
+  unfolding lineAt nextAt
+  lines-first at l = splits (length s - (at + 1)) at (omega arith) .lines
+
+  pub next-later : (at : ℕ) → at < length s → at < nextAt s at
+  unfolding nextAt
+  next-later at l = let h = splits (length s - (at + 1)) at (omega arith) .from in omega arith
+
+  pub next-within : (at : ℕ) → at < length s → nextAt s at ≤ length s + 1
+  unfolding nextAt
+  next-within at l = let h = splits (length s - (at + 1)) at (omega arith) .to in omega arith

@@ -1,12 +1,11 @@
 -- The lines of a script: "lines end in byte 10, and a last line without it counts too".
-use Prim.Native.Nat.{ℕ}
+use Prim.Native.Nat.{ℕ, _+_, _-_}
 use mathlib.Core.List.{List, [], _∷_}
-use lib.Dec.{eqb, ltb}
-use lib.ListN.{length, take}
+use lib.Dec.{eqb}
+use lib.ListN.{take}
 use Rattle.bounded.specs.Search.{pick}
+use Rattle.octets.specs.Octets.{part}
 use Rattle.text.specs.Pieces.{findFrom}
-use Rattle.lines.specs.declared.Next.{Next}
-use Rattle.lines.specs.declared.Next.the-variants.{Line, End}
 
 abbrev pub newline : ℕ
 newline = 10
@@ -27,6 +26,11 @@ mostScriptBytes = 65536
 unfoldable pub scriptLines : List ℕ → List (List ℕ)
 scriptLines s = linesIn (take mostScriptBytes s)
 
--- the line that starts at a place ends at its byte 10, or at the end; at the end there is none
-unfoldable pub lineAt : List ℕ → ℕ → Next
-lineAt s at = pick (ltb at (length s)) (Line (findFrom s newline at)) End
+-- ---- by places
+-- the line that starts at a place: up to its byte 10, or to the end
+unfoldable pub lineAt : List ℕ → ℕ → List ℕ
+lineAt s at = part s at (findFrom s newline at - at)
+
+-- where the line after it starts
+unfoldable pub nextAt : List ℕ → ℕ → ℕ
+nextAt s at = findFrom s newline at + 1

@@ -2,7 +2,7 @@
 pub mod forms;
 
 ghost use mathlib.Core.Path.{_≡_};
-ghost use Rattle.lines.specs.Lines.{lineAt};
+ghost use Rattle.lines.specs.Lines.{lineAt, nextAt};
 use text::pieces::find;
 
 const NEWLINE: u8 = 10;
@@ -12,37 +12,45 @@ pub struct Reader<'a> {
     pub at: usize,
 }
 
-// What stands at a place: a line, with where it ends, or the end of the script.
-pub enum Next {
-    Line(usize),
-    End,
-}
-
-// The work, on a slice and a number.
-pub fn line_at(script: &[u8], at: usize) -> Next
-    ensures { λ r. ⌜ r ≡ lineAt (now (script .entry)) at ⌝ }
+// The work, on a slice and a number: the line that starts at a place, empty past the end.
+pub fn line_at(script: &[u8], at: usize) -> &[u8]
+    ensures { λ r. ⌜ now r ≡ lineAt (now (script .entry)) at ⌝ }
 {
-    if at < script.len() {
-        return Next::Line(find(script, NEWLINE, at));
+    let end = find(script, NEWLINE, at);
+    if end < at {
+        return &script[0..0];
     }
-    Next::End
+    &script[at..end]
 }
 
-pub fn start<'a>(script: &'a [u8], at: usize) -> Reader<'a>
-    ensures { λ r. ⌜ (r .script ≡ script .entry) × (r .at ≡ at) ⌝ }
+// Where the line after it starts.
+pub fn next_at(script: &[u8], at: usize) -> usize
+    ensures { λ r. ⌜ r ≡ nextAt (now (script .entry)) at ⌝ }
 {
-    Reader { script, at }
+    find(script, NEWLINE, at) + 1
 }
 
-pub fn line<'a>(r: Reader<'a>) -> Next
-    ensures { λ s. ⌜ s ≡ lineAt (now (r .entry .script)) (r .entry .at) ⌝ }
+// The reader at the start of a script.
+pub fn start<'a>(script: &'a [u8]) -> Reader<'a>
+    ensures { λ r. ⌜ (r .script ≡ script .entry) × (r .at ≡ 0) ⌝ }
+{
+    Reader { script, at: 0 }
+}
+
+// The line at its place.
+pub fn line<'a>(r: Reader<'a>) -> &'a [u8]
+    ensures { λ s. ⌜ now s ≡ lineAt (now (r .entry .script)) (r .entry .at) ⌝ }
 {
     line_at(r.script, r.at)
 }
 
-// What a loop calls: its parameters are a slice and a number.
-pub fn line_from(script: &[u8], at: usize) -> Next
-    ensures { λ r. ⌜ r ≡ lineAt (now (script .entry)) at ⌝ }
+// The reader moved behind that line.
+pub fn after<'a>(r: Reader<'a>) -> Reader<'a>
+    ensures { λ q. ⌜ (q .script ≡ r .entry .script) × (q .at ≡ nextAt (now (r .entry .script)) (r .entry .at)) ⌝ }
 {
-    line(start(script, at))
+    let at = next_at(r.script, r.at);
+    Reader {
+        script: r.script,
+        at,
+    }
 }

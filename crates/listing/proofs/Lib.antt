@@ -1,4 +1,3 @@
 pub mod TextLaws
 pub mod PlaceLaws
-pub mod WalkLaws
-pub mod PartLaws
+pub mod LengthLaws

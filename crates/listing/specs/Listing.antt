@@ -1,21 +1,20 @@
 -- What a line of a script prints: its answer, and the listing of a finished copy. m is the image, n the inode count, p a place of all slots in a row.
-use Prim.Native.Nat.{ℕ, zero, suc, _+_, _*_, _-_, _<_, _≤_}
-use mathlib.Core.Path.{_≡_}
-use mathlib.Core.Bool.{Bool, true, false}
+use Prim.Native.Nat.{ℕ, zero, suc, _+_, _*_, _≤_}
+use mathlib.Core.Bool.{Bool}
 use mathlib.Core.List.{List, [], _++_}
 use lib.Dec.{eqb}
+use lib.ListN.{length}
 use Rattle.bounded.specs.Search.{pick}
-use Rattle.layout.specs.Sizes.{mostInodes}
 use Rattle.layout.specs.Header.{headerOf}
 use Rattle.layout.specs.Inode.{kindOf, sizeOf, linksOf, directoryKind}
 use Rattle.names.specs.Entry.{entryInode, entryName}
 use Rattle.directory.specs.Slot.{mostSlots}
 use Rattle.desk.specs.Desk.{deskOf}
-use Rattle.sound.specs.Sound.{inodesIn}
+use Rattle.sound.specs.Sound.{Sound, inodesIn}
+use Rattle.sound.specs.declared.Form.the-variants.{Image}
 use Rattle.sound.specs.Place.{dirOf, slotOf, entryAt, filled}
 use Rattle.text.specs.Letters.{letters}
-use Rattle.text.specs.Put.{Put, decimalText, pairText}
-use Rattle.listing.specs.declared.Part.{Part}
+use Rattle.text.specs.Put.{decimalText, pairText}
 
 -- "Each prints `ok` with the new inode, new size (`wr`, `sh`), steps so far (`st`) or 0; or `no` and the number."
 unfoldable pub wordText : Bool → ℕ → List ℕ
@@ -50,10 +49,13 @@ entryText m n p =
     let i = entryInode (entryAt m n p) in
     (placeText (dirOf p) (slotOf p) i ++ inodeText m i) ++ nameText (entryAt m n p)
 
+unfoldable pub slotText : List ℕ → ℕ → ℕ → List ℕ
+slotText m n p = pick (filled m n p) (entryText m n p) []
+
 -- "then by directory and slot": those of the k places from p on
 unfoldable pub entriesFrom : List ℕ → ℕ → ℕ → ℕ → List ℕ
 entriesFrom m n p zero = []
-entriesFrom m n p (suc k) = pick (filled m n p) (entryText m n p) [] ++ entriesFrom m n (suc p) k
+entriesFrom m n p (suc k) = slotText m n p ++ entriesFrom m n (suc p) k
 
 unfoldable pub listing : List ℕ → List ℕ → List ℕ
 listing m desk = headText m desk ++ entriesFrom m (inodesIn m) 0 (mostSlots * inodesIn m)
@@ -62,20 +64,24 @@ listing m desk = headText m desk ++ entriesFrom m (inodesIn m) 0 (mostSlots * in
 unfoldable pub printedText : Bool → ℕ → Bool → List ℕ → List ℕ → List ℕ
 printedText o v f m desk = replyText o v ++ pick f (listing m desk) []
 
--- ---- printed part by part: what is left at k is all at 0, the listing at 1, and from 2 on the entries from place k - 2 on
-unfoldable pub entriesLeft : List ℕ → ℕ → List ℕ
-entriesLeft m k = entriesFrom m (inodesIn m) (k - 2) (mostSlots * inodesIn m - (k - 2))
+-- ---- how long these texts can be: a number of 64 bits takes 20 digits, a name 14 bytes
+abbrev pub mostReply : ℕ
+mostReply = 24
 
-unfoldable pub leftText : Bool → ℕ → Bool → List ℕ → List ℕ → ℕ → List ℕ
-leftText o v f m desk zero = printedText o v f m desk
-leftText o v f m desk (suc zero) = pick f (listing m desk) []
-leftText o v f m desk (suc (suc p)) = pick f (entriesLeft m (suc (suc p))) []
+abbrev pub mostHead : ℕ
+mostHead = 111
 
--- a part was put at the start of s: it is what comes next, and what is left after it is what is left at another k; or nothing is left, and nothing was put
-pub record Printed (left : ℕ → List ℕ) (k : ℕ) (s : List ℕ) (r : Part) (t : List ℕ) : Type 0 where
-  pub text : List ℕ
-  pub put : Put s 0 text (r .end) t
-  pub splits : r .more ≡ true → left k ≡ text ++ left (r .next)
-  pub onward : r .more ≡ true → k < r .next
-  pub bounded : r .more ≡ true → r .next ≤ mostSlots * mostInodes + 2
-  pub done : r .more ≡ false → (left k ≡ []) × (text ≡ [])
+abbrev pub mostEntryText : ℕ
+mostEntryText = 122
+
+-- of an image of n inodes: its first line, and a line for each slot
+abbrev pub mostListing : ℕ → ℕ
+mostListing n = mostHead + mostEntryText * (mostSlots * n)
+
+abbrev pub mostPrinted : ℕ → ℕ
+mostPrinted n = mostReply + mostListing n
+
+-- what a listing asks for: a sound image, and room for its text
+pub record Listable (out m : List ℕ) : Type 0 where
+  pub sound : Sound Image m
+  pub room : mostPrinted (inodesIn m) ≤ length out

@@ -1,9 +1,8 @@
-// The text that a line of a script prints: its answer, and the listing of a finished copy, entry by entry. m is the image, d the desk, n the count of inodes.
+// The text that a line of a script prints: its answer, and the listing of a finished copy. m is the image, d the desk, n the count of inodes.
 ghost use mathlib.Core.Path.{_≡_};
 ghost use mathlib.Core.Bool.{true};
-ghost use Prim.Native.Nat.{_+_, _*_, _-_, _<_, _≤_};
+ghost use Prim.Native.Nat.{_+_, _*_, _<_, _≤_};
 ghost use lib.ListN.{length};
-ghost use Rattle.bounded.specs.Search.{firstFrom};
 ghost use Rattle.layout.specs.Sizes.{headerBytes};
 ghost use Rattle.layout.specs.Fits.{InodeFits};
 ghost use Rattle.names.specs.Name.{nameBytes};
@@ -14,8 +13,7 @@ ghost use Rattle.sound.specs.Sound.{Sound, inodesIn};
 ghost use Rattle.sound.specs.Place.{filled};
 ghost use Rattle.sound.specs.declared.Form.the-variants.{Image};
 ghost use Rattle.text.specs.Put.{Put};
-ghost use Rattle.listing.specs.Listing.{wordText, replyText, countsText, headText, placeText, kindText, inodeText, nameText, entryText, entriesLeft, leftText, Printed};
-use bounded::Found;
+ghost use Rattle.listing.specs.Listing.{wordText, replyText, countsText, headText, placeText, kindText, inodeText, nameText, entryText, slotText, entriesFrom, listing, printedText, mostReply, mostHead, mostEntryText, mostListing, Listable};
 use desk::Desk;
 use directory::MOST_SLOTS;
 use layout::header::Header;
@@ -27,13 +25,6 @@ use names::NAME_BYTES;
 use text::put::put;
 use text::put::put_numbered;
 use text::put::put_pair;
-
-// A part of what a line prints: where it ends in the buffer, where the printing goes on, and whether there was one.
-pub struct Part {
-    pub end: usize,
-    pub next: usize,
-    pub more: bool,
-}
 
 fn put_word(out: &mut [u8], o: usize, ok: bool, n: usize) -> usize
     requires { ⌜ o + 23 ≤ length (now out) ⌝ }
@@ -48,7 +39,7 @@ fn put_word(out: &mut [u8], o: usize, ok: bool, n: usize) -> usize
 
 // The line's answer at o of out; where it ends.
 fn put_reply(out: &mut [u8], o: usize, ok: bool, n: usize) -> usize
-    requires { ⌜ o + 24 ≤ length (now out) ⌝ }
+    requires { ⌜ o + mostReply ≤ length (now out) ⌝ }
     ensures { λ r. ⌜ Put (now (out .entry)) o (replyText ok n) r (now (out .exit)) ⌝ }
 {
     let e = put_word(&mut *out, o, ok, n);
@@ -73,7 +64,7 @@ fn put_counts(out: &mut [u8], o: usize, m: &[u8]) -> usize
 
 // The first line of a listing.
 fn put_head(out: &mut [u8], o: usize, m: &[u8], d: &[u8]) -> usize
-    requires { ⌜ (o + 111 ≤ length (now out)) × (headerBytes ≤ length (now m)) × (deskHeaderBytes ≤ length (now d)) ⌝ }
+    requires { ⌜ (o + mostHead ≤ length (now out)) × (headerBytes ≤ length (now m)) × (deskHeaderBytes ≤ length (now d)) ⌝ }
     ensures { λ r. ⌜ Put (now (out .entry)) o (headText (now (m .entry)) (now (d .entry))) r (now (out .exit)) ⌝ }
 {
     let h = Desk::read(d);
@@ -153,22 +144,9 @@ fn is_filled(m: &[u8], n: usize, p: usize) -> bool
     !names::is_empty(&m[o..o + ENTRY_BYTES])
 }
 
-// The next place at which an entry stands, by directory and slot.
-fn next_entry(m: &[u8], n: usize, from: usize) -> Found
-    requires { ⌜ Sound Image (now m) × (n ≡ inodesIn (now m)) ⌝ }
-    ensures { λ r. ⌜ r ≡ firstFrom (filled (now (m .entry)) n) from (mostSlots * n - from) ⌝ }
-{
-    for p in from..MOST_SLOTS * n {
-        if is_filled(m, n, p) {
-            return Found::At(p);
-        }
-    }
-    Found::Absent
-}
-
 // The line of the entry that stands at place p.
 fn put_entry(out: &mut [u8], o: usize, m: &[u8], n: usize, p: usize) -> usize
-    requires { ⌜ (o + 122 ≤ length (now out)) × Sound Image (now m) × (n ≡ inodesIn (now m)) × (p < mostSlots * n) × (filled (now m) n p ≡ true) ⌝ }
+    requires { ⌜ (o + mostEntryText ≤ length (now out)) × Sound Image (now m) × (n ≡ inodesIn (now m)) × (p < mostSlots * n) × (filled (now m) n p ≡ true) ⌝ }
     ensures { λ r. ⌜ Put (now (out .entry)) o (entryText (now (m .entry)) n p) r (now (out .exit)) ⌝ }
 {
     let e = p / MOST_SLOTS + 1;
@@ -181,63 +159,53 @@ fn put_entry(out: &mut [u8], o: usize, m: &[u8], n: usize, p: usize) -> usize
     put_name(out, b, entry)
 }
 
-// The next entry from place k - 2 on.
-fn put_listed(out: &mut [u8], m: &[u8], k: usize) -> Part
-    requires { ⌜ (122 ≤ length (now out)) × Sound Image (now m) × (2 ≤ k) ⌝ }
-    ensures { λ r. ⌜ Printed (entriesLeft (now (m .entry))) k (now (out .entry)) r (now (out .exit)) ⌝ }
+// The line of place p, if an entry stands there.
+fn put_slot(out: &mut [u8], o: usize, m: &[u8], n: usize, p: usize) -> usize
+    requires { ⌜ (o + mostEntryText ≤ length (now out)) × Sound Image (now m) × (n ≡ inodesIn (now m)) × (p < mostSlots * n) ⌝ }
+    ensures { λ r. ⌜ Put (now (out .entry)) o (slotText (now (m .entry)) n p) r (now (out .exit)) ⌝ }
 {
-    let h = Header::read(m);
-    let n = h.inodes as usize;
-    let Found::At(p) = next_entry(m, n, k - 2) else {
-        return Part {
-            end: 0,
-            next: k,
-            more: false,
-        };
-    };
-    let end = put_entry(&mut *out, 0, m, n, p);
-    Part {
-        end,
-        next: p + 3,
-        more: true,
+    if is_filled(m, n, p) {
+        return put_entry(out, o, m, n, p);
     }
+    o
 }
 
-// The part of a line's text that comes at k, at the start of out: from 0 on, each goes on where the one before it says.
-pub fn put_part(
+// The lines of all entries, by directory and slot.
+fn put_entries(out: &mut [u8], o: usize, m: &[u8], n: usize) -> usize
+    requires { ⌜ (o + mostEntryText * (mostSlots * n) ≤ length (now out)) × Sound Image (now m) × (n ≡ inodesIn (now m)) ⌝ }
+    ensures { λ r. ⌜ Put (now (out .entry)) o (entriesFrom (now (m .entry)) n 0 (mostSlots * n)) r (now (out .exit)) ⌝ }
+{
+    let mut e = o;
+    for p in 0..MOST_SLOTS * n {
+        e = put_slot(&mut *out, e, m, n, p);
+    }
+    e
+}
+
+fn put_listing(out: &mut [u8], o: usize, m: &[u8], d: &[u8]) -> usize
+    requires { ⌜ (o + mostListing (inodesIn (now m)) ≤ length (now out)) × Sound Image (now m) × (headerBytes ≤ length (now m)) × (deskHeaderBytes ≤ length (now d)) ⌝ }
+    ensures { λ r. ⌜ Put (now (out .entry)) o (listing (now (m .entry)) (now (d .entry))) r (now (out .exit)) ⌝ }
+{
+    let h = Header::read(m);
+    let e = put_head(&mut *out, o, m, d);
+    put_entries(out, e, m, h.inodes as usize)
+}
+
+// All that a line prints, at the start of out; where it ends.
+pub fn put_printed(
     out: &mut [u8],
     ok: bool,
     number: usize,
     finished: bool,
     m: &[u8],
     d: &[u8],
-    k: usize,
-) -> Part
-    requires { ⌜ (122 ≤ length (now out)) × (finished ≡ true → Sound Image (now m)) × (headerBytes ≤ length (now m)) × (deskHeaderBytes ≤ length (now d)) ⌝ }
-    ensures { λ r. ⌜ Printed (leftText ok number finished (now (m .entry)) (now (d .entry))) k (now (out .entry)) r (now (out .exit)) ⌝ }
+) -> usize
+    requires { ⌜ (mostReply ≤ length (now out)) × (finished ≡ true → Listable (now out) (now m)) × (headerBytes ≤ length (now m)) × (deskHeaderBytes ≤ length (now d)) ⌝ }
+    ensures { λ r. ⌜ Put (now (out .entry)) 0 (printedText ok number finished (now (m .entry)) (now (d .entry))) r (now (out .exit)) ⌝ }
 {
-    if k == 0 {
-        let end = put_reply(&mut *out, 0, ok, number);
-        return Part {
-            end,
-            next: 1,
-            more: true,
-        };
-    }
+    let e = put_reply(&mut *out, 0, ok, number);
     if !finished {
-        return Part {
-            end: 0,
-            next: k,
-            more: false,
-        };
+        return e;
     }
-    if k == 1 {
-        let end = put_head(&mut *out, 0, m, d);
-        return Part {
-            end,
-            next: 2,
-            more: true,
-        };
-    }
-    put_listed(out, m, k)
+    put_listing(out, e, m, d)
 }

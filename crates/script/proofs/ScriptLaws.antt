@@ -1,56 +1,37 @@
--- Laws of a script's lines: each is run on what the one before it left.
-use Prim.Native.Nat.{ℕ, _+_, _-_, _≤_, _<_}
-use mathlib.Core.Path.{_≡_, refl, sym, ap, _∙_, subst}
+-- Laws of one line: the buffers that it leaves, its text, and the fresh buffers.
+use Prim.Native.Nat.{ℕ, _≤_}
+use mathlib.Core.Path.{_≡_, refl, sym, ap, subst}
 use mathlib.Core.Bool.{true}
-use mathlib.Core.List.{List, [], _∷_}
-use lib.ListN.{length, take, drop, replicate}
-use lib.Seq.{take-all}
-use Rattle.octets.specs.Octets.{part}
-use Rattle.sound.specs.Sound.{Sound}
+use mathlib.Core.List.{List, []}
+use native.Mathlib.Omega.{arith}
+use lib.ListN.{length, replicate}
+use Rattle.sound.specs.Sound.{Sound, inodesIn}
 use Rattle.sound.specs.declared.Form.the-variants.{Image}
 use Rattle.answers.specs.declared.Answer.{Answer}
 use Rattle.format.specs.Format.{LaidOut, laidOut, layOutStore, layOutDesk}
-use Rattle.text.specs.Pieces.{findFrom}
+use Rattle.listing.specs.Listing.{printedText, mostPrinted, Listable}
 use Rattle.checkpoint.specs.Live.{World}
 use Rattle.checkpoint.specs.Shown.{world}
-use Rattle.lines.specs.Lines.{linesIn, mostScriptBytes, scriptLines}
-use Rattle.lines.proofs.LineLaws.{line-splits, lines-end}
 use Rattle.session.specs.Reply.{Ran, ran, lineRuns, worldAfter}
-use Rattle.session.specs.Script.{linesRun, FinishesSound, scriptInodes, scriptBlocks, fresh}
+use Rattle.session.specs.Script.{printed, linesRun, FinishesSound, scriptInodes, scriptBlocks, fresh}
 use Rattle.session.specs.declared.Reply.{Reply}
 
 pub after-line : (l : List ℕ) (w : World) (r : Reply) (s m d : List ℕ) → ran r (world s m d) ≡ lineRuns l w → world s m d ≡ worldAfter l w
 after-line l w r s m d e = ap (λ (x : Ran). world (x .store) (x .image) (x .desk)) e
 
--- a copy that has finished in the line is sound
-pub finished-sound : (l : List ℕ) (w : World) (r : Reply) (s m d : List ℕ) → FinishesSound w → ran r (world s m d) ≡ lineRuns l w → r .finished ≡ true → Sound Image m
+-- the text of what was run
+pub printed-line : (l : List ℕ) (w : World) (r : Reply) (s m d : List ℕ) → ran r (world s m d) ≡ lineRuns l w → printedText (r .ok) (r .number) (r .finished) m d ≡ printed l w
+unfolding printed
+printed-line l w r s m d e = ap (λ (x : Ran). printedText (x .reply .ok) (x .reply .number) (x .reply .finished) (x .image) (x .desk)) e
+
+-- a copy that has finished in the line can be listed
+pub finished-listable : (l : List ℕ) (w : World) (r : Reply) (s m d out : List ℕ) → FinishesSound w → mostPrinted scriptInodes ≤ length out → ran r (world s m d) ≡ lineRuns l w
+    → r .finished ≡ true → Listable out m
 unfolding linesRun
-finished-sound l w r s m d h e f = subst (λ (x : Ran). x .reply .finished ≡ true → Sound Image (x .image)) (sym e) (h [] l) f
-
--- and so it is for the lines after it
-pub later-sound : (l : List ℕ) (w v : World) → v ≡ worldAfter l w → FinishesSound w → FinishesSound v
-unfolding linesRun
-later-sound l w v e h = rw e (λ ls. h (l ∷ ls))
-
--- the line that was found at a place
-pub cut-line : (s : List ℕ) (at e : ℕ) (w v : World) → e ≡ findFrom s 10 at → v ≡ worldAfter (take (e - at) (drop at s)) w → v ≡ worldAfter (part s at (findFrom s 10 at - at)) w
-unfolding part
-cut-line s at e w v q h = h ∙ rw q refl
-
--- a line in its turn
-pub line-turn : (s : List ℕ) (at next : ℕ) (w v : World) → at < length s → next ≡ findFrom s 10 at + 1 → v ≡ worldAfter (part s at (findFrom s 10 at - at)) w
-    → linesRun (linesIn (drop at s)) w ≡ linesRun (linesIn (drop next s)) v
-unfolding linesRun
-line-turn s at next w v l e h = rw (line-splits s at l .lines, e, h) refl
-
-pub all-run : (s : List ℕ) (at : ℕ) (w : World) → length s ≤ at → linesRun (linesIn (drop at s)) w ≡ w
-unfolding linesRun
-all-run s at w l = rw (lines-end s at l) refl
-
--- all of a script that was read, on the fresh buffers
-pub whole-script : (s : List ℕ) (w : World) → length s ≤ mostScriptBytes → w ≡ fresh → linesRun (linesIn s) w ≡ linesRun (scriptLines s) fresh
-unfolding scriptLines
-whole-script s w l e = rw (e, take-all mostScriptBytes s l) refl
+finished-listable l w r s m d out h room e f =
+    let x = subst (λ (x : Ran). x .reply .finished ≡ true → Sound Image (x .image) × (inodesIn (x .image) ≡ scriptInodes)) (sym e) (h [] l) f in
+    let n = x .1 in
+    record { sound = x .0; room = omega (arith, room) }
 
 -- the fresh buffers are those that were laid out
 pub laid-fresh : (s d t u : List ℕ) (a b : Answer) → s ≡ replicate 4624 0 → d ≡ replicate 160 0 → laidOut a t ≡ layOutStore s scriptInodes scriptBlocks → laidOut b u ≡ layOutDesk d scriptInodes

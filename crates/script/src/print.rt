@@ -1,40 +1,43 @@
-// What a line prints, part by part. m is the image, d the desk.
+// What a line prints.
 ghost use mathlib.Core.Path.{_≡_};
-ghost use mathlib.Core.Bool.{true};
-ghost use Prim.Native.Nat.{_<_, _≤_};
+ghost use Prim.Native.Nat.{_≤_};
 ghost use lib.ListN.{length};
 ghost use Rattle.layout.specs.Sizes.{headerBytes};
 ghost use Rattle.desk.specs.Sizes.{deskHeaderBytes};
-ghost use Rattle.sound.specs.Sound.{Sound};
-ghost use Rattle.sound.specs.declared.Form.the-variants.{Image};
+ghost use Rattle.text.specs.Put.{Put};
+ghost use Rattle.checkpoint.specs.Shown.{world};
+ghost use Rattle.listing.specs.Listing.{mostPrinted};
+ghost use Rattle.session.specs.Reply.{worldAfter};
+ghost use Rattle.session.specs.Script.{printed, FinishesSound, scriptInodes};
 use libc::STDOUT_FILENO;
-use listing::Part;
-use listing::put_part;
-use session::Reply;
+use listing::put_printed;
 use text::pieces::front;
 
-// No part comes from here on: 48 slots of 256 inodes, the reply and the first line of a listing.
-const PARTS: usize = 12291;
+// No line prints more: `mostPrinted` of a store of 16 inodes.
+const MOST_PRINTED: usize = 93831;
 
-fn part(ok: bool, number: usize, finished: bool, m: &[u8], d: &[u8], k: usize) -> Part
-    requires { ⌜ (finished ≡ true → Sound Image (now m)) × (headerBytes ≤ length (now m)) × (deskHeaderBytes ≤ length (now d)) ⌝ }
-    ensures { λ r. ⌜ (r .more ≡ true → k < r .next) × (r .more ≡ true → r .next ≤ 12290) ⌝ }
+// Runs a line, and puts all that it prints at the start of out; where that ends.
+fn put_line(
+    out: &mut [u8],
+    line: &[u8],
+    store: &mut [u8],
+    image: &mut [u8],
+    desk: &mut [u8],
+) -> usize
+    requires { ⌜ (mostPrinted scriptInodes ≤ length (now out)) × (headerBytes ≤ length (now image)) × (deskHeaderBytes ≤ length (now desk)) × FinishesSound (world (now store) (now image) (now desk)) ⌝ }
+    ensures { λ _. ⌜ world (now (store .exit)) (now (image .exit)) (now (desk .exit)) ≡ worldAfter (now (line .entry)) (world (now (store .entry)) (now (image .entry)) (now (desk .entry))) ⌝ }
+    ensures { λ r. ⌜ Put (now (out .entry)) 0 (printed (now (line .entry)) (world (now (store .entry)) (now (image .entry)) (now (desk .entry)))) r (now (out .exit)) ⌝ }
 {
-    let mut out = [0u8; 122];
-    let p = put_part(&mut out, ok, number, finished, m, d, k);
-    io::write_all(STDOUT_FILENO, front(&out, p.end));
-    p
+    let r = session::run::run(line, &mut *store, &mut *image, &mut *desk);
+    put_printed(out, r.ok, r.number, r.finished, &*image, &*desk)
 }
 
-pub fn line(r: Reply, m: &[u8], d: &[u8])
-    requires { ⌜ (r .finished ≡ true → Sound Image (now m)) × (headerBytes ≤ length (now m)) × (deskHeaderBytes ≤ length (now d)) ⌝ }
+// Runs a line, and writes what it prints.
+pub fn line(line: &[u8], store: &mut [u8], image: &mut [u8], desk: &mut [u8])
+    requires { ⌜ (headerBytes ≤ length (now image)) × (deskHeaderBytes ≤ length (now desk)) × FinishesSound (world (now store) (now image) (now desk)) ⌝ }
+    ensures { λ _. ⌜ world (now (store .exit)) (now (image .exit)) (now (desk .exit)) ≡ worldAfter (now (line .entry)) (world (now (store .entry)) (now (image .entry)) (now (desk .entry))) ⌝ }
 {
-    let mut k = 0;
-    while k < PARTS {
-        let p = part(r.ok, r.number, r.finished, m, d, k);
-        if !p.more {
-            return;
-        }
-        k = p.next;
-    }
+    let mut out = [0u8; MOST_PRINTED];
+    let end = put_line(&mut out, line, &mut *store, &mut *image, &mut *desk);
+    io::write_all(STDOUT_FILENO, front(&out, end));
 }

@@ -6,7 +6,7 @@ use mathlib.Core.List.{List, [], _∷_, _++_}
 use lib.ListN.{replicate}
 use Rattle.blocks.specs.Block.{storeLength}
 use Rattle.desk.specs.Sizes.{deskLength}
-use Rattle.sound.specs.Sound.{Sound}
+use Rattle.sound.specs.Sound.{Sound, inodesIn}
 use Rattle.sound.specs.declared.Form.the-variants.{Image}
 use Rattle.format.specs.Format.{layOutStore, layOutDesk}
 use Rattle.checkpoint.specs.Live.{World}
@@ -30,11 +30,6 @@ unfoldable pub linesPrint : List (List ℕ) → World → List ℕ
 linesPrint [] w = []
 linesPrint (l ∷ ls) w = printed l w ++ linesPrint ls (worldAfter l w)
 
--- whatever lines follow, the copy that a line finishes is sound
-abbrev pub FinishesSound : World → Type 0
-FinishesSound w =
-    (ls : List (List ℕ)) (l : List ℕ) → lineRuns l (linesRun ls w) .reply .finished ≡ true → Sound Image (lineRuns l (linesRun ls w) .image)
-
 -- "on a fresh store, N 16 and B 64, image 128 blocks"
 abbrev pub scriptInodes : ℕ
 scriptInodes = 16
@@ -44,6 +39,12 @@ scriptBlocks = 64
 
 abbrev pub scriptImageBlocks : ℕ
 scriptImageBlocks = 128
+
+-- whatever lines follow, the copy that a line finishes is sound and has as many inodes as the store, so that its listing can be printed
+abbrev pub FinishesSound : World → Type 0
+FinishesSound w =
+    (ls : List (List ℕ)) (l : List ℕ) → lineRuns l (linesRun ls w) .reply .finished ≡ true
+    → Sound Image (lineRuns l (linesRun ls w) .image) × (inodesIn (lineRuns l (linesRun ls w) .image) ≡ scriptInodes)
 
 unfoldable pub fresh : World
 fresh =

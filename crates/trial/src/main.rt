@@ -1,8 +1,9 @@
 // Random lists of calls on the library, beside a plain store and a record of which entries were taken out: at the first difference it prints the list that shows it.
 // Words: a seed, and how many lists.
-mod list;
 mod print;
 
+use chance::print::difference;
+use follow::list::run;
 use text::Number;
 use text::numbers::number;
 use text::pieces::front;
@@ -23,9 +24,9 @@ fn main() {
     let mut moments = [0u8; 2097152];
     let mut tried = [0u64; 30];
     for l in 0..lists {
-        let wrong = list::run(seed, l, &mut moments, &mut tried);
+        let wrong = run(seed, l, &mut moments, &mut tried);
         if wrong != 0 {
-            print::difference(seed, l, wrong);
+            difference(seed, l, wrong);
             return;
         }
     }

@@ -1,5 +1,4 @@
-// What was tried, or the list that shows a difference.
-use chance::print::list;
+// What was tried.
 use chance::print::number;
 use chance::print::word;
 use follow::tried::BLOCKS;
@@ -14,14 +13,6 @@ use follow::tried::INODES;
 use follow::tried::LISTS;
 use follow::tried::LONG;
 use follow::tried::MOVES;
-
-// The list up to the event, after a line that `replay` has no answer to.
-pub fn difference(seed: u64, l: u64, event: u64) {
-    word(b"a difference in the last line of list");
-    number(l as usize);
-    word(b"\n");
-    list(seed, l, event);
-}
 
 fn row(what: &[u8], n: u64) {
     word(what);

@@ -1,4 +1,5 @@
-use Rattle.api.proofs.CodeLaws.{sent-three}
+use Rattle.api.proofs.CodeLaws.{three-fits, sent-three}
+use Rattle.api.proofs.ResultLaws.{step-fits}
 use borrow.Author.Needs.{needs}
 use Rattle.api.proofs.honecerise_step.Statement.{statement}
 use Rattle.api.proofs.honecerise_step.Tie as tie
@@ -7,7 +8,7 @@ step-requires : tie.Need-step-requires
 step-requires c κs = search needs
 
 code-requires : tie.Need-code-requires
-code-requires c κs = search needs
+code-requires c κs = three-fits (c .before .before .before .before .step .result) _ _ _ _ (c .before .before .before .before .step .ensures) (step-fits _ _ _)
 
 same-length : tie.Need-same-length
 same-length c = search needs
@@ -16,7 +17,7 @@ same-length-2 : tie.Need-same-length-2
 same-length-2 c = search needs
 
 returns : tie.Need-returns
-returns c = sent-three (c .before .before .before .before .before .step .result) _ (c .code .ensures) _ _ _ _ (c .before .before .before .before .before .step .ensures)
+returns c = sent-three (c .before .before .before .before .before .step .result) _ _ _ _ (c .before .before .before .before .before .step .ensures) (step-fits _ _ _) _ (c .code .ensures)
 
 pub honecerise-step-spec : {M : Type 1} → statement M
 honecerise-step-spec =

@@ -95,28 +95,31 @@ pub record Finished (m t : List ℕ) (n b : ℕ) : Type 0 where
   pub bytes : (c : ℕ) → SameBlock m t n c
   pub links : (j : ℕ) → 1 ≤ j → j ≤ n → linksOf t j ≡ tally (imageNaming m n) (mostSlots * n) j
 
+-- whatever goes into byte 8; that it is 1 is asked first
 pub finished : (m : List ℕ) (n b : ℕ) → n ≤ mostInodes → 16 + 32 * n ≤ length m → Finished m (finishImage m n b) n b
 unfolding finishImage
-finished m n b few area =
-    let t = putCounts m m n n in
-    let u = putFree t (countTo (inodeFree m) n) (countTo (blockFree m n) b) in
-    let w = putComplete u isComplete in
-    let h = counts m n few area n (omega arith) in
-    let a = h .frame .long in
-    let p = put-free t n (omega arith) (countTo (inodeFree m) n) (countTo (blockFree m n) b) in
-    let c = p .frame .long in
-    let e : headerOf w ≡ completion (headerOf u) isComplete = header-complete u (omega arith) isComplete in
-    record {
-      long = length-complete u isComplete ∙ p .frame .long ∙ h .frame .long;
-      inodes = ap (λ (v : Header). v .inodes) e ∙ p .frame .inodes ∙ h .frame .inodes;
-      blocks = ap (λ (v : Header). v .blocks) e ∙ p .frame .blocks ∙ h .frame .blocks;
-      free-inodes = ap (λ (v : Header). v .«free_inodes») e ∙ p .free-inodes;
-      free-blocks = ap (λ (v : Header). v .«free_blocks») e ∙ p .free-blocks;
-      complete = ap (λ (v : Header). v .complete) e;
-      root = ap (λ (v : Header). v .root) e ∙ p .frame .root ∙ h .frame .root;
-      reserved = complete-reserved u isComplete ∙ p .frame .reserved ∙ h .frame .reserved;
-      bodies = λ j l k. body-then (body-then (h .bodies j l k) (same-body (p .inodes j l k))) (same-body (complete-inode u n isComplete j));
-      parents = λ j l k. complete-inode u n isComplete j .parent ∙ p .inodes j l k .parent ∙ h .parents j l k;
-      bytes = λ q. complete-block u n isComplete q ∙ p .bytes q ∙ h .bytes q;
-      links = λ j l k. complete-inode u n isComplete j .links ∙ p .inodes j l k .links ∙ h .links j l k;
-    }
+finished m n b few area = with-byte _ refl
+  where
+    with-byte : (x : ℕ) → x ≡ isComplete → Finished m (putComplete (putFree (putCounts m m n n) (countTo (inodeFree m) n) (countTo (blockFree m n) b)) x) n b
+    with-byte x is =
+        let t = putCounts m m n n in
+        let u = putFree t (countTo (inodeFree m) n) (countTo (blockFree m n) b) in
+        let h = counts m n few area n (omega arith) in
+        let a = h .frame .long in
+        let p = put-free t n (omega arith) (countTo (inodeFree m) n) (countTo (blockFree m n) b) in
+        let c = p .frame .long in
+        let e : headerOf (putComplete u x) ≡ completion (headerOf u) x = header-complete u (omega arith) x in
+        record {
+          long = length-complete u x ∙ p .frame .long ∙ h .frame .long;
+          inodes = ap (λ (v : Header). v .inodes) e ∙ p .frame .inodes ∙ h .frame .inodes;
+          blocks = ap (λ (v : Header). v .blocks) e ∙ p .frame .blocks ∙ h .frame .blocks;
+          free-inodes = ap (λ (v : Header). v .«free_inodes») e ∙ p .free-inodes;
+          free-blocks = ap (λ (v : Header). v .«free_blocks») e ∙ p .free-blocks;
+          complete = ap (λ (v : Header). v .complete) e ∙ is;
+          root = ap (λ (v : Header). v .root) e ∙ p .frame .root ∙ h .frame .root;
+          reserved = complete-reserved u x ∙ p .frame .reserved ∙ h .frame .reserved;
+          bodies = λ j l k. body-then (body-then (h .bodies j l k) (same-body (p .inodes j l k))) (same-body (complete-inode u n x j));
+          parents = λ j l k. complete-inode u n x j .parent ∙ p .inodes j l k .parent ∙ h .parents j l k;
+          bytes = λ q. complete-block u n x q ∙ p .bytes q ∙ h .bytes q;
+          links = λ j l k. complete-inode u n x j .links ∙ p .inodes j l k .links ∙ h .links j l k;
+        }

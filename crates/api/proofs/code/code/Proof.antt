@@ -1,4 +1,4 @@
-use Rattle.api.proofs.CodeLaws.{done-code, refused-code}
+use Rattle.api.proofs.CodeLaws.{done-fits, done-code, refused-code}
 use borrow.Author.Needs.{needs}
 use Rattle.api.proofs.code.code.Statement.{statement}
 use Rattle.api.proofs.code.code.Tie as tie
@@ -7,7 +7,7 @@ enum-known-a : tie.Need-enum-known-a
 enum-known-a c = search needs
 
 result-requires : tie.Need-result-requires
-result-requires c κs = search needs
+result-requires c κs = done-fits _ _ (c .before .before .before .pre) (c .before .a .given .1)
 
 enum-known-a-2 : tie.Need-enum-known-a-2
 enum-known-a-2 c = search needs
@@ -16,7 +16,7 @@ refused-requires : tie.Need-refused-requires
 refused-requires c κs = search needs
 
 returns : tie.Need-returns
-returns c = done-code _ _ _ (c .before .before .a .given .1) (c .result .ensures)
+returns c = done-code _ _ _ (c .before .before .before .before .pre) (c .before .before .a .given .1) (c .result .ensures)
 
 returns-2 : tie.Need-returns-2
 returns-2 c = refused-code _ _ _ (c .before .before .a2 .given .1) (c .refused .ensures)

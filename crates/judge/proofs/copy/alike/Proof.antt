@@ -18,17 +18,17 @@ kind-requires-2 c κs = search needs
 returns : tie.Need-returns Inv-loop μ-loop
 returns c = search needs
 
-kind-requires-3 : tie.Need-kind-requires-3 Inv-loop μ-loop
-kind-requires-3 c κs = search needs
-
-returns-2 : tie.Need-returns-2 Inv-loop μ-loop
-returns-2 c = search needs
-
 size-requires : tie.Need-size-requires Inv-loop μ-loop
 size-requires c κs = search needs
 
 size-requires-2 : tie.Need-size-requires-2 Inv-loop μ-loop
 size-requires-2 c κs = search needs
+
+returns-2 : tie.Need-returns-2 Inv-loop μ-loop
+returns-2 c = search needs
+
+kind-requires-3 : tie.Need-kind-requires-3 Inv-loop μ-loop
+kind-requires-3 c κs = search needs
 
 returns-3 : tie.Need-returns-3 Inv-loop μ-loop
 returns-3 c = search needs
@@ -63,10 +63,10 @@ alike-spec =
     kind-requires
     kind-requires-2
     returns
-    kind-requires-3
-    returns-2
     size-requires
     size-requires-2
+    returns-2
+    kind-requires-3
     returns-3
     loop-holds
     block-alike-requires

@@ -18,6 +18,9 @@ loop-holds c = search needs
 owed-at-requires : tie.Need-owed-at-requires Inv-loop μ-loop
 owed-at-requires c κs = search needs
 
+entry-at-requires : tie.Need-entry-at-requires Inv-loop μ-loop
+entry-at-requires c κs = search needs
+
 returns : tie.Need-returns Inv-loop μ-loop
 returns c = search needs
 
@@ -45,6 +48,7 @@ kept-entries-spec =
     mul-p-end
     loop-holds
     owed-at-requires
+    entry-at-requires
     returns
     add-entries
     add-p

@@ -1,34 +1,44 @@
-use native.Mathlib.Omega.{arith}
-use Prim.Native.Nat.{_-_, _≤_}
-use borrow.Author.Tests.{not-false}
+use borrow.Author.Needs.{needs}
 use Rattle.script.proofs.print.line.Statement.{statement}
 use Rattle.script.proofs.print.line.Tie as tie
 
-abbrev Inv-loop : tie.InvT-loop
-Inv-loop r m d k₀ k = k ≤ 12290
+slice-aggregate-put-line : tie.Need-slice-aggregate-put-line
+slice-aggregate-put-line c = search needs
 
-abbrev μ-loop : tie.MeasureT-loop
-μ-loop r m d k₀ k = 12291 - k
+put-line-requires : tie.Need-put-line-requires
+put-line-requires c κs = (search needs, search needs, search needs, search needs)
 
-loop-holds : tie.Need-loop-holds Inv-loop μ-loop
-loop-holds c = omega arith
+slice-aggregate-front : tie.Need-slice-aggregate-front
+slice-aggregate-front c = search needs
 
-part-requires : tie.Need-part-requires Inv-loop μ-loop
-part-requires c κs = c .before .before .before .before .pre
+front-requires : tie.Need-front-requires
+front-requires c κs = search needs
 
-returns : tie.Need-returns Inv-loop μ-loop
-returns c = tt
+write-all-requires : tie.Need-write-all-requires
+write-all-requires c κs = search needs
 
-loop-less : tie.Need-loop-less Inv-loop μ-loop
-loop-less c = let e = c .before .before .part .ensures in let m = not-false _ (c .if1 .left) in omega (arith, e .0 m, e .1 m)
+same-length : tie.Need-same-length
+same-length c = search needs
 
-loop-again : tie.Need-loop-again Inv-loop μ-loop
-loop-again c = c .before .before .part .ensures .1 (not-false _ (c .if1 .left))
+same-length-2 : tie.Need-same-length-2
+same-length-2 c = search needs
 
-returns-2 : tie.Need-returns-2 Inv-loop μ-loop
-returns-2 c = tt
+same-length-3 : tie.Need-same-length-3
+same-length-3 c = search needs
+
+returns : tie.Need-returns
+returns c = search needs
 
 pub line-spec : {M : Type 1} → statement M
 line-spec =
     tie.close
-    (tie.spec Inv-loop μ-loop loop-holds part-requires returns loop-less loop-again returns-2)
+    (tie.spec
+    slice-aggregate-put-line
+    put-line-requires
+    slice-aggregate-front
+    front-requires
+    write-all-requires
+    same-length
+    same-length-2
+    same-length-3
+    returns)

@@ -1,0 +1,49 @@
+use Prim.Native.Nat.{_-_, _≤_}
+use borrow.Author.Needs.{needs}
+use Rattle.wrongs.proofs.lines.each_line.Statement.{statement}
+use Rattle.wrongs.proofs.lines.each_line.Tie as tie
+
+abbrev Inv-loop : tie.InvT-loop
+Inv-loop text copy store half notes whole moments₀ taken₀ k₀ k-end moments taken k = k ≤ k-end
+
+abbrev μ-loop : tie.MeasureT-loop
+μ-loop text copy store half notes whole moments₀ taken₀ k₀ k-end moments taken k = k-end - k
+
+pieces-requires : tie.Need-pieces-requires Inv-loop μ-loop
+pieces-requires c κs = search needs
+
+loop-holds : tie.Need-loop-holds Inv-loop μ-loop
+loop-holds c = search needs
+
+piece-requires : tie.Need-piece-requires Inv-loop μ-loop
+piece-requires c κs = search needs
+
+line-requires : tie.Need-line-requires Inv-loop μ-loop
+line-requires c κs = search needs
+
+add-k : tie.Need-add-k Inv-loop μ-loop
+add-k c = search needs
+
+loop-less : tie.Need-loop-less Inv-loop μ-loop
+loop-less c = search needs
+
+loop-again : tie.Need-loop-again Inv-loop μ-loop
+loop-again c = search needs
+
+returns : tie.Need-returns Inv-loop μ-loop
+returns c = search needs
+
+pub each-line-spec : {M : Type 1} → statement M
+each-line-spec =
+    tie.close
+    (tie.spec
+    Inv-loop
+    μ-loop
+    pieces-requires
+    loop-holds
+    piece-requires
+    line-requires
+    add-k
+    loop-less
+    loop-again
+    returns)

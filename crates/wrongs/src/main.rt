@@ -1,0 +1,44 @@
+// Finished copies, plain stores and bursts with one thing wrong each, and answers that can't be:
+// what the trial finds of each. A line of the input says what is wrong (`copy`, `plain`, `burst`,
+// `answer`), how it is called, and what makes it wrong: commands of `replay`, or numbers. The three
+// are parted by a `:`, commands by a `;`.
+mod cases;
+mod history;
+mod lines;
+mod print;
+
+use chance::print::difference;
+
+// The list that a difference is printed of, up to an event that is a burst.
+const LIST: u64 = 19;
+
+const EVENT: u64 = 11;
+
+fn main() {
+    let mut store = [0u8; 4048];
+    let mut image = [0u8; 4368];
+    let mut desk = [0u8; 88];
+    let mut whole = [0u8; 4368];
+    let mut moments = [0u8; 2097152];
+    let mut taken = [0u8; 384];
+    watch::lay_out_store(&mut store, history::INODES, history::BLOCKS);
+    watch::lay_out_desk(&mut desk, history::INODES);
+    let copy = history::run(
+        &mut store,
+        &mut image,
+        &mut desk,
+        &mut whole,
+        &mut moments,
+        &mut taken,
+    );
+    lines::all(
+        copy,
+        &store,
+        &image,
+        &desk,
+        &whole,
+        &mut moments,
+        &mut taken,
+    );
+    difference(1, LIST, EVENT);
+}
