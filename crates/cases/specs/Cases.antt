@@ -90,7 +90,7 @@ pub record TrackCases : Type 0 where
   pub no-slot : (w : World) (d : ℕ) (name : List ℕ) (k : Kind) → Creates w d name → legalName name ≡ true → slots (w .store) d ≡ mostSlots
       → ((t : ℕ) → t < mostSlots → slotEmpty (w .store) (inodes w) d t ≡ false)
       → outcome (call (create d name k)) w .answer ≡ told (Refused NoSlot)
-  -- 47 entries take one more, 48 none though a block and an inode are free; the twelfth block is taken on the way from 44 to 45
+  -- 47 entries take one more, 48 none; the twelfth block is taken on the way from 44 to 45. A copy has been started: in its run refusals 1 to 3 need no test at each event, and 13 comes only on a sound store with a free inode
   pub last-slot-shown : outcome (call (create 1 (96 ∷ []) File)) (run (starts ∷ entered 47) (fresh 3 13)) .answer ≡ told (Done 3)
   pub no-slot-shown : outcome (call (create 1 (96 ∷ []) File)) (run (starts ∷ entered 48) (fresh 3 13)) .answer ≡ told (Refused NoSlot)
   pub twelfth-block : (blocksUsed (sizeOf (run (starts ∷ entered 44) (fresh 3 13) .store) 1) ≡ 11)

@@ -95,7 +95,7 @@ pub record Finished (m t : List ℕ) (n b : ℕ) : Type 0 where
   pub bytes : (c : ℕ) → SameBlock m t n c
   pub links : (j : ℕ) → 1 ≤ j → j ≤ n → linksOf t j ≡ tally (imageNaming m n) (mostSlots * n) j
 
--- whatever goes into byte 8; that it is 1 is asked first
+-- for any x in byte 8, once x is 1: so that this is what is asked first
 pub finished : (m : List ℕ) (n b : ℕ) → n ≤ mostInodes → 16 + 32 * n ≤ length m → Finished m (finishImage m n b) n b
 unfolding finishImage
 finished m n b few area = with-byte _ refl
