@@ -15,12 +15,14 @@
  *
  * Buffers
  *     A buffer is a pointer and a length in bytes. What a call may write (store, image, desk, an
- *     out-buffer, state's three numbers) must not overlap anything else that it is lent, and nothing
- *     else may write what it is lent until it returns: no interrupt, no other thread. A rename's two
- *     names may be the same bytes. Calls on different buffers may run at the same time.
+ *     out-buffer, state's three numbers, deal's counts) must not overlap anything else that it is
+ *     lent, and nothing else may write what it is lent until it returns: no interrupt, no other
+ *     thread. A rename's two names may be the same bytes. Calls on different buffers may run at the
+ *     same time.
  *     Where a length is 0, the pointer may be anything, NULL included: an empty name is refused
  *     with 4, a write of no bytes is a write of no bytes. An empty image will do as long as no copy
- *     is started. The three pointers that honecerise_state takes must not be NULL.
+ *     is started. The three pointers that honecerise_state takes, and honecerise_deal's counts, must
+ *     not be NULL.
  *
  * Numbers
  *     Inodes are numbered from 1, and 1 is the root directory. Numbers are never cut: one that is
@@ -29,7 +31,7 @@
  * Answers
  *     An int32_t: the result if it is not negative, else minus the number of the refusal (below).
  *     0 where no result is named. A refused call has changed nothing, save that 16 marks the copy
- *     stopped in the desk.
+ *     stopped in the desk, and that 21 leaves honecerise_deal's counts at 0.
  *
  * Stack
  *     No call takes more than HONECERISE_STACK bytes.
@@ -56,6 +58,8 @@ extern "C" {
 #define HONECERISE_MAX_FILE      2752u /* bytes of a file                                       */
 #define HONECERISE_MAX_SLOTS       48u /* entries of a directory                                */
 #define HONECERISE_MOST_BURST      64u /* steps of a burst: 1 to 64                             */
+#define HONECERISE_BAYS            16u /* bays of a charging case: 0 to 15                      */
+#define HONECERISE_MOST_TURN       64u /* steps of a case's turn: 1 to 64                       */
 
 /*
  * The deepest stack of any call, below its caller's frame, with room to spare: burst takes about
@@ -80,8 +84,9 @@ extern "C" {
 #define HONECERISE_MOST_STEPS(inodes)           (46u * (inodes) + 1u)
 
 /* ---- refusals, by who causes them ----------------------------------------------------------
- * Where several apply, the lowest is answered, save that 17 is looked at right after 1. A call
- * answers one when, and only when, its condition holds for that call. */
+ * Where several apply, the lowest is answered, save that 17 is looked at right after 1. 21 is
+ * honecerise_deal's only refusal, and no other call's. A call answers one when, and only when, its
+ * condition holds for that call. */
 
 enum honecerise_refusal {
     /* whoever wires the buffers */
@@ -114,7 +119,9 @@ enum honecerise_refusal {
     HONECERISE_WRONG_STATE   = 15, /* a start while a copy runs, or a step while none does            */
     HONECERISE_IMAGE_FULL    = 16, /* a step had a block to copy and no image block for it: the copy
                                       is stopped, and what was locked is free again                   */
-    HONECERISE_BAD_COUNT     = 17  /* a burst of no steps, or of more than 64                         */
+    HONECERISE_BAD_COUNT     = 17, /* a burst of no steps, or of more than 64                         */
+    /* the charging case */
+    HONECERISE_BAD_TURN      = 21  /* a turn of no steps, or of more than 64, or a last bay above 15  */
 };
 
 /* ---- laying out ----------------------------------------------------------------------------
@@ -233,6 +240,33 @@ int32_t honecerise_state(const uint8_t *store, size_t store_length,
                          const uint8_t *image, size_t image_length,
                          const uint8_t *desk, size_t desk_length,
                          size_t *state, size_t *locked, size_t *steps);
+
+/* ---- the charging case ---------------------------------------------------------------------
+ * One radio, sixteen bays. Each turn of the case has 1 to HONECERISE_MOST_TURN steps to give away:
+ * starting after the bay last served, one step goes to each running bay, in a circle, until the number
+ * is used. Bit b of running says that bay b runs; C itself cuts a wider number that is passed to these
+ * sixteen bits. counts gets the sixteen counts, bay 0's first, in every case: a refusal sets them to 0.
+ * The answer is the bay last served, which the next turn is told:
+ *
+ *     answer = honecerise_deal(running, steps, last, counts);
+ *     if (answer >= 0) last = (size_t)answer;
+ *     for each bay b with counts[b] > 0: honecerise_burst(.. the watch in bay b .., counts[b]);
+ *
+ * After a refusal keep the bay you had.
+ *
+ * The counts add up to the steps. If no bay runs they are 0, and the bay told is answered. Two running
+ * bays differ by at most one step in a turn. A bay that runs in each of sixteen turns gets a step in one
+ * of them, whichever others start or end, if each turn is told the bay that the turn before answered:
+ * so feed that bay to the next turn whatever the bursts did. A burst may end early, since the copy
+ * finished or the watch was taken out; its steps are lost for this turn. If the next turn is told the
+ * last bay that really took a step, the promise need not hold then. With at least as many steps a turn
+ * as bays run, every running bay gets a step in every turn; only with one step a turn can a bay wait for
+ * sixteen (by counting; not proved).
+ *
+ * Tell a bay whose copy is finished or stopped as not running (ask honecerise_state), or it goes on
+ * getting its share. examples/c/case.c is such a loop. 21. */
+
+int32_t honecerise_deal(uint16_t running, size_t steps, size_t last, uint8_t counts[HONECERISE_BAYS]);
 
 #ifdef __cplusplus
 }

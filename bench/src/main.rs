@@ -8,6 +8,7 @@ mod random;
 mod scenes;
 mod stores;
 mod timing;
+mod turns;
 
 use timing::{BURSTS_TO_CHECKS, TO_CHECKS, TO_RUST};
 
@@ -17,6 +18,7 @@ fn main() {
     altered::run();
     let calls = calls::run();
     let copies = copies::run();
-    println!("\nlargest ratio to Rust: check {checks:.2}, call {calls:.2}, copy {:.2} (goal: at most {TO_RUST})", copies.plain);
+    let turns = turns::run();
+    println!("\nlargest ratio to Rust: check {checks:.2}, call {calls:.2}, turn {turns:.2}, copy {:.2} (goal: at most {TO_RUST})", copies.plain);
     println!("copy to its checks {:.2} (goal: at most {TO_CHECKS}), by bursts of 64 {:.2} (goal: at most {BURSTS_TO_CHECKS}); * is above its goal", copies.checks, copies.burst_checks);
 }

@@ -44,6 +44,7 @@ extern "C" {
         store: *const u8, store_length: usize, image: *const u8, image_length: usize, desk: *const u8, desk_length: usize,
         state: *mut usize, locked: *mut usize, steps: *mut usize,
     ) -> i32;
+    fn honecerise_deal(running: u16, steps: usize, last: usize, counts: *mut u8) -> i32;
 }
 
 fn answer(r: i32) -> Answer {
@@ -114,5 +115,8 @@ impl Side for Proved {
         let (s, m, d) = (&w.store, &w.image, &w.desk);
         let r = unsafe { honecerise_state(s.as_ptr(), s.len(), m.as_ptr(), m.len(), d.as_ptr(), d.len(), &mut state, &mut locked, &mut steps) };
         answer(r).map(|_| (state as u8, locked as u16, steps as u32))
+    }
+    fn deal(running: u16, steps: usize, last: usize, counts: &mut [u8; 16]) -> Answer {
+        answer(unsafe { honecerise_deal(running, steps, last, counts.as_mut_ptr()) })
     }
 }

@@ -31,6 +31,7 @@ pub trait Side {
     fn step(w: &mut Buffers) -> Answer;
     fn burst(w: &mut Buffers, count: usize) -> Answer;
     fn state(w: &Buffers) -> Status;
+    fn deal(running: u16, steps: usize, last: usize, counts: &mut [u8; 16]) -> Answer;
 }
 
 pub struct Plain;
@@ -84,5 +85,8 @@ impl Side for Plain {
     }
     fn state(w: &Buffers) -> Status {
         plain::state(&w.store, &w.image, &w.desk)
+    }
+    fn deal(running: u16, steps: usize, last: usize, counts: &mut [u8; 16]) -> Answer {
+        plain::deal(running, steps, last, counts)
     }
 }

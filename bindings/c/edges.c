@@ -6,6 +6,8 @@
  * - Nothing outside of a buffer is touched: buffers that begin or end at a page that may not be
  *   touched, with whole copies taken on them, by single steps and by bursts.
  * - A burst has 1 to 64 steps, whatever else is wrong but a buffer's length.
+ * - A turn of a charging case has 1 to 64 steps and a last bay from 0 to 15, and its counts are written
+ *   in every case.
  */
 #define _DEFAULT_SOURCE
 #include <stdio.h>
@@ -249,6 +251,28 @@ static void counts(void)
     IS(-15, honecerise_burst(STORE, IMAGE, DESK, 1));
 }
 
+/* ---- what a turn may be told */
+
+static void turns(int at_end)
+{
+    static const uint8_t none[HONECERISE_BAYS] = { 0 };
+    static const uint8_t three[HONECERISE_BAYS] = { 2, 0, 0, 0, 0, 0, 0, 0, 0, 0, 0, 0, 0, 0, 0, 1 };
+    static const size_t refused[][2] = { { 0, 0 },        { 65, 0 },       { 1, 16 },
+                                         { SIZE_MAX, 0 }, { 1, SIZE_MAX }, { 257, 272 } };
+    uint8_t *counts = fenced(HONECERISE_BAYS, at_end);
+    size_t i;
+    for (i = 0; i < sizeof refused / sizeof refused[0]; i++) {
+        memset(counts, 7, HONECERISE_BAYS);
+        IS(-21, honecerise_deal(0xffff, refused[i][0], refused[i][1], counts));
+        IS(0, memcmp(counts, none, HONECERISE_BAYS));
+    }
+    memset(counts, 7, HONECERISE_BAYS);
+    IS(9, honecerise_deal(0, HONECERISE_MOST_TURN, 9, counts));
+    IS(0, memcmp(counts, none, HONECERISE_BAYS));
+    IS(0, honecerise_deal(0x8001, 3, 15, counts));
+    IS(0, memcmp(counts, three, HONECERISE_BAYS));
+}
+
 int main(void)
 {
     int at_end;
@@ -262,6 +286,7 @@ int main(void)
         lend(16, 64, 704, at_end);
         nulls();
         counts();
+        turns(at_end);
     }
     printf("edges: %u answers as expected\n", tried);
     return 0;

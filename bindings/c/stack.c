@@ -55,6 +55,7 @@ static void calls(void)
         honecerise_start(WATCH);
     while (honecerise_burst(WATCH, 20) > 0)
         ;
+    honecerise_deal(0xffff, 64, 15, out);
 }
 
 static void nothing(void)

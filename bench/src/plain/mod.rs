@@ -2,6 +2,7 @@
 mod burst;
 mod content;
 mod copier;
+mod deal;
 mod desk;
 mod entries;
 mod format;
@@ -16,6 +17,7 @@ mod view;
 pub use burst::burst;
 pub use content::{read, shorten, write};
 pub use copier::{start, state, step};
+pub use deal::deal;
 pub use entries::{create, link, look_up, unlink, Kind};
 pub use format::{lay_out_desk, lay_out_store};
 pub use rename::rename;
@@ -43,4 +45,5 @@ mod refusal {
     pub const WRONG_STATE: u8 = 15;
     pub const IMAGE_FULL: u8 = 16;
     pub const BAD_COUNT: u8 = 17;
+    pub const BAD_TURN: u8 = 21;
 }

@@ -3,7 +3,7 @@
 //! What every call rests on: a pointer and the length after it are those of one slice, which is lent until the call returns;
 //! a slice to be written is `&mut`, so no other argument overlaps it; a slice may be empty. The library is proved to read and
 //! write inside these slices alone, whatever their bytes and the numbers are, and keeps none of them.
-use crate::Refusal;
+use crate::{BAYS, Refusal};
 
 #[rustfmt::skip]
 mod c {
@@ -58,6 +58,8 @@ mod c {
             store: *const u8, store_len: usize, image: *const u8, image_len: usize, desk: *const u8, desk_len: usize,
             state: *mut usize, locked: *mut usize, steps: *mut usize,
         ) -> i32;
+
+        pub fn honecerise_deal(running: u16, steps: usize, last: usize, counts: *mut u8) -> i32;
     }
 }
 
@@ -176,4 +178,10 @@ pub fn state(lent: &Lent<'_>) -> Result<(usize, usize, usize), Refusal> {
         )
     })?;
     Ok((state, locked, steps))
+}
+
+/// The bay last served; the counts are written in every case.
+pub fn deal(running: u16, steps: usize, last: usize, counts: &mut [u8; BAYS]) -> Answer {
+    // SAFETY: the pointer is that of sixteen bytes, lent for the call.
+    answer(unsafe { c::honecerise_deal(running, steps, last, counts.as_mut_ptr()) })
 }

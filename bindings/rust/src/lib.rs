@@ -5,8 +5,8 @@
 //! allocation, no globals, no `std`.
 //!
 //! [`Watch`] holds the three lent buffers (store, image and desk) and has all calls. [`Files`] reads what a sound store or a
-//! finished image holds. [`Refusal`] says why a call was refused; a refused call has changed nothing,
-//! save that [`Refusal::ImageFull`] marks the copy stopped.
+//! finished image holds. [`deal`] parts a charging case's steps among its bays. [`Refusal`] says why a call was refused; a
+//! refused call has changed nothing, save that [`Refusal::ImageFull`] marks the copy stopped.
 //!
 //! ```
 //! use honecerise::{desk_len, image_len, store_len, CopyState, Inode, Refusal, Watch};
@@ -45,6 +45,7 @@ mod inode;
 mod iter;
 mod refusal;
 mod sizes;
+mod turn;
 mod watch;
 
 pub use files::{Entry, Files};
@@ -52,7 +53,8 @@ pub use inode::{Inode, Kind};
 pub use iter::{All, Contents, Entries};
 pub use refusal::Refusal;
 pub use sizes::{
-    MAX_BLOCKS, MAX_FILE, MAX_IMAGE, MAX_INODES, MAX_NAME, MAX_SLOTS, MOST_BURST, desk_len, enough_image, image_len, most_steps,
-    store_len,
+    BAYS, MAX_BLOCKS, MAX_FILE, MAX_IMAGE, MAX_INODES, MAX_NAME, MAX_SLOTS, MOST_BURST, MOST_TURN, desk_len, enough_image,
+    image_len, most_steps, store_len,
 };
+pub use turn::{Turn, deal};
 pub use watch::{CopyState, Status, Watch};

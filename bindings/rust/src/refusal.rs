@@ -2,7 +2,8 @@
 use core::fmt;
 
 /// The refusals, by who causes them. Where several apply, the lowest is answered, save that [`BadCount`](Refusal::BadCount)
-/// is looked at right after [`BadBuffer`](Refusal::BadBuffer).
+/// is looked at right after [`BadBuffer`](Refusal::BadBuffer). [`BadTurn`](Refusal::BadTurn) comes to
+/// [`deal`](crate::deal) alone.
 ///
 /// ```
 /// use honecerise::Refusal;
@@ -50,11 +51,14 @@ pub enum Refusal {
     ImageFull = 16,
     /// Whoever asks for the steps: a burst of none, or of more than [`MOST_BURST`](crate::MOST_BURST).
     BadCount = 17,
+    /// The charging case: a turn of no steps, or of more than [`MOST_TURN`](crate::MOST_TURN), or a last bay that is none of the
+    /// [`BAYS`](crate::BAYS).
+    BadTurn = 21,
 }
 
 impl Refusal {
     /// All of them, by number.
-    pub const ALL: [Refusal; 17] = [
+    pub const ALL: [Refusal; 18] = [
         Refusal::BadBuffer,
         Refusal::UnsoundStore,
         Refusal::BadDesk,
@@ -72,9 +76,10 @@ impl Refusal {
         Refusal::WrongState,
         Refusal::ImageFull,
         Refusal::BadCount,
+        Refusal::BadTurn,
     ];
 
-    /// Its number, 1 to 17.
+    /// Its number: 1 to 17, or 21.
     pub const fn number(self) -> u8 {
         self as u8
     }
@@ -83,6 +88,7 @@ impl Refusal {
     pub const fn from_number(number: u8) -> Option<Refusal> {
         match number {
             1..=17 => Some(Refusal::ALL[number as usize - 1]),
+            21 => Some(Refusal::BadTurn),
             _ => None,
         }
     }
@@ -106,6 +112,7 @@ impl Refusal {
             Refusal::WrongState => "a copy runs already, or none does",
             Refusal::ImageFull => "the image has no block left",
             Refusal::BadCount => "a burst has 1 to 64 steps",
+            Refusal::BadTurn => "a turn has 1 to 64 steps, and its last bay is 0 to 15",
         }
     }
 }

@@ -14,6 +14,10 @@ pub const MAX_FILE: usize = 2752;
 pub const MAX_SLOTS: usize = 48;
 /// The most steps of a burst.
 pub const MOST_BURST: usize = 64;
+/// The bays of a charging case.
+pub const BAYS: usize = 16;
+/// The most steps of a charging case's turn.
+pub const MOST_TURN: usize = 64;
 
 /// The length of a store of so many inodes (1 to [`MAX_INODES`]) and blocks (1 to [`MAX_BLOCKS`]).
 ///

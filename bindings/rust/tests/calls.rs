@@ -32,13 +32,14 @@ fn copied(watch: &mut Watch) -> usize {
 
 #[test]
 fn numbers_and_reasons() {
-    for (refusal, number) in Refusal::ALL.into_iter().zip(1..) {
+    for (refusal, number) in Refusal::ALL.into_iter().zip((1..=17).chain([21])) {
         assert_eq!(refusal.number(), number);
         assert_eq!(Refusal::from_number(number), Some(refusal));
         assert!(refusal.to_string().ends_with(&format!("({number})")));
     }
-    assert_eq!(Refusal::from_number(0), None);
-    assert_eq!(Refusal::from_number(18), None);
+    for number in [0, 18, 19, 20, 22, 255] {
+        assert_eq!(Refusal::from_number(number), None);
+    }
 }
 
 #[test]

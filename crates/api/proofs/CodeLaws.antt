@@ -21,7 +21,8 @@ use Rattle.checkpoint.specs.declared.Status.{Status}
 use Rattle.checkpoint.specs.declared.Status.the-variants.{Is, NoStatus}
 use Rattle.checkpoint.specs.Live.{left}
 use Rattle.checkpoint.specs.Shown.{Shown, shown, toldStatus}
-use Rattle.api.specs.Api.{mostResult, codeBy, codeOf, Fits, Sent, sends, sentLaid, sentAlone, sent, sendsState, sentState}
+use Rattle.dealer.specs.Deal.{Dealt, turn}
+use Rattle.api.specs.Api.{mostResult, codeBy, codeOf, Fits, Sent, sends, sentLaid, sentAlone, sent, sendsState, sentState, sentDealt}
 
 -- ---- numbers of 32 bits
 number-fits : (n : ℕ) → n ≤ mostResult → SFits w32 (pos n)
@@ -87,6 +88,13 @@ module _ (a : Answer) where
 
     pub sent-three : (z : ℤ) → z ≡ codeOf (told a) → sends (toZ w32 (ofZ w32 z)) (s ∷ m ∷ d ∷ []) ≡ sent o
     sent-three z f = sent-as z _ _ three-fits f (ap sent e)
+
+  module _ (cs : List ℕ) (o : Dealt) (e : turn a cs ≡ o) (l : Fits (o .answer)) where
+    pub dealt-fits : Fits (told a)
+    dealt-fits = subst Fits (sym (ap (λ (x : Dealt). x .answer) e)) l
+
+    pub sent-dealt : (z : ℤ) → z ≡ codeOf (told a) → sends (toZ w32 (ofZ w32 z)) (cs ∷ []) ≡ sentDealt o
+    sent-dealt z f = sent-as z _ _ dealt-fits f (ap sentDealt e)
 
 -- ---- the state question
 pub state-told : (r : Status) (t : Told) (a l k : ℕ) (ns : List ℕ) → toldStatus r ≡ t → r ≡ Is a l k → sendsState (pos 0) (a ∷ l ∷ k ∷ []) ≡ sentState t ns

@@ -1,12 +1,12 @@
 -- Each export is the public call of its name: from what a caller learns by its contract, whatever the arguments, follows that the call was made, and what its caller is told.
 -- a are the arguments, z is the result, e the parameters at exit; m and d are an image and a desk that the call does not have.
 use Prim.Native.Nat.{ℕ}
-use mathlib.Core.Path.{_≡_, refl, ap}
+use mathlib.Core.Path.{_≡_, refl, sym, ap, _∙_}
 use mathlib.Core.Bool.{Bool, true, false}
 use mathlib.Core.List.{List, [], _∷_}
 use borrow.Author.Tests.{ne-eqb}
-use lib.IntN.{ℤ}
-use lib.ListN.{length}
+use lib.IntN.{ℤ, pos, natAbs, pos-ne-negsuc}
+use lib.ListN.{length, replicate}
 use denote.Ref.{now}
 use Rattle.bounded.specs.Search.{pick}
 use Rattle.layout.specs.Sizes.{mostStoreBlocks}
@@ -14,7 +14,8 @@ use Rattle.blocks.specs.Block.{allowed}
 use Rattle.desk.specs.Sizes.{deskAllowed}
 use Rattle.sound.specs.Test.{isSound}
 use Rattle.entries.specs.declared.Kind.the-variants.{File, Directory}
-use Rattle.answers.specs.declared.Refusal.the-variants.{BadBuffer}
+use Rattle.bounded.specs.Table.{table}
+use Rattle.answers.specs.declared.Refusal.the-variants.{BadBuffer, BadTurn}
 use Rattle.answers.specs.declared.Answer.the-variants.{Done, Refused}
 use Rattle.answers.specs.Told.{Told, told}
 use Rattle.format.specs.Format.{laidOut, freshStore, freshDesk, layOutStore, layOutDesk}
@@ -26,8 +27,9 @@ use Rattle.checkpoint.specs.List.{call, advances, starts}
 use Rattle.checkpoint.specs.Burst.{burst, one, bursts}
 use Rattle.watch.specs.Made.{got, looked-up, has-read, created, written, shortened, linked, unlinked, renamed, started, stepped, asked, stepped-many}
 use Rattle.watch.proofs.Contracts.{Gives}
-use Rattle.api.specs.Api.{Sent, codeOf, sends, sentLaid, sentAlone, sent, SentState, sentState, formTold, checked}
-use Rattle.api.specs.Exported.{Exported, Asked, LaysOut, Checks}
+use Rattle.dealer.specs.Deal.{bays, served, gets, turn, turnAllowed, dealt}
+use Rattle.api.specs.Api.{Sent, codeOf, sends, sentLaid, sentAlone, sent, SentState, sentState, formTold, checked, maskFlags, sentDealt}
+use Rattle.api.specs.Exported.{Exported, Asked, LaysOut, Checks, Dealing}
 use Rattle.api.proofs.honecerise_lay_out_store.Kinds as lay-store-kinds
 use Rattle.api.proofs.honecerise_lay_out_store.Reads as lay-store-reads
 use Rattle.api.proofs.honecerise_lay_out_desk.Kinds as lay-desk-kinds
@@ -58,6 +60,8 @@ use Rattle.api.proofs.honecerise_step.Kinds as step-kinds
 use Rattle.api.proofs.honecerise_step.Reads as step-reads
 use Rattle.api.proofs.honecerise_burst.Kinds as burst-kinds
 use Rattle.api.proofs.honecerise_burst.Reads as burst-reads
+use Rattle.api.proofs.honecerise_deal.Kinds as deal-kinds
+use Rattle.api.proofs.honecerise_deal.Reads as deal-reads
 use Rattle.api.proofs.honecerise_state.Kinds as state-kinds
 use Rattle.api.proofs.honecerise_state.Reads as state-reads
 
@@ -213,3 +217,40 @@ state-exported κs a z e h =
       numbers = λ n. state-numbers (toldStatus r) _ _ n q;
       kept = λ n. state-kept (toldStatus r) _ _ n q;
     }
+
+-- ---- the dealer
+told-bay : (x y : ℕ) (z : ℤ) → z ≡ pos x → z ≡ pos y → told (Done x) ≡ told (Done y)
+told-bay x y z c e = ap (λ (i : ℤ). told (Done (natAbs i))) (sym c ∙ e)
+
+module _ (mask steps last : ℕ) (z : ℤ) (counts : List ℕ) (h : sends z (counts ∷ []) ≡ sentDealt (dealt (maskFlags mask) steps last)) where
+  abbrev x : ℕ
+  x = served (maskFlags mask) last steps
+
+  abbrev cs : List ℕ
+  cs = table (gets (maskFlags mask) last steps) bays
+
+  dealing : Dealing mask steps last z counts
+  dealing = go (turnAllowed steps last) refl
+    where
+      go : (v : Bool) → turnAllowed steps last ≡ v → Dealing mask steps last z counts
+      go true e =
+          let k : sends z (counts ∷ []) ≡ sentDealt (turn (Done x) cs) = rw e at h in
+          let c = ap (λ (s : Sent). s .code) k in
+          record {
+            answer = Done x;
+            made = rw e (ap (λ (s : Sent). turn (Done x) (first (s .buffers))) k);
+            code = c;
+            bay = λ y. told-bay x y z c;
+          }
+      go false e =
+          let k : sends z (counts ∷ []) ≡ sentDealt (turn (Refused BadTurn) (replicate bays 0)) = rw e at h in
+          let c = ap (λ (s : Sent). s .code) k in
+          record {
+            answer = Refused BadTurn;
+            made = rw e (ap (λ (s : Sent). turn (Refused BadTurn) (first (s .buffers))) k);
+            code = c;
+            bay = λ y p. absurd (pos-ne-negsuc y 20 (sym p ∙ c));
+          }
+
+pub deal-exported : Gives 1 deal-kinds.ps deal-kinds.r deal-reads.Learnt (λ κs a z e. Dealing (a .0) (a .1 .0) (a .1 .1 .0) z (now (e .1 .1 .1 .0)))
+deal-exported κs a z e h = dealing (a .0) (a .1 .0) (a .1 .1 .0) z (now (e .1 .1 .1 .0)) h

@@ -1,3 +1,4 @@
+pub mod MaskLaws
 pub mod ResultLaws
 pub mod CodeLaws
 pub mod Exports

@@ -1,4 +1,4 @@
--- Every public call's result fits 32 bits with a sign, on any bytes: it is 0, an inode's number, a size, or a count of bytes or steps. s is the store, m the image, d the desk.
+-- Every public call's result fits 32 bits with a sign, on any bytes: it is 0, an inode's number, a size, a count of bytes or steps, or a bay. s is the store, m the image, d the desk.
 use Prim.Native.Nat.{ℕ, zero, suc, _+_, _*_, _≤_}
 use mathlib.Core.Path.{_≡_, refl, subst}
 use mathlib.Core.Bool.{Bool, true, false, not, _&&_}
@@ -6,8 +6,9 @@ use mathlib.Core.List.{List, []}
 use native.Mathlib.Omega.{arith}
 use borrow.Author.Tests.{leb-true, ltb-false, not-false}
 use lib.Dec.{leb, ltb}
-use lib.ListN.{length, getD}
+use lib.ListN.{length, getD, replicate}
 use Rattle.bounded.specs.Search.{pick}
+use Rattle.bounded.specs.Table.{table}
 use Rattle.bounded.specs.declared.Found.{Found}
 use Rattle.bounded.specs.declared.Found.the-variants.{At, Absent}
 use Rattle.bounded.proofs.BoolLaws.{never, and-right, or-false-r}
@@ -27,6 +28,8 @@ use Rattle.sound.specs.declared.Form.the-variants.{Store}
 use Rattle.sound.proofs.SoundLaws.{is-sound}
 use Rattle.changes.proofs.StoreLaws.{sound-store, kind-size}
 use Rattle.changes.proofs.SlotPlaceLaws.{found-here}
+use Rattle.answers.specs.declared.Answer.the-variants.{Done, Refused}
+use Rattle.answers.specs.declared.Refusal.the-variants.{BadTurn}
 use Rattle.answers.specs.Told.{Told, told}
 use Rattle.answers.specs.Order.{Row}
 use Rattle.format.specs.Format.{LaidOut, layOutStore, layOutDesk}
@@ -40,6 +43,9 @@ use Rattle.checkpoint.specs.List.{call, advances, asks, starts, Event, outcome,
 use Rattle.checkpoint.specs.Burst.{mostBurst, countAllowed, burst, tries, triesOf, Act, one, bursts}
 use Rattle.checkpoint.proofs.Copy.FitLaws.{desk-framed-is, desk-fits-is, notes-fit-is}
 use Rattle.checkpoint.proofs.TableLaws.{look-up-alone, read-alone}
+use Rattle.dealer.specs.Deal.{bays, served, gets, turn, turnAllowed, dealt}
+use Rattle.dealer.proofs.Circle.{served-below}
+use Rattle.dealer.proofs.TurnLaws.{allowed-is}
 use Rattle.watch.specs.Answered.{ByTable, result, holds, passes, tableOf, resultOf}
 use Rattle.watch.specs.Claim.{outcomeOf}
 use Rattle.watch.proofs.AnswerLaws.{by-table}
@@ -166,3 +172,11 @@ lay-store-fits s n b = by-pick (λ (o : LaidOut). Fits (o .answer)) (allowed mos
 pub lay-desk-fits : (d : List ℕ) (n : ℕ) → Fits (layOutDesk d n .answer)
 unfolding layOutDesk
 lay-desk-fits d n = by-pick (λ (o : LaidOut). Fits (o .answer)) (deskAllowed n (length d)) (omega arith) (omega arith)
+
+-- the dealer answers a bay
+pub deal-fits : (f : List Bool) (s b : ℕ) → Fits (dealt f s b .answer)
+deal-fits f s b = go (turnAllowed s b) refl
+  where
+    go : (v : Bool) → turnAllowed s b ≡ v → Fits (pick v (turn (Done (served f b s)) (table (gets f b s) bays)) (turn (Refused BadTurn) (replicate bays 0)) .answer)
+    go true e = omega (arith, served-below f b s (allowed-is s b e .bay))
+    go false e = omega arith

@@ -1,5 +1,6 @@
 -- What the exported calls answer and leave: "the result if not negative, else minus the refusal's number", and the content of every lent buffer.
-use Prim.Native.Nat.{ℕ, zero, suc, _≤_}
+use Prim.Native.Nat.{ℕ, zero, suc, _+_, _≤_}
+use mathlib.Core.Bool.{Bool}
 use mathlib.Core.List.{List, [], _∷_}
 use lib.Dec.{eqb}
 use lib.IntN.{ℤ, pos, negsuc}
@@ -13,6 +14,8 @@ use Rattle.answers.specs.Told.{Told}
 use Rattle.format.specs.Format.{LaidOut}
 use Rattle.files.specs.Plain.{PlainShown}
 use Rattle.checkpoint.specs.Shown.{Shown}
+use Rattle.marks.specs.Mark.{marked}
+use Rattle.dealer.specs.Deal.{bays, Dealt}
 
 abbrev pub codeBy : ℕ → List ℕ → ℤ
 codeBy zero (x ∷ xs) = pos x
@@ -60,6 +63,21 @@ sendsState c ns = record { code = c; numbers = ns }
 abbrev pub sentState : Told → List ℕ → SentState
 sentState t ns = sendsState (codeBy (t .number) (0 ∷ [])) (pick (eqb (t .number) 0) (t .values) ns)
 
+-- ---- the dealer
+-- "which bays are running": bit b of the mask says that bay b runs; the flags of n bays from bay b on
+unfoldable pub flagsFrom : ℕ → ℕ → ℕ → List Bool
+flagsFrom mask b zero = []
+flagsFrom mask b (suc n) = marked mask b ∷ flagsFrom mask (b + 1) n
+
+abbrev pub maskFlags : ℕ → List Bool
+maskFlags mask = flagsFrom mask 0 bays
+
+-- "It answers sixteen counts and the bay last served.": the counts are part of the answer, so 21 sets
+-- C's counts to 0
+abbrev pub sentDealt : Dealt → Sent
+sentDealt d = sends (codeOf (d .answer)) (d .counts ∷ [])
+
+-- ---- the check
 -- "The check is told store or image, takes any bytes and answers yes or no": 0 tells a store, any other number an image; 1 is yes
 abbrev pub formTold : ℕ → Form
 formTold k = pick (eqb k 0) Store Image

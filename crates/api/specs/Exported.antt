@@ -3,17 +3,19 @@ use Prim.Native.Nat.{ℕ}
 use mathlib.Core.Path.{_≡_}
 use mathlib.Core.Bool.{Bool}
 use mathlib.Core.List.{List, [], _∷_}
-use lib.IntN.{ℤ}
+use lib.IntN.{ℤ, pos}
 use Rattle.bounded.specs.Count as count
 use Rattle.sound.specs.Test.{isSound}
 use Rattle.answers.specs.declared.Answer.{Answer}
+use Rattle.answers.specs.declared.Answer.the-variants.{Done}
 use Rattle.answers.specs.Told.{told}
 use Rattle.format.specs.Format.{LaidOut, laidOut}
 use Rattle.checkpoint.specs.Live.{World}
 use Rattle.checkpoint.specs.List.{asks}
 use Rattle.checkpoint.specs.Burst.{Act, one}
 use Rattle.watch.specs.Made.{Received, Did}
-use Rattle.api.specs.Api.{codeOf, codeBy, formTold}
+use Rattle.dealer.specs.Deal.{turn, dealt}
+use Rattle.api.specs.Api.{codeOf, codeBy, formTold, maskFlags}
 
 -- a call made on w answered c and left v, and a read's out-buffer out ([] for the other calls): so it is the call x, whose caller got `received`
 pub record Exported (x : Act) (w : World) (c : ℤ) (out : List ℕ) (v : World) : Type 0 where
@@ -42,3 +44,12 @@ pub record Checks (k : ℕ) (s : List ℕ) (c : ℕ) : Type 0 where
   pub answer : Bool
   pub made : answer ≡ isSound (formTold k) s
   pub code : c ≡ count.one answer
+
+-- a call of the dealer was told the mask, steps and bay, answered c and left the counts: so it is a call
+-- of the dealer (`Call`, in `dealer`), of which `Claims` speaks, with the flags of that mask; a number
+-- that is not negative is the bay that this call answered
+pub record Dealing (mask steps last : ℕ) (c : ℤ) (counts : List ℕ) : Type 0 where
+  pub answer : Answer
+  pub made : turn answer counts ≡ dealt (maskFlags mask) steps last
+  pub code : c ≡ codeOf (told answer)
+  pub bay : (x : ℕ) → c ≡ pos x → told answer ≡ told (Done x)

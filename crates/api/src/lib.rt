@@ -1,6 +1,9 @@
-// The calls that programs in other languages link: slices pass as a pointer and a length, numbers in the machine's size. A call answers 32 bits with a sign: its result, which is never
-// negative, or minus the number of its refusal; the check answers a byte. Any bytes and numbers may be handed in; a refused call changes nothing, save that 16 writes the desk.
+// The calls that programs in other languages link: slices pass as a pointer and a length, numbers in the
+// machine's size. A call answers 32 bits with a sign: its result, which is never negative, or minus the
+// number of its refusal; the check answers a byte. Any bytes and numbers may be handed in; a refused call
+// changes nothing, save that 16 writes the desk, and that 21 sets the dealer's counts to 0.
 mod code;
+mod mask;
 
 ghost use mathlib.Core.Path.{_≡_};
 ghost use mathlib.Core.List.{[], _∷_};
@@ -12,9 +15,12 @@ ghost use Rattle.files.specs.Plain as alone;
 ghost use Rattle.checkpoint.specs.Live.{live, start, step, status};
 ghost use Rattle.checkpoint.specs.Shown.{world, shown, toldStatus};
 ghost use Rattle.checkpoint.specs.Burst.{burst};
-ghost use Rattle.api.specs.Api.{sends, sentLaid, sentAlone, sent, sendsState, sentState, checked};
+ghost use Rattle.dealer.specs.Deal.{dealt};
+ghost use Rattle.api.specs.Api.{sends, sentLaid, sentAlone, sent, sendsState, sentState, maskFlags, sentDealt, checked};
 use crate::code::code;
 use crate::code::refused;
+use crate::mask::flags;
+use dealer::BAYS;
 use watch::Form;
 use watch::Kind;
 use watch::Status;
@@ -211,4 +217,22 @@ pub extern "C" fn honecerise_state(
         }
         Status::NoStatus(why) => refused(why),
     }
+}
+
+// ---- the charging case
+// Bit b of running says that bay b runs; the counts are written in every case.
+#[no_mangle]
+pub extern "C" fn honecerise_deal(
+    running: u16,
+    steps: usize,
+    last: usize,
+    counts: &mut [u8; BAYS],
+) -> i32
+    ensures { λ r. ⌜ sends r (now (counts .exit) ∷ []) ≡ sentDealt (dealt (maskFlags running) steps last) ⌝ }
+{
+    let turn = watch::deal(flags(running), steps, last);
+    let given = turn.counts;
+    *counts = given;
+    let answer = turn.answer;
+    code(answer)
 }

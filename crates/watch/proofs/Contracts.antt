@@ -101,7 +101,7 @@ pub state-made : Gives 3 state-kinds.ps state-kinds.r state-reads.Learnt (λ κs
     Did (one asks) (world (now (a .0)) (now (a .1 .0)) (now (a .1 .1 .0))) (got (toldStatus z) []) (world (now (a .0)) (now (a .1 .0)) (now (a .1 .1 .0))))
 state-made κs a z e h = asked z h
 
--- ---- the layout calls, of which `FirstDemand` (specs/Answered.antt) has the same hypothesis
+-- ---- the layout calls, of which `FirstDemand` (specs/Answered.antt) has the same hypothesis; the dealer's is in dealer/proofs/Contract.antt
 pub lay-store-made : Gives 1 lay-store-kinds.ps lay-store-kinds.r lay-store-reads.Learnt (λ κs a z e. laidOut z (now (e .0)) ≡ layOutStore (now (a .0)) (a .1 .0) (a .1 .1 .0))
 lay-store-made κs a z e h = h
 

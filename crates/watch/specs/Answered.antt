@@ -4,7 +4,7 @@ use Prim.Native.Nat.{ℕ, _+_, _-_, min, max}
 use mathlib.Core.Path.{_≡_}
 use mathlib.Core.Bool.{Bool, true, false, not}
 use mathlib.Core.List.{List, [], _∷_}
-use lib.ListN.{length}
+use lib.ListN.{length, replicate}
 use Rattle.layout.specs.Inode.{sizeOf, freeInode}
 use Rattle.blocks.specs.Block.{allowed}
 use Rattle.layout.specs.Sizes.{mostStoreBlocks}
@@ -15,7 +15,7 @@ use Rattle.sound.specs.declared.Form.{Form}
 use Rattle.sound.specs.Sound.{Sound, inodesIn}
 use Rattle.sound.specs.Test.{isSound}
 use Rattle.answers.specs.declared.Answer.{Answer}
-use Rattle.answers.specs.declared.Refusal.the-variants.{BadBuffer, ImageFull}
+use Rattle.answers.specs.declared.Refusal.the-variants.{BadBuffer, ImageFull, BadTurn}
 use Rattle.answers.specs.Refusal.{refusalNumber}
 use Rattle.answers.specs.Told.{Told, told}
 use Rattle.answers.specs.Order.{Row, row, order, lookedAt, numbers, among, inOrder}
@@ -26,6 +26,7 @@ use Rattle.checkpoint.specs.Table.{orZero, inodeFor, lookUpTable, readTable, cr
 use Rattle.checkpoint.specs.List.{call, advances, asks, starts, refusalOf, acceptedSteps}
 use Rattle.checkpoint.specs.Burst.{triesOf, Act, one, bursts}
 use Rattle.checkpoint.specs.Progress.{Stopped}
+use Rattle.dealer.specs.Deal.{bays, served, turn, turnAllowed, dealt}
 use Rattle.watch.specs.Made.{Received, Did}
 
 -- ---- "Given by number, looked at lowest first, when and only when the condition holds for that call"
@@ -106,11 +107,22 @@ pub record LayAnswers (rs : List Row) (s : List ℕ) (r : Answer) (t : List ℕ)
   pub answered : Answered (0 ∷ []) rs (told r)
   pub keeps : (told r .number ≡ 0 → ⊥) → t ≡ s
 
+-- ---- the dealer: 21, "looked at first"
+abbrev pub dealTable : ℕ → ℕ → List Row
+dealTable steps last = row (not (turnAllowed steps last)) BadTurn ∷ []
+
+-- a turn that was told the flags, steps and bay answered r and gave the counts; no buffer is lent, and
+-- refused, the counts are sixteen zeros
+pub record DealAnswers (flags : List Bool) (steps last : ℕ) (r : Answer) (counts : List ℕ) : Type 0 where
+  pub answered : Answered (served flags last steps ∷ []) (dealTable steps last) (told r)
+  pub zeros : (told r .number ≡ 0 → ⊥) → counts ≡ replicate bays 0
+
 -- ---- demand 1: each call as its contract promises it. The check refuses nothing: it "takes any bytes and answers yes or no"; demand 2: "The soundness check says yes to a store that meets its conditions and no to every other."
 pub record FirstDemand : Type 0 where
-  -- "looked at lowest first"; 17 "comes right after 1"
-  pub looked-at : numbers order ≡ 1 ∷ 17 ∷ 2 ∷ 3 ∷ 4 ∷ 5 ∷ 6 ∷ 7 ∷ 8 ∷ 9 ∷ 10 ∷ 11 ∷ 12 ∷ 13 ∷ 14 ∷ 15 ∷ 16 ∷ []
+  -- "looked at lowest first"; 17 "comes right after 1", 21 is "looked at first"
+  pub looked-at : numbers order ≡ 21 ∷ 1 ∷ 17 ∷ 2 ∷ 3 ∷ 4 ∷ 5 ∷ 6 ∷ 7 ∷ 8 ∷ 9 ∷ 10 ∷ 11 ∷ 12 ∷ 13 ∷ 14 ∷ 15 ∷ 16 ∷ []
   pub calls : {x : Act} {w v : World} {a : Received} → Did x w a v → Answers x w a v
   pub lays-store : {s t : List ℕ} (r : Answer) (inodes blocks : ℕ) → laidOut r t ≡ layOutStore s inodes blocks → LayAnswers (storeLayTable s inodes blocks) s r t
   pub lays-desk : {desk t : List ℕ} (r : Answer) (inodes : ℕ) → laidOut r t ≡ layOutDesk desk inodes → LayAnswers (deskLayTable desk inodes) desk r t
+  pub deals : {counts : List ℕ} (r : Answer) (flags : List Bool) (steps last : ℕ) → turn r counts ≡ dealt flags steps last → DealAnswers flags steps last r counts
   pub checks : (f : Form) (s : List ℕ) (r : Bool) → r ≡ isSound f s → Reflects r (Sound f s)

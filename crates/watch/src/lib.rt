@@ -1,4 +1,6 @@
-// All public calls over store, image and desk. Any bytes may be lent and any numbers handed in, and no call asks anything of its caller. A refused call changes nothing, save that 16 writes the desk.
+// All public calls over store, image and desk, and the dealer, which takes no buffer. Any bytes may be
+// lent and any numbers handed in, and no call asks anything of its caller. A refused call changes
+// nothing, save that 16 writes the desk.
 ghost use mathlib.Core.Path.{_≡_};
 ghost use Rattle.files.specs.Effect.{create, write, shorten, link, unlink, rename};
 ghost use Rattle.checkpoint.specs.Live.{left, live};
@@ -28,6 +30,10 @@ pub use bursts::burst;
 pub use copystart::start::start;
 pub use copystep::step;
 pub use guards::state::state;
+
+// Deal the steps of a turn among the bays of a charging case, which takes no buffer.
+pub use dealer::Turn;
+pub use dealer::deal;
 
 // The other file calls.
 pub fn create(
