@@ -1,3 +1,3 @@
 pub mod ScriptLaws
 pub mod TurnLaws
-pub mod Again
+pub mod LentAgain

@@ -6,20 +6,24 @@ ghost use Rattle.layout.specs.Sizes.{headerBytes};
 ghost use Rattle.desk.specs.Sizes.{deskHeaderBytes};
 ghost use Rattle.checkpoint.specs.Shown.{world};
 ghost use Rattle.lines.specs.Lines.{mostScriptBytes, scriptLines};
-ghost use Rattle.session.specs.Script.{linesRun, fresh};
+ghost use Rattle.session.specs.Script.{linesRun, fresh, scriptPrints};
 use crate::print;
 use lines::after;
 use lines::line;
 use lines::start;
 
-// All lines, in order, from the fresh buffers on: the reader is moved behind each.
-pub fn run(script: &[u8], store: &mut [u8], image: &mut [u8], desk: &mut [u8])
+// All lines, in order, from the fresh buffers on: the reader is moved behind each. How many bytes
+// they print, so that a line which changes nothing has its turn too.
+pub fn run(script: &[u8], store: &mut [u8], image: &mut [u8], desk: &mut [u8]) -> usize
     requires { ⌜ (headerBytes ≤ length (now image)) × (deskHeaderBytes ≤ length (now desk)) × (length (now script) ≤ mostScriptBytes) × (world (now store) (now image) (now desk) ≡ fresh) ⌝ }
-    ensures { λ _. ⌜ world (now (store .exit)) (now (image .exit)) (now (desk .exit)) ≡ linesRun (scriptLines (now (script .entry))) fresh ⌝ }
+    ensures { λ r. ⌜ (world (now (store .exit)) (now (image .exit)) (now (desk .exit)) ≡ linesRun (scriptLines (now (script .entry))) fresh) × (r ≡ length (scriptPrints (now (script .entry)))) ⌝ }
 {
     let mut r = start(script);
+    let mut bytes = 0;
     while r.at < script.len() {
-        print::line(line(r), &mut *store, &mut *image, &mut *desk);
+        let b = print::line(line(r), &mut *store, &mut *image, &mut *desk);
+        bytes = bytes + b;
         r = after(r);
     }
+    bytes
 }

@@ -32,12 +32,14 @@ fn put_line(
     put_printed(out, r.ok, r.number, r.finished, &*image, &*desk)
 }
 
-// Runs a line, and writes what it prints.
-pub fn line(line: &[u8], store: &mut [u8], image: &mut [u8], desk: &mut [u8])
+// Runs a line, and writes what it prints; how many bytes that is.
+pub fn line(line: &[u8], store: &mut [u8], image: &mut [u8], desk: &mut [u8]) -> usize
     requires { ⌜ (headerBytes ≤ length (now image)) × (deskHeaderBytes ≤ length (now desk)) × FinishesSound (world (now store) (now image) (now desk)) ⌝ }
-    ensures { λ _. ⌜ world (now (store .exit)) (now (image .exit)) (now (desk .exit)) ≡ worldAfter (now (line .entry)) (world (now (store .entry)) (now (image .entry)) (now (desk .entry))) ⌝ }
+    ensures { λ r. ⌜ (world (now (store .exit)) (now (image .exit)) (now (desk .exit)) ≡ worldAfter (now (line .entry)) (world (now (store .entry)) (now (image .entry)) (now (desk .entry)))) × (r ≡ length (printed (now (line .entry)) (world (now (store .entry)) (now (image .entry)) (now (desk .entry))))) ⌝ }
 {
     let mut out = [0u8; MOST_PRINTED];
     let end = put_line(&mut out, line, &mut *store, &mut *image, &mut *desk);
-    io::write_all(STDOUT_FILENO, front(&out, end));
+    let text = front(&out, end);
+    io::write_all(STDOUT_FILENO, text);
+    text.len()
 }

@@ -40,7 +40,7 @@ scriptBlocks = 64
 abbrev pub scriptImageBlocks : ℕ
 scriptImageBlocks = 128
 
--- whatever lines follow, the copy that a line finishes is sound and has as many inodes as the store, so that its listing can be printed
+-- whatever lines follow, the copy that a line finishes is sound and has 16 inodes, so that its listing can be printed
 abbrev pub FinishesSound : World → Type 0
 FinishesSound w =
     (ls : List (List ℕ)) (l : List ℕ) → lineRuns l (linesRun ls w) .reply .finished ≡ true

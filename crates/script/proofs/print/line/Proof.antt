@@ -1,3 +1,4 @@
+use Rattle.script.proofs.ScriptLaws.{front-length}
 use borrow.Author.Needs.{needs}
 use Rattle.script.proofs.print.line.Statement.{statement}
 use Rattle.script.proofs.print.line.Tie as tie
@@ -27,7 +28,7 @@ same-length-3 : tie.Need-same-length-3
 same-length-3 c = search needs
 
 returns : tie.Need-returns
-returns c = search needs
+returns c = (search needs, front-length _ _ _ _ _ _ (c .before .before .before .before .before .before .before .before .before .before .before .before .before .before .before .before .before .before .before .pre .2) (search needs) (c .before .before .before .before .before .before .before .before .before .before .put-line .ensures .1) (c .before .front .ensures))
 
 pub line-spec : {M : Type 1} → statement M
 line-spec =
