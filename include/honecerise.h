@@ -10,19 +10,20 @@
  *     desk    the copier's notes
  *
  * The library allocates nothing, has no globals, keeps no pointer after a call returns, and does
- * no input or output. A buffer may lie anywhere and needs no alignment. You may move or save a
- * buffer between two calls; its bytes are the same on every machine.
+ * no input or output. A buffer may lie anywhere and needs no alignment, save the lists of times that
+ * honecerise_match_laps takes, which must be aligned for uint32_t. You may move or save a buffer
+ * between two calls; the bytes of store, image and desk are the same on every machine.
  *
  * Buffers
- *     A buffer is a pointer and a length in bytes. What a call may write (store, image, desk, an
- *     out-buffer, state's three numbers, deal's counts) must not overlap anything else that it is
- *     lent, and nothing else may write what it is lent until it returns: no interrupt, no other
- *     thread. A rename's two names may be the same bytes. Calls on different buffers may run at the
- *     same time.
- *     Where a length is 0, the pointer may be anything, NULL included: an empty name is refused
- *     with 4, a write of no bytes is a write of no bytes. An empty image will do as long as no copy
- *     is started. The three pointers that honecerise_state takes, and honecerise_deal's counts, must
- *     not be NULL.
+ *     A buffer is a pointer and a length in bytes; a list of times is a pointer and a count. What a
+ *     call may write (store, image, desk, an out-buffer, state's three numbers, deal's counts, a
+ *     report's lists) must not overlap anything else that it is lent, and nothing else may write what
+ *     it is lent until it returns: no interrupt, no other thread. A rename's two names may be the same
+ *     bytes. Calls on different buffers may run at the same time.
+ *     Where a length or count is 0, the pointer may be anything, NULL included: an empty name is
+ *     refused with 4, a write of no bytes is a write of no bytes. An empty image will do as long as
+ *     no copy is started. The three pointers that honecerise_state takes, and honecerise_deal's
+ *     counts, must not be NULL.
  *
  * Numbers
  *     Inodes are numbered from 1, and 1 is the root directory. Numbers are never cut: one that is
@@ -60,6 +61,8 @@ extern "C" {
 #define HONECERISE_MOST_BURST      64u /* steps of a burst: 1 to 64                             */
 #define HONECERISE_BAYS            16u /* bays of a charging case: 0 to 15                      */
 #define HONECERISE_MOST_TURN       64u /* steps of a case's turn: 1 to 64                       */
+#define HONECERISE_MAX_TIMES      512u /* times of a list of laps                               */
+#define HONECERISE_MOST_APART      50u /* of the two times of a pair, in hundredths of a second */
 
 /*
  * The deepest stack of any call, below its caller's frame, with room to spare: burst takes about
@@ -84,14 +87,16 @@ extern "C" {
 #define HONECERISE_MOST_STEPS(inodes)           (46u * (inodes) + 1u)
 
 /* ---- refusals, by who causes them ----------------------------------------------------------
- * Where several apply, the lowest is answered, save that 17 is looked at right after 1. 21 is
- * honecerise_deal's only refusal, and no other call's. A call answers one when, and only when, its
- * condition holds for that call. */
+ * Where several apply, the lowest is answered, save that 17 is looked at right after 1, and 26 before
+ * 1. 21 is honecerise_deal's only refusal, and no other call's; 26 comes to honecerise_match_laps
+ * alone. A call answers one when, and only when, its condition holds for that call. */
 
 enum honecerise_refusal {
     /* whoever wires the buffers */
     HONECERISE_BAD_BUFFER    =  1, /* no length or count allowed: a store or desk by its own counts, a
-                                      layout call's by the numbers told, at start the image           */
+                                      layout call's by the numbers told, at start the image; or a list
+                                      that a report goes to is shorter than the list its times come
+                                      from                                                            */
     HONECERISE_UNSOUND_STORE =  2, /* the store is not sound: something else wrote to it              */
     HONECERISE_BAD_DESK      =  3, /* the desk breaks its layout or is of another inode count; or,
                                       while a copy runs, the image's length or counts are not the
@@ -121,7 +126,9 @@ enum honecerise_refusal {
                                       is stopped, and what was locked is free again                   */
     HONECERISE_BAD_COUNT     = 17, /* a burst of no steps, or of more than 64                         */
     /* the charging case */
-    HONECERISE_BAD_TURN      = 21  /* a turn of no steps, or of more than 64, or a last bay above 15  */
+    HONECERISE_BAD_TURN      = 21, /* a turn of no steps, or of more than 64, or a last bay above 15  */
+    /* laps against the mat */
+    HONECERISE_BAD_TIMES     = 26  /* a list of more than 512 times, or one that does not rise        */
 };
 
 /* ---- laying out ----------------------------------------------------------------------------
@@ -267,6 +274,31 @@ int32_t honecerise_state(const uint8_t *store, size_t store_length,
  * getting its share. examples/c/case.c is such a loop. 21. */
 
 int32_t honecerise_deal(uint16_t running, size_t steps, size_t last, uint8_t counts[HONECERISE_BAYS]);
+
+/* ---- laps against the mat -------------------------------------------------------------------
+ * Takes no store. Holds the lap times of a watch against the crossings that the track's timing mat
+ * recorded, both in hundredths of a second and strictly rising, at most HONECERISE_MAX_TIMES each.
+ * A watch time and a mat time may be paired if they are at most HONECERISE_MOST_APART apart; each is
+ * used once, and pairs keep their order. Times are numbers and don't wrap.
+ *
+ * Answers the number of pairs p, the largest that any such pairing has. Pair k is paired_watch[k]
+ * and paired_mat[k], for k below p. The unmatched times are the first watch_count - p of alone_watch
+ * and the first mat_count - p of alone_mat. All four rise, and what lies behind stays as it was.
+ * Refused with 26, looked at first; then with 1 if one of the four is shorter than the list that its
+ * times come from.
+ *
+ * Unmatched: no time of the other list is near, or those near stand in earlier pairs (by the walk;
+ * this is not proved). It does not say who is wrong: a mat time may be a missed lap, another runner,
+ * or a second foot just after the first; don't show it as a missed lap if a pair stands just before
+ * it. A watch whose clock is off by more than half a second as a rule pairs little: examples/c/laps.c
+ * shifts its times, takes the shift with the most pairs, and finds how far the clock is off. */
+
+int32_t honecerise_match_laps(const uint32_t *watch, size_t watch_count,
+                              const uint32_t *mat, size_t mat_count,
+                              uint32_t *paired_watch, size_t paired_watch_count,
+                              uint32_t *paired_mat, size_t paired_mat_count,
+                              uint32_t *alone_watch, size_t alone_watch_count,
+                              uint32_t *alone_mat, size_t alone_mat_count);
 
 #ifdef __cplusplus
 }

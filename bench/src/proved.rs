@@ -45,6 +45,11 @@ extern "C" {
         state: *mut usize, locked: *mut usize, steps: *mut usize,
     ) -> i32;
     fn honecerise_deal(running: u16, steps: usize, last: usize, counts: *mut u8) -> i32;
+    fn honecerise_match_laps(
+        watch: *const u32, watch_count: usize, mat: *const u32, mat_count: usize,
+        paired_watch: *mut u32, paired_watch_count: usize, paired_mat: *mut u32, paired_mat_count: usize,
+        alone_watch: *mut u32, alone_watch_count: usize, alone_mat: *mut u32, alone_mat_count: usize,
+    ) -> i32;
 }
 
 fn answer(r: i32) -> Answer {
@@ -59,6 +64,20 @@ macro_rules! over {
             $call(w.store.as_mut_ptr(), w.store.len(), w.image.as_mut_ptr(), w.image.len(), w.desk.as_mut_ptr(), w.desk.len() $(, $rest)*)
         })
     };
+}
+
+/// Laps against the mat, which takes no store and is no call of a side.
+pub fn match_laps(
+    watch: &[u32], mat: &[u32],
+    paired_watch: &mut [u32], paired_mat: &mut [u32], alone_watch: &mut [u32], alone_mat: &mut [u32],
+) -> Answer {
+    answer(unsafe {
+        honecerise_match_laps(
+            watch.as_ptr(), watch.len(), mat.as_ptr(), mat.len(),
+            paired_watch.as_mut_ptr(), paired_watch.len(), paired_mat.as_mut_ptr(), paired_mat.len(),
+            alone_watch.as_mut_ptr(), alone_watch.len(), alone_mat.as_mut_ptr(), alone_mat.len(),
+        )
+    })
 }
 
 pub struct Proved;

@@ -8,6 +8,8 @@
  * - A burst has 1 to 64 steps, whatever else is wrong but a buffer's length.
  * - A turn of a charging case has 1 to 64 steps and a last bay from 0 to 15, and its counts are written
  *   in every case.
+ * - Lists of laps are tested before the lists that the report goes to, and nothing is written if one
+ *   is refused.
  */
 #define _DEFAULT_SOURCE
 #include <stdio.h>
@@ -273,6 +275,64 @@ static void turns(int at_end)
     IS(0, memcmp(counts, three, HONECERISE_BAYS));
 }
 
+/* ---- laps against the mat */
+
+enum { TIMES = HONECERISE_MAX_TIMES };
+
+static uint32_t *times_fenced(size_t count, int at_end)
+{
+    return (uint32_t *)(void *)fenced(count * sizeof(uint32_t), at_end);
+}
+
+/* How many places hold 7 in all four lists. */
+static int sevens(const uint32_t *pw, const uint32_t *pm, const uint32_t *aw, const uint32_t *am)
+{
+    int i, count = 0;
+    for (i = 0; i < TIMES; i++)
+        count += pw[i] == 7 && pm[i] == 7 && aw[i] == 7 && am[i] == 7;
+    return count;
+}
+
+#define LAPS(w, wn, m, mn) honecerise_match_laps(w, wn, m, mn, pw, TIMES, pm, TIMES, aw, TIMES, am, TIMES)
+
+/* Full lists of laps and full reports, between pages that may not be touched. */
+static void laps(int at_end)
+{
+    uint32_t *watch = times_fenced(TIMES, at_end), *mat = times_fenced(TIMES, at_end);
+    uint32_t *pw = times_fenced(TIMES, at_end), *pm = times_fenced(TIMES, at_end);
+    uint32_t *aw = times_fenced(TIMES, at_end), *am = times_fenced(TIMES, at_end);
+    uint32_t more[TIMES + 1], few[2] = { 7, 7 };
+    size_t i;
+    for (i = 0; i <= TIMES; i++)
+        more[i] = 60 * (uint32_t)i;
+    memcpy(watch, more, TIMES * sizeof *watch);
+    for (i = 0; i < TIMES; i++)
+        mat[i] = watch[i] + (i % 2 ? 50 : 30);
+    IS(TIMES, LAPS(watch, TIMES, mat, TIMES));
+    IS(0, memcmp(pw, watch, TIMES * sizeof *pw));
+    IS(0, memcmp(pm, mat, TIMES * sizeof *pm));
+    for (i = 0; i < TIMES; i++)
+        mat[i] = 1000000 + (uint32_t)i;
+    IS(0, LAPS(watch, TIMES, mat, TIMES));
+    IS(0, memcmp(aw, watch, TIMES * sizeof *aw));
+    IS(0, memcmp(am, mat, TIMES * sizeof *am));
+    IS(0, honecerise_match_laps(NONE, NONE, NONE, NONE, NONE, NONE));
+    IS(0, honecerise_match_laps(NONE, mat, 1, NONE, pm, 1, NONE, am, 1));
+    IS(0, honecerise_match_laps(watch, 1, NONE, pw, 1, NONE, aw, 1, NONE));
+    IS(-26, honecerise_match_laps(more, TIMES + 1, NONE, NONE, NONE, NONE, NONE));
+    IS(-26, honecerise_match_laps(NONE, few, 2, NONE, pm, 2, NONE, am, 2));
+    for (i = 0; i < TIMES; i++)
+        pw[i] = pm[i] = aw[i] = am[i] = 7;
+    IS(-26, LAPS(more, TIMES + 1, mat, TIMES));
+    IS(-26, LAPS(watch, TIMES, few, 2));
+    few[0] = 0;
+    IS(-1, honecerise_match_laps(few, 2, NONE, pw, 1, NONE, aw, 2, NONE));
+    IS(-1, honecerise_match_laps(few, 2, NONE, pw, 2, NONE, aw, 1, NONE));
+    IS(-1, honecerise_match_laps(NONE, few, 2, NONE, pm, 1, NONE, am, 2));
+    IS(-1, honecerise_match_laps(NONE, few, 2, NONE, pm, 2, NONE, am, 1));
+    IS(TIMES, sevens(pw, pm, aw, am));
+}
+
 int main(void)
 {
     int at_end;
@@ -287,6 +347,7 @@ int main(void)
         nulls();
         counts();
         turns(at_end);
+        laps(at_end);
     }
     printf("edges: %u answers as expected\n", tried);
     return 0;

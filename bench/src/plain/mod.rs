@@ -8,6 +8,7 @@ mod entries;
 mod format;
 mod guards;
 mod image;
+mod laps;
 mod names;
 mod rename;
 mod slots;
@@ -20,6 +21,7 @@ pub use copier::{start, state, step};
 pub use deal::deal;
 pub use entries::{create, link, look_up, unlink, Kind};
 pub use format::{lay_out_desk, lay_out_store};
+pub use laps::match_laps;
 pub use rename::rename;
 pub use sound::check;
 
@@ -46,4 +48,5 @@ mod refusal {
     pub const IMAGE_FULL: u8 = 16;
     pub const BAD_COUNT: u8 = 17;
     pub const BAD_TURN: u8 = 21;
+    pub const BAD_TIMES: u8 = 26;
 }

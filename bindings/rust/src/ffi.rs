@@ -60,6 +60,12 @@ mod c {
         ) -> i32;
 
         pub fn honecerise_deal(running: u16, steps: usize, last: usize, counts: *mut u8) -> i32;
+
+        pub fn honecerise_match_laps(
+            watch: *const u32, watch_count: usize, mat: *const u32, mat_count: usize,
+            paired_watch: *mut u32, paired_watch_count: usize, paired_mat: *mut u32, paired_mat_count: usize,
+            alone_watch: *mut u32, alone_watch_count: usize, alone_mat: *mut u32, alone_mat_count: usize,
+        ) -> i32;
     }
 }
 
@@ -184,4 +190,32 @@ pub fn state(lent: &Lent<'_>) -> Result<(usize, usize, usize), Refusal> {
 pub fn deal(running: u16, steps: usize, last: usize, counts: &mut [u8; BAYS]) -> Answer {
     // SAFETY: the pointer is that of sixteen bytes, lent for the call.
     answer(unsafe { c::honecerise_deal(running, steps, last, counts.as_mut_ptr()) })
+}
+
+pub fn match_laps(
+    watch: &[u32],
+    mat: &[u32],
+    paired_watch: &mut [u32],
+    paired_mat: &mut [u32],
+    alone_watch: &mut [u32],
+    alone_mat: &mut [u32],
+) -> Answer {
+    // SAFETY: each pointer and count are of one slice, aligned as a slice is; the four lists that are
+    // written are apart from each other and from the two that are only read, since each is `&mut`.
+    answer(unsafe {
+        c::honecerise_match_laps(
+            watch.as_ptr(),
+            watch.len(),
+            mat.as_ptr(),
+            mat.len(),
+            paired_watch.as_mut_ptr(),
+            paired_watch.len(),
+            paired_mat.as_mut_ptr(),
+            paired_mat.len(),
+            alone_watch.as_mut_ptr(),
+            alone_watch.len(),
+            alone_mat.as_mut_ptr(),
+            alone_mat.len(),
+        )
+    })
 }

@@ -4,9 +4,11 @@
 //! definition says. This crate gives them Rust types. It lends the library byte slices and keeps nothing of its own: no
 //! allocation, no globals, no `std`.
 //!
-//! [`Watch`] holds the three lent buffers (store, image and desk) and has all calls. [`Files`] reads what a sound store or a
-//! finished image holds. [`deal`] parts a charging case's steps among its bays. [`Refusal`] says why a call was refused; a
-//! refused call has changed nothing, save that [`Refusal::ImageFull`] marks the copy stopped.
+//! [`Watch`] holds the three lent buffers (store, image and desk) and has all calls on them.
+//! [`Files`] reads what a sound store or a finished image holds. [`deal`] parts a charging case's
+//! steps among its bays. [`match_laps`] holds a watch's lap times against those of the track's timing
+//! mat, and needs no store. [`Refusal`] says why a call was refused; a refused call has changed
+//! nothing, save that [`Refusal::ImageFull`] marks the copy stopped.
 //!
 //! ```
 //! use honecerise::{desk_len, image_len, store_len, CopyState, Inode, Refusal, Watch};
@@ -43,6 +45,7 @@ mod ffi;
 mod files;
 mod inode;
 mod iter;
+mod laps;
 mod refusal;
 mod sizes;
 mod turn;
@@ -51,10 +54,11 @@ mod watch;
 pub use files::{Entry, Files};
 pub use inode::{Inode, Kind};
 pub use iter::{All, Contents, Entries};
+pub use laps::match_laps;
 pub use refusal::Refusal;
 pub use sizes::{
-    BAYS, MAX_BLOCKS, MAX_FILE, MAX_IMAGE, MAX_INODES, MAX_NAME, MAX_SLOTS, MOST_BURST, MOST_TURN, desk_len, enough_image,
-    image_len, most_steps, store_len,
+    BAYS, MAX_BLOCKS, MAX_FILE, MAX_IMAGE, MAX_INODES, MAX_NAME, MAX_SLOTS, MAX_TIMES, MOST_APART, MOST_BURST, MOST_TURN, desk_len,
+    enough_image, image_len, most_steps, store_len,
 };
 pub use turn::{Turn, deal};
 pub use watch::{CopyState, Status, Watch};

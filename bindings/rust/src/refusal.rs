@@ -1,9 +1,10 @@
 //! Why a call was refused.
 use core::fmt;
 
-/// The refusals, by who causes them. Where several apply, the lowest is answered, save that [`BadCount`](Refusal::BadCount)
-/// is looked at right after [`BadBuffer`](Refusal::BadBuffer). [`BadTurn`](Refusal::BadTurn) comes to
-/// [`deal`](crate::deal) alone.
+/// The refusals, by who causes them. Where several apply, the lowest is answered, save that
+/// [`BadCount`](Refusal::BadCount) is looked at right after [`BadBuffer`](Refusal::BadBuffer), and
+/// [`BadTimes`](Refusal::BadTimes) before it. [`BadTurn`](Refusal::BadTurn) comes to
+/// [`deal`](crate::deal) alone, and `BadTimes` to [`match_laps`](crate::match_laps).
 ///
 /// ```
 /// use honecerise::Refusal;
@@ -14,7 +15,8 @@ use core::fmt;
 #[derive(Clone, Copy, Debug, PartialEq, Eq, Hash)]
 #[repr(u8)]
 pub enum Refusal {
-    /// Wiring: a buffer has no length or count that is allowed.
+    /// Wiring: a buffer has no length or count that is allowed, or a list that a report goes to is
+    /// shorter than the list its times come from.
     BadBuffer = 1,
     /// Wiring: the store is not sound; something else wrote to it.
     UnsoundStore = 2,
@@ -54,11 +56,13 @@ pub enum Refusal {
     /// The charging case: a turn of no steps, or of more than [`MOST_TURN`](crate::MOST_TURN), or a last bay that is none of the
     /// [`BAYS`](crate::BAYS).
     BadTurn = 21,
+    /// Laps: a list has more than [`MAX_TIMES`](crate::MAX_TIMES) times, or does not rise strictly.
+    BadTimes = 26,
 }
 
 impl Refusal {
     /// All of them, by number.
-    pub const ALL: [Refusal; 18] = [
+    pub const ALL: [Refusal; 19] = [
         Refusal::BadBuffer,
         Refusal::UnsoundStore,
         Refusal::BadDesk,
@@ -77,20 +81,24 @@ impl Refusal {
         Refusal::ImageFull,
         Refusal::BadCount,
         Refusal::BadTurn,
+        Refusal::BadTimes,
     ];
 
-    /// Its number: 1 to 17, or 21.
+    /// Its number: 1 to 17, 21 or 26.
     pub const fn number(self) -> u8 {
         self as u8
     }
 
     /// The refusal of a number, if there is one.
     pub const fn from_number(number: u8) -> Option<Refusal> {
-        match number {
-            1..=17 => Some(Refusal::ALL[number as usize - 1]),
-            21 => Some(Refusal::BadTurn),
-            _ => None,
+        let mut at = 0;
+        while at < Refusal::ALL.len() {
+            if Refusal::ALL[at].number() == number {
+                return Some(Refusal::ALL[at]);
+            }
+            at += 1;
         }
+        None
     }
 
     const fn reason(self) -> &'static str {
@@ -113,6 +121,7 @@ impl Refusal {
             Refusal::ImageFull => "the image has no block left",
             Refusal::BadCount => "a burst has 1 to 64 steps",
             Refusal::BadTurn => "a turn has 1 to 64 steps, and its last bay is 0 to 15",
+            Refusal::BadTimes => "a list of times has more than 512, or does not rise",
         }
     }
 }

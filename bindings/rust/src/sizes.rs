@@ -18,6 +18,10 @@ pub const MOST_BURST: usize = 64;
 pub const BAYS: usize = 16;
 /// The most steps of a charging case's turn.
 pub const MOST_TURN: usize = 64;
+/// The most times of a list of laps.
+pub const MAX_TIMES: usize = 512;
+/// How far apart a watch time and a mat time of one crossing may be, in hundredths of a second.
+pub const MOST_APART: u32 = 50;
 
 /// The length of a store of so many inodes (1 to [`MAX_INODES`]) and blocks (1 to [`MAX_BLOCKS`]).
 ///

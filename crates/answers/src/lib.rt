@@ -3,7 +3,7 @@ ghost use mathlib.Core.Path.{_≡_};
 ghost use Rattle.answers.specs.Refusal.{refusalNumber};
 ghost use Rattle.answers.specs.Told.{told};
 
-// The refusals of document 01, in the order of their numbers; 17 and 21 are document 02's.
+// The refusals of document 01, in the order of their numbers; those from 17 on are document 02's.
 pub enum Refusal {
     BadBuffer,
     UnsoundStore,
@@ -23,6 +23,7 @@ pub enum Refusal {
     ImageFull,
     BadCount,
     BadTurn,
+    BadTimes,
 }
 
 // What a call answers: the number that document 01 names for it, 0 where it names none, or a refusal.
@@ -54,6 +55,7 @@ pub fn refusal_number(e: Refusal) -> usize
         Refusal::ImageFull => 16,
         Refusal::BadCount => 17,
         Refusal::BadTurn => 21,
+        Refusal::BadTimes => 26,
     }
 }
 

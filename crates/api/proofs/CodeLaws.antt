@@ -22,7 +22,9 @@ use Rattle.checkpoint.specs.declared.Status.the-variants.{Is, NoStatus}
 use Rattle.checkpoint.specs.Live.{left}
 use Rattle.checkpoint.specs.Shown.{Shown, shown, toldStatus}
 use Rattle.dealer.specs.Deal.{Dealt, turn}
-use Rattle.api.specs.Api.{mostResult, codeBy, codeOf, Fits, Sent, sends, sentLaid, sentAlone, sent, sendsState, sentState, sentDealt}
+use Rattle.laps.specs.Walk.{Lists}
+use Rattle.laps.specs.Call as laps
+use Rattle.api.specs.Api.{mostResult, codeBy, codeOf, Fits, Sent, sends, sentLaid, sentAlone, sent, sendsState, sentState, sentDealt, sentLaps}
 
 -- ---- numbers of 32 bits
 number-fits : (n : ℕ) → n ≤ mostResult → SFits w32 (pos n)
@@ -95,6 +97,13 @@ module _ (a : Answer) where
 
     pub sent-dealt : (z : ℤ) → z ≡ codeOf (told a) → sends (toZ w32 (ofZ w32 z)) (cs ∷ []) ≡ sentDealt o
     sent-dealt z f = sent-as z _ _ dealt-fits f (ap sentDealt e)
+
+  module _ (v : Lists) (o : laps.Left) (e : laps.left a v ≡ o) (l : Fits (o .answer)) where
+    pub matched-fits : Fits (told a)
+    matched-fits = subst Fits (sym (ap (λ (x : laps.Left). x .answer) e)) l
+
+    pub sent-laps : (z : ℤ) → z ≡ codeOf (told a) → sends (toZ w32 (ofZ w32 z)) (v .pairedWatch ∷ v .pairedMat ∷ v .aloneWatch ∷ v .aloneMat ∷ []) ≡ sentLaps o
+    sent-laps z f = sent-as z _ _ matched-fits f (ap sentLaps e)
 
 -- ---- the state question
 pub state-told : (r : Status) (t : Told) (a l k : ℕ) (ns : List ℕ) → toldStatus r ≡ t → r ≡ Is a l k → sendsState (pos 0) (a ∷ l ∷ k ∷ []) ≡ sentState t ns

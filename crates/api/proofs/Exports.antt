@@ -1,21 +1,24 @@
 -- Each export is the public call of its name: from what a caller learns by its contract, whatever the arguments, follows that the call was made, and what its caller is told.
 -- a are the arguments, z is the result, e the parameters at exit; m and d are an image and a desk that the call does not have.
 use Prim.Native.Nat.{ℕ}
-use mathlib.Core.Path.{_≡_, refl, sym, ap, _∙_}
-use mathlib.Core.Bool.{Bool, true, false}
+use mathlib.Core.Path.{_≡_, refl, sym, ap, _∙_, subst}
+use mathlib.Core.Bool.{Bool, true, false, _&&_}
 use mathlib.Core.List.{List, [], _∷_}
+use mathlib.Core.Logic.{⊎-elim}
 use borrow.Author.Tests.{ne-eqb}
 use lib.IntN.{ℤ, pos, natAbs, pos-ne-negsuc}
 use lib.ListN.{length, replicate}
 use denote.Ref.{now}
 use Rattle.bounded.specs.Search.{pick}
+use Rattle.bounded.proofs.BoolLaws.{holds-or-fails}
 use Rattle.layout.specs.Sizes.{mostStoreBlocks}
 use Rattle.blocks.specs.Block.{allowed}
 use Rattle.desk.specs.Sizes.{deskAllowed}
 use Rattle.sound.specs.Test.{isSound}
 use Rattle.entries.specs.declared.Kind.the-variants.{File, Directory}
 use Rattle.bounded.specs.Table.{table}
-use Rattle.answers.specs.declared.Refusal.the-variants.{BadBuffer, BadTurn}
+use Rattle.answers.specs.declared.Refusal.the-variants.{BadBuffer, BadTurn, BadTimes}
+use Rattle.answers.specs.declared.Answer.{Answer}
 use Rattle.answers.specs.declared.Answer.the-variants.{Done, Refused}
 use Rattle.answers.specs.Told.{Told, told}
 use Rattle.format.specs.Format.{laidOut, freshStore, freshDesk, layOutStore, layOutDesk}
@@ -28,8 +31,14 @@ use Rattle.checkpoint.specs.Burst.{burst, one, bursts}
 use Rattle.watch.specs.Made.{got, looked-up, has-read, created, written, shortened, linked, unlinked, renamed, started, stepped, asked, stepped-many}
 use Rattle.watch.proofs.Contracts.{Gives}
 use Rattle.dealer.specs.Deal.{bays, served, gets, turn, turnAllowed, dealt}
-use Rattle.api.specs.Api.{Sent, codeOf, sends, sentLaid, sentAlone, sent, SentState, sentState, formTold, checked, maskFlags, sentDealt}
-use Rattle.api.specs.Exported.{Exported, Asked, LaysOut, Checks, Dealing}
+use Rattle.laps.specs.Times as times
+use Rattle.laps.specs.Walk.{Lists, lists, report}
+use Rattle.laps.specs.Call as laps
+use Rattle.laps.specs.Claim.{Matched, Delivered, matched, bad-times, no-room}
+use Rattle.laps.proofs.CallLaws.{refused-times, refused-room, accepted}
+use Rattle.laps.proofs.Claim as matching
+use Rattle.api.specs.Api.{Sent, codeOf, sends, sentLaid, sentAlone, sent, SentState, sentState, formTold, checked, maskFlags, sentDealt, sentLaps}
+use Rattle.api.specs.Exported.{Exported, Asked, LaysOut, Checks, Dealing, LapsMatched}
 use Rattle.api.proofs.honecerise_lay_out_store.Kinds as lay-store-kinds
 use Rattle.api.proofs.honecerise_lay_out_store.Reads as lay-store-reads
 use Rattle.api.proofs.honecerise_lay_out_desk.Kinds as lay-desk-kinds
@@ -64,6 +73,8 @@ use Rattle.api.proofs.honecerise_deal.Kinds as deal-kinds
 use Rattle.api.proofs.honecerise_deal.Reads as deal-reads
 use Rattle.api.proofs.honecerise_state.Kinds as state-kinds
 use Rattle.api.proofs.honecerise_state.Reads as state-reads
+use Rattle.api.proofs.honecerise_match_laps.Kinds as match-laps-kinds
+use Rattle.api.proofs.honecerise_match_laps.Reads as match-laps-reads
 
 -- ---- the buffers that an equation tells
 abbrev first : List (List ℕ) → List ℕ
@@ -254,3 +265,40 @@ module _ (mask steps last : ℕ) (z : ℤ) (counts : List ℕ) (h : sends z (cou
 
 pub deal-exported : Gives 1 deal-kinds.ps deal-kinds.r deal-reads.Learnt (λ κs a z e. Dealing (a .0) (a .1 .0) (a .1 .1 .0) z (now (e .1 .1 .1 .0)))
 deal-exported κs a z e h = dealing (a .0) (a .1 .0) (a .1 .1 .0) z (now (e .1 .1 .1 .0)) h
+
+-- ---- laps against the mat
+told-pairs : {w m : List ℕ} {o v : Lists} {t : Told} {z : ℤ} → Delivered w m o v t → z ≡ codeOf t → (p : ℕ) → z ≡ pos p → Matched w m o v p
+told-pairs {w} {m} {o} {v} (matched q x) c p e = subst (Matched w m o v) (ap natAbs (sym c ∙ e)) x
+told-pairs (bad-times h k) c p e = absurd (pos-ne-negsuc p 25 (sym e ∙ c))
+told-pairs (no-room h f k) c p e = absurd (pos-ne-negsuc p 0 (sym e ∙ c))
+
+module _ (w m : List ℕ) (o v : Lists) (z : ℤ) (h : sends z (v .pairedWatch ∷ v .pairedMat ∷ v .aloneWatch ∷ v .aloneMat ∷ []) ≡ sentLaps (laps.matchLaps w m o)) where
+  -- r is what the public call answers, u the lists that it leaves
+  matched-by : (r : Answer) (u : Lists) → laps.left r u ≡ laps.matchLaps w m o → LapsMatched w m o z v
+  matched-by r u e =
+      let k : sends z (v .pairedWatch ∷ v .pairedMat ∷ v .aloneWatch ∷ v .aloneMat ∷ []) ≡ sentLaps (laps.left r u) = h ∙ ap sentLaps (sym e) in
+      let pw = ap (λ (x : Sent). first (x .buffers)) k in
+      let pm = ap (λ (x : Sent). first (after (x .buffers))) k in
+      let aw = ap (λ (x : Sent). first (after (after (x .buffers)))) k in
+      let am = ap (λ (x : Sent). first (after (after (after (x .buffers))))) k in
+      let same : v ≡ u = rw (pw, pm, aw, am) refl in
+      let q : laps.left r v ≡ laps.matchLaps w m o = ap (λ (x : Lists). laps.left r x) same ∙ e in
+      let c = ap (λ (x : Sent). x .code) k in
+      let d = matching.claim .delivered w m o v r q in
+      record { answer = r; made = q; code = c; delivered = d; pairs = told-pairs d c }
+
+  laps-matched : LapsMatched w m o z v
+  laps-matched =
+      ⊎-elim
+      (λ (p : times.allowed w && times.allowed m ≡ true).
+      ⊎-elim
+      (λ (q : laps.room w m o ≡ true). matched-by (Done (length (report w m .pairedWatch))) (laps.over (report w m) o) (accepted w m o p q))
+      (λ (q : laps.room w m o ≡ false). matched-by (Refused BadBuffer) o (refused-room w m o p q))
+      (holds-or-fails (laps.room w m o)))
+      (λ (p : times.allowed w && times.allowed m ≡ false). matched-by (Refused BadTimes) o (refused-times w m o p))
+      (holds-or-fails (times.allowed w && times.allowed m))
+
+pub match-laps-exported : Gives 6 match-laps-kinds.ps match-laps-kinds.r match-laps-reads.Learnt (λ κs a z e.
+    LapsMatched (now (a .0)) (now (a .1 .0)) (lists (now (a .1 .1 .0)) (now (a .1 .1 .1 .0)) (now (a .1 .1 .1 .1 .0)) (now (a .1 .1 .1 .1 .1 .0)))
+    z (lists (now (e .1 .1 .0)) (now (e .1 .1 .1 .0)) (now (e .1 .1 .1 .1 .0)) (now (e .1 .1 .1 .1 .1 .0))))
+match-laps-exported κs a z e h = laps-matched _ _ _ (lists (now (e .1 .1 .0)) (now (e .1 .1 .1 .0)) (now (e .1 .1 .1 .1 .0)) (now (e .1 .1 .1 .1 .1 .0))) z h

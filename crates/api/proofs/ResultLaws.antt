@@ -1,4 +1,4 @@
--- Every public call's result fits 32 bits with a sign, on any bytes: it is 0, an inode's number, a size, a count of bytes or steps, or a bay. s is the store, m the image, d the desk.
+-- Every public call's result fits 32 bits with a sign, on any bytes: it is 0, an inode's number, a size, a count of bytes, steps or pairs, or a bay. s is the store, m the image, d the desk.
 use Prim.Native.Nat.{ℕ, zero, suc, _+_, _*_, _≤_}
 use mathlib.Core.Path.{_≡_, refl, subst}
 use mathlib.Core.Bool.{Bool, true, false, not, _&&_}
@@ -46,6 +46,11 @@ use Rattle.checkpoint.proofs.TableLaws.{look-up-alone, read-alone}
 use Rattle.dealer.specs.Deal.{bays, served, gets, turn, turnAllowed, dealt}
 use Rattle.dealer.proofs.Circle.{served-below}
 use Rattle.dealer.proofs.TurnLaws.{allowed-is}
+use Rattle.laps.specs.Walk.{Lists}
+use Rattle.laps.specs.Call.{matchLaps}
+use Rattle.laps.specs.Claim.{Delivered, matched, bad-times, no-room}
+use Rattle.laps.proofs.RisingLaws.{parted-length}
+use Rattle.laps.proofs.Claim.{delivers}
 use Rattle.watch.specs.Answered.{ByTable, result, holds, passes, tableOf, resultOf}
 use Rattle.watch.specs.Claim.{outcomeOf}
 use Rattle.watch.proofs.AnswerLaws.{by-table}
@@ -180,3 +185,16 @@ deal-fits f s b = go (turnAllowed s b) refl
     go : (v : Bool) → turnAllowed s b ≡ v → Fits (pick v (turn (Done (served f b s)) (table (gets f b s) bays)) (turn (Refused BadTurn) (replicate bays 0)) .answer)
     go true e = omega (arith, served-below f b s (allowed-is s b e .bay))
     go false e = omega arith
+
+-- laps against the mat answer a number of pairs: at most that of the watch's times, and these are at most 512
+few-pairs : {w m : List ℕ} {o v : Lists} {t : Told} → Delivered w m o v t → Fits t
+few-pairs (matched p x) =
+    let few = x .taken .0 .0 in
+    let all = parted-length (x .reported .one-place .0) in
+    let count = x .count in
+    omega arith
+few-pairs (bad-times h k) = omega arith
+few-pairs (no-room h f k) = omega arith
+
+pub laps-fits : (w m : List ℕ) (o : Lists) → Fits (matchLaps w m o .answer)
+laps-fits w m o = few-pairs (delivers w m o)

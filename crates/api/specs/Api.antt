@@ -16,6 +16,7 @@ use Rattle.files.specs.Plain.{PlainShown}
 use Rattle.checkpoint.specs.Shown.{Shown}
 use Rattle.marks.specs.Mark.{marked}
 use Rattle.dealer.specs.Deal.{bays, Dealt}
+use Rattle.laps.specs.Call.{Left}
 
 abbrev pub codeBy : ℕ → List ℕ → ℤ
 codeBy zero (x ∷ xs) = pos x
@@ -76,6 +77,10 @@ maskFlags mask = flagsFrom mask 0 bays
 -- C's counts to 0
 abbrev pub sentDealt : Dealt → Sent
 sentDealt d = sends (codeOf (d .answer)) (d .counts ∷ [])
+
+-- ---- laps against the mat: the four lists that the report goes to
+abbrev pub sentLaps : Left → Sent
+sentLaps o = sends (codeOf (o .answer)) (o .lists .pairedWatch ∷ o .lists .pairedMat ∷ o .lists .aloneWatch ∷ o .lists .aloneMat ∷ [])
 
 -- ---- the check
 -- "The check is told store or image, takes any bytes and answers yes or no": 0 tells a store, any other number an image; 1 is yes

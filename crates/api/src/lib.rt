@@ -16,7 +16,9 @@ ghost use Rattle.checkpoint.specs.Live.{live, start, step, status};
 ghost use Rattle.checkpoint.specs.Shown.{world, shown, toldStatus};
 ghost use Rattle.checkpoint.specs.Burst.{burst};
 ghost use Rattle.dealer.specs.Deal.{dealt};
-ghost use Rattle.api.specs.Api.{sends, sentLaid, sentAlone, sent, sendsState, sentState, maskFlags, sentDealt, checked};
+ghost use Rattle.laps.specs.Walk.{lists};
+ghost use Rattle.laps.specs.Call.{matchLaps};
+ghost use Rattle.api.specs.Api.{sends, sentLaid, sentAlone, sent, sendsState, sentState, maskFlags, sentDealt, sentLaps, checked};
 use crate::code::code;
 use crate::code::refused;
 use crate::mask::flags;
@@ -25,6 +27,7 @@ use watch::Form;
 use watch::Kind;
 use watch::Status;
 use watch::check;
+use watch::match_laps;
 
 // ---- laying out
 #[no_mangle]
@@ -235,4 +238,19 @@ pub extern "C" fn honecerise_deal(
     *counts = given;
     let answer = turn.answer;
     code(answer)
+}
+
+// ---- laps against the mat
+#[no_mangle]
+pub extern "C" fn honecerise_match_laps(
+    watch: &[u32],
+    mat: &[u32],
+    paired_watch: &mut [u32],
+    paired_mat: &mut [u32],
+    alone_watch: &mut [u32],
+    alone_mat: &mut [u32],
+) -> i32
+    ensures { λ r. ⌜ sends r (now («paired_watch» .exit) ∷ now («paired_mat» .exit) ∷ now («alone_watch» .exit) ∷ now («alone_mat» .exit) ∷ []) ≡ sentLaps (matchLaps (now (watch .entry)) (now (mat .entry)) (lists (now («paired_watch» .entry)) (now («paired_mat» .entry)) (now («alone_watch» .entry)) (now («alone_mat» .entry)))) ⌝ }
+{
+    code(match_laps(watch, mat, paired_watch, paired_mat, alone_watch, alone_mat))
 }

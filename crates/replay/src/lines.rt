@@ -1,7 +1,6 @@
 // Lines run on the three buffers, and their answers printed.
-ghost use Rattle.replay.specs.Fit.{Inside, Within};
-use crate::input::Input;
-use crate::input::next_line;
+ghost use Rattle.input.specs.Within.{Within};
+ghost use Rattle.replay.specs.Fit.{Inside};
 use crate::lengths::Lengths;
 use crate::lengths::planned;
 use checksum::checksum;
@@ -11,6 +10,8 @@ use commands::Sums;
 use commands::answer::put_line;
 use commands::parse::command;
 use commands::parse::parse;
+use input::Input;
+use input::next_line;
 use libc::STDOUT_FILENO;
 use runner::run;
 use text::pieces::front;

@@ -1,5 +1,4 @@
 // Replays the vectors: reads commands from standard input, one a line, and prints for each the answer and the checksums of store, image and desk.
-mod input;
 mod lengths;
 mod lines;
 

@@ -14,6 +14,8 @@ use Rattle.files.specs.Effect.{lookUp, read, create, write, shorten, link, unli
 use Rattle.checkpoint.specs.Shown.{world, toldStatus}
 use Rattle.checkpoint.specs.List.{call, advances, asks, starts}
 use Rattle.checkpoint.specs.Burst.{one, bursts}
+use Rattle.laps.specs.Walk.{lists}
+use Rattle.laps.specs.Call.{left, matchLaps}
 use Rattle.watch.specs.Made.{got, Did, looked-up, has-read, created, written, shortened, linked, unlinked, renamed, started, stepped, asked, stepped-many}
 use Rattle.files.proofs.plain.look_up.Kinds as look-up-kinds
 use Rattle.files.proofs.plain.look_up.Reads as look-up-reads
@@ -45,6 +47,8 @@ use Rattle.format.proofs.lay_out_store.Kinds as lay-store-kinds
 use Rattle.format.proofs.lay_out_store.Reads as lay-store-reads
 use Rattle.format.proofs.lay_out_desk.Kinds as lay-desk-kinds
 use Rattle.format.proofs.lay_out_desk.Reads as lay-desk-reads
+use Rattle.laps.proofs.match_laps.Kinds as match-laps-kinds
+use Rattle.laps.proofs.match_laps.Reads as match-laps-reads
 
 -- what a caller learns of a function gives D; n lifetimes, parameters ps, result r
 abbrev pub Gives : (n : ℕ) (ps : List (PK n)) (r : RK n) → Out n ps r → ((κs : Lfts n) → Dens κs ps → resT r κs .Denot → AtExit (endedOf n ps r) κs → Type 0) → Type 0
@@ -111,3 +115,9 @@ lay-desk-made κs a z e h = h
 -- ---- the check, of which it has the same too
 pub check-made : Gives 1 check-kinds.ps check-kinds.r check-reads.Learnt (λ κs a z e. z ≡ isSound (a .0) (now (a .1 .0)))
 check-made κs a z e h = h
+
+-- ---- and laps against the mat
+pub match-laps-made : Gives 6 match-laps-kinds.ps match-laps-kinds.r match-laps-reads.Learnt (λ κs a z e.
+    left z (lists (now (e .1 .1 .0)) (now (e .1 .1 .1 .0)) (now (e .1 .1 .1 .1 .0)) (now (e .1 .1 .1 .1 .1 .0)))
+    ≡ matchLaps (now (a .0)) (now (a .1 .0)) (lists (now (a .1 .1 .0)) (now (a .1 .1 .1 .0)) (now (a .1 .1 .1 .1 .0)) (now (a .1 .1 .1 .1 .1 .0))))
+match-laps-made κs a z e h = h

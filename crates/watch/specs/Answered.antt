@@ -1,4 +1,6 @@
--- Demand 1, of the calls' code: "The answer of each public call, for all bytes and numbers handed to it, is its result or one of the sixteen refusals of document 01", and which. F-2: "Demand 1's refusals take in 17 and the numbers that later requests add".
+-- Demand 1, of the calls' code: "The answer of each public call, for all bytes and numbers handed to
+-- it, is its result or one of the sixteen refusals of document 01", and which. F-2: "Demand 1's
+-- refusals take in 17 and the numbers that later requests add": here 21 and 26.
 -- "A refusal changes no lent buffer, save that 16 marks the copy stopped and unlocks what was being copied."
 use Prim.Native.Nat.{ℕ, _+_, _-_, min, max}
 use mathlib.Core.Path.{_≡_}
@@ -27,6 +29,8 @@ use Rattle.checkpoint.specs.List.{call, advances, asks, starts, refusalOf, acce
 use Rattle.checkpoint.specs.Burst.{triesOf, Act, one, bursts}
 use Rattle.checkpoint.specs.Progress.{Stopped}
 use Rattle.dealer.specs.Deal.{bays, served, turn, turnAllowed, dealt}
+use Rattle.laps.specs.Walk.{Lists, report}
+use Rattle.laps.specs.Call.{lapsTable, left, matchLaps}
 use Rattle.watch.specs.Made.{Received, Did}
 
 -- ---- "Given by number, looked at lowest first, when and only when the condition holds for that call"
@@ -117,12 +121,19 @@ pub record DealAnswers (flags : List Bool) (steps last : ℕ) (r : Answer) (coun
   pub answered : Answered (served flags last steps ∷ []) (dealTable steps last) (told r)
   pub zeros : (told r .number ≡ 0 → ⊥) → counts ≡ replicate bays 0
 
+-- ---- laps against the mat: 26, "looked at first", then 1
+-- the call on watch times w and mat times m, with the lists o lent, answered r and left v
+pub record LapsAnswers (w m : List ℕ) (o : Lists) (r : Answer) (v : Lists) : Type 0 where
+  pub answered : Answered (length (report w m .pairedWatch) ∷ []) (lapsTable w m o) (told r)
+  pub keeps : (told r .number ≡ 0 → ⊥) → v ≡ o
+
 -- ---- demand 1: each call as its contract promises it. The check refuses nothing: it "takes any bytes and answers yes or no"; demand 2: "The soundness check says yes to a store that meets its conditions and no to every other."
 pub record FirstDemand : Type 0 where
-  -- "looked at lowest first"; 17 "comes right after 1", 21 is "looked at first"
-  pub looked-at : numbers order ≡ 21 ∷ 1 ∷ 17 ∷ 2 ∷ 3 ∷ 4 ∷ 5 ∷ 6 ∷ 7 ∷ 8 ∷ 9 ∷ 10 ∷ 11 ∷ 12 ∷ 13 ∷ 14 ∷ 15 ∷ 16 ∷ []
+  -- "looked at lowest first"; 17 "comes right after 1"; 21 and 26 are "looked at first", each by its own call
+  pub looked-at : numbers order ≡ 21 ∷ 26 ∷ 1 ∷ 17 ∷ 2 ∷ 3 ∷ 4 ∷ 5 ∷ 6 ∷ 7 ∷ 8 ∷ 9 ∷ 10 ∷ 11 ∷ 12 ∷ 13 ∷ 14 ∷ 15 ∷ 16 ∷ []
   pub calls : {x : Act} {w v : World} {a : Received} → Did x w a v → Answers x w a v
   pub lays-store : {s t : List ℕ} (r : Answer) (inodes blocks : ℕ) → laidOut r t ≡ layOutStore s inodes blocks → LayAnswers (storeLayTable s inodes blocks) s r t
   pub lays-desk : {desk t : List ℕ} (r : Answer) (inodes : ℕ) → laidOut r t ≡ layOutDesk desk inodes → LayAnswers (deskLayTable desk inodes) desk r t
   pub deals : {counts : List ℕ} (r : Answer) (flags : List Bool) (steps last : ℕ) → turn r counts ≡ dealt flags steps last → DealAnswers flags steps last r counts
+  pub matches : {w m : List ℕ} {o v : Lists} (r : Answer) → left r v ≡ matchLaps w m o → LapsAnswers w m o r v
   pub checks : (f : Form) (s : List ℕ) (r : Bool) → r ≡ isSound f s → Reflects r (Sound f s)

@@ -1,6 +1,6 @@
-// All public calls over store, image and desk, and the dealer, which takes no buffer. Any bytes may be
-// lent and any numbers handed in, and no call asks anything of its caller. A refused call changes
-// nothing, save that 16 writes the desk.
+// All public calls over store, image and desk; the dealer, which takes no buffer; and laps against the
+// mat, which take none of the three. Any bytes may be lent and any numbers handed in, and no call asks
+// anything of its caller. A refused call changes nothing, save that 16 writes the desk.
 ghost use mathlib.Core.Path.{_≡_};
 ghost use Rattle.files.specs.Effect.{create, write, shorten, link, unlink, rename};
 ghost use Rattle.checkpoint.specs.Live.{left, live};
@@ -34,6 +34,9 @@ pub use guards::state::state;
 // Deal the steps of a turn among the bays of a charging case, which takes no buffer.
 pub use dealer::Turn;
 pub use dealer::deal;
+
+// Hold laps against the mat, which takes no store.
+pub use laps::match_laps;
 
 // The other file calls.
 pub fn create(

@@ -1,4 +1,5 @@
-use Rattle.replay.specs.Fit.{Inside, Within}
+use Rattle.input.specs.Within.{Within}
+use Rattle.replay.specs.Fit.{Inside}
 use lib.ListN.{length}
 use mathlib.Core.Path.{_≡_}
 use borrow.Author.Needs.{needs}

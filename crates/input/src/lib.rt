@@ -1,6 +1,6 @@
 // Standard input, line by line.
 ghost use Prim.Native.Nat.{_<_, _≤_};
-ghost use Rattle.replay.specs.Fit.{Within};
+ghost use Rattle.input.specs.Within.{Within};
 use libc::STDIN_FILENO;
 
 const NEWLINE: u8 = 10;

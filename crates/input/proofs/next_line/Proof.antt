@@ -1,8 +1,8 @@
-use Rattle.replay.specs.Fit.{Within}
+use Rattle.input.specs.Within.{Within}
 use borrow.Author.Needs.{needs}
 use native.Mathlib.Omega.{arith}
-use Rattle.replay.proofs.input.next_line.Statement.{statement}
-use Rattle.replay.proofs.input.next_line.Tie as tie
+use Rattle.input.proofs.next_line.Statement.{statement}
+use Rattle.input.proofs.next_line.Tie as tie
 
 abbrev Inv-loop : tie.InvT-loop
 Inv-loop piece₀ line₀ s₀ turns₀ piece line s turns = Within s

@@ -1,0 +1,5 @@
+pub mod Times
+pub mod Walk
+pub mod Reported
+pub mod Call
+pub mod Claim
