@@ -5,7 +5,7 @@ ghost use Rattle.layout.specs.Sizes.{mostImageBlocks, mostBlocks, rootInode};
 ghost use Rattle.layout.specs.Fits.{InodeFits};
 ghost use Rattle.sound.specs.Sound.{inodesIn, blocksIn, Framed, limitOf};
 ghost use Rattle.sound.specs.Test.{framedB, headerB, freeCountsB, bodyB, isSound};
-ghost use Rattle.inodes.specs.Pass.{MapsOf};
+ghost use Rattle.check_inodes.specs.Pass.{MapsOf};
 ghost use Rattle.sound.specs.declared.Form.the-variants.{Image};
 use crate::entries;
 use crate::links;
@@ -92,7 +92,7 @@ pub fn body_right(form: Form, s: &[u8], n: usize, b: usize) -> bool
         return false;
     }
     let mut map = [0u8; BLOCK_PLACES];
-    if !inodes::inodes_right(s, n, b, &mut map) {
+    if !check_inodes::inodes_right(s, n, b, &mut map) {
         return false;
     }
     let mut counts = [0u16; INODE_PLACES];
@@ -110,7 +110,7 @@ pub fn body_right(form: Form, s: &[u8], n: usize, b: usize) -> bool
     }
     match form {
         Form::Store => true,
-        Form::Image => inodes::blanks_right(s, n, b, &map),
+        Form::Image => check_inodes::blanks_right(s, n, b, &map),
     }
 }
 

@@ -25,7 +25,7 @@ use Rattle.desk.specs.Next.{locking, copyingOne, unlocking, finishing, stopping
 use Rattle.desk.specs.declared.Desk.{Desk}
 use Rattle.sound.specs.Sound.{blocksIn}
 use Rattle.sound.specs.Counted.{SoundStore}
-use Rattle.changes.proofs.StoreLaws.{blocks-of}
+use Rattle.preservation.proofs.StoreLaws.{blocks-of}
 use Rattle.answers.specs.declared.Answer.{Answer}
 use Rattle.answers.specs.declared.Answer.the-variants.{Done, Refused}
 use Rattle.answers.specs.declared.Refusal.the-variants.{ImageFull}

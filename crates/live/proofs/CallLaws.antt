@@ -12,7 +12,7 @@ use Rattle.sound.specs.Sound.{inodesIn, blocksIn}
 use Rattle.answers.specs.declared.Refusal.{Refusal}
 use Rattle.answers.specs.declared.Refusal.the-variants.{Busy}
 use Rattle.answers.specs.declared.Answer.the-variants.{Done}
-use Rattle.changes.proofs.StoreLaws.{uncounted}
+use Rattle.preservation.proofs.StoreLaws.{uncounted}
 use Rattle.files.specs.declared.Guard.the-variants.{Pass}
 use Rattle.files.specs.Effect.{Call, Effect, Planned, refused, does, planned}
 use Rattle.files.proofs.Lawful.{Lawful, Each}

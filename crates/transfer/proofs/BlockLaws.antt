@@ -21,7 +21,7 @@ use Rattle.names.specs.Entry.{entryInode}
 use Rattle.desk.specs.Desk.{markOf}
 use Rattle.sound.specs.Sound.{blocksIn}
 use Rattle.sound.specs.Counted.{SoundStore}
-use Rattle.changes.proofs.StoreLaws.{blocks-of, dir-of}
+use Rattle.preservation.proofs.StoreLaws.{blocks-of, dir-of}
 use Rattle.checkpoint.specs.Notes.{isCopied}
 use Rattle.checkpoint.specs.Copier.{copiedEntry, copiedEntries, copiedBlock}
 use Rattle.checkpoint.proofs.Copy.NoteLaws.{length-copied-block}

@@ -17,7 +17,7 @@ use Rattle.blocks.proofs.KthLaws.{row-kth}
 use Rattle.bounded.proofs.ReflectLaws.{r-no}
 use Rattle.ledger.proofs.BytesLaws.{place-used, used-limits}
 use Rattle.blocks.proofs.LongLaws.{but-here}
-use Rattle.changes.proofs.SameLaws.{SameBlock}
+use Rattle.preservation.proofs.SameLaws.{SameBlock}
 use Rattle.checkpoint.specs.Fit.{imageLong}
 use Rattle.checkpoint.proofs.Copy.LedgerLaws.{named-by, rows-named, rows-differ}
 use Rattle.names.specs.Entry.{isEmpty}
@@ -27,8 +27,8 @@ use Rattle.sound.specs.Place.{isSlot, entryAt, placeOf}
 use Rattle.sound.specs.Sound.{Sound, inodesIn}
 use Rattle.sound.proofs.SoundLaws.{size-most}
 use Rattle.sound.specs.declared.Form.the-variants.{Store}
-use Rattle.changes.proofs.KeepLaws.{inode-kept}
-use Rattle.changes.proofs.EntryWriteLaws.{SlotIn}
+use Rattle.preservation.proofs.KeepLaws.{inode-kept}
+use Rattle.preservation.proofs.EntryWriteLaws.{SlotIn}
 use Rattle.checkpoint.specs.Notes.{isCopied}
 use Rattle.checkpoint.proofs.Copy.Laid.{Laid, Open, Frame, frame-kept, Fair, cost, costSoFar}
 use Rattle.checkpoint.proofs.Copy.NamingLaws.{used-other}

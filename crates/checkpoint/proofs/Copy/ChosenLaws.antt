@@ -25,7 +25,7 @@ use Rattle.desk.specs.Desk.{deskOf}
 use Rattle.sound.specs.Place.{naming}
 use Rattle.sound.specs.Sound.{Sound, inodesIn}
 use Rattle.sound.specs.declared.Form.the-variants.{Store}
-use Rattle.copying.specs.Holds.{Ended}
+use Rattle.copy_theory.specs.Holds.{Ended}
 use Rattle.checkpoint.specs.Image.{imageNaming, inodeNamed}
 use Rattle.checkpoint.specs.Fit.{imageLong}
 use Rattle.checkpoint.specs.Notes.{isCopied}

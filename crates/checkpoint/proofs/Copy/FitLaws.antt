@@ -24,7 +24,7 @@ use Rattle.desk.specs.Desk.{deskOf, copiedOf, deskRestZero}
 use Rattle.sound.specs.Sound.{Sound, inodesIn}
 use Rattle.sound.specs.declared.Form.the-variants.{Store}
 use Rattle.sound.proofs.SoundLaws.{framed, is-sound, size-most}
-use Rattle.changes.proofs.StoreLaws.{sound-store, blocks-of}
+use Rattle.preservation.proofs.StoreLaws.{sound-store, blocks-of}
 use Rattle.checkpoint.specs.Fit.{deskFramed, isRunning, mostSteps, blocksFit, deskFits, imageLong, lacksAddresses, imageFits, notesFit}
 use Rattle.checkpoint.specs.Notes.{isCopied}
 use Rattle.checkpoint.specs.List.{Ready}

@@ -21,7 +21,7 @@ use Rattle.desk.specs.Desk.{deskOf, copiedOf}
 use Rattle.desk.specs.Desk as desk
 use Rattle.sound.specs.Place.{isSlot, entryAt}
 use Rattle.sound.specs.Inode.{InodeSound}
-use Rattle.changes.proofs.SameLaws.{SameFrame}
+use Rattle.preservation.proofs.SameLaws.{SameFrame}
 use Rattle.checkpoint.specs.Fit.{imageLong}
 use Rattle.checkpoint.specs.Notes.{isCopied}
 use Rattle.checkpoint.specs.Copier.{copiedBlock}

@@ -10,7 +10,7 @@ use Rattle.directory.specs.Slot.{mostSlots}
 use Rattle.desk.specs.Desk.{deskOf, markOf}
 use Rattle.sound.specs.Place.{dirOf, slotOf, entryAt, naming}
 use Rattle.content.specs.Content.{fileBytes}
-use Rattle.copying.specs.View.{Shelf, View}
+use Rattle.copy_theory.specs.View.{Shelf, View}
 use Rattle.checkpoint.specs.Notes.{isCopied}
 
 unfoldable pub shelfOf : ℕ → List ℕ → Shelf

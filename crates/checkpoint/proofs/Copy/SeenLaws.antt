@@ -21,10 +21,10 @@ use Rattle.desk.specs.Desk.{copiedOf, markOf}
 use Rattle.sound.specs.Inode.{InodeSound}
 use Rattle.sound.specs.Place.{dirOf, slotOf, entryAt, naming}
 use Rattle.sound.proofs.SoundLaws.{size-most}
-use Rattle.changes.proofs.SameLaws.{SameBody, SameBlock}
+use Rattle.preservation.proofs.SameLaws.{SameBody, SameBlock}
 use Rattle.growth.specs.Extend.{fileByte}
 use Rattle.content.specs.Content.{fileBytes}
-use Rattle.copying.specs.Deed.{Alike}
+use Rattle.copy_theory.specs.Deed.{Alike}
 use Rattle.checkpoint.specs.Notes.{isCopied}
 use Rattle.checkpoint.proofs.Copy.Seen.{shelfOf, markedAt}
 

@@ -17,8 +17,8 @@ use Rattle.sound.specs.Sound.{Sound, inodesIn}
 use Rattle.sound.specs.declared.Form.the-variants.{Store}
 use Rattle.answers.specs.declared.Refusal.{Refusal}
 use Rattle.answers.specs.declared.Refusal.the-variants.{IllegalName, WrongInode}
-use Rattle.changes.proofs.StoreLaws.{sound-store, kind-some}
-use Rattle.changes.proofs.SlotPlaceLaws.{found-here}
+use Rattle.preservation.proofs.StoreLaws.{sound-store, kind-some}
+use Rattle.preservation.proofs.SlotPlaceLaws.{found-here}
 use Rattle.content.specs.declared.NumberPlan.{NumberPlan}
 use Rattle.content.specs.declared.NumberPlan.the-variants.{To, NoNumber}
 use Rattle.content.specs.Plan.{readPlan, writePlan, shortenPlan}

@@ -11,7 +11,7 @@ use Rattle.sound.specs.Place.{dirOf, filled, naming}
 use Rattle.sound.specs.Entry.{EntrySound}
 use Rattle.files.specs.Effect.{Call}
 use Rattle.files.proofs.Lawful.{Lawful}
-use Rattle.copying.specs.History.{Stood, Chain, top, below}
+use Rattle.copy_theory.specs.History.{Stood, Chain, top, below}
 use Rattle.checkpoint.specs.Live.{World}
 use Rattle.checkpoint.specs.List.{Event, call, advances, asks, starts, next, accepted, takes, Untouched, Kept}
 use Rattle.checkpoint.specs.List as list

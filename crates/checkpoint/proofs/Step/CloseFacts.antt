@@ -28,9 +28,9 @@ use Rattle.desk.proofs.DeskLaws.{length-putDesk, length-putCopied, desk-putDesk
 use Rattle.sound.specs.Inode.{InodeSound}
 use Rattle.sound.specs.Sound.{blocksIn}
 use Rattle.sound.specs.Counted.{SoundStore}
-use Rattle.changes.proofs.SameLaws.{InInode, NewInode}
-use Rattle.changes.proofs.KeepLaws.{body-of, inode-kept}
-use Rattle.changes.proofs.StoreLaws.{dir-of, blocks-of, dir-short}
+use Rattle.preservation.proofs.SameLaws.{InInode, NewInode}
+use Rattle.preservation.proofs.KeepLaws.{body-of, inode-kept}
+use Rattle.preservation.proofs.StoreLaws.{dir-of, blocks-of, dir-short}
 use Rattle.checkpoint.specs.Notes.{isCopied}
 use Rattle.checkpoint.specs.Copier.{close, copiedBlock, unlinkedInode, stepImage, stepDesk}
 use Rattle.checkpoint.proofs.Copy.Laid.{DeskLaid, Open, Laid}

@@ -20,8 +20,8 @@ use Rattle.desk.specs.declared.Desk.{Desk}
 use Rattle.desk.specs.Desk.{deskOf}
 use Rattle.sound.specs.Place.{dirOf, slotOf, isSlot, entryAt}
 use Rattle.sound.proofs.PlaceLaws.{slot-is, filled-is, naming-entry}
-use Rattle.changes.proofs.SameLaws.{SameInode}
-use Rattle.changes.proofs.KeepLaws.{body-of, SamePlace, place-slot, slot-kept, same-slots, entry-kept}
+use Rattle.preservation.proofs.SameLaws.{SameInode}
+use Rattle.preservation.proofs.KeepLaws.{body-of, SamePlace, place-slot, slot-kept, same-slots, entry-kept}
 use Rattle.checkpoint.specs.Notes.{isCopied}
 use Rattle.checkpoint.specs.Copier.{close, stepImage, stepDesk}
 use Rattle.checkpoint.specs.Fit.{imageLong}

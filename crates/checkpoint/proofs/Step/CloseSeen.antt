@@ -15,8 +15,8 @@ use Rattle.desk.specs.declared.Desk.{Desk}
 use Rattle.desk.specs.Desk.{deskOf}
 use Rattle.sound.specs.Place.{dirOf, slotOf, isSlot, entryAt, naming}
 use Rattle.sound.proofs.PlaceLaws.{naming-entry, naming-filled}
-use Rattle.changes.proofs.SameLaws.{same-body}
-use Rattle.copying.specs.Deed.{Alike, Pasted, elsewhere, skipped, taken, Closed}
+use Rattle.preservation.proofs.SameLaws.{same-body}
+use Rattle.copy_theory.specs.Deed.{Alike, Pasted, elsewhere, skipped, taken, Closed}
 use Rattle.checkpoint.specs.Notes.{isCopied}
 use Rattle.checkpoint.specs.Copier.{close, stepImage, stepDesk}
 use Rattle.checkpoint.proofs.Copy.Seen.{shelfOf, seen}

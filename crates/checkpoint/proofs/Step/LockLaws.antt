@@ -22,7 +22,7 @@ use Rattle.desk.specs.Desk.{deskOf, putDesk}
 use Rattle.desk.specs.Next.{locking}
 use Rattle.desk.proofs.DeskLaws.{length-putDesk, desk-putDesk, reserved-putDesk, copied-putDesk}
 use Rattle.sound.specs.Place.{naming}
-use Rattle.copying.specs.Deed.{Alike, Quiet, Locked}
+use Rattle.copy_theory.specs.Deed.{Alike, Quiet, Locked}
 use Rattle.checkpoint.specs.Image.{imageNaming}
 use Rattle.checkpoint.specs.Notes.{isCopied}
 use Rattle.checkpoint.specs.Copier.{lock, stepDesk}

@@ -24,7 +24,7 @@ use Rattle.desk.proofs.DeskLaws.{length-putDesk, length-clearNotes, desk-putDes
 use Rattle.sound.specs.Place.{dirOf, slotOf, naming}
 use Rattle.sound.specs.Sound.{Sound, inodesIn}
 use Rattle.sound.specs.declared.Form.the-variants.{Store}
-use Rattle.copying.specs.Holds.{Fresh}
+use Rattle.copy_theory.specs.Holds.{Fresh}
 use Rattle.checkpoint.specs.Fit.{deskFramed, imageLong, imageBlocks, imageAllowed, isRunning, deskFits}
 use Rattle.checkpoint.specs.Notes.{isCopied}
 use Rattle.checkpoint.specs.Copier.{startImage, startDesk}

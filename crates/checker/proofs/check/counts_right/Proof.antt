@@ -5,7 +5,7 @@ use native.Mathlib.Omega.{arith}
 use Rattle.bounded.specs.Count.{countTo}
 use Rattle.layout.specs.Sizes.{mostBlocks}
 use Rattle.layout.specs.Inode.{inodeFree}
-use Rattle.inodes.specs.Pass.{MapsOf}
+use Rattle.check_inodes.specs.Pass.{MapsOf}
 use Rattle.checker.proofs.CheckLaws.{counts-1, counts-2}
 use borrow.Author.Needs.{needs}
 use Rattle.checker.proofs.check.counts_right.Statement.{statement}

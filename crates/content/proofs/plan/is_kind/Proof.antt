@@ -1,5 +1,5 @@
 use Rattle.layout.proofs.inode.kind.Reads as kind-reads
-use Rattle.changes.proofs.StoreLaws.{kind-low, kind-high, kind-read}
+use Rattle.preservation.proofs.StoreLaws.{kind-low, kind-high, kind-read}
 use borrow.Author.Needs.{needs}
 use Rattle.content.proofs.plan.is_kind.Statement.{statement}
 use Rattle.content.proofs.plan.is_kind.Tie as tie

@@ -2,7 +2,7 @@ use mathlib.Core.Path.{sym, ap, _∙_}
 use native.Mathlib.Omega.{arith}
 use denote.Ref.{now}
 use Rattle.directory.proofs.SlotLaws.{find-below}
-use Rattle.changes.proofs.SlotPlaceLaws.{found-here}
+use Rattle.preservation.proofs.SlotPlaceLaws.{found-here}
 use Rattle.entries.proofs.PlanFacts.{unlinks}
 use Rattle.files.specs.Effect.{unlink, doUnlink}
 use Rattle.checkpoint.specs.Notes.{cutEntries, clearMarks, setMarks}
