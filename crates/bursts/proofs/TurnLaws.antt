@@ -35,7 +35,7 @@ use Rattle.checkpoint.proofs.Copy.FitLaws.{desk-framed-is}
 use Rattle.checkpoint.proofs.DecisionLaws.{three-is}
 use Rattle.checkpoint.proofs.SteadyLaws.{ready-of, late, ready-step}
 use Rattle.guards.proofs.GuardLaws.{three-framed}
-use Rattle.copystep.proofs.StepLaws.{step-ready}
+use Rattle.copier.proofs.StepLaws.{step-ready}
 use Rattle.bursts.specs.Turn.{Going, Kept, stoppedAt, Took}
 use Rattle.bursts.specs.declared.Turn.{Turn}
 use Rattle.bursts.specs.declared.Turn.the-variants.{Goes, Ends, Stops}

@@ -18,8 +18,9 @@ use desk::Desk;
 use desk::RUNNING;
 use desk::STEPS_AN_INODE;
 use files::Guard;
-use guards::three::after_lengths;
-use guards::three::both_framed;
+use guards::after_lengths;
+use guards::both_framed;
+use image::naming;
 use layout::sizes::INODE_PLACES;
 
 pub const MOST_BURST: usize = 64;
@@ -70,7 +71,7 @@ fn turns(s: &[u8], m: &mut [u8], d: &mut [u8], n: usize, count: usize) -> Answer
 {
     let h = Desk::read(&*d);
     let mut map = kept::map_of(s, &*m, n, h.locked as usize);
-    let mut counts = tallies::count_names(&*m, n);
+    let mut counts = naming::count_names(&*m, n);
     for k in 0..count {
         match take_one(s, &mut *m, &mut *d, n, &mut map, &mut counts) {
             Turn::Goes => {}

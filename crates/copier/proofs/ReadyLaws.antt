@@ -24,7 +24,7 @@ use Rattle.checkpoint.specs.Shown.{world}
 use Rattle.checkpoint.specs.List.{Ready}
 use Rattle.checkpoint.proofs.Call.LiveLaws.{ready-sound}
 use Rattle.checkpoint.proofs.Copy.FitLaws.{desk-framed-is, desk-fits-is, image-fits-is, notes-fit-is}
-use Rattle.tallies.specs.Addressed.{Addressed}
+use Rattle.image.specs.Addressed.{Addressed}
 use Rattle.blocks.proofs.LongLaws.{but-else, row-direct, fit-flags}
 use Rattle.copier.specs.Held.{Held, Locked, FreeImage, OpenImage}
 

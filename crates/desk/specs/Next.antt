@@ -1,7 +1,13 @@
--- The desk header's next states. "Each accepted step adds 1."
+-- What the desk's header says of the copy, and its next states. "Each accepted step adds 1."
 use Prim.Native.Nat.{ℕ, _+_}
+use mathlib.Core.Bool.{Bool}
+use lib.Dec.{eqb}
 use Rattle.desk.specs.Sizes.{running, finished, stopped}
 use Rattle.desk.specs.declared.Desk.{Desk}
+
+-- the copy runs
+abbrev pub runs : Desk → Bool
+runs h = eqb (h .state) running
 
 -- "sets the desk's block count and running", and zeroes the steps
 abbrev pub starting : Desk → ℕ → Desk

@@ -22,11 +22,12 @@ use Rattle.checkpoint.specs.Notes.{cutEntries, clearMarks, setMarks}
 use Rattle.checkpoint.specs.Fit.{deskFits, imageLong, imageFits}
 use Rattle.checkpoint.specs.Live.{World, left, refuse, threeGuards, leavesIn}
 use Rattle.checkpoint.proofs.Copy.FitLaws.{desk-framed-is, image-fits-is, notes-fit-is}
-use Rattle.tallies.specs.Addressed.{Addressed}
+use Rattle.image.specs.Addressed.{Addressed}
 use Rattle.guards.proofs.GuardLaws.{passed, desk-passed}
 use Rattle.blocks.proofs.LongLaws.{row-direct}
-use Rattle.guards.proofs.FitLaws.{fits-few}
-use Rattle.live.specs.Fits.{Fits, Readable}
+use Rattle.image.proofs.FitLaws.{fits-few}
+use Rattle.image.specs.Addressed.{Readable}
+use Rattle.live.specs.Fits.{Fits}
 
 -- ---- what the guards let through
 image-addressed : (s m d : List ℕ) → deskOf d .inodes ≤ mostInodes → deskFits d ≡ true → imageFits s m d ≡ true → Addressed m (deskOf d .inodes)

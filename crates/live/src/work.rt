@@ -10,7 +10,8 @@ ghost use Rattle.files.specs.Effect.{doCreate, doWrite, doShorten, doLink, doUn
 ghost use Rattle.checkpoint.specs.Busy.{unlessBusy};
 ghost use Rattle.checkpoint.specs.Live.{left, leavesIn};
 ghost use Rattle.checkpoint.specs.Shown.{world};
-ghost use Rattle.live.specs.Fits.{Fits, Readable};
+ghost use Rattle.image.specs.Addressed.{Readable};
+ghost use Rattle.live.specs.Fits.{Fits};
 use crate::notes;
 use answers::Answer;
 use answers::Refusal;
@@ -20,6 +21,7 @@ use entries::Kind;
 use entries::LinkPlan;
 use entries::RenamePlan;
 use entries::UnlinkPlan;
+use image::cut::cut_image;
 
 // ---- calls that leave the image as it is, whatever it is
 pub fn create(
@@ -117,7 +119,7 @@ pub fn unlink(s: &mut [u8], m: &mut [u8], d: &mut [u8], n: usize, dir: usize, na
                 return Answer::Refused(Refusal::Busy);
             }
             entries::apply::unlink(&mut *s, n, dir, t, i);
-            notes::cut_image(&mut *m, d, n, dir, t, i);
+            cut_image(&mut *m, d, n, dir, t, i);
             notes::note_taken(&mut *d, n, dir, t);
             Answer::Done(0)
         }
@@ -163,7 +165,7 @@ pub fn rename(
             }
             let u = room.slot;
             entries::apply::move_entry(&mut *s, n, b, from, to, other, t, i, room);
-            notes::cut_image(&mut *m, d, n, from, t, i);
+            cut_image(&mut *m, d, n, from, t, i);
             notes::note_taken(&mut *d, n, from, t);
             notes::note_made(&mut *d, n, to, u);
             Answer::Done(0)

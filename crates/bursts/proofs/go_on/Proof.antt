@@ -1,6 +1,6 @@
 use Rattle.bursts.proofs.TurnLaws.{rests}
 use denote.Ref.{now}
-use Rattle.copystep.proofs.StepLaws.{at-rest, at-work, ready-long}
+use Rattle.copier.proofs.StepLaws.{at-rest, at-work, ready-long}
 use borrow.Author.Needs.{needs}
 use Rattle.bursts.proofs.go_on.Statement.{statement}
 use Rattle.bursts.proofs.go_on.Tie as tie

@@ -6,7 +6,7 @@ use denote.Ref.{now}
 use lib.ListN.{length}
 use Rattle.checkpoint.specs.Shown.{world}
 use Rattle.checkpoint.specs.Burst.{burstFrom}
-use Rattle.copystep.proofs.StepLaws.{ready-long}
+use Rattle.copier.proofs.StepLaws.{ready-long}
 use Rattle.bursts.specs.Turn.{Kept}
 use Rattle.bursts.proofs.TurnLaws.{turns-begin, turns-end, turns-ends, turns-stops, turns-goes, turns-kept}
 use Rattle.bursts.proofs.StepTurns.{going-addressed, first-asks, first-kept}

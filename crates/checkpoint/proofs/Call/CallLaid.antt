@@ -21,7 +21,7 @@ use Rattle.preservation.proofs.SameLaws.{same-long}
 use Rattle.directory.specs.Slot.{mostSlots, slotsInBlock}
 use Rattle.desk.specs.Sizes.{deskLength, running}
 use Rattle.desk.specs.declared.Desk.{Desk}
-use Rattle.desk.specs.Desk.{deskOf, markOf}
+use Rattle.desk.specs.Desk.{deskOf, markOf, isCopied}
 use Rattle.sound.specs.Place.{placeOf}
 use Rattle.sound.specs.Sound.{Sound, inodesIn}
 use Rattle.sound.specs.declared.Form.the-variants.{Store}
@@ -31,7 +31,7 @@ use Rattle.files.specs.Effect.{Entry, placeIn, Effect}
 use Rattle.files.proofs.Lawful.{Away, Stands, Stays, Lawful}
 use Rattle.checkpoint.specs.Fit.{isRunning, imageLong}
 use Rattle.checkpoint.specs.Busy.{anyLocked}
-use Rattle.checkpoint.specs.Notes.{isCopied, cutEntries, clearMarks, setMarks}
+use Rattle.checkpoint.specs.Notes.{cutEntries, clearMarks, setMarks}
 use Rattle.checkpoint.specs.Copier.{copiedEntries, copiedBlock}
 use Rattle.checkpoint.proofs.Copy.Laid.{DeskLaid, Laid, Open, cost, costSoFar}
 use Rattle.checkpoint.proofs.Copy.LedgerLaws.{rows-named, rows-differ}

@@ -24,9 +24,10 @@ use Rattle.preservation.proofs.SameLaws.{SameInode, SameBlock, inode-stays}
 use Rattle.preservation.proofs.EntryWriteLaws.{SlotIn}
 use Rattle.files.specs.Effect.{Entry, placeIn}
 use Rattle.files.proofs.Lawful.{Away}
+use Rattle.desk.specs.Desk.{isCopied}
 use Rattle.checkpoint.specs.Fit.{isRunning}
 use Rattle.checkpoint.specs.Image.{slotNames}
-use Rattle.checkpoint.specs.Notes.{isCopied, cutsImage, cutImage, cutEntries}
+use Rattle.checkpoint.specs.Notes.{cutsImage, cutImage, cutEntries}
 use Rattle.checkpoint.proofs.Copy.Laid.{Laid}
 use Rattle.checkpoint.proofs.Copy.NamingLaws.{same-naming}
 use Rattle.checkpoint.proofs.Call.CallNotes.{Ranged}

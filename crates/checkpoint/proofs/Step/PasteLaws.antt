@@ -19,9 +19,8 @@ use Rattle.blocks.specs.Block.{blockOf, isLong, kthBlock}
 use Rattle.preservation.proofs.StoreLaws.{dir-short}
 use Rattle.names.specs.Entry.{entryBytes, entryInode}
 use Rattle.directory.specs.Slot.{slotsInBlock, entryOf}
-use Rattle.desk.specs.Desk.{markOf}
+use Rattle.desk.specs.Desk.{markOf, isCopied}
 use Rattle.preservation.proofs.KeepLaws.{entry-in}
-use Rattle.checkpoint.specs.Notes.{isCopied}
 use Rattle.checkpoint.specs.Copier.{copiedEntry, copiedEntries, copiedBlock}
 use Rattle.checkpoint.proofs.Copy.NoteLaws.{length-entries}
 
