@@ -21,7 +21,8 @@ use Rattle.sound.specs.Inode.{InodeSound}
 use Rattle.sound.specs.Sound.{Sound}
 use Rattle.sound.specs.Counted.{SoundStore}
 use Rattle.sound.specs.declared.Form.the-variants.{Store}
-use Rattle.preservation.proofs.StoreLaws.{one-at, blocks-of, data-at, kind-some, kind-most, kind-is, kind-of}
+use Rattle.layout.proofs.KindLaws.{kind-some, kind-most, kind-is, kind-of}
+use Rattle.preservation.proofs.StoreLaws.{one-at, blocks-of, data-at}
 use Rattle.preservation.proofs.SameLaws.{same-body, SameInode, SameBlock, InBlock}
 use Rattle.preservation.proofs.KeepLaws.{ZeroTail, body-of, inode-like, inode-kept, file-tree, sound-kept}
 use Rattle.preservation.proofs.AddressLaws.{same-differ, same-unnamed}

@@ -139,11 +139,10 @@ fn locked_step(s: &[u8], m: &mut [u8], d: &mut [u8], h: Desk, n: usize) -> Answe
 }
 
 // A step's body: refusals 1 to 3 do not come, and the copy runs.
-pub fn advance(s: &[u8], m: &mut [u8], d: &mut [u8], n: usize) -> Answer
-    requires { ⌜ Ready (world (now s) (now m) (now d)) × (n ≡ inodesIn (now s)) × (isRunning (now d) ≡ true) ⌝ }
+pub fn advance(s: &[u8], m: &mut [u8], d: &mut [u8], h: Desk, n: usize) -> Answer
+    requires { ⌜ (h ≡ deskOf (now d)) × Ready (world (now s) (now m) (now d)) × (n ≡ inodesIn (now s)) × (isRunning (now d) ≡ true) ⌝ }
     ensures { λ r. ⌜ left r (now (s .entry)) (now (m .exit)) (now (d .exit)) ≡ doStep (now (s .entry)) (now (m .entry)) (now (d .entry)) n (stepOf (now (s .entry)) (now (m .entry)) (now (d .entry)) n) ⌝ }
 {
-    let h = Desk::read(&*d);
     if h.locked == 0 {
         return free_step(&mut *m, &mut *d, h, n);
     }

@@ -10,6 +10,7 @@ ghost use lib.ListN.{length};
 ghost use Rattle.bounded.specs.Search.{pick};
 ghost use Rattle.layout.specs.Sizes.{mostInodes, mostImageBlocks};
 ghost use Rattle.desk.specs.Sizes.{deskLength};
+ghost use Rattle.desk.specs.Desk.{deskOf};
 ghost use Rattle.sound.specs.Sound.{inodesIn};
 ghost use Rattle.answers.specs.declared.Refusal.the-variants.{WrongState};
 ghost use Rattle.checkpoint.specs.Fit.{imageBlocks, imageAllowed, isRunning};
@@ -20,8 +21,7 @@ ghost use Rattle.checkpoint.specs.List.{Ready};
 use answers::Answer;
 use answers::Refusal;
 use desk::Desk;
-use desk::RUNNING;
-use files::Guard;
+use guards::Watched;
 use image::fit;
 use layout::header::Header;
 use layout::sizes::NOT_COMPLETE;
@@ -47,27 +47,25 @@ fn start_image(m: &mut [u8], n: usize, b: usize)
 }
 
 // No inode copied, no entry marked, no steps; the copy runs.
-fn start_desk(d: &mut [u8], n: usize, b: usize)
-    requires { ⌜ (deskLength n ≤ length (now d)) × (b ≤ mostImageBlocks) ⌝ }
+fn start_desk(d: &mut [u8], h: Desk, n: usize, b: usize)
+    requires { ⌜ (h ≡ deskOf (now d)) × (deskLength n ≤ length (now d)) × (b ≤ mostImageBlocks) ⌝ }
     ensures { λ _. ⌜ now (d .exit) ≡ startDesk (now (d .entry)) n b ⌝ }
 {
-    let h = Desk::read(&*d);
     desk::clear_notes(&mut *d, n);
     h.start(b as u16).write(&mut *d);
 }
 
 // 15, or the start itself, beside whatever store of n inodes.
-fn begin(n: usize, m: &mut [u8], d: &mut [u8]) -> Answer
-    requires { ⌜ (n ≤ mostInodes) × (imageAllowed n (length (now m)) ≡ true) × (deskLength n ≤ length (now d)) ⌝ }
+fn begin(h: Desk, n: usize, m: &mut [u8], d: &mut [u8]) -> Answer
+    requires { ⌜ (h ≡ deskOf (now d)) × (n ≤ mostInodes) × (imageAllowed n (length (now m)) ≡ true) × (deskLength n ≤ length (now d)) ⌝ }
     ensures { λ r. ⌜ ((s : List ℕ) → n ≡ inodesIn s → left r s (now (m .exit)) (now (d .exit)) ≡ started s (now (m .entry)) (now (d .entry))) ⌝ }
 {
-    let h = Desk::read(&*d);
-    if h.state == RUNNING {
+    if h.runs() {
         return Answer::Refused(Refusal::WrongState);
     }
     let b = fit::image_blocks(n, m.len());
     start_image(&mut *m, n, b);
-    start_desk(&mut *d, n, b);
+    start_desk(&mut *d, h, n, b);
     Answer::Done(0)
 }
 
@@ -75,29 +73,28 @@ pub fn start(store: &[u8], image: &mut [u8], desk: &mut [u8]) -> Answer
     ensures { λ r. ⌜ shown (left r (now (store .entry)) (now (image .exit)) (now (desk .exit))) ≡ shown (start (now (store .entry)) (now (image .entry)) (now (desk .entry))) ⌝ }
 {
     match guards::start_guards(store, &*image, &*desk) {
-        Guard::Pass(n, _) => begin(n, &mut *image, &mut *desk),
-        Guard::Stop(why) => Answer::Refused(why),
+        Watched::Open(n, _, h) => begin(h, n, &mut *image, &mut *desk),
+        Watched::Shut(why) => Answer::Refused(why),
     }
 }
 
 // ---- step
 // 15, or the step itself.
-fn go_on(s: &[u8], m: &mut [u8], d: &mut [u8], n: usize) -> Answer
-    requires { ⌜ Ready (world (now s) (now m) (now d)) × (n ≡ inodesIn (now s)) ⌝ }
+fn go_on(s: &[u8], m: &mut [u8], d: &mut [u8], h: Desk, n: usize) -> Answer
+    requires { ⌜ (h ≡ deskOf (now d)) × Ready (world (now s) (now m) (now d)) × (n ≡ inodesIn (now s)) ⌝ }
     ensures { λ r. ⌜ left r (now (s .entry)) (now (m .exit)) (now (d .exit)) ≡ pick (isRunning (now (d .entry))) (doStep (now (s .entry)) (now (m .entry)) (now (d .entry)) n (stepOf (now (s .entry)) (now (m .entry)) (now (d .entry)) n)) (refuse WrongState (now (s .entry)) (now (m .entry)) (now (d .entry))) ⌝ }
 {
-    let h = Desk::read(&*d);
-    if h.state != RUNNING {
+    if !h.runs() {
         return Answer::Refused(Refusal::WrongState);
     }
-    five::advance(s, &mut *m, &mut *d, n)
+    five::advance(s, &mut *m, &mut *d, h, n)
 }
 
 pub fn step(store: &[u8], image: &mut [u8], desk: &mut [u8]) -> Answer
     ensures { λ r. ⌜ shown (left r (now (store .entry)) (now (image .exit)) (now (desk .exit))) ≡ shown (step (now (store .entry)) (now (image .entry)) (now (desk .entry))) ⌝ }
 {
     match guards::three_guards(store, &*image, &*desk) {
-        Guard::Pass(n, _) => go_on(store, &mut *image, &mut *desk, n),
-        Guard::Stop(why) => Answer::Refused(why),
+        Watched::Open(n, _, h) => go_on(store, &mut *image, &mut *desk, h, n),
+        Watched::Shut(why) => Answer::Refused(why),
     }
 }

@@ -5,7 +5,7 @@ ghost use lib.ListN.{length};
 ghost use Rattle.marks.specs.Mark.{markBits};
 ghost use Rattle.desk.specs.Sizes.{deskHeaderBytes, deskLength, deskAllowed};
 ghost use Rattle.desk.specs.Desk.{deskOf, putDesk, deskRestZero, copiedOf, isCopied, putCopied, marksOf, putMarks, markOf, setMark, clearMark, clearNotes};
-ghost use Rattle.desk.specs.Next.{runs, starting, locking, copyingOne, unlocking, finishing, stopping};
+ghost use Rattle.desk.specs.Next.{runs, locksAny, starting, locking, copyingOne, unlocking, finishing, stopping};
 use layout::sizes::MOST_BLOCKS;
 use layout::sizes::MOST_INODES;
 
@@ -80,6 +80,21 @@ impl Desk {
         ensures { λ r. ⌜ r ≡ runs self ⌝ }
     {
         self.state == RUNNING
+    }
+
+    // A running copy has locked one of the inodes.
+    pub fn locks_any(self, inodes: &[usize]) -> bool
+        ensures { λ r. ⌜ r ≡ locksAny self (now (inodes .entry)) ⌝ }
+    {
+        if self.state != RUNNING {
+            return false;
+        }
+        for k in 0..inodes.len() {
+            if self.locked as usize == inodes[k] {
+                return true;
+            }
+        }
+        false
     }
 
     pub fn start(mut self, blocks: u16) -> Desk

@@ -29,7 +29,8 @@ use Rattle.sound.specs.Sound.{Sound, inodesIn}
 use Rattle.sound.specs.Counted.{SoundStore}
 use Rattle.sound.specs.Place.{naming, IsDir}
 use Rattle.sound.specs.declared.Form.the-variants.{Store}
-use Rattle.preservation.proofs.StoreLaws.{same-counts, sized-at, fits, is-dir, dir-of, dir-short, data-at, kind-some, kind-most, kind-fits}
+use Rattle.layout.proofs.KindLaws.{kind-some, kind-most}
+use Rattle.preservation.proofs.StoreLaws.{same-counts, sized-at, fits, is-dir, dir-of, dir-short, data-at, kind-fits}
 use Rattle.preservation.proofs.SameLaws.{SameInode, put-entry, clear-entry}
 use Rattle.preservation.proofs.KeepLaws.{same-slots, body-of}
 use Rattle.preservation.proofs.FreeLaws.{free-inode, inode-counted, free-block, block-counted, few-free-inodes, few-free-blocks}

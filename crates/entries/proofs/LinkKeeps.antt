@@ -16,7 +16,8 @@ use Rattle.sound.specs.Counted.{SoundStore}
 use Rattle.sound.specs.declared.Form.the-variants.{Store}
 use Rattle.preservation.proofs.SameLaws.{OtherInodes, SameBody, same-body, body-then, links-new, links-parent, frame-then, inode-then}
 use Rattle.preservation.proofs.KeepLaws.{body-of}
-use Rattle.preservation.proofs.StoreLaws.{kind-some, kind-most, kind-is, kind-fits}
+use Rattle.layout.proofs.KindLaws.{kind-some, kind-most, kind-is}
+use Rattle.preservation.proofs.StoreLaws.{kind-fits}
 use Rattle.preservation.proofs.ChangeLaws.{Filled, filled-then, names-filled}
 use Rattle.preservation.proofs.TreeLaws.{Tree, tree-link}
 use Rattle.preservation.proofs.SoundTreeLaws.{nodesOf, nodes-else, names-at, above-at, tree-at}

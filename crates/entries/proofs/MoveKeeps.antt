@@ -24,7 +24,8 @@ use Rattle.sound.proofs.PlaceLaws.{place-dir}
 use Rattle.sound.specs.declared.Form.the-variants.{Store}
 use Rattle.preservation.proofs.SameLaws.{OtherInodes, SameBody, same-body, body-then, SameFrame, frame-stays, frame-then, inode-stays, inode-then}
 use Rattle.preservation.proofs.KeepLaws.{SamePlace, SameTree, tree-stays, body-of}
-use Rattle.preservation.proofs.StoreLaws.{fits, kind-some, kind-most, kind-is}
+use Rattle.layout.proofs.KindLaws.{kind-some, kind-most, kind-is}
+use Rattle.preservation.proofs.StoreLaws.{fits}
 use Rattle.preservation.proofs.ChangeLaws.{Emptied, Filled, filled-then, names-emptied, names-filled, new-emptied}
 use Rattle.preservation.proofs.TreeLaws.{Nodes, Tree, Dir, Above, parent-dir, tree-move}
 use Rattle.preservation.proofs.SoundTreeLaws.{nodesOf, nodes-else, names-at, above-at, tree-at}

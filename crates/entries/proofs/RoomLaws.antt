@@ -26,7 +26,7 @@ use Rattle.sound.specs.Sound.{Sound}
 use Rattle.sound.specs.Counted.{SoundStore}
 use Rattle.sound.specs.declared.Form.the-variants.{Store}
 use Rattle.answers.specs.declared.Refusal.the-variants.{NoBlocks, NoSlot}
-use Rattle.preservation.proofs.StoreLaws.{kind-read, kind-low, kind-high, kind-some, kind-most, kind-is}
+use Rattle.layout.proofs.KindLaws.{kind-read, kind-low, kind-high, kind-some, kind-most, kind-is}
 use Rattle.preservation.proofs.SameLaws.{OtherInodes, SameFrame, frame-stays, inode-stays}
 use Rattle.preservation.proofs.KeepLaws.{SameTree, tree-stays}
 use Rattle.preservation.proofs.FreeLaws.{FreeBlock, free-block}

@@ -23,7 +23,8 @@ use Rattle.directory.specs.Slot.{putEntry, clearEntry}
 use Rattle.sound.specs.Counted.{SoundStore}
 use Rattle.sound.specs.Place.{IsDir}
 use Rattle.preservation.proofs.SameLaws.{SameFrame, SameInode, SameBlock, InBlock, same-body, same-long, body-then, frame-then, inode-then, put-entry, clear-entry, less-free}
-use Rattle.preservation.proofs.StoreLaws.{same-counts, blocks-of, data-at, dir-short, one-at, is-dir, kind-is}
+use Rattle.layout.proofs.KindLaws.{kind-is}
+use Rattle.preservation.proofs.StoreLaws.{same-counts, blocks-of, data-at, dir-short, one-at, is-dir}
 use Rattle.preservation.proofs.FreeLaws.{free-block}
 use Rattle.preservation.proofs.EntryWriteLaws.{SlotIn, slot-in, slot-block}
 use Rattle.preservation.proofs.InodeWriteLaws.{links-relinked, body-all}

@@ -21,7 +21,6 @@ use Rattle.desk.specs.Desk.{deskOf, clearMark, isCopied}
 use Rattle.desk.proofs.DeskLaws.{length-clearMark}
 use Rattle.checkpoint.specs.Fit.{isRunning}
 use Rattle.checkpoint.specs.Image.{hasSlot, slotNames}
-use Rattle.checkpoint.specs.Busy.{isLocked, anyLocked}
 use Rattle.checkpoint.specs.Notes.{noteTaken, cutsImage, cutImage}
 
 -- ---- the copy runs

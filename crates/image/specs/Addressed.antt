@@ -6,7 +6,8 @@ use mathlib.Core.List.{List}
 use lib.ListN.{length}
 use Rattle.layout.specs.Sizes.{headerBytes, inodeBytes, blockBytes, addressCount, mostInodes, mostImageBlocks}
 use Rattle.layout.specs.Inode.{addressOf}
-use Rattle.checkpoint.specs.Fit.{isRunning}
+use Rattle.desk.specs.declared.Desk.{Desk}
+use Rattle.desk.specs.Next.{runs}
 
 -- the inodes lie inside of m, and so does each block that an address names
 pub record Addressed (m : List ℕ) (n : ℕ) : Type 0 where
@@ -16,5 +17,5 @@ pub record Addressed (m : List ℕ) (n : ℕ) : Type 0 where
   pub inside : (x : ℕ) → x < addressCount * n → headerBytes + inodeBytes * n + blockBytes * addressOf m n x ≤ length m
 
 -- the calls read the image only while the copy runs: its direct addresses, all that a directory has, name blocks of it
-abbrev pub Readable : List ℕ → List ℕ → ℕ → Type 0
-Readable m desk n = isRunning desk ≡ true → Addressed m n
+abbrev pub Readable : List ℕ → Desk → ℕ → Type 0
+Readable m h n = runs h ≡ true → Addressed m n

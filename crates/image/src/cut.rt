@@ -5,8 +5,8 @@ ghost use lib.ListN.{length};
 ghost use Rattle.blocks.specs.Block.{kthBlock};
 ghost use Rattle.names.specs.Entry.{entryBytes};
 ghost use Rattle.directory.specs.Slot.{slotsInBlock, mostSlots, slotAt};
-ghost use Rattle.desk.specs.Sizes.{deskHeaderBytes, deskLength};
-ghost use Rattle.checkpoint.specs.Fit.{isRunning};
+ghost use Rattle.desk.specs.Sizes.{deskLength};
+ghost use Rattle.desk.specs.Desk.{deskOf};
 ghost use Rattle.checkpoint.specs.Image.{slotNames};
 ghost use Rattle.checkpoint.specs.Notes.{cutImage};
 ghost use Rattle.image.specs.Addressed.{Addressed, Readable};
@@ -15,14 +15,6 @@ use directory::SLOTS_IN_BLOCK;
 use layout::inode;
 use layout::sizes::DIRECTORY;
 use names::ENTRY_BYTES;
-
-// The copy runs.
-pub fn is_running(d: &[u8]) -> bool
-    requires { ⌜ deskHeaderBytes ≤ length (now d) ⌝ }
-    ensures { λ r. ⌜ r ≡ isRunning (now (d .entry)) ⌝ }
-{
-    Desk::read(d).runs()
-}
 
 // Where slot t of an image directory starts, by the block that its address names, whatever its size.
 fn image_slot(m: &[u8], n: usize, e: usize, t: usize) -> usize
@@ -48,12 +40,12 @@ fn slot_names(m: &[u8], n: usize, e: usize, t: usize) -> usize
     names::entry_inode(&m[o..o + ENTRY_BYTES]) as usize
 }
 
-// Inode i was taken from slot t of directory e: if e is copied and i is not, the entry that names i in the same slot of the image goes too.
-pub fn cut_image(m: &mut [u8], d: &[u8], n: usize, e: usize, t: usize, i: usize)
-    requires { ⌜ Readable (now m) (now d) n × (deskLength n ≤ length (now d)) × (1 ≤ e) × (e ≤ n) × (t < mostSlots) × (1 ≤ i) ⌝ }
+// Inode i was taken from slot t of directory e, beside a desk d whose header is h: if e is copied and i is not, the entry that names i in the same slot of the image goes too.
+pub fn cut_image(m: &mut [u8], d: &[u8], h: Desk, n: usize, e: usize, t: usize, i: usize)
+    requires { ⌜ (h ≡ deskOf (now d)) × Readable (now m) h n × (deskLength n ≤ length (now d)) × (1 ≤ e) × (e ≤ n) × (t < mostSlots) × (1 ≤ i) ⌝ }
     ensures { λ _. ⌜ now (m .exit) ≡ cutImage (now (m .entry)) (now (d .entry)) n e t i ⌝ }
 {
-    if !is_running(d) {
+    if !h.runs() {
         return;
     }
     if !desk::is_copied(d, n, e) {

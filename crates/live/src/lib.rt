@@ -9,7 +9,7 @@ ghost use Rattle.checkpoint.specs.Live.{left, live};
 ghost use Rattle.checkpoint.specs.Shown.{world, shown};
 use answers::Answer;
 use entries::Kind;
-use files::Guard;
+use guards::Watched;
 use guards::three_guards;
 
 pub fn create(
@@ -23,8 +23,8 @@ pub fn create(
     ensures { λ r. ⌜ shown (left r (now (store .exit)) (now (image .exit)) (now (desk .exit))) ≡ shown (live (create dir (now (name .entry)) kind) (world (now (store .entry)) (now (image .entry)) (now (desk .entry)))) ⌝ }
 {
     match three_guards(store, image, desk) {
-        Guard::Pass(n, b) => work::create(&mut *store, &mut *desk, n, b, dir, name, kind),
-        Guard::Stop(why) => Answer::Refused(why),
+        Watched::Open(n, b, h) => work::create(&mut *store, &mut *desk, h, n, b, dir, name, kind),
+        Watched::Shut(why) => Answer::Refused(why),
     }
 }
 
@@ -39,8 +39,8 @@ pub fn write(
     ensures { λ r. ⌜ shown (left r (now (store .exit)) (now (image .exit)) (now (desk .exit))) ≡ shown (live (write inode offset (now (bytes .entry))) (world (now (store .entry)) (now (image .entry)) (now (desk .entry)))) ⌝ }
 {
     match three_guards(store, image, desk) {
-        Guard::Pass(n, b) => work::write(&mut *store, desk, n, b, inode, offset, bytes),
-        Guard::Stop(why) => Answer::Refused(why),
+        Watched::Open(n, b, h) => work::write(&mut *store, h, n, b, inode, offset, bytes),
+        Watched::Shut(why) => Answer::Refused(why),
     }
 }
 
@@ -54,8 +54,8 @@ pub fn shorten(
     ensures { λ r. ⌜ shown (left r (now (store .exit)) (now (image .exit)) (now (desk .exit))) ≡ shown (live (shorten inode size) (world (now (store .entry)) (now (image .entry)) (now (desk .entry)))) ⌝ }
 {
     match three_guards(store, image, desk) {
-        Guard::Pass(n, _) => work::shorten(&mut *store, desk, n, inode, size),
-        Guard::Stop(why) => Answer::Refused(why),
+        Watched::Open(n, _, h) => work::shorten(&mut *store, h, n, inode, size),
+        Watched::Shut(why) => Answer::Refused(why),
     }
 }
 
@@ -70,8 +70,8 @@ pub fn link(
     ensures { λ r. ⌜ shown (left r (now (store .exit)) (now (image .exit)) (now (desk .exit))) ≡ shown (live (link dir (now (name .entry)) inode) (world (now (store .entry)) (now (image .entry)) (now (desk .entry)))) ⌝ }
 {
     match three_guards(store, image, desk) {
-        Guard::Pass(n, b) => work::link(&mut *store, &mut *desk, n, b, dir, name, inode),
-        Guard::Stop(why) => Answer::Refused(why),
+        Watched::Open(n, b, h) => work::link(&mut *store, &mut *desk, h, n, b, dir, name, inode),
+        Watched::Shut(why) => Answer::Refused(why),
     }
 }
 
@@ -85,8 +85,16 @@ pub fn unlink(
     ensures { λ r. ⌜ shown (left r (now (store .exit)) (now (image .exit)) (now (desk .exit))) ≡ shown (live (unlink dir (now (name .entry))) (world (now (store .entry)) (now (image .entry)) (now (desk .entry)))) ⌝ }
 {
     match three_guards(store, image, desk) {
-        Guard::Pass(n, _) => work::unlink(&mut *store, &mut *image, &mut *desk, n, dir, name),
-        Guard::Stop(why) => Answer::Refused(why),
+        Watched::Open(n, _, h) => work::unlink(
+            &mut *store,
+            &mut *image,
+            &mut *desk,
+            h,
+            n,
+            dir,
+            name,
+        ),
+        Watched::Shut(why) => Answer::Refused(why),
     }
 }
 
@@ -102,10 +110,11 @@ pub fn rename(
     ensures { λ r. ⌜ shown (left r (now (store .exit)) (now (image .exit)) (now (desk .exit))) ≡ shown (live (rename dir (now (name .entry)) «to_dir» (now («to_name» .entry))) (world (now (store .entry)) (now (image .entry)) (now (desk .entry)))) ⌝ }
 {
     match three_guards(store, image, desk) {
-        Guard::Pass(n, b) => work::rename(
+        Watched::Open(n, b, h) => work::rename(
             &mut *store,
             &mut *image,
             &mut *desk,
+            h,
             n,
             b,
             dir,
@@ -113,6 +122,6 @@ pub fn rename(
             to_dir,
             to_name,
         ),
-        Guard::Stop(why) => Answer::Refused(why),
+        Watched::Shut(why) => Answer::Refused(why),
     }
 }

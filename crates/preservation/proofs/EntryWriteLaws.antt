@@ -23,7 +23,8 @@ use Rattle.sound.specs.Counted.{SoundStore}
 use Rattle.sound.proofs.PlaceLaws.{slot-is, filled-is, naming-entry, entry-place, slot-place}
 use Rattle.preservation.proofs.SameLaws.{SameFrame, SameInode, same-long, SameBlock, InBlock, frame-stays, frame-then, inode-then, inode-stays, put-entry, clear-entry}
 use Rattle.preservation.proofs.KeepLaws.{place-slot, slot-kept, same-slots}
-use Rattle.preservation.proofs.StoreLaws.{one-at, blocks-of, dir-of, kind-dir, data-at, dir-short, kind-some, kind-most, kind-is}
+use Rattle.layout.proofs.KindLaws.{kind-some, kind-most, kind-is}
+use Rattle.preservation.proofs.StoreLaws.{one-at, blocks-of, dir-of, kind-dir, data-at, dir-short}
 use Rattle.blocks.proofs.KthLaws.{kth-direct}
 use Rattle.ledger.proofs.WriteLaws.{NoAddresses}
 use Rattle.preservation.proofs.ChangeLaws.{OtherPlaces, Emptied, Filled}

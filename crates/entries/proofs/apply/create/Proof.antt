@@ -5,7 +5,7 @@ use native.Mathlib.Omega.{arith}
 use Rattle.layout.specs.Inode.{putInode}
 use Rattle.layout.specs.declared.inode.Inode.{Inode}
 use Rattle.layout.specs.Header.{lessFree}
-use Rattle.preservation.proofs.StoreLaws.{kind-most}
+use Rattle.layout.proofs.KindLaws.{kind-most}
 use Rattle.preservation.proofs.FreeLaws.{free-inode}
 use Rattle.entries.specs.Apply.{created}
 use Rattle.entries.proofs.EnterLaws.{entered-fits, create-counts}

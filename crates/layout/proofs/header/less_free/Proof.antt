@@ -1,8 +1,8 @@
 use mathlib.Core.Path.{_∙_}
 use borrow.Author.Needs.{needs}
 use Rattle.layout.specs.Header.{lessFree}
-use Rattle.content.proofs.apply.less_free.Statement.{statement}
-use Rattle.content.proofs.apply.less_free.Tie as tie
+use Rattle.layout.proofs.header.less_free.Statement.{statement}
+use Rattle.layout.proofs.header.less_free.Tie as tie
 
 read-requires : tie.Need-read-requires
 read-requires c κs = search needs

@@ -1,24 +1,17 @@
-use Rattle.layout.proofs.inode.kind.Reads as kind-reads
-use Rattle.preservation.proofs.StoreLaws.{kind-low, kind-high, kind-read}
+use Rattle.layout.proofs.KindLaws.{kind-low, kind-high, kind-read}
 use borrow.Author.Needs.{needs}
-use Rattle.content.proofs.plan.is_kind.Statement.{statement}
-use Rattle.content.proofs.plan.is_kind.Tie as tie
-use Rattle.content.proofs.plan.is_kind.Reads as reads
-use Rattle.content.proofs.plan.is_kind.Lts as lts
+use Rattle.layout.proofs.inode.is_kind.Statement.{statement}
+use Rattle.layout.proofs.inode.is_kind.Tie as tie
 
--- src/plan.rt:37:9
 returns : tie.Need-returns
 returns c = kind-low _ _ _ _ (c .if1 .taken)
 
--- src/plan.rt:40:9
 returns-2 : tie.Need-returns-2
 returns-2 c = kind-high _ _ _ _ (c .before .if1 .left) (c .if2 .taken)
 
--- src/plan.rt:42:5
 kind-requires : tie.Need-kind-requires
 kind-requires c κs = search needs
 
--- src/plan.rt:32:1
 returns-3 : tie.Need-returns-3
 returns-3 c = kind-read _ _ _ _ _ (c .before .before .if1 .left) (c .before .if2 .left) (c .kind .ensures)
 
