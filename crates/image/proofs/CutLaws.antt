@@ -1,14 +1,13 @@
 -- What the code has read of the image's slots, as the definitions say it. m is the image, d the desk, n the inode count, e a directory, t a slot, i an inode.
 use Prim.Native.Nat.{ℕ, zero, suc, _+_, _-_, _/_, _≤_}
 use mathlib.Core.Path.{_≡_, refl, sym, ap, _∙_}
-use mathlib.Core.Bool.{Bool, true, false, not, _&&_, _||_}
-use mathlib.Core.List.{List, [], _∷_}
+use mathlib.Core.Bool.{Bool, true, false, not, _&&_}
+use mathlib.Core.List.{List}
 use native.Mathlib.Omega.{arith}
 use borrow.Author.Tests.{eq-eqb, ne-eqb}
 use lib.Dec.{eqb}
-use lib.ListN.{length, take, drop}
+use lib.ListN.{take, drop}
 use Rattle.bounded.specs.Search.{pick}
-use Rattle.bounded.proofs.BoolLaws.{and-false-l, chain-end}
 use Rattle.octets.specs.Octets.{zeroed}
 use Rattle.octets.proofs.PartLaws.{cut}
 use Rattle.layout.specs.Inode.{kindOf, directoryKind}
@@ -16,18 +15,17 @@ use Rattle.blocks.specs.Block.{kthBlock}
 use Rattle.names.specs.Entry.{entryInode, entryBytes}
 use Rattle.directory.specs.Slot.{slotsInBlock, slotAt, entryOf, clearEntry}
 use Rattle.desk.specs.declared.Desk.{Desk}
-use Rattle.desk.specs.Sizes.{running}
-use Rattle.desk.specs.Desk.{deskOf, clearMark, isCopied}
-use Rattle.desk.proofs.DeskLaws.{length-clearMark}
+use Rattle.desk.specs.Desk.{deskOf, isCopied}
+use Rattle.desk.specs.Next.{runs}
 use Rattle.checkpoint.specs.Fit.{isRunning}
 use Rattle.checkpoint.specs.Image.{hasSlot, slotNames}
-use Rattle.checkpoint.specs.Notes.{noteTaken, cutsImage, cutImage}
+use Rattle.checkpoint.specs.Notes.{cutsImage, cutImage}
 
 -- ---- the copy runs
 module _ (d : List ℕ) (h : Desk) (q : h ≡ deskOf d) where
-  pub running-is : eqb (h .state) running ≡ isRunning d
+  pub running-is : runs h ≡ isRunning d
   unfolding isRunning
-  running-is = ap (λ (x : Desk). eqb (x .state) running) q
+  running-is = ap runs q
 
 -- ---- the image's slots
 module _ (m : List ℕ) (n e t : ℕ) where
@@ -54,27 +52,27 @@ module _ (m : List ℕ) (n e t : ℕ) where
       go true (suc c) p = omega arith
       go false c p = absurd (omega arith)
 
--- ---- the image's entry goes, or stays
-module _ (m d : List ℕ) (n e t i : ℕ) where
-  pub cut-idle : isRunning d ≡ false → m ≡ cutImage m d n e t i
+-- ---- the image's entry goes, or stays; h is the desk's header
+module _ (m d : List ℕ) (h : Desk) (q : h ≡ deskOf d) (n e t i : ℕ) where
+  pub cut-idle : runs h ≡ false → m ≡ cutImage m d n e t i
   unfolding cutImage cutsImage
-  cut-idle g = rw g refl
+  cut-idle g = rw (sym (running-is d h q) ∙ g) refl
 
-  module _ (g : isRunning d ≡ true) where
+  module _ (g : runs h ≡ true) where
     pub cut-uncopied : isCopied d n e ≡ false → m ≡ cutImage m d n e t i
     unfolding cutImage cutsImage
-    cut-uncopied f = rw (g, f) refl
+    cut-uncopied f = rw (sym (running-is d h q) ∙ g, f) refl
 
     module _ (f : isCopied d n e ≡ true) where
       pub cut-copied : isCopied d n i ≡ true → m ≡ cutImage m d n e t i
       unfolding cutImage cutsImage
-      cut-copied c = rw (g, f, c) refl
+      cut-copied c = rw (sym (running-is d h q) ∙ g, f, c) refl
 
       module _ (c : isCopied d n i ≡ false) where
         pub cut-other : (slotNames m n e t ≡ i → ⊥) → m ≡ cutImage m d n e t i
         unfolding cutImage cutsImage
-        cut-other x = rw (g, f, c, ne-eqb (slotNames m n e t) i x) refl
+        cut-other x = rw (sym (running-is d h q) ∙ g, f, c, ne-eqb (slotNames m n e t) i x) refl
 
         pub cut-there : (o : ℕ) → slotNames m n e t ≡ i → o ≡ slotAt m n e t → zeroed m o entryBytes ≡ cutImage m d n e t i
         unfolding cutImage cutsImage clearEntry zeroed
-        cut-there o x p = rw (g, f, c, eq-eqb (slotNames m n e t) i x, p) refl
+        cut-there o x p = rw (sym (running-is d h q) ∙ g, f, c, eq-eqb (slotNames m n e t) i x, p) refl
