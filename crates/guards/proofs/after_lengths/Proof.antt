@@ -5,6 +5,7 @@ use Rattle.layout.specs.declared.header.Header.{Header}
 use Rattle.sound.specs.Test.{framedB}
 use Rattle.sound.specs.declared.Form.the-variants.{Store}
 use Rattle.checker.proofs.CheckLaws.{framed-on, sound-on}
+use Rattle.image.proofs.FitLaws.{framed}
 use Rattle.guards.proofs.GuardLaws.{after-unsound, after-misfit, after-pass}
 use borrow.Author.Needs.{needs}
 use Rattle.guards.proofs.after_lengths.Statement.{statement}
@@ -38,10 +39,17 @@ returns-2 c =
     after-misfit _ _ _ (chain-on _ _ (sound-on _ _ _ (and-left _ _ (c .before .before .before .before .before .before .before .before .before .before .pre)) (c .before .before .before .body-right .ensures)) (c .before .before .if1 .left)) (ap (λ (h : Header). h .inodes) (c .before .before .before .before .before .before .read .ensures))
     (chain-off _ _ (c .before .notes-fit .ensures) (c .if2 .taken))
 
+read-requires-2 : tie.Need-read-requires-2
+read-requires-2 c κs =
+    let b = c .before .before .before .before .before .before .before .before .before .before in
+    let f = framed _ (and-right (framedB Store (b .args .store .now)) _ (b .pre)) in
+    let l = f .long in
+    omega arith
+
 returns-3 : tie.Need-returns-3
 returns-3 c =
-    after-pass _ _ _ (chain-on _ _ (sound-on _ _ _ (and-left _ _ (c .before .before .before .before .before .before .before .before .before .before .pre)) (c .before .before .before .body-right .ensures)) (c .before .before .if1 .left)) (ap (λ (h : Header). h .inodes) (c .before .before .before .before .before .before .read .ensures)) _ (ap (λ (h : Header). h .blocks) (c .before .before .before .before .before .before .read .ensures))
-    (chain-on _ _ (c .before .notes-fit .ensures) (c .if2 .left))
+    after-pass _ _ _ (chain-on _ _ (sound-on _ _ _ (and-left _ _ (c .before .before .before .before .before .before .before .before .before .before .before .pre)) (c .before .before .before .before .body-right .ensures)) (c .before .before .before .if1 .left)) (ap (λ (h : Header). h .inodes) (c .before .before .before .before .before .before .before .read .ensures)) _ _ (ap (λ (h : Header). h .blocks) (c .before .before .before .before .before .before .before .read .ensures)) (c .read2 .ensures)
+    (chain-on _ _ (c .before .before .notes-fit .ensures) (c .before .if2 .left))
 
 pub after-lengths-spec : {M : Type 1} → statement M
 after-lengths-spec =
@@ -54,4 +62,5 @@ after-lengths-spec =
     returns
     notes-fit-requires
     returns-2
+    read-requires-2
     returns-3)
