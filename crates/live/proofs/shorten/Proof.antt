@@ -1,6 +1,7 @@
-use mathlib.Core.Path.{refl, sym, _∙_}
+use mathlib.Core.Path.{refl}
+use Rattle.preservation.proofs.StoreLaws.{uncounted}
 use Rattle.files.specs.Effect.{shorten}
-use Rattle.live.proofs.CallLaws.{let-through, uncounted-fits}
+use Rattle.live.proofs.CallLaws.{let-through}
 use Rattle.live.proofs.ReturnLaws.{call-through, call-stopped}
 use borrow.Author.Needs.{needs}
 use Rattle.live.proofs.shorten.Statement.{statement}
@@ -13,7 +14,7 @@ enum-known-n : tie.Need-enum-known-n
 enum-known-n c = search needs
 
 shorten-requires : tie.Need-shorten-requires
-shorten-requires c κs = uncounted-fits (let-through _ _ _ _ _ (sym (c .before .before .before .before .before .three-guards .ensures) ∙ c .before .before .before .n .given .1) .0)
+shorten-requires c κs = uncounted (let-through _ _ _ _ (c .before .before .before .before .three-guards .ensures) (c .before .before .n .given .1) .0 .sound)
 
 enum-known-why : tie.Need-enum-known-why
 enum-known-why c = search needs
@@ -29,9 +30,10 @@ same-length-3 c = search needs
 
 returns : tie.Need-returns
 returns c =
-    let x = c .before .before .before .before .before .before in
+    let x = c .before .before .before .before .before in
     let a = x .before .before .before .before .before .before .before .before .before .args in
-    call-through (shorten (a .inode) (a .size)) refl _ _ _ _ (x .before .before .three-guards .ensures) _ _ _ (x .n .given .1) (c .before .before .shorten .ensures _)
+    let g = let-through _ _ _ _ (x .before .before .three-guards .ensures) (x .n .given .1) in
+    call-through (shorten (a .inode) (a .size)) refl _ _ _ _ (x .before .before .three-guards .ensures) _ _ _ _ (x .n .given .1) (c .before .before .shorten .ensures _ _ (g .0 .read))
 
 same-length-4 : tie.Need-same-length-4
 same-length-4 c = search needs

@@ -1,4 +1,4 @@
-use mathlib.Core.Path.{refl, sym, _∙_}
+use mathlib.Core.Path.{refl}
 use denote.Ref.{now}
 use Rattle.files.specs.Effect.{unlink}
 use Rattle.live.proofs.CallLaws.{let-through, uncounted-fits}
@@ -14,7 +14,7 @@ enum-known-n : tie.Need-enum-known-n
 enum-known-n c = search needs
 
 unlink-requires : tie.Need-unlink-requires
-unlink-requires c κs = let p = let-through _ _ _ _ _ (sym (c .before .before .before .before .before .before .three-guards .ensures) ∙ c .before .before .before .before .n .given .1) in (uncounted-fits (p .0), p .1)
+unlink-requires c κs = let p = let-through _ _ _ _ (c .before .before .before .before .before .before .three-guards .ensures) (c .before .before .before .before .n .given .1) in (uncounted-fits (p .0), p .1)
 
 enum-known-why : tie.Need-enum-known-why
 enum-known-why c = search needs
@@ -32,7 +32,7 @@ returns : tie.Need-returns
 returns c =
     let x = c .before .before .before .before .before .before .before .before .before .before .before in
     let a = x .before .before .before .before .before .before .before .before .before .before .args in
-    call-through (unlink (a .dir) (now (a .name))) refl _ _ _ _ (x .before .before .three-guards .ensures) _ _ _ (x .n .given .1) (c .before .before .before .before .before .before .unlink .ensures)
+    call-through (unlink (a .dir) (now (a .name))) refl _ _ _ _ (x .before .before .three-guards .ensures) _ _ _ _ (x .n .given .1) (c .before .before .before .before .before .before .unlink .ensures)
 
 same-length-4 : tie.Need-same-length-4
 same-length-4 c = search needs

@@ -1,4 +1,4 @@
-use mathlib.Core.Path.{refl, sym, _∙_}
+use mathlib.Core.Path.{refl}
 use denote.Ref.{now}
 use Rattle.files.specs.Effect.{write}
 use Rattle.live.proofs.CallLaws.{let-through}
@@ -14,7 +14,7 @@ enum-known-n : tie.Need-enum-known-n
 enum-known-n c = search needs
 
 write-requires : tie.Need-write-requires
-write-requires c κs = let-through _ _ _ _ _ (sym (c .before .before .before .before .before .three-guards .ensures) ∙ c .before .before .before .n .given .1) .0
+write-requires c κs = let-through _ _ _ _ (c .before .before .before .before .three-guards .ensures) (c .before .before .n .given .1) .0 .sound
 
 enum-known-why : tie.Need-enum-known-why
 enum-known-why c = search needs
@@ -30,9 +30,10 @@ same-length-3 c = search needs
 
 returns : tie.Need-returns
 returns c =
-    let x = c .before .before .before .before .before .before in
+    let x = c .before .before .before .before .before in
     let a = x .before .before .before .before .before .before .before .before .before .before .args in
-    call-through (write (a .inode) (a .offset) (now (a .bytes))) refl _ _ _ _ (x .before .before .three-guards .ensures) _ _ _ (x .n .given .1) (c .before .before .write .ensures _)
+    let g = let-through _ _ _ _ (x .before .before .three-guards .ensures) (x .n .given .1) in
+    call-through (write (a .inode) (a .offset) (now (a .bytes))) refl _ _ _ _ (x .before .before .three-guards .ensures) _ _ _ _ (x .n .given .1) (c .before .before .write .ensures _ _ (g .0 .read))
 
 same-length-4 : tie.Need-same-length-4
 same-length-4 c = search needs
