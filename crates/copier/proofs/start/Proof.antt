@@ -1,4 +1,3 @@
-use mathlib.Core.Path.{sym, _∙_}
 use Rattle.copier.proofs.StartLaws.{start-room, start-stopped, start-through}
 use borrow.Author.Needs.{needs}
 use Rattle.copier.proofs.start.Statement.{statement}
@@ -11,7 +10,7 @@ enum-known-n : tie.Need-enum-known-n
 enum-known-n c = search needs
 
 begin-requires : tie.Need-begin-requires
-begin-requires c κs = let r = start-room _ _ _ _ _ (sym (c .before .before .before .before .before .start-guards .ensures) ∙ c .before .before .before .n .given .1) in (r .few, r .image, r .desk)
+begin-requires c κs = let r = start-room _ _ _ _ (c .before .before .before .before .before .start-guards .ensures) (c .before .before .before .n .given .1) in (r .read, r .few, r .image, r .desk)
 
 enum-known-why : tie.Need-enum-known-why
 enum-known-why c = search needs
@@ -23,7 +22,10 @@ same-length-2 : tie.Need-same-length-2
 same-length-2 c = search needs
 
 returns : tie.Need-returns
-returns c = start-through _ _ _ _ (c .before .before .before .before .before .before .before .before .before .before .start-guards .ensures) _ _ _ (c .before .before .before .before .before .before .before .before .n .given .1) (c .before .before .before .before .begin .ensures _ (start-room _ _ _ _ _ (sym (c .before .before .before .before .before .before .before .before .before .before .start-guards .ensures) ∙ c .before .before .before .before .before .before .before .before .n .given .1) .count))
+returns c =
+    let x = c .before .before .before .before .before .before .before .before in
+    let g = x .before .before .start-guards .ensures in
+    start-through _ _ _ _ g _ _ _ _ (x .n .given .1) (c .before .before .before .before .begin .ensures _ (start-room _ _ _ _ g (x .n .given .1) .count))
 
 same-length-3 : tie.Need-same-length-3
 same-length-3 c = search needs

@@ -7,9 +7,6 @@ use borrow.Author.Needs.{needs}
 use Rattle.copier.proofs.start_desk.Statement.{statement}
 use Rattle.copier.proofs.start_desk.Tie as tie
 
-read-requires : tie.Need-read-requires
-read-requires c κs = search needs
-
 clear-notes-requires : tie.Need-clear-notes-requires
 clear-notes-requires c κs = search needs
 
@@ -29,13 +26,12 @@ returns : tie.Need-returns
 unfolding startDesk
 returns c =
     c .before .before .write .ensures
-    ∙ ap₂ putDesk (c .before .before .before .before .before .before .before .clear-notes .ensures) (c .before .before .before .before .start .ensures ∙ ap (λ (h : Desk). starting h (c .before .before .before .before .before .before .before .before .before .before .before .before .args .b)) (c .before .before .before .before .before .before .before .before .before .read .ensures))
+    ∙ ap₂ putDesk (c .before .before .before .before .before .before .before .clear-notes .ensures) (c .before .before .before .before .start .ensures ∙ ap (λ (h : Desk). starting h (c .before .before .before .before .before .before .before .before .before .before .args .b)) (c .before .before .before .before .before .before .before .before .before .before .pre .0))
 
 pub start-desk-spec : {M : Type 1} → statement M
 start-desk-spec =
     tie.close
     (tie.spec
-    read-requires
     clear-notes-requires
     cast-start
     start-requires

@@ -1,4 +1,3 @@
-use mathlib.Core.Path.{sym, _∙_}
 use Rattle.copier.proofs.StepLaws.{step-ready, step-stopped, step-through}
 use borrow.Author.Needs.{needs}
 use Rattle.copier.proofs.step.Statement.{statement}
@@ -11,7 +10,7 @@ enum-known-n : tie.Need-enum-known-n
 enum-known-n c = search needs
 
 go-on-requires : tie.Need-go-on-requires
-go-on-requires c κs = step-ready _ _ _ _ _ (sym (c .before .before .before .before .before .three-guards .ensures) ∙ c .before .before .before .n .given .1)
+go-on-requires c κs = step-ready _ _ _ _ (c .before .before .before .before .before .three-guards .ensures) (c .before .before .before .n .given .1)
 
 enum-known-why : tie.Need-enum-known-why
 enum-known-why c = search needs
@@ -23,7 +22,7 @@ same-length-2 : tie.Need-same-length-2
 same-length-2 c = search needs
 
 returns : tie.Need-returns
-returns c = step-through _ _ _ _ (c .before .before .before .before .before .before .before .before .before .before .three-guards .ensures) _ _ _ (c .before .before .before .before .before .before .before .before .n .given .1) (c .before .before .before .before .go-on .ensures)
+returns c = step-through _ _ _ _ (c .before .before .before .before .before .before .before .before .before .before .three-guards .ensures) _ _ _ _ (c .before .before .before .before .before .before .before .before .n .given .1) (c .before .before .before .before .go-on .ensures)
 
 same-length-3 : tie.Need-same-length-3
 same-length-3 c = search needs

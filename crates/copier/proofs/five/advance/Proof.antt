@@ -1,26 +1,16 @@
-use mathlib.Core.Path.{refl}
-use Rattle.desk.specs.Desk.{deskOf}
 use Rattle.checkpoint.specs.Copier.{stepOf, freeStep, lockedStep}
 use Rattle.copier.proofs.FiveLaws.{step-free, step-locked, does-same}
 use Rattle.copier.proofs.ReadyLaws.{ready-held, ready-locked, ready-free, ready-open}
-use native.Mathlib.Omega.{arith}
 use denote.Ref.{now}
 use borrow.Author.Needs.{needs}
 use Rattle.copier.proofs.five.advance.Statement.{statement}
 use Rattle.copier.proofs.five.advance.Tie as tie
 
-read-requires : tie.Need-read-requires
-read-requires c κs =
-    let z = c .before .before .before .before in
-    let a = z .args in
-    let w = ready-held (now (a .s)) (now (a .m)) (now (a .d)) (a .n) (z .pre .0) (z .pre .1) (z .pre .2) (deskOf (now (a .d))) refl .long in
-    omega arith
-
 free-step-requires : tie.Need-free-step-requires
 free-step-requires c κs =
-    let z = c .before .before .before .before .before .before .before .before .before in
+    let z = c .before .before .before .before .before .before .before in
     let a = z .args in
-    (ready-held (now (a .s)) (now (a .m)) (now (a .d)) (a .n) (z .pre .0) (z .pre .1) (z .pre .2) _ (c .before .before .before .before .read .ensures), ready-free (now (a .s)) (now (a .m)) (now (a .d)) (a .n) (z .pre .0) (z .pre .1) (z .pre .2) _ (c .before .before .before .before .read .ensures) (c .before .before .if1 .taken))
+    (ready-held (now (a .s)) (now (a .m)) (now (a .d)) (a .n) (z .pre .1) (z .pre .2) (z .pre .3) _ (z .pre .0), ready-free (now (a .s)) (now (a .m)) (now (a .d)) (a .n) (z .pre .1) (z .pre .2) (z .pre .3) _ (z .pre .0) (c .before .before .if1 .taken))
 
 same-length : tie.Need-same-length
 same-length c = search needs
@@ -30,15 +20,15 @@ same-length-2 c = search needs
 
 returns : tie.Need-returns
 returns c =
-    let z = c .before .before .before .before .before .before .before .before .before .before .before .before .before .before in
+    let z = c .before .before .before .before .before .before .before .before .before .before .before .before in
     let a = z .args in
-    does-same (now (a .s)) (now (a .m)) (now (a .d)) (a .n) (stepOf (now (a .s)) (now (a .m)) (now (a .d)) (a .n)) (freeStep (now (a .m)) (now (a .d)) (a .n)) (step-free (now (a .s)) (now (a .m)) (now (a .d)) (a .n) _ (c .before .before .before .before .before .before .before .before .before .read .ensures) (c .before .before .before .before .before .before .before .if1 .taken)) _ (c .before .before .before .before .free-step .ensures (now (a .s)))
+    does-same (now (a .s)) (now (a .m)) (now (a .d)) (a .n) (stepOf (now (a .s)) (now (a .m)) (now (a .d)) (a .n)) (freeStep (now (a .m)) (now (a .d)) (a .n)) (step-free (now (a .s)) (now (a .m)) (now (a .d)) (a .n) _ (z .pre .0) (c .before .before .before .before .before .before .before .if1 .taken)) _ (c .before .before .before .before .free-step .ensures (now (a .s)))
 
 locked-step-requires : tie.Need-locked-step-requires
 locked-step-requires c κs =
-    let z = c .before .before .before .before .before .before .before .before .before in
+    let z = c .before .before .before .before .before .before .before in
     let a = z .args in
-    (ready-held (now (a .s)) (now (a .m)) (now (a .d)) (a .n) (z .pre .0) (z .pre .1) (z .pre .2) _ (c .before .before .before .before .read .ensures), ready-locked (now (a .s)) (now (a .m)) (now (a .d)) (a .n) (z .pre .0) (z .pre .1) (z .pre .2) _ (c .before .before .before .before .read .ensures) (c .before .before .if1 .left), ready-open (now (a .s)) (now (a .m)) (now (a .d)) (a .n) (z .pre .0) (z .pre .1) (z .pre .2) _ (c .before .before .before .before .read .ensures) (c .before .before .if1 .left))
+    (ready-held (now (a .s)) (now (a .m)) (now (a .d)) (a .n) (z .pre .1) (z .pre .2) (z .pre .3) _ (z .pre .0), ready-locked (now (a .s)) (now (a .m)) (now (a .d)) (a .n) (z .pre .1) (z .pre .2) (z .pre .3) _ (z .pre .0) (c .before .before .if1 .left), ready-open (now (a .s)) (now (a .m)) (now (a .d)) (a .n) (z .pre .1) (z .pre .2) (z .pre .3) _ (z .pre .0) (c .before .before .if1 .left))
 
 same-length-3 : tie.Need-same-length-3
 same-length-3 c = search needs
@@ -48,16 +38,15 @@ same-length-4 c = search needs
 
 returns-2 : tie.Need-returns-2
 returns-2 c =
-    let z = c .before .before .before .before .before .before .before .before .before .before .before .before .before .before in
+    let z = c .before .before .before .before .before .before .before .before .before .before .before .before in
     let a = z .args in
-    let h = c .before .before .before .before .before .before .before .before .before .read .result in
-    does-same (now (a .s)) (now (a .m)) (now (a .d)) (a .n) (stepOf (now (a .s)) (now (a .m)) (now (a .d)) (a .n)) (lockedStep (now (a .s)) (now (a .m)) (a .n) (h .blocks) (h .locked) (h .transferred)) (step-locked (now (a .s)) (now (a .m)) (now (a .d)) (a .n) _ (c .before .before .before .before .before .before .before .before .before .read .ensures) (c .before .before .before .before .before .before .before .if1 .left)) _ (c .before .before .before .before .locked-step .ensures)
+    let h = a .h in
+    does-same (now (a .s)) (now (a .m)) (now (a .d)) (a .n) (stepOf (now (a .s)) (now (a .m)) (now (a .d)) (a .n)) (lockedStep (now (a .s)) (now (a .m)) (a .n) (h .blocks) (h .locked) (h .transferred)) (step-locked (now (a .s)) (now (a .m)) (now (a .d)) (a .n) _ (z .pre .0) (c .before .before .before .before .before .before .before .if1 .left)) _ (c .before .before .before .before .locked-step .ensures)
 
 pub advance-spec : {M : Type 1} → statement M
 advance-spec =
     tie.close
     (tie.spec
-    read-requires
     free-step-requires
     same-length
     same-length-2
