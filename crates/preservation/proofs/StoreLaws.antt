@@ -1,14 +1,13 @@
 -- What a sound store gives to the calls on it. n and b are the counts that the code has read.
 use Prim.Native.Nat.{ℕ, _+_, _-_, _*_, _≤_, _<_}
-use mathlib.Core.Path.{_≡_, refl, sym, ap, _∙_, subst}
-use mathlib.Core.Bool.{true, false, _&&_}
+use mathlib.Core.Path.{_≡_, refl, sym, _∙_, subst}
+use mathlib.Core.Bool.{true, false}
 use mathlib.Core.Logic.{_≢_}
 use mathlib.Core.List.{List}
 use native.Mathlib.Omega.{arith}
-use borrow.Author.Tests.{eq-eqb, ne-eqb}
-use lib.Dec.{eqb, leb}
+use borrow.Author.Tests.{ne-eqb}
 use Rattle.directory.specs.Fits.{DirFits}
-use Rattle.bounded.proofs.BoolLaws.{and-false-l, and-left, and-right, chain-end}
+use Rattle.bounded.proofs.BoolLaws.{and-false-l}
 use Rattle.layout.specs.Sizes.{mostImageBlocks, mostFileBytes, mostBlocks, addressPlace}
 use Rattle.layout.specs.Inode.{kindOf, sizeOf, fileKind, directoryKind, isKind, isDirectory}
 use Rattle.layout.specs.Fits.{InodeFits}
