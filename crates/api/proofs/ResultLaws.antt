@@ -26,8 +26,8 @@ use Rattle.sound.specs.Counted.{SoundStore}
 use Rattle.sound.specs.Test.{framedB, isSound}
 use Rattle.sound.specs.declared.Form.the-variants.{Store}
 use Rattle.sound.proofs.SoundLaws.{is-sound}
-use Rattle.changes.proofs.StoreLaws.{sound-store, kind-size}
-use Rattle.changes.proofs.SlotPlaceLaws.{found-here}
+use Rattle.preservation.proofs.StoreLaws.{sound-store, kind-size}
+use Rattle.preservation.proofs.SlotPlaceLaws.{found-here}
 use Rattle.answers.specs.declared.Answer.the-variants.{Done, Refused}
 use Rattle.answers.specs.declared.Refusal.the-variants.{BadTurn}
 use Rattle.answers.specs.Told.{Told, told}

@@ -24,8 +24,8 @@ use Rattle.blocks.proofs.KthLaws.{kth-direct, kth-further, few-alike}
 use Rattle.blocks.proofs.MapLaws.{map-free}
 use Rattle.blocks.proofs.LongLaws.{but-else}
 use Rattle.checkpoint.specs.Copier.{targetBlock}
-use Rattle.guards.specs.Fit.{lockedLong}
-use Rattle.guards.proofs.FitLaws.{told}
+use Rattle.image.specs.Fit.{lockedLong}
+use Rattle.image.proofs.FitLaws.{told}
 use Rattle.bursts.specs.Turn.{namesStayB}
 use Rattle.transfer.proofs.NamedLaws.{target-own, target-other}
 

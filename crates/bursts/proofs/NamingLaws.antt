@@ -16,8 +16,8 @@ use Rattle.blocks.proofs.KthLaws.{kth-direct}
 use Rattle.names.specs.Entry.{entryInode}
 use Rattle.directory.specs.Slot.{mostSlots, entryOf}
 use Rattle.sound.specs.Place.{dirOf, slotOf}
-use Rattle.changes.proofs.SameLaws.{InInode}
-use Rattle.changes.proofs.KeepLaws.{entry-kept}
+use Rattle.preservation.proofs.SameLaws.{InInode}
+use Rattle.preservation.proofs.KeepLaws.{entry-kept}
 use Rattle.checkpoint.specs.Image.{slotNames, hasSlot, imageNaming}
 use Rattle.checkpoint.proofs.Step.BlockLaws.{SameAttributes}
 

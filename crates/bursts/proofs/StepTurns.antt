@@ -30,7 +30,7 @@ use Rattle.desk.specs.Desk.{deskOf}
 use Rattle.sound.specs.Sound.{inodesIn}
 use Rattle.sound.specs.declared.Form.the-variants.{Store}
 use Rattle.sound.proofs.SoundLaws.{is-sound}
-use Rattle.changes.proofs.StoreLaws.{sound-store, sized-at}
+use Rattle.preservation.proofs.StoreLaws.{sound-store, sized-at}
 use Rattle.answers.specs.declared.Answer.{Answer}
 use Rattle.answers.specs.declared.Answer.the-variants.{Done, Refused}
 use Rattle.answers.specs.declared.Refusal.the-variants.{BadDesk, ImageFull}
@@ -45,12 +45,12 @@ use Rattle.checkpoint.proofs.Copy.ChosenLaws.{Chosen, chosen, will-lock, will-c
 use Rattle.checkpoint.proofs.Step.BlockLaws.{SameAttributes}
 use Rattle.checkpoint.proofs.Step.FinishFacts.{finished}
 use Rattle.checkpoint.proofs.SteadyLaws.{steady-of, some, steady-sized, steady-address, steady-rows, lock-read, lock-fits, lock-stays, lock-unfit, locked-low, locked-high, copy-apart, behind, few-places, copy-attributes, copy-read, copy-new, copy-rows, copy-stays, copy-bytes, copy-else, close-inode, close-kind, close-rows, close-stays}
-use Rattle.guards.specs.Fit.{furtherRightOf}
-use Rattle.tallies.specs.Addressed.{Addressed}
-use Rattle.tallies.proofs.NameLaws.{maps-free}
+use Rattle.image.specs.Fit.{furtherRightOf}
+use Rattle.image.specs.Addressed.{Addressed}
+use Rattle.image.proofs.NamingLaws.{maps-free}
 use Rattle.copier.specs.Held.{Held, Locked, Target, OpenImage}
 use Rattle.copier.proofs.ReadyLaws.{ready-held, ready-locked, ready-open}
-use Rattle.copier.proofs.StepLaws.{locked-close, locked-copy, locked-full, step-free, step-locked, does-lock, does-full, target-inside}
+use Rattle.copier.proofs.FiveLaws.{locked-close, locked-copy, locked-full, step-free, step-locked, does-lock, does-full, target-inside}
 use Rattle.bursts.specs.Turn.{Mapped, NamesStay, Counted, Going, Kept, Took}
 use Rattle.bursts.specs.declared.Turn.the-variants.{Goes, Stops}
 use Rattle.bursts.proofs.NamingLaws.{copy-naming, close-naming}

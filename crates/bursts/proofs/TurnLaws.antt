@@ -22,20 +22,21 @@ use Rattle.answers.specs.declared.Refusal.{Refusal}
 use Rattle.answers.specs.declared.Refusal.the-variants.{BadBuffer, BadCount, BadDesk, WrongState}
 use Rattle.answers.specs.Told.{told}
 use Rattle.answers.proofs.RefusalLaws.{not-none}
-use Rattle.files.specs.declared.Guard.{Guard}
-use Rattle.files.specs.declared.Guard.the-variants.{Pass, Stop}
 use Rattle.files.specs.Guard.{guardBy}
 use Rattle.checkpoint.specs.Fit.{bothFramed, isRunning}
 use Rattle.checkpoint.specs.Copier.{Step, stepOf}
-use Rattle.checkpoint.specs.Live.{World, Outcome, left, refuse, guardRows, doStep, step}
+use Rattle.checkpoint.specs.Live.{World, Outcome, left, refuse, guardRows, threeGuards, doStep, step}
 use Rattle.checkpoint.specs.Shown.{world, shown}
 use Rattle.checkpoint.specs.List.{Ready, advances, outcome, next, accepted, completes}
 use Rattle.checkpoint.specs.Burst.{mostBurst, countAllowed, burstFrom, burst, worldIn}
 use Rattle.checkpoint.proofs.Copy.FitLaws.{desk-framed-is}
 use Rattle.checkpoint.proofs.DecisionLaws.{three-is}
 use Rattle.checkpoint.proofs.SteadyLaws.{ready-of, late, ready-step}
-use Rattle.guards.proofs.GuardLaws.{three-framed}
-use Rattle.copystep.proofs.StepLaws.{step-ready}
+use Rattle.guards.specs.declared.Watched.{Watched}
+use Rattle.guards.specs.declared.Watched.the-variants.{Open, Shut}
+use Rattle.guards.specs.Handed.{handed}
+use Rattle.guards.proofs.GuardLaws.{three-framed, shut}
+use Rattle.copier.proofs.StepLaws.{step-ready}
 use Rattle.bursts.specs.Turn.{Going, Kept, stoppedAt, Took}
 use Rattle.bursts.specs.declared.Turn.{Turn}
 use Rattle.bursts.specs.declared.Turn.the-variants.{Goes, Ends, Stops}
@@ -221,15 +222,16 @@ module _ (s m d : List ℕ) (count : ℕ) (a : Bool) (f : a ≡ bothFramed s d) 
         unfolding burst
         burst-through o e = let g = burst-framed in let k = counted in rw (g, k) (ap shown e)
 
-        module _ (w : Guard) (e : w ≡ guardBy s (guardRows true s m d)) where
-          pub burst-ready : (n c : ℕ) → w ≡ Pass n c → Ready (world s m d) × (n ≡ inodesIn s) × (1 ≤ count) × (count ≤ mostBurst)
-          burst-ready n c y =
-              let z = step-ready s m d n c (sym (three-framed s m d burst-framed w e) ∙ y) in
-              (z .0, z .1, some-steps, few-steps)
+        -- w is what the guards have answered
+        module _ (w : Watched) (e : w ≡ handed (guardBy s (guardRows true s m d)) (deskOf d)) where
+          pub burst-ready : {n c : ℕ} {g : Desk} → w ≡ Open n c g → (g ≡ deskOf d) × Ready (world s m d) × (n ≡ inodesIn s) × (1 ≤ count) × (count ≤ mostBurst)
+          burst-ready y =
+              let z = step-ready s m d w (three-framed s m d burst-framed w e) y in
+              (z .0, z .1, z .2, some-steps, few-steps)
 
-          stops : (r : Refusal) → w ≡ Stop r → step s m d ≡ refuse r s m d
+          stops : (r : Refusal) → w ≡ Shut r → step s m d ≡ refuse r s m d
           unfolding step
-          stops r y = let g = sym (three-framed s m d burst-framed w e) ∙ y in rw g
+          stops r y = let g = shut (threeGuards s m d) (deskOf d) w (three-framed s m d burst-framed w e) y in rw g
 
-          pub burst-stopped : (r : Refusal) → w ≡ Stop r → shown (refuse r s m d) ≡ shown (burst count (world s m d))
+          pub burst-stopped : (r : Refusal) → w ≡ Shut r → shown (refuse r s m d) ≡ shown (burst count (world s m d))
           burst-stopped r y = burst-through (refuse r s m d) (first-stops s m d r (stops r y) count some-steps)

@@ -22,7 +22,7 @@ ghost use Rattle.desk.specs.Sizes.{deskLength};
 ghost use Rattle.checkpoint.specs.Image.{imageNaming};
 ghost use Rattle.checkpoint.specs.Copier.{lock, finish, targetBlock, freeStep};
 ghost use Rattle.checkpoint.specs.Shown.{world};
-ghost use Rattle.guards.specs.Fit.{furtherRightOf};
+ghost use Rattle.image.specs.Fit.{furtherRightOf};
 ghost use Rattle.bursts.specs.Turn.{namesStayB, Mapped, Counted, Going, Kept, Took};
 use crate::Turn;
 use answers::Refusal;
@@ -31,8 +31,10 @@ use blocks::map;
 use blocks::map::BLOCK_PLACES;
 use bounded::Found;
 use content::apply::kth_used;
+use copier::five;
 use desk::Desk;
-use guards::fit;
+use image::fit;
+use image::naming;
 use layout::inode;
 use layout::sizes::ADDRESS_COUNT;
 use layout::sizes::ADDRESS_PLACE;
@@ -115,11 +117,11 @@ fn block_step(
     let k = h.transferred as usize;
     let own = kth_used(s, n, i, k) as usize;
     let Found::At(c) = place(&*map, h.blocks as usize, own) else {
-        copier::stop(&mut *d, h);
+        five::stop(&mut *d, h);
         return Turn::Stops(Refusal::ImageFull);
     };
     let old = standing(&*m, n, i, k);
-    copier::copy(s, &mut *m, &mut *d, h, n, c);
+    five::copy(s, &mut *m, &mut *d, h, n, c);
     renew(s, &*m, n, i, old, c, &mut *map);
     Turn::Goes
 }
@@ -151,9 +153,9 @@ fn close_step(
     ensures { λ r. ⌜ ((map : List ℕ) → Mapped (world (now (s .entry)) (now (m .entry)) (now (d .entry))) n map → Took r (world (now (s .entry)) (now (m .entry)) (now (d .entry))) n (now (m .exit)) (now (d .exit)) map (now (counts .exit))) ⌝ }
 {
     let stay = names_stay(s, &*m, n, h.locked as usize);
-    copier::close(s, &mut *m, &mut *d, h, n);
+    five::close(s, &mut *m, &mut *d, h, n);
     if !stay {
-        *counts = tallies::count_names(&*m, n);
+        *counts = naming::count_names(&*m, n);
     }
     Turn::Goes
 }
@@ -184,10 +186,10 @@ fn next_lock(d: &[u8], n: usize, counts: &[u16; INODE_PLACES]) -> Found
     requires { ⌜ (n ≤ mostInodes) × (deskLength n ≤ length (now d)) ⌝ }
     ensures { λ r. ⌜ ((m : List ℕ) → Tallied (imageNaming m n) 1 (mostInodes + 1) (mostSlots * n) (now (counts .entry)) → freeStep m (now (d .entry)) n ≡ onFound r lock finish) ⌝ }
 {
-    if !tallies::is_copied(d, n, ROOT) {
+    if !desk::is_copied(d, n, ROOT) {
         return Found::At(ROOT);
     }
-    tallies::lowest_named(counts, d, n)
+    naming::lowest_named(counts, d, n)
 }
 
 // None of the addresses that the image has for inode i, by its address block a, is above b; they count if it is long in the store.
@@ -230,11 +232,11 @@ pub fn free_step(
     ensures { λ r. ⌜ Took r (world (now (s .entry)) (now (m .entry)) (now (d .entry))) n (now (m .exit)) (now (d .exit)) (now (map .exit)) (now (counts .entry)) ⌝ }
 {
     let Found::At(i) = next_lock(&*d, n, counts) else {
-        copier::finish(&mut *m, &mut *d, h, n, &*map, counts);
+        five::finish(&mut *m, &mut *d, h, n, &*map, counts);
         return Turn::Ends;
     };
     let holds = may_hold(s, &*m, n, h.blocks as usize, i, &mut *map);
-    copier::lock(&mut *d, h, i);
+    five::lock(&mut *d, h, i);
     if holds {
         return Turn::Goes;
     }

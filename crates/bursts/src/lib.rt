@@ -4,6 +4,7 @@ pub mod kept;
 ghost use mathlib.Core.Path.{_≡_};
 ghost use mathlib.Core.Bool.{true};
 ghost use Prim.Native.Nat.{_≤_};
+ghost use Rattle.desk.specs.Desk.{deskOf};
 ghost use Rattle.sound.specs.Sound.{inodesIn};
 ghost use Rattle.checkpoint.specs.Fit.{isRunning};
 ghost use Rattle.checkpoint.specs.Live.{left};
@@ -15,11 +16,11 @@ use answers::Answer;
 use answers::Refusal;
 use blocks::map::BLOCK_PLACES;
 use desk::Desk;
-use desk::RUNNING;
 use desk::STEPS_AN_INODE;
-use files::Guard;
-use guards::three::after_lengths;
-use guards::three::both_framed;
+use guards::Watched;
+use guards::after_lengths;
+use guards::both_framed;
+use image::naming;
 use layout::sizes::INODE_PLACES;
 
 pub const MOST_BURST: usize = 64;
@@ -64,13 +65,12 @@ fn stopped_at(done: usize, why: Refusal) -> Answer
 }
 
 // The steps themselves, over one map of the image's named blocks and one count of its names.
-fn turns(s: &[u8], m: &mut [u8], d: &mut [u8], n: usize, count: usize) -> Answer
-    requires { ⌜ Ready (world (now s) (now m) (now d)) × (n ≡ inodesIn (now s)) × (isRunning (now d) ≡ true) × (count ≤ mostBurst) ⌝ }
+fn turns(s: &[u8], m: &mut [u8], d: &mut [u8], h: Desk, n: usize, count: usize) -> Answer
+    requires { ⌜ (h ≡ deskOf (now d)) × Ready (world (now s) (now m) (now d)) × (n ≡ inodesIn (now s)) × (isRunning (now d) ≡ true) × (count ≤ mostBurst) ⌝ }
     ensures { λ r. ⌜ left r (now (s .entry)) (now (m .exit)) (now (d .exit)) ≡ burstFrom count 0 (world (now (s .entry)) (now (m .entry)) (now (d .entry))) ⌝ }
 {
-    let h = Desk::read(&*d);
     let mut map = kept::map_of(s, &*m, n, h.locked as usize);
-    let mut counts = tallies::count_names(&*m, n);
+    let mut counts = naming::count_names(&*m, n);
     for k in 0..count {
         match take_one(s, &mut *m, &mut *d, n, &mut map, &mut counts) {
             Turn::Goes => {}
@@ -86,15 +86,14 @@ fn turns(s: &[u8], m: &mut [u8], d: &mut [u8], n: usize, count: usize) -> Answer
 }
 
 // 15, or the steps.
-fn go_on(s: &[u8], m: &mut [u8], d: &mut [u8], n: usize, count: usize) -> Answer
-    requires { ⌜ Ready (world (now s) (now m) (now d)) × (n ≡ inodesIn (now s)) × (1 ≤ count) × (count ≤ mostBurst) ⌝ }
+fn go_on(s: &[u8], m: &mut [u8], d: &mut [u8], h: Desk, n: usize, count: usize) -> Answer
+    requires { ⌜ (h ≡ deskOf (now d)) × Ready (world (now s) (now m) (now d)) × (n ≡ inodesIn (now s)) × (1 ≤ count) × (count ≤ mostBurst) ⌝ }
     ensures { λ r. ⌜ left r (now (s .entry)) (now (m .exit)) (now (d .exit)) ≡ burstFrom count 0 (world (now (s .entry)) (now (m .entry)) (now (d .entry))) ⌝ }
 {
-    let h = Desk::read(&*d);
-    if h.state != RUNNING {
+    if !h.runs() {
         return Answer::Refused(Refusal::WrongState);
     }
-    turns(s, &mut *m, &mut *d, n, count)
+    turns(s, &mut *m, &mut *d, h, n, count)
 }
 
 fn count_allowed(count: usize) -> bool
@@ -116,7 +115,7 @@ pub fn burst(store: &[u8], image: &mut [u8], desk: &mut [u8], count: usize) -> A
         return Answer::Refused(Refusal::BadCount);
     }
     match after_lengths(store, &*image, &*desk) {
-        Guard::Pass(n, _) => go_on(store, &mut *image, &mut *desk, n, count),
-        Guard::Stop(why) => Answer::Refused(why),
+        Watched::Open(n, _, h) => go_on(store, &mut *image, &mut *desk, h, n, count),
+        Watched::Shut(why) => Answer::Refused(why),
     }
 }

@@ -16,7 +16,7 @@ use Rattle.growth.specs.Extend.{zeroBlocks, putSize, putBlocks, taken, extended
 use Rattle.layout.specs.Header.{headerOf, putFree, putComplete, putHeader, headerRestZero, lessFree, moreFree}
 use Rattle.layout.specs.Inode.{kindOf, spareOf, linksOf, sizeOf, parentOf, putLinks, attributeEntry, putAttributes, addressOf, putAddress, addressesOf, putAddresses, inodeOf, putInode, isKind, zeroInode, freeInode}
 use Rattle.directory.specs.Slot.{slots, slotAt, entryOf, slotHasName, findSlot, slotEmpty, emptySlot, putEntry, clearEntry, mostSlots}
-use Rattle.desk.specs.Desk.{deskOf, putDesk, copiedOf, putCopied, marksOf, putMarks, markOf, setMark, clearMark, clearNotes}
+use Rattle.desk.specs.Desk.{deskOf, putDesk, copiedOf, putCopied, marksOf, putMarks, markOf, setMark, clearMark, clearNotes, isCopied}
 use Rattle.sound.specs.Entry.{sameNames}
 use Rattle.sound.specs.Place.{isSlot, entryAt, filled, naming}
 use Rattle.sound.specs.Test.{attributesB, addressesB, zeroTailB, inodeB, namingB, newNameB, entryB, countedB, leadB, framedB, headerB, freeCountsB, blankBlockB, blanksB, bodyB, isSound}
@@ -28,19 +28,19 @@ use Rattle.entries.specs.Plan.{createPlan, holdsNone, unlinkPlan, isBelow, rena
 use Rattle.entries.specs.Room.{roomIn, makeRoom}
 use Rattle.files.specs.Guard.{guardOf}
 use Rattle.format.specs.Format.{freshHeader, emptyRoot, freshStore, freshDesk}
-use Rattle.checkpoint.specs.Busy.{isLocked, anyLocked}
 use Rattle.checkpoint.specs.Copier.{startImage, startDesk, nextInode, targetBlock, lockedStep, freeStep, stepOf, copiedEntry, copiedEntries, copiedBlock, putCounts, finishImage}
 use Rattle.checkpoint.specs.Fit.{deskFramed, imageBlocks, imageAllowed, isRunning, blocksFit, deskFits, lacksAddresses, imageFits, notesFit}
 use Rattle.checkpoint.specs.Image.{hasSlot, slotNames, inodeNamed}
 use Rattle.checkpoint.specs.List.{outcome, next, run, call, advances, starts, Finish, last, more}
 use Rattle.checkpoint.specs.Live.{World, threeGuards, decision, live, started, start, step, startGuards}
-use Rattle.checkpoint.specs.Notes.{isCopied, noteMade, noteTaken, cutsImage, cutImage, cutEntries, clearMarks, setMarks}
+use Rattle.checkpoint.specs.Notes.{noteMade, noteTaken, cutsImage, cutImage, cutEntries, clearMarks, setMarks}
 use Rattle.desk.specs.Desk as desk
 use Prim.Native.Nat.{ℕ, _*_}
 use mathlib.Core.Path.{_≡_, refl, ap}
 use mathlib.Core.List.{List, [], _∷_, _++_}
 use lib.ListN.{replicate}
 use Rattle.desk.specs.Sizes.{finished, deskAllowed}
+use Rattle.desk.specs.Next.{locksAny}
 use Rattle.answers.specs.declared.Refusal.the-variants.{IntoItself}
 use Rattle.answers.specs.Told.{told}
 use Rattle.answers.specs.declared.Answer.the-variants.{Done, Refused}
@@ -49,12 +49,12 @@ use Rattle.cases.specs.Worlds.{fresh, nameA, reusedBlock, movedDirectory
 
 pub three-steps : (outcome advances (run (starts ∷ advances ∷ advances ∷ []) (fresh 1 1)) .answer ≡ told (Done 3))
     × (deskOf (run (starts ∷ advances ∷ advances ∷ advances ∷ []) (fresh 1 1) .desk) .state ≡ finished)
-unfolding fresh desk.deskRestZero allBelow someBelow leadsB count firstFrom first table part splice numAt toBytes putNum wordBytes digit marked withMark withoutMark entryInode isEmpty sameByte sameName nameLength entryName legalEntry entryFor plainByte isDots legalName blockOf putInBlock zeroBlock blocksUsed bytesPlace isLong furtherOf kthBy rowBy putKth putRow freeInode namedBy lowestBy longBut across added grown kept lowestFrom nthFree zeroBlocks putBlocks taken extended cutBlocks headerOf putFree putComplete putHeader headerRestZero kindOf spareOf linksOf sizeOf parentOf putLinks attributeEntry putAttributes addressOf putAddress addressesOf putAddresses inodeOf putInode slots slotAt entryOf slotHasName findSlot slotEmpty emptySlot putEntry clearEntry deskOf putDesk copiedOf putCopied marksOf putMarks markOf setMark clearMark clearNotes sameNames namingB newNameB entryB attributesB addressesB zeroTailB inodeB countedB leadB isSlot entryAt filled naming allowed deskAllowed framedB headerB freeCountsB blankBlockB blanksB bodyB isSound enter created written dropLink unlinked setParent moved putFile addBlock putSize zeroRest cutTo isKind zeroInode lessFree moreFree createPlan writePlan shortenPlan holdsNone unlinkPlan isBelow renameTo renamePlan roomIn makeRoom freshHeader emptyRoot freshStore freshDesk isLocked startImage startDesk nextInode targetBlock lockedStep freeStep stepOf copiedEntry copiedEntries copiedBlock putCounts finishImage deskFramed imageBlocks imageAllowed isRunning blocksFit deskFits lacksAddresses imageFits notesFit hasSlot slotNames inodeNamed outcome next run started start step isCopied noteMade noteTaken cutsImage cutImage zeroed guardOf anyLocked threeGuards startGuards decision live cutEntries clearMarks setMarks
+unfolding fresh desk.deskRestZero allBelow someBelow leadsB count firstFrom first table part splice numAt toBytes putNum wordBytes digit marked withMark withoutMark entryInode isEmpty sameByte sameName nameLength entryName legalEntry entryFor plainByte isDots legalName blockOf putInBlock zeroBlock blocksUsed bytesPlace isLong furtherOf kthBy rowBy putKth putRow freeInode namedBy lowestBy longBut across added grown kept lowestFrom nthFree zeroBlocks putBlocks taken extended cutBlocks headerOf putFree putComplete putHeader headerRestZero kindOf spareOf linksOf sizeOf parentOf putLinks attributeEntry putAttributes addressOf putAddress addressesOf putAddresses inodeOf putInode slots slotAt entryOf slotHasName findSlot slotEmpty emptySlot putEntry clearEntry deskOf putDesk copiedOf putCopied marksOf putMarks markOf setMark clearMark clearNotes sameNames namingB newNameB entryB attributesB addressesB zeroTailB inodeB countedB leadB isSlot entryAt filled naming allowed deskAllowed framedB headerB freeCountsB blankBlockB blanksB bodyB isSound enter created written dropLink unlinked setParent moved putFile addBlock putSize zeroRest cutTo isKind zeroInode lessFree moreFree createPlan writePlan shortenPlan holdsNone unlinkPlan isBelow renameTo renamePlan roomIn makeRoom freshHeader emptyRoot freshStore freshDesk startImage startDesk nextInode targetBlock lockedStep freeStep stepOf copiedEntry copiedEntries copiedBlock putCounts finishImage deskFramed imageBlocks imageAllowed isRunning blocksFit deskFits lacksAddresses imageFits notesFit hasSlot slotNames inodeNamed outcome next run started start step isCopied noteMade noteTaken cutsImage cutImage zeroed guardOf locksAny threeGuards startGuards decision live cutEntries clearMarks setMarks
 three-steps = (refl, refl)
 
 -- the same three steps end in a finish
 pub finish : Finish (advances ∷ advances ∷ advances ∷ []) (next starts (fresh 1 1))
-unfolding fresh desk.deskRestZero allBelow someBelow leadsB count firstFrom first table part splice numAt toBytes putNum wordBytes digit marked withMark withoutMark entryInode isEmpty sameByte sameName nameLength entryName legalEntry entryFor plainByte isDots legalName blockOf putInBlock zeroBlock blocksUsed bytesPlace isLong furtherOf kthBy rowBy putKth putRow freeInode namedBy lowestBy longBut across added grown kept lowestFrom nthFree zeroBlocks putBlocks taken extended cutBlocks headerOf putFree putComplete putHeader headerRestZero kindOf spareOf linksOf sizeOf parentOf putLinks attributeEntry putAttributes addressOf putAddress addressesOf putAddresses inodeOf putInode slots slotAt entryOf slotHasName findSlot slotEmpty emptySlot putEntry clearEntry deskOf putDesk copiedOf putCopied marksOf putMarks markOf setMark clearMark clearNotes sameNames namingB newNameB entryB attributesB addressesB zeroTailB inodeB countedB leadB isSlot entryAt filled naming allowed deskAllowed framedB headerB freeCountsB blankBlockB blanksB bodyB isSound enter created written dropLink unlinked setParent moved putFile addBlock putSize zeroRest cutTo isKind zeroInode lessFree moreFree createPlan writePlan shortenPlan holdsNone unlinkPlan isBelow renameTo renamePlan roomIn makeRoom freshHeader emptyRoot freshStore freshDesk isLocked startImage startDesk nextInode targetBlock lockedStep freeStep stepOf copiedEntry copiedEntries copiedBlock putCounts finishImage deskFramed imageBlocks imageAllowed isRunning blocksFit deskFits lacksAddresses imageFits notesFit hasSlot slotNames inodeNamed outcome next run started start step isCopied noteMade noteTaken cutsImage cutImage zeroed guardOf anyLocked threeGuards startGuards decision live cutEntries clearMarks setMarks
+unfolding fresh desk.deskRestZero allBelow someBelow leadsB count firstFrom first table part splice numAt toBytes putNum wordBytes digit marked withMark withoutMark entryInode isEmpty sameByte sameName nameLength entryName legalEntry entryFor plainByte isDots legalName blockOf putInBlock zeroBlock blocksUsed bytesPlace isLong furtherOf kthBy rowBy putKth putRow freeInode namedBy lowestBy longBut across added grown kept lowestFrom nthFree zeroBlocks putBlocks taken extended cutBlocks headerOf putFree putComplete putHeader headerRestZero kindOf spareOf linksOf sizeOf parentOf putLinks attributeEntry putAttributes addressOf putAddress addressesOf putAddresses inodeOf putInode slots slotAt entryOf slotHasName findSlot slotEmpty emptySlot putEntry clearEntry deskOf putDesk copiedOf putCopied marksOf putMarks markOf setMark clearMark clearNotes sameNames namingB newNameB entryB attributesB addressesB zeroTailB inodeB countedB leadB isSlot entryAt filled naming allowed deskAllowed framedB headerB freeCountsB blankBlockB blanksB bodyB isSound enter created written dropLink unlinked setParent moved putFile addBlock putSize zeroRest cutTo isKind zeroInode lessFree moreFree createPlan writePlan shortenPlan holdsNone unlinkPlan isBelow renameTo renamePlan roomIn makeRoom freshHeader emptyRoot freshStore freshDesk startImage startDesk nextInode targetBlock lockedStep freeStep stepOf copiedEntry copiedEntries copiedBlock putCounts finishImage deskFramed imageBlocks imageAllowed isRunning blocksFit deskFits lacksAddresses imageFits notesFit hasSlot slotNames inodeNamed outcome next run started start step isCopied noteMade noteTaken cutsImage cutImage zeroed guardOf locksAny threeGuards startGuards decision live cutEntries clearMarks setMarks
 finish = more refl refl (more refl refl (last refl))
 
 -- what is asked of the desk and the image when the list has run: one record, so that the list is run once
@@ -81,7 +81,7 @@ reusedIn w =
 
 reused : reusedIn (run reusedBlock (fresh 3 3))
     ≡ record { state = finished; block2 = 2; bytes2 = replicate 64 7; size2 = 64; block3 = 3; bytes3 = replicate 10 5 ++ replicate 54 0; size3 = 10 }
-unfolding fresh reusedBlock desk.deskRestZero allBelow someBelow leadsB count firstFrom first table part splice numAt toBytes putNum wordBytes digit marked withMark withoutMark entryInode isEmpty sameByte sameName nameLength entryName legalEntry entryFor plainByte isDots legalName blockOf putInBlock zeroBlock blocksUsed bytesPlace isLong furtherOf kthBy rowBy putKth putRow freeInode namedBy lowestBy longBut across added grown kept lowestFrom nthFree zeroBlocks putBlocks taken extended cutBlocks headerOf putFree putComplete putHeader headerRestZero kindOf spareOf linksOf sizeOf parentOf putLinks attributeEntry putAttributes addressOf putAddress addressesOf putAddresses inodeOf putInode slots slotAt entryOf slotHasName findSlot slotEmpty emptySlot putEntry clearEntry deskOf putDesk copiedOf putCopied marksOf putMarks markOf setMark clearMark clearNotes sameNames namingB newNameB entryB attributesB addressesB zeroTailB inodeB countedB leadB isSlot entryAt filled naming allowed deskAllowed framedB headerB freeCountsB blankBlockB blanksB bodyB isSound enter created written dropLink unlinked setParent moved putFile addBlock putSize zeroRest cutTo isKind zeroInode lessFree moreFree createPlan writePlan shortenPlan holdsNone unlinkPlan isBelow renameTo renamePlan roomIn makeRoom freshHeader emptyRoot freshStore freshDesk isLocked startImage startDesk nextInode targetBlock lockedStep freeStep stepOf copiedEntry copiedEntries copiedBlock putCounts finishImage deskFramed imageBlocks imageAllowed isRunning blocksFit deskFits lacksAddresses imageFits notesFit hasSlot slotNames inodeNamed outcome next run started start step isCopied noteMade noteTaken cutsImage cutImage zeroed guardOf anyLocked threeGuards startGuards decision live cutEntries clearMarks setMarks reusedIn
+unfolding fresh reusedBlock desk.deskRestZero allBelow someBelow leadsB count firstFrom first table part splice numAt toBytes putNum wordBytes digit marked withMark withoutMark entryInode isEmpty sameByte sameName nameLength entryName legalEntry entryFor plainByte isDots legalName blockOf putInBlock zeroBlock blocksUsed bytesPlace isLong furtherOf kthBy rowBy putKth putRow freeInode namedBy lowestBy longBut across added grown kept lowestFrom nthFree zeroBlocks putBlocks taken extended cutBlocks headerOf putFree putComplete putHeader headerRestZero kindOf spareOf linksOf sizeOf parentOf putLinks attributeEntry putAttributes addressOf putAddress addressesOf putAddresses inodeOf putInode slots slotAt entryOf slotHasName findSlot slotEmpty emptySlot putEntry clearEntry deskOf putDesk copiedOf putCopied marksOf putMarks markOf setMark clearMark clearNotes sameNames namingB newNameB entryB attributesB addressesB zeroTailB inodeB countedB leadB isSlot entryAt filled naming allowed deskAllowed framedB headerB freeCountsB blankBlockB blanksB bodyB isSound enter created written dropLink unlinked setParent moved putFile addBlock putSize zeroRest cutTo isKind zeroInode lessFree moreFree createPlan writePlan shortenPlan holdsNone unlinkPlan isBelow renameTo renamePlan roomIn makeRoom freshHeader emptyRoot freshStore freshDesk startImage startDesk nextInode targetBlock lockedStep freeStep stepOf copiedEntry copiedEntries copiedBlock putCounts finishImage deskFramed imageBlocks imageAllowed isRunning blocksFit deskFits lacksAddresses imageFits notesFit hasSlot slotNames inodeNamed outcome next run started start step isCopied noteMade noteTaken cutsImage cutImage zeroed guardOf locksAny threeGuards startGuards decision live cutEntries clearMarks setMarks reusedIn
 reused = refl
 
 pub reused-block : (deskOf (run reusedBlock (fresh 3 3) .desk) .state ≡ finished)
@@ -91,7 +91,7 @@ pub reused-block : (deskOf (run reusedBlock (fresh 3 3) .desk) .state ≡ finish
     × ((kthBlock (run reusedBlock (fresh 3 3) .image) 3 3 0 ≡ 3)
     × ((blockOf (run reusedBlock (fresh 3 3) .image) 3 3 ≡ replicate 10 5 ++ replicate 54 0)
     × (sizeOf (run reusedBlock (fresh 3 3) .image) 3 ≡ 10))))))
-unfolding guardOf anyLocked threeGuards startGuards decision live cutEntries clearMarks setMarks reusedIn
+unfolding guardOf locksAny threeGuards startGuards decision live cutEntries clearMarks setMarks reusedIn
 reused-block = (
   ap (λ (x : Reused). x .state) reused,
   (
@@ -112,14 +112,14 @@ reused-block = (
 pub moved-directory : (deskOf (run movedDirectory (fresh 3 3) .desk) .state ≡ finished)
     × ((tally (naming (run movedDirectory (fresh 3 3) .image) 3) (mostSlots * 3) 2 ≡ 1)
     × (naming (run movedDirectory (fresh 3 3) .image) 3 0 ≡ 2))
-unfolding fresh movedDirectory desk.deskRestZero allBelow someBelow leadsB count firstFrom first table part splice numAt toBytes putNum wordBytes digit marked withMark withoutMark entryInode isEmpty sameByte sameName nameLength entryName legalEntry entryFor plainByte isDots legalName blockOf putInBlock zeroBlock blocksUsed bytesPlace isLong furtherOf kthBy rowBy putKth putRow freeInode namedBy lowestBy longBut across added grown kept lowestFrom nthFree zeroBlocks putBlocks taken extended cutBlocks headerOf putFree putComplete putHeader headerRestZero kindOf spareOf linksOf sizeOf parentOf putLinks attributeEntry putAttributes addressOf putAddress addressesOf putAddresses inodeOf putInode slots slotAt entryOf slotHasName findSlot slotEmpty emptySlot putEntry clearEntry deskOf putDesk copiedOf putCopied marksOf putMarks markOf setMark clearMark clearNotes sameNames namingB newNameB entryB attributesB addressesB zeroTailB inodeB countedB leadB isSlot entryAt filled naming allowed deskAllowed framedB headerB freeCountsB blankBlockB blanksB bodyB isSound enter created written dropLink unlinked setParent moved putFile addBlock putSize zeroRest cutTo isKind zeroInode lessFree moreFree createPlan writePlan shortenPlan holdsNone unlinkPlan isBelow renameTo renamePlan roomIn makeRoom freshHeader emptyRoot freshStore freshDesk isLocked startImage startDesk nextInode targetBlock lockedStep freeStep stepOf copiedEntry copiedEntries copiedBlock putCounts finishImage deskFramed imageBlocks imageAllowed isRunning blocksFit deskFits lacksAddresses imageFits notesFit hasSlot slotNames inodeNamed outcome next run started start step isCopied noteMade noteTaken cutsImage cutImage zeroed guardOf anyLocked threeGuards startGuards decision live cutEntries clearMarks setMarks
+unfolding fresh movedDirectory desk.deskRestZero allBelow someBelow leadsB count firstFrom first table part splice numAt toBytes putNum wordBytes digit marked withMark withoutMark entryInode isEmpty sameByte sameName nameLength entryName legalEntry entryFor plainByte isDots legalName blockOf putInBlock zeroBlock blocksUsed bytesPlace isLong furtherOf kthBy rowBy putKth putRow freeInode namedBy lowestBy longBut across added grown kept lowestFrom nthFree zeroBlocks putBlocks taken extended cutBlocks headerOf putFree putComplete putHeader headerRestZero kindOf spareOf linksOf sizeOf parentOf putLinks attributeEntry putAttributes addressOf putAddress addressesOf putAddresses inodeOf putInode slots slotAt entryOf slotHasName findSlot slotEmpty emptySlot putEntry clearEntry deskOf putDesk copiedOf putCopied marksOf putMarks markOf setMark clearMark clearNotes sameNames namingB newNameB entryB attributesB addressesB zeroTailB inodeB countedB leadB isSlot entryAt filled naming allowed deskAllowed framedB headerB freeCountsB blankBlockB blanksB bodyB isSound enter created written dropLink unlinked setParent moved putFile addBlock putSize zeroRest cutTo isKind zeroInode lessFree moreFree createPlan writePlan shortenPlan holdsNone unlinkPlan isBelow renameTo renamePlan roomIn makeRoom freshHeader emptyRoot freshStore freshDesk startImage startDesk nextInode targetBlock lockedStep freeStep stepOf copiedEntry copiedEntries copiedBlock putCounts finishImage deskFramed imageBlocks imageAllowed isRunning blocksFit deskFits lacksAddresses imageFits notesFit hasSlot slotNames inodeNamed outcome next run started start step isCopied noteMade noteTaken cutsImage cutImage zeroed guardOf locksAny threeGuards startGuards decision live cutEntries clearMarks setMarks
 moved-directory = (refl, (refl, refl))
 
 pub unlinked-file : (deskOf (run unlinkedFile (fresh 2 2) .desk) .state ≡ finished)
     × (tally (naming (run unlinkedFile (fresh 2 2) .image) 2) (mostSlots * 2) 2 ≡ 0)
-unfolding fresh unlinkedFile desk.deskRestZero allBelow someBelow leadsB count firstFrom first table part splice numAt toBytes putNum wordBytes digit marked withMark withoutMark entryInode isEmpty sameByte sameName nameLength entryName legalEntry entryFor plainByte isDots legalName blockOf putInBlock zeroBlock blocksUsed bytesPlace isLong furtherOf kthBy rowBy putKth putRow freeInode namedBy lowestBy longBut across added grown kept lowestFrom nthFree zeroBlocks putBlocks taken extended cutBlocks headerOf putFree putComplete putHeader headerRestZero kindOf spareOf linksOf sizeOf parentOf putLinks attributeEntry putAttributes addressOf putAddress addressesOf putAddresses inodeOf putInode slots slotAt entryOf slotHasName findSlot slotEmpty emptySlot putEntry clearEntry deskOf putDesk copiedOf putCopied marksOf putMarks markOf setMark clearMark clearNotes sameNames namingB newNameB entryB attributesB addressesB zeroTailB inodeB countedB leadB isSlot entryAt filled naming allowed deskAllowed framedB headerB freeCountsB blankBlockB blanksB bodyB isSound enter created written dropLink unlinked setParent moved putFile addBlock putSize zeroRest cutTo isKind zeroInode lessFree moreFree createPlan writePlan shortenPlan holdsNone unlinkPlan isBelow renameTo renamePlan roomIn makeRoom freshHeader emptyRoot freshStore freshDesk isLocked startImage startDesk nextInode targetBlock lockedStep freeStep stepOf copiedEntry copiedEntries copiedBlock putCounts finishImage deskFramed imageBlocks imageAllowed isRunning blocksFit deskFits lacksAddresses imageFits notesFit hasSlot slotNames inodeNamed outcome next run started start step isCopied noteMade noteTaken cutsImage cutImage zeroed guardOf anyLocked threeGuards startGuards decision live cutEntries clearMarks setMarks
+unfolding fresh unlinkedFile desk.deskRestZero allBelow someBelow leadsB count firstFrom first table part splice numAt toBytes putNum wordBytes digit marked withMark withoutMark entryInode isEmpty sameByte sameName nameLength entryName legalEntry entryFor plainByte isDots legalName blockOf putInBlock zeroBlock blocksUsed bytesPlace isLong furtherOf kthBy rowBy putKth putRow freeInode namedBy lowestBy longBut across added grown kept lowestFrom nthFree zeroBlocks putBlocks taken extended cutBlocks headerOf putFree putComplete putHeader headerRestZero kindOf spareOf linksOf sizeOf parentOf putLinks attributeEntry putAttributes addressOf putAddress addressesOf putAddresses inodeOf putInode slots slotAt entryOf slotHasName findSlot slotEmpty emptySlot putEntry clearEntry deskOf putDesk copiedOf putCopied marksOf putMarks markOf setMark clearMark clearNotes sameNames namingB newNameB entryB attributesB addressesB zeroTailB inodeB countedB leadB isSlot entryAt filled naming allowed deskAllowed framedB headerB freeCountsB blankBlockB blanksB bodyB isSound enter created written dropLink unlinked setParent moved putFile addBlock putSize zeroRest cutTo isKind zeroInode lessFree moreFree createPlan writePlan shortenPlan holdsNone unlinkPlan isBelow renameTo renamePlan roomIn makeRoom freshHeader emptyRoot freshStore freshDesk startImage startDesk nextInode targetBlock lockedStep freeStep stepOf copiedEntry copiedEntries copiedBlock putCounts finishImage deskFramed imageBlocks imageAllowed isRunning blocksFit deskFits lacksAddresses imageFits notesFit hasSlot slotNames inodeNamed outcome next run started start step isCopied noteMade noteTaken cutsImage cutImage zeroed guardOf locksAny threeGuards startGuards decision live cutEntries clearMarks setMarks
 unlinked-file = (refl, refl)
 
 pub into-child : outcome (call (rename 1 nameA 3 nameA)) (run parentAndChild (fresh 3 3)) .answer ≡ told (Refused IntoItself)
-unfolding fresh parentAndChild desk.deskRestZero allBelow someBelow leadsB count firstFrom first table part splice numAt toBytes putNum wordBytes digit marked withMark withoutMark entryInode isEmpty sameByte sameName nameLength entryName legalEntry entryFor plainByte isDots legalName blockOf putInBlock zeroBlock blocksUsed bytesPlace isLong furtherOf kthBy rowBy putKth putRow freeInode namedBy lowestBy longBut across added grown kept lowestFrom nthFree zeroBlocks putBlocks taken extended cutBlocks headerOf putFree putComplete putHeader headerRestZero kindOf spareOf linksOf sizeOf parentOf putLinks attributeEntry putAttributes addressOf putAddress addressesOf putAddresses inodeOf putInode slots slotAt entryOf slotHasName findSlot slotEmpty emptySlot putEntry clearEntry deskOf putDesk copiedOf putCopied marksOf putMarks markOf setMark clearMark clearNotes sameNames namingB newNameB entryB attributesB addressesB zeroTailB inodeB countedB leadB isSlot entryAt filled naming allowed deskAllowed framedB headerB freeCountsB blankBlockB blanksB bodyB isSound enter created written dropLink unlinked setParent moved putFile addBlock putSize zeroRest cutTo isKind zeroInode lessFree moreFree createPlan writePlan shortenPlan holdsNone unlinkPlan isBelow renameTo renamePlan roomIn makeRoom freshHeader emptyRoot freshStore freshDesk isLocked startImage startDesk nextInode targetBlock lockedStep freeStep stepOf copiedEntry copiedEntries copiedBlock putCounts finishImage deskFramed imageBlocks imageAllowed isRunning blocksFit deskFits lacksAddresses imageFits notesFit hasSlot slotNames inodeNamed outcome next run started start step isCopied noteMade noteTaken cutsImage cutImage zeroed guardOf anyLocked threeGuards startGuards decision live cutEntries clearMarks setMarks
+unfolding fresh parentAndChild desk.deskRestZero allBelow someBelow leadsB count firstFrom first table part splice numAt toBytes putNum wordBytes digit marked withMark withoutMark entryInode isEmpty sameByte sameName nameLength entryName legalEntry entryFor plainByte isDots legalName blockOf putInBlock zeroBlock blocksUsed bytesPlace isLong furtherOf kthBy rowBy putKth putRow freeInode namedBy lowestBy longBut across added grown kept lowestFrom nthFree zeroBlocks putBlocks taken extended cutBlocks headerOf putFree putComplete putHeader headerRestZero kindOf spareOf linksOf sizeOf parentOf putLinks attributeEntry putAttributes addressOf putAddress addressesOf putAddresses inodeOf putInode slots slotAt entryOf slotHasName findSlot slotEmpty emptySlot putEntry clearEntry deskOf putDesk copiedOf putCopied marksOf putMarks markOf setMark clearMark clearNotes sameNames namingB newNameB entryB attributesB addressesB zeroTailB inodeB countedB leadB isSlot entryAt filled naming allowed deskAllowed framedB headerB freeCountsB blankBlockB blanksB bodyB isSound enter created written dropLink unlinked setParent moved putFile addBlock putSize zeroRest cutTo isKind zeroInode lessFree moreFree createPlan writePlan shortenPlan holdsNone unlinkPlan isBelow renameTo renamePlan roomIn makeRoom freshHeader emptyRoot freshStore freshDesk startImage startDesk nextInode targetBlock lockedStep freeStep stepOf copiedEntry copiedEntries copiedBlock putCounts finishImage deskFramed imageBlocks imageAllowed isRunning blocksFit deskFits lacksAddresses imageFits notesFit hasSlot slotNames inodeNamed outcome next run started start step isCopied noteMade noteTaken cutsImage cutImage zeroed guardOf locksAny threeGuards startGuards decision live cutEntries clearMarks setMarks
 into-child = refl

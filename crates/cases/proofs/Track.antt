@@ -22,13 +22,13 @@ use Rattle.answers.specs.declared.Refusal.the-variants.{IllegalName, PastEnd, N
 use Rattle.answers.specs.Told.{told}
 use Rattle.answers.specs.declared.Answer.the-variants.{Done, Refused}
 use Rattle.desk.specs.Desk.{deskOf}
+use Rattle.desk.specs.Next.{locksAny}
 use Rattle.sound.specs.declared.Form.the-variants.{Store}
 use Rattle.sound.proofs.SoundLaws.{framed, is-sound, size-most}
 use Rattle.entries.specs.declared.Kind.{Kind}
 use Rattle.files.specs.Effect.{create, write}
 use Rattle.checkpoint.specs.Fit.{isRunning, imageAllowed, blocksFit, deskFits, imageFits, notesFit}
 use Rattle.checkpoint.specs.Table.{createTable, writeTable, startTable}
-use Rattle.checkpoint.specs.Busy.{anyLocked}
 use Rattle.checkpoint.specs.Live.{World, live, start}
 use Rattle.checkpoint.specs.List.{Ready, outcome}
 use Rattle.checkpoint.proofs.TableLaws.{create-table, write-table}
@@ -42,7 +42,7 @@ use Rattle.checkpoint.proofs.Run.Calls.{image-allowed}
 -- a create of a legal name in an empty slot
 created : (w : World) (d : ℕ) (name : List ℕ) (k : Kind) (c : Creates w d name) (t : ℕ) → legalName name ≡ true → emptySlot (w .store) (inodes w) d ≡ At t
     → live (create d name k) w .answer ≡ Done (c .inode)
-unfolding createTable anyLocked
+unfolding createTable locksAny
 created w d name k c t l u =
     let r = c .ready in
     create-table w d name k
@@ -63,7 +63,7 @@ fifteen-illegal : (name : List ℕ) → length name ≡ 15 → legalName name �
 fifteen-illegal name e = fails (legalName name) (λ t. let b = legal-bounds name t in let c = b .1 in omega arith)
 
 fifteen : (w : World) (d : ℕ) (name : List ℕ) (k : Kind) → Ready w → length name ≡ 15 → live (create d name k) w .answer ≡ Refused IllegalName
-unfolding createTable anyLocked
+unfolding createTable locksAny
 fifteen w d name k r e =
     create-table w d name k
     ∙ rw (r .framed, r .desk, r .sound, r .notes, fifteen-illegal name e)
@@ -86,7 +86,7 @@ file-size w i r f =
 
 module _ (w : World) (i o : ℕ) (xs : List ℕ) (h : Writes w i o xs) where
   write-done : o ≤ sizeOf (w .store) i → o + length xs ≤ mostFileBytes → live (write i o xs) w .answer ≡ Done (max (sizeOf (w .store) i) (o + length xs))
-  unfolding writeTable anyLocked
+  unfolding writeTable locksAny
   write-done a b =
       let r = h .ready in
       let z : sizeOf (w .store) i ≤ mostFileBytes = file-size w i r (h .file) in
@@ -105,7 +105,7 @@ module _ (w : World) (i o : ℕ) (xs : List ℕ) (h : Writes w i o xs) where
       )
 
   write-refused : ltb (sizeOf (w .store) i) o || ltb mostFileBytes (o + length xs) ≡ true → live (write i o xs) w .answer ≡ Refused PastEnd
-  unfolding writeTable anyLocked
+  unfolding writeTable locksAny
   write-refused q =
       let r = h .ready in
       write-table w i o xs
@@ -145,7 +145,7 @@ module _ (w : World) (d : ℕ) (name : List ℕ) (k : Kind) (c : Creates w d nam
   twelve = omega arith
 
   no-slot : ((t : ℕ) → t < 48 → slotEmpty (w .store) (inodes w) d t ≡ false) → live (create d name k) w .answer ≡ Refused NoSlot
-  unfolding createTable anyLocked
+  unfolding createTable locksAny
   no-slot h =
       let r = c .ready in
       create-table w d name k

@@ -16,7 +16,7 @@ use Rattle.growth.specs.Extend.{zeroBlocks, putSize, putBlocks, taken, extended
 use Rattle.layout.specs.Header.{headerOf, putFree, putComplete, putHeader, headerRestZero, lessFree, moreFree}
 use Rattle.layout.specs.Inode.{kindOf, spareOf, linksOf, sizeOf, parentOf, putLinks, attributeEntry, putAttributes, addressOf, putAddress, addressesOf, putAddresses, inodeOf, putInode, isKind, zeroInode, freeInode}
 use Rattle.directory.specs.Slot.{slots, slotAt, entryOf, slotHasName, findSlot, slotEmpty, emptySlot, putEntry, clearEntry}
-use Rattle.desk.specs.Desk.{deskOf, putDesk, copiedOf, putCopied, marksOf, putMarks, markOf, setMark, clearMark, clearNotes}
+use Rattle.desk.specs.Desk.{deskOf, putDesk, copiedOf, putCopied, marksOf, putMarks, markOf, setMark, clearMark, clearNotes, isCopied}
 use Rattle.sound.specs.Entry.{sameNames}
 use Rattle.sound.specs.Place.{isSlot, entryAt, filled, naming}
 use Rattle.sound.specs.Test.{attributesB, addressesB, zeroTailB, inodeB, namingB, newNameB, entryB, countedB, leadB, framedB, headerB, freeCountsB, blankBlockB, blanksB, bodyB, isSound}
@@ -28,13 +28,12 @@ use Rattle.entries.specs.Plan.{createPlan, linkPlan, holdsNone, unlinkPlan, isB
 use Rattle.entries.specs.Room.{roomIn, makeRoom}
 use Rattle.files.specs.Guard.{guardOf}
 use Rattle.format.specs.Format.{freshHeader, emptyRoot, freshStore, freshDesk}
-use Rattle.checkpoint.specs.Busy.{isLocked, anyLocked}
 use Rattle.checkpoint.specs.Copier.{startImage, startDesk, nextInode, targetBlock, lockedStep, freeStep, stepOf, copiedEntry, copiedEntries, copiedBlock, putCounts, finishImage}
 use Rattle.checkpoint.specs.Fit.{deskFramed, imageBlocks, imageAllowed, isRunning, blocksFit, deskFits, lacksAddresses, imageFits, notesFit}
 use Rattle.checkpoint.specs.Image.{hasSlot, slotNames, inodeNamed}
 use Rattle.checkpoint.specs.List.{outcome, next, run, accepted, call, starts}
 use Rattle.checkpoint.specs.Live.{World, threeGuards, decision, live, started, start, step, startGuards}
-use Rattle.checkpoint.specs.Notes.{isCopied, noteMade, noteTaken, cutsImage, cutImage, cutEntries, clearMarks, setMarks}
+use Rattle.checkpoint.specs.Notes.{noteMade, noteTaken, cutsImage, cutImage, cutEntries, clearMarks, setMarks}
 use Rattle.desk.specs.Desk as desk
 use Prim.Native.Nat.{ℕ, zero, suc, _+_, _*_, _-_, _/_, _%_}
 use mathlib.Core.Path.{_≡_, refl, ap, _∙_}
@@ -42,6 +41,7 @@ use mathlib.Core.Bool.{true}
 use mathlib.Core.List.{List, [], _∷_, _++_}
 use lib.ListN.{replicate}
 use Rattle.desk.specs.Sizes.{deskAllowed}
+use Rattle.desk.specs.Next.{locksAny}
 use Rattle.answers.specs.declared.Refusal.the-variants.{IllegalName, PastEnd, NoSlot}
 use Rattle.answers.specs.Told.{told}
 use Rattle.answers.specs.declared.Answer.the-variants.{Done, Refused}
@@ -56,39 +56,39 @@ use Rattle.checkpoint.proofs.Run.Starts.{Opens, opens, opened, opened-runs}
 use Rattle.checkpoint.proofs.Run.Lists.{Going, runs}
 
 pub fourteen-shown : outcome (call (create 1 (replicate nameBytes 97) File)) (fresh 2 1) .answer ≡ told (Done 2)
-unfolding fresh desk.deskRestZero allBelow someBelow leadsB count firstFrom first table part splice numAt toBytes putNum wordBytes digit marked withMark withoutMark entryInode isEmpty sameByte sameName nameLength entryName legalEntry entryFor plainByte isDots legalName blockOf putInBlock zeroBlock blocksUsed bytesPlace isLong furtherOf kthBy rowBy putKth putRow freeInode namedBy lowestBy longBut across added grown kept lowestFrom nthFree zeroBlocks putBlocks taken extended cutBlocks headerOf putFree putComplete putHeader headerRestZero kindOf spareOf linksOf sizeOf parentOf putLinks attributeEntry putAttributes addressOf putAddress addressesOf putAddresses inodeOf putInode slots slotAt entryOf slotHasName findSlot slotEmpty emptySlot putEntry clearEntry deskOf putDesk copiedOf putCopied marksOf putMarks markOf setMark clearMark clearNotes sameNames namingB newNameB entryB attributesB addressesB zeroTailB inodeB countedB leadB isSlot entryAt filled naming allowed deskAllowed framedB headerB freeCountsB blankBlockB blanksB bodyB isSound enter created written dropLink unlinked setParent moved putFile addBlock putSize zeroRest cutTo isKind zeroInode lessFree moreFree createPlan writePlan shortenPlan holdsNone unlinkPlan isBelow renameTo renamePlan roomIn makeRoom freshHeader emptyRoot freshStore freshDesk isLocked startImage startDesk nextInode targetBlock lockedStep freeStep stepOf copiedEntry copiedEntries copiedBlock putCounts finishImage deskFramed imageBlocks imageAllowed isRunning blocksFit deskFits lacksAddresses imageFits notesFit hasSlot slotNames inodeNamed outcome next run started start step isCopied noteMade noteTaken cutsImage cutImage zeroed guardOf anyLocked threeGuards startGuards decision live cutEntries clearMarks setMarks
+unfolding fresh desk.deskRestZero allBelow someBelow leadsB count firstFrom first table part splice numAt toBytes putNum wordBytes digit marked withMark withoutMark entryInode isEmpty sameByte sameName nameLength entryName legalEntry entryFor plainByte isDots legalName blockOf putInBlock zeroBlock blocksUsed bytesPlace isLong furtherOf kthBy rowBy putKth putRow freeInode namedBy lowestBy longBut across added grown kept lowestFrom nthFree zeroBlocks putBlocks taken extended cutBlocks headerOf putFree putComplete putHeader headerRestZero kindOf spareOf linksOf sizeOf parentOf putLinks attributeEntry putAttributes addressOf putAddress addressesOf putAddresses inodeOf putInode slots slotAt entryOf slotHasName findSlot slotEmpty emptySlot putEntry clearEntry deskOf putDesk copiedOf putCopied marksOf putMarks markOf setMark clearMark clearNotes sameNames namingB newNameB entryB attributesB addressesB zeroTailB inodeB countedB leadB isSlot entryAt filled naming allowed deskAllowed framedB headerB freeCountsB blankBlockB blanksB bodyB isSound enter created written dropLink unlinked setParent moved putFile addBlock putSize zeroRest cutTo isKind zeroInode lessFree moreFree createPlan writePlan shortenPlan holdsNone unlinkPlan isBelow renameTo renamePlan roomIn makeRoom freshHeader emptyRoot freshStore freshDesk startImage startDesk nextInode targetBlock lockedStep freeStep stepOf copiedEntry copiedEntries copiedBlock putCounts finishImage deskFramed imageBlocks imageAllowed isRunning blocksFit deskFits lacksAddresses imageFits notesFit hasSlot slotNames inodeNamed outcome next run started start step isCopied noteMade noteTaken cutsImage cutImage zeroed guardOf locksAny threeGuards startGuards decision live cutEntries clearMarks setMarks
 fourteen-shown = refl
 
 pub fifteen-shown : outcome (call (create 1 (replicate (nameBytes + 1) 97) File)) (fresh 2 1) .answer ≡ told (Refused IllegalName)
-unfolding fresh desk.deskRestZero allBelow someBelow leadsB count firstFrom first table part splice numAt toBytes putNum wordBytes digit marked withMark withoutMark entryInode isEmpty sameByte sameName nameLength entryName legalEntry entryFor plainByte isDots legalName blockOf putInBlock zeroBlock blocksUsed bytesPlace isLong furtherOf kthBy rowBy putKth putRow freeInode namedBy lowestBy longBut across added grown kept lowestFrom nthFree zeroBlocks putBlocks taken extended cutBlocks headerOf putFree putComplete putHeader headerRestZero kindOf spareOf linksOf sizeOf parentOf putLinks attributeEntry putAttributes addressOf putAddress addressesOf putAddresses inodeOf putInode slots slotAt entryOf slotHasName findSlot slotEmpty emptySlot putEntry clearEntry deskOf putDesk copiedOf putCopied marksOf putMarks markOf setMark clearMark clearNotes sameNames namingB newNameB entryB attributesB addressesB zeroTailB inodeB countedB leadB isSlot entryAt filled naming allowed deskAllowed framedB headerB freeCountsB blankBlockB blanksB bodyB isSound enter created written dropLink unlinked setParent moved putFile addBlock putSize zeroRest cutTo isKind zeroInode lessFree moreFree createPlan writePlan shortenPlan holdsNone unlinkPlan isBelow renameTo renamePlan roomIn makeRoom freshHeader emptyRoot freshStore freshDesk isLocked startImage startDesk nextInode targetBlock lockedStep freeStep stepOf copiedEntry copiedEntries copiedBlock putCounts finishImage deskFramed imageBlocks imageAllowed isRunning blocksFit deskFits lacksAddresses imageFits notesFit hasSlot slotNames inodeNamed outcome next run started start step isCopied noteMade noteTaken cutsImage cutImage zeroed guardOf anyLocked threeGuards startGuards decision live cutEntries clearMarks setMarks
+unfolding fresh desk.deskRestZero allBelow someBelow leadsB count firstFrom first table part splice numAt toBytes putNum wordBytes digit marked withMark withoutMark entryInode isEmpty sameByte sameName nameLength entryName legalEntry entryFor plainByte isDots legalName blockOf putInBlock zeroBlock blocksUsed bytesPlace isLong furtherOf kthBy rowBy putKth putRow freeInode namedBy lowestBy longBut across added grown kept lowestFrom nthFree zeroBlocks putBlocks taken extended cutBlocks headerOf putFree putComplete putHeader headerRestZero kindOf spareOf linksOf sizeOf parentOf putLinks attributeEntry putAttributes addressOf putAddress addressesOf putAddresses inodeOf putInode slots slotAt entryOf slotHasName findSlot slotEmpty emptySlot putEntry clearEntry deskOf putDesk copiedOf putCopied marksOf putMarks markOf setMark clearMark clearNotes sameNames namingB newNameB entryB attributesB addressesB zeroTailB inodeB countedB leadB isSlot entryAt filled naming allowed deskAllowed framedB headerB freeCountsB blankBlockB blanksB bodyB isSound enter created written dropLink unlinked setParent moved putFile addBlock putSize zeroRest cutTo isKind zeroInode lessFree moreFree createPlan writePlan shortenPlan holdsNone unlinkPlan isBelow renameTo renamePlan roomIn makeRoom freshHeader emptyRoot freshStore freshDesk startImage startDesk nextInode targetBlock lockedStep freeStep stepOf copiedEntry copiedEntries copiedBlock putCounts finishImage deskFramed imageBlocks imageAllowed isRunning blocksFit deskFits lacksAddresses imageFits notesFit hasSlot slotNames inodeNamed outcome next run started start step isCopied noteMade noteTaken cutsImage cutImage zeroed guardOf locksAny threeGuards startGuards decision live cutEntries clearMarks setMarks
 fifteen-shown = refl
 
 pub at-size-shown : outcome (call (write 2 10 (7 ∷ []))) (run tenBytes (fresh 2 2)) .answer ≡ told (Done 11)
-unfolding fresh desk.deskRestZero allBelow someBelow leadsB count firstFrom first table part splice numAt toBytes putNum wordBytes digit marked withMark withoutMark entryInode isEmpty sameByte sameName nameLength entryName legalEntry entryFor plainByte isDots legalName blockOf putInBlock zeroBlock blocksUsed bytesPlace isLong furtherOf kthBy rowBy putKth putRow freeInode namedBy lowestBy longBut across added grown kept lowestFrom nthFree zeroBlocks putBlocks taken extended cutBlocks headerOf putFree putComplete putHeader headerRestZero kindOf spareOf linksOf sizeOf parentOf putLinks attributeEntry putAttributes addressOf putAddress addressesOf putAddresses inodeOf putInode slots slotAt entryOf slotHasName findSlot slotEmpty emptySlot putEntry clearEntry deskOf putDesk copiedOf putCopied marksOf putMarks markOf setMark clearMark clearNotes sameNames namingB newNameB entryB attributesB addressesB zeroTailB inodeB countedB leadB isSlot entryAt filled naming allowed deskAllowed framedB headerB freeCountsB blankBlockB blanksB bodyB isSound enter created written dropLink unlinked setParent moved putFile addBlock putSize zeroRest cutTo isKind zeroInode lessFree moreFree createPlan writePlan shortenPlan holdsNone unlinkPlan isBelow renameTo renamePlan roomIn makeRoom freshHeader emptyRoot freshStore freshDesk isLocked startImage startDesk nextInode targetBlock lockedStep freeStep stepOf copiedEntry copiedEntries copiedBlock putCounts finishImage deskFramed imageBlocks imageAllowed isRunning blocksFit deskFits lacksAddresses imageFits notesFit hasSlot slotNames inodeNamed outcome next run started start step isCopied noteMade noteTaken cutsImage cutImage zeroed guardOf anyLocked threeGuards startGuards decision live cutEntries clearMarks setMarks tenBytes
+unfolding fresh desk.deskRestZero allBelow someBelow leadsB count firstFrom first table part splice numAt toBytes putNum wordBytes digit marked withMark withoutMark entryInode isEmpty sameByte sameName nameLength entryName legalEntry entryFor plainByte isDots legalName blockOf putInBlock zeroBlock blocksUsed bytesPlace isLong furtherOf kthBy rowBy putKth putRow freeInode namedBy lowestBy longBut across added grown kept lowestFrom nthFree zeroBlocks putBlocks taken extended cutBlocks headerOf putFree putComplete putHeader headerRestZero kindOf spareOf linksOf sizeOf parentOf putLinks attributeEntry putAttributes addressOf putAddress addressesOf putAddresses inodeOf putInode slots slotAt entryOf slotHasName findSlot slotEmpty emptySlot putEntry clearEntry deskOf putDesk copiedOf putCopied marksOf putMarks markOf setMark clearMark clearNotes sameNames namingB newNameB entryB attributesB addressesB zeroTailB inodeB countedB leadB isSlot entryAt filled naming allowed deskAllowed framedB headerB freeCountsB blankBlockB blanksB bodyB isSound enter created written dropLink unlinked setParent moved putFile addBlock putSize zeroRest cutTo isKind zeroInode lessFree moreFree createPlan writePlan shortenPlan holdsNone unlinkPlan isBelow renameTo renamePlan roomIn makeRoom freshHeader emptyRoot freshStore freshDesk startImage startDesk nextInode targetBlock lockedStep freeStep stepOf copiedEntry copiedEntries copiedBlock putCounts finishImage deskFramed imageBlocks imageAllowed isRunning blocksFit deskFits lacksAddresses imageFits notesFit hasSlot slotNames inodeNamed outcome next run started start step isCopied noteMade noteTaken cutsImage cutImage zeroed guardOf locksAny threeGuards startGuards decision live cutEntries clearMarks setMarks tenBytes
 at-size-shown = refl
 
 pub past-size-shown : outcome (call (write 2 11 (7 ∷ []))) (run tenBytes (fresh 2 2)) .answer ≡ told (Refused PastEnd)
-unfolding fresh desk.deskRestZero allBelow someBelow leadsB count firstFrom first table part splice numAt toBytes putNum wordBytes digit marked withMark withoutMark entryInode isEmpty sameByte sameName nameLength entryName legalEntry entryFor plainByte isDots legalName blockOf putInBlock zeroBlock blocksUsed bytesPlace isLong furtherOf kthBy rowBy putKth putRow freeInode namedBy lowestBy longBut across added grown kept lowestFrom nthFree zeroBlocks putBlocks taken extended cutBlocks headerOf putFree putComplete putHeader headerRestZero kindOf spareOf linksOf sizeOf parentOf putLinks attributeEntry putAttributes addressOf putAddress addressesOf putAddresses inodeOf putInode slots slotAt entryOf slotHasName findSlot slotEmpty emptySlot putEntry clearEntry deskOf putDesk copiedOf putCopied marksOf putMarks markOf setMark clearMark clearNotes sameNames namingB newNameB entryB attributesB addressesB zeroTailB inodeB countedB leadB isSlot entryAt filled naming allowed deskAllowed framedB headerB freeCountsB blankBlockB blanksB bodyB isSound enter created written dropLink unlinked setParent moved putFile addBlock putSize zeroRest cutTo isKind zeroInode lessFree moreFree createPlan writePlan shortenPlan holdsNone unlinkPlan isBelow renameTo renamePlan roomIn makeRoom freshHeader emptyRoot freshStore freshDesk isLocked startImage startDesk nextInode targetBlock lockedStep freeStep stepOf copiedEntry copiedEntries copiedBlock putCounts finishImage deskFramed imageBlocks imageAllowed isRunning blocksFit deskFits lacksAddresses imageFits notesFit hasSlot slotNames inodeNamed outcome next run started start step isCopied noteMade noteTaken cutsImage cutImage zeroed guardOf anyLocked threeGuards startGuards decision live cutEntries clearMarks setMarks tenBytes
+unfolding fresh desk.deskRestZero allBelow someBelow leadsB count firstFrom first table part splice numAt toBytes putNum wordBytes digit marked withMark withoutMark entryInode isEmpty sameByte sameName nameLength entryName legalEntry entryFor plainByte isDots legalName blockOf putInBlock zeroBlock blocksUsed bytesPlace isLong furtherOf kthBy rowBy putKth putRow freeInode namedBy lowestBy longBut across added grown kept lowestFrom nthFree zeroBlocks putBlocks taken extended cutBlocks headerOf putFree putComplete putHeader headerRestZero kindOf spareOf linksOf sizeOf parentOf putLinks attributeEntry putAttributes addressOf putAddress addressesOf putAddresses inodeOf putInode slots slotAt entryOf slotHasName findSlot slotEmpty emptySlot putEntry clearEntry deskOf putDesk copiedOf putCopied marksOf putMarks markOf setMark clearMark clearNotes sameNames namingB newNameB entryB attributesB addressesB zeroTailB inodeB countedB leadB isSlot entryAt filled naming allowed deskAllowed framedB headerB freeCountsB blankBlockB blanksB bodyB isSound enter created written dropLink unlinked setParent moved putFile addBlock putSize zeroRest cutTo isKind zeroInode lessFree moreFree createPlan writePlan shortenPlan holdsNone unlinkPlan isBelow renameTo renamePlan roomIn makeRoom freshHeader emptyRoot freshStore freshDesk startImage startDesk nextInode targetBlock lockedStep freeStep stepOf copiedEntry copiedEntries copiedBlock putCounts finishImage deskFramed imageBlocks imageAllowed isRunning blocksFit deskFits lacksAddresses imageFits notesFit hasSlot slotNames inodeNamed outcome next run started start step isCopied noteMade noteTaken cutsImage cutImage zeroed guardOf locksAny threeGuards startGuards decision live cutEntries clearMarks setMarks tenBytes
 past-size-shown = refl
 
 pub end-shown : outcome (call (write 2 0 (replicate mostFileBytes 7))) (run oneFile (fresh 2 45)) .answer ≡ told (Done mostFileBytes)
-unfolding fresh desk.deskRestZero allBelow someBelow leadsB count firstFrom first table part splice numAt toBytes putNum wordBytes digit marked withMark withoutMark entryInode isEmpty sameByte sameName nameLength entryName legalEntry entryFor plainByte isDots legalName blockOf putInBlock zeroBlock blocksUsed bytesPlace isLong furtherOf kthBy rowBy putKth putRow freeInode namedBy lowestBy longBut across added grown kept lowestFrom nthFree zeroBlocks putBlocks taken extended cutBlocks headerOf putFree putComplete putHeader headerRestZero kindOf spareOf linksOf sizeOf parentOf putLinks attributeEntry putAttributes addressOf putAddress addressesOf putAddresses inodeOf putInode slots slotAt entryOf slotHasName findSlot slotEmpty emptySlot putEntry clearEntry deskOf putDesk copiedOf putCopied marksOf putMarks markOf setMark clearMark clearNotes sameNames namingB newNameB entryB attributesB addressesB zeroTailB inodeB countedB leadB isSlot entryAt filled naming allowed deskAllowed framedB headerB freeCountsB blankBlockB blanksB bodyB isSound enter created written dropLink unlinked setParent moved putFile addBlock putSize zeroRest cutTo isKind zeroInode lessFree moreFree createPlan writePlan shortenPlan holdsNone unlinkPlan isBelow renameTo renamePlan roomIn makeRoom freshHeader emptyRoot freshStore freshDesk isLocked startImage startDesk nextInode targetBlock lockedStep freeStep stepOf copiedEntry copiedEntries copiedBlock putCounts finishImage deskFramed imageBlocks imageAllowed isRunning blocksFit deskFits lacksAddresses imageFits notesFit hasSlot slotNames inodeNamed outcome next run started start step isCopied noteMade noteTaken cutsImage cutImage zeroed guardOf anyLocked threeGuards startGuards decision live cutEntries clearMarks setMarks oneFile
+unfolding fresh desk.deskRestZero allBelow someBelow leadsB count firstFrom first table part splice numAt toBytes putNum wordBytes digit marked withMark withoutMark entryInode isEmpty sameByte sameName nameLength entryName legalEntry entryFor plainByte isDots legalName blockOf putInBlock zeroBlock blocksUsed bytesPlace isLong furtherOf kthBy rowBy putKth putRow freeInode namedBy lowestBy longBut across added grown kept lowestFrom nthFree zeroBlocks putBlocks taken extended cutBlocks headerOf putFree putComplete putHeader headerRestZero kindOf spareOf linksOf sizeOf parentOf putLinks attributeEntry putAttributes addressOf putAddress addressesOf putAddresses inodeOf putInode slots slotAt entryOf slotHasName findSlot slotEmpty emptySlot putEntry clearEntry deskOf putDesk copiedOf putCopied marksOf putMarks markOf setMark clearMark clearNotes sameNames namingB newNameB entryB attributesB addressesB zeroTailB inodeB countedB leadB isSlot entryAt filled naming allowed deskAllowed framedB headerB freeCountsB blankBlockB blanksB bodyB isSound enter created written dropLink unlinked setParent moved putFile addBlock putSize zeroRest cutTo isKind zeroInode lessFree moreFree createPlan writePlan shortenPlan holdsNone unlinkPlan isBelow renameTo renamePlan roomIn makeRoom freshHeader emptyRoot freshStore freshDesk startImage startDesk nextInode targetBlock lockedStep freeStep stepOf copiedEntry copiedEntries copiedBlock putCounts finishImage deskFramed imageBlocks imageAllowed isRunning blocksFit deskFits lacksAddresses imageFits notesFit hasSlot slotNames inodeNamed outcome next run started start step isCopied noteMade noteTaken cutsImage cutImage zeroed guardOf locksAny threeGuards startGuards decision live cutEntries clearMarks setMarks oneFile
 end-shown = refl
 
 pub past-end-shown : outcome (call (write 2 0 (replicate (mostFileBytes + 1) 7))) (run oneFile (fresh 2 45)) .answer ≡ told (Refused PastEnd)
-unfolding fresh desk.deskRestZero allBelow someBelow leadsB count firstFrom first table part splice numAt toBytes putNum wordBytes digit marked withMark withoutMark entryInode isEmpty sameByte sameName nameLength entryName legalEntry entryFor plainByte isDots legalName blockOf putInBlock zeroBlock blocksUsed bytesPlace isLong furtherOf kthBy rowBy putKth putRow freeInode namedBy lowestBy longBut across added grown kept lowestFrom nthFree zeroBlocks putBlocks taken extended cutBlocks headerOf putFree putComplete putHeader headerRestZero kindOf spareOf linksOf sizeOf parentOf putLinks attributeEntry putAttributes addressOf putAddress addressesOf putAddresses inodeOf putInode slots slotAt entryOf slotHasName findSlot slotEmpty emptySlot putEntry clearEntry deskOf putDesk copiedOf putCopied marksOf putMarks markOf setMark clearMark clearNotes sameNames namingB newNameB entryB attributesB addressesB zeroTailB inodeB countedB leadB isSlot entryAt filled naming allowed deskAllowed framedB headerB freeCountsB blankBlockB blanksB bodyB isSound enter created written dropLink unlinked setParent moved putFile addBlock putSize zeroRest cutTo isKind zeroInode lessFree moreFree createPlan writePlan shortenPlan holdsNone unlinkPlan isBelow renameTo renamePlan roomIn makeRoom freshHeader emptyRoot freshStore freshDesk isLocked startImage startDesk nextInode targetBlock lockedStep freeStep stepOf copiedEntry copiedEntries copiedBlock putCounts finishImage deskFramed imageBlocks imageAllowed isRunning blocksFit deskFits lacksAddresses imageFits notesFit hasSlot slotNames inodeNamed outcome next run started start step isCopied noteMade noteTaken cutsImage cutImage zeroed guardOf anyLocked threeGuards startGuards decision live cutEntries clearMarks setMarks oneFile
+unfolding fresh desk.deskRestZero allBelow someBelow leadsB count firstFrom first table part splice numAt toBytes putNum wordBytes digit marked withMark withoutMark entryInode isEmpty sameByte sameName nameLength entryName legalEntry entryFor plainByte isDots legalName blockOf putInBlock zeroBlock blocksUsed bytesPlace isLong furtherOf kthBy rowBy putKth putRow freeInode namedBy lowestBy longBut across added grown kept lowestFrom nthFree zeroBlocks putBlocks taken extended cutBlocks headerOf putFree putComplete putHeader headerRestZero kindOf spareOf linksOf sizeOf parentOf putLinks attributeEntry putAttributes addressOf putAddress addressesOf putAddresses inodeOf putInode slots slotAt entryOf slotHasName findSlot slotEmpty emptySlot putEntry clearEntry deskOf putDesk copiedOf putCopied marksOf putMarks markOf setMark clearMark clearNotes sameNames namingB newNameB entryB attributesB addressesB zeroTailB inodeB countedB leadB isSlot entryAt filled naming allowed deskAllowed framedB headerB freeCountsB blankBlockB blanksB bodyB isSound enter created written dropLink unlinked setParent moved putFile addBlock putSize zeroRest cutTo isKind zeroInode lessFree moreFree createPlan writePlan shortenPlan holdsNone unlinkPlan isBelow renameTo renamePlan roomIn makeRoom freshHeader emptyRoot freshStore freshDesk startImage startDesk nextInode targetBlock lockedStep freeStep stepOf copiedEntry copiedEntries copiedBlock putCounts finishImage deskFramed imageBlocks imageAllowed isRunning blocksFit deskFits lacksAddresses imageFits notesFit hasSlot slotNames inodeNamed outcome next run started start step isCopied noteMade noteTaken cutsImage cutImage zeroed guardOf locksAny threeGuards startGuards decision live cutEntries clearMarks setMarks oneFile
 past-end-shown = refl
 
 -- ---- entries: the root with k of them in c blocks while a copy runs, part by part behind the guards
 begins : accepted starts (fresh 3 13) ≡ true
-unfolding fresh desk.deskRestZero allBelow someBelow leadsB count firstFrom first table part splice numAt toBytes putNum wordBytes digit marked withMark withoutMark entryInode isEmpty sameByte sameName nameLength entryName legalEntry entryFor plainByte isDots legalName blockOf putInBlock zeroBlock blocksUsed bytesPlace isLong furtherOf kthBy rowBy putKth putRow freeInode namedBy lowestBy longBut across added grown kept lowestFrom nthFree zeroBlocks putBlocks taken extended cutBlocks headerOf putFree putComplete putHeader headerRestZero kindOf spareOf linksOf sizeOf parentOf putLinks attributeEntry putAttributes addressOf putAddress addressesOf putAddresses inodeOf putInode slots slotAt entryOf slotHasName findSlot slotEmpty emptySlot putEntry clearEntry deskOf putDesk copiedOf putCopied marksOf putMarks markOf setMark clearMark clearNotes sameNames namingB newNameB entryB attributesB addressesB zeroTailB inodeB countedB leadB isSlot entryAt filled naming allowed deskAllowed framedB headerB freeCountsB blankBlockB blanksB bodyB isSound enter created written dropLink unlinked setParent moved putFile addBlock putSize zeroRest cutTo isKind zeroInode lessFree moreFree createPlan writePlan shortenPlan holdsNone unlinkPlan isBelow renameTo renamePlan roomIn makeRoom freshHeader emptyRoot freshStore freshDesk isLocked startImage startDesk nextInode targetBlock lockedStep freeStep stepOf copiedEntry copiedEntries copiedBlock putCounts finishImage deskFramed imageBlocks imageAllowed isRunning blocksFit deskFits lacksAddresses imageFits notesFit hasSlot slotNames inodeNamed outcome next run started start step isCopied noteMade noteTaken cutsImage cutImage zeroed guardOf anyLocked threeGuards startGuards decision live cutEntries clearMarks setMarks
+unfolding fresh desk.deskRestZero allBelow someBelow leadsB count firstFrom first table part splice numAt toBytes putNum wordBytes digit marked withMark withoutMark entryInode isEmpty sameByte sameName nameLength entryName legalEntry entryFor plainByte isDots legalName blockOf putInBlock zeroBlock blocksUsed bytesPlace isLong furtherOf kthBy rowBy putKth putRow freeInode namedBy lowestBy longBut across added grown kept lowestFrom nthFree zeroBlocks putBlocks taken extended cutBlocks headerOf putFree putComplete putHeader headerRestZero kindOf spareOf linksOf sizeOf parentOf putLinks attributeEntry putAttributes addressOf putAddress addressesOf putAddresses inodeOf putInode slots slotAt entryOf slotHasName findSlot slotEmpty emptySlot putEntry clearEntry deskOf putDesk copiedOf putCopied marksOf putMarks markOf setMark clearMark clearNotes sameNames namingB newNameB entryB attributesB addressesB zeroTailB inodeB countedB leadB isSlot entryAt filled naming allowed deskAllowed framedB headerB freeCountsB blankBlockB blanksB bodyB isSound enter created written dropLink unlinked setParent moved putFile addBlock putSize zeroRest cutTo isKind zeroInode lessFree moreFree createPlan writePlan shortenPlan holdsNone unlinkPlan isBelow renameTo renamePlan roomIn makeRoom freshHeader emptyRoot freshStore freshDesk startImage startDesk nextInode targetBlock lockedStep freeStep stepOf copiedEntry copiedEntries copiedBlock putCounts finishImage deskFramed imageBlocks imageAllowed isRunning blocksFit deskFits lacksAddresses imageFits notesFit hasSlot slotNames inodeNamed outcome next run started start step isCopied noteMade noteTaken cutsImage cutImage zeroed guardOf locksAny threeGuards startGuards decision live cutEntries clearMarks setMarks
 begins = refl
 
 opening : Opens (fresh 3 13)
 opening = opens (fresh 3 13) begins
 
 going : Going 3 13 (next starts (fresh 3 13))
-unfolding fresh desk.deskRestZero allBelow someBelow leadsB count firstFrom first table part splice numAt toBytes putNum wordBytes digit marked withMark withoutMark entryInode isEmpty sameByte sameName nameLength entryName legalEntry entryFor plainByte isDots legalName blockOf putInBlock zeroBlock blocksUsed bytesPlace isLong furtherOf kthBy rowBy putKth putRow freeInode namedBy lowestBy longBut across added grown kept lowestFrom nthFree zeroBlocks putBlocks taken extended cutBlocks headerOf putFree putComplete putHeader headerRestZero kindOf spareOf linksOf sizeOf parentOf putLinks attributeEntry putAttributes addressOf putAddress addressesOf putAddresses inodeOf putInode slots slotAt entryOf slotHasName findSlot slotEmpty emptySlot putEntry clearEntry deskOf putDesk copiedOf putCopied marksOf putMarks markOf setMark clearMark clearNotes sameNames namingB newNameB entryB attributesB addressesB zeroTailB inodeB countedB leadB isSlot entryAt filled naming allowed deskAllowed framedB headerB freeCountsB blankBlockB blanksB bodyB isSound enter created written dropLink unlinked setParent moved putFile addBlock putSize zeroRest cutTo isKind zeroInode lessFree moreFree createPlan writePlan shortenPlan holdsNone unlinkPlan isBelow renameTo renamePlan roomIn makeRoom freshHeader emptyRoot freshStore freshDesk isLocked startImage startDesk nextInode targetBlock lockedStep freeStep stepOf copiedEntry copiedEntries copiedBlock putCounts finishImage deskFramed imageBlocks imageAllowed isRunning blocksFit deskFits lacksAddresses imageFits notesFit hasSlot slotNames inodeNamed outcome next run started start step isCopied noteMade noteTaken cutsImage cutImage zeroed guardOf anyLocked threeGuards startGuards decision live cutEntries clearMarks setMarks
+unfolding fresh desk.deskRestZero allBelow someBelow leadsB count firstFrom first table part splice numAt toBytes putNum wordBytes digit marked withMark withoutMark entryInode isEmpty sameByte sameName nameLength entryName legalEntry entryFor plainByte isDots legalName blockOf putInBlock zeroBlock blocksUsed bytesPlace isLong furtherOf kthBy rowBy putKth putRow freeInode namedBy lowestBy longBut across added grown kept lowestFrom nthFree zeroBlocks putBlocks taken extended cutBlocks headerOf putFree putComplete putHeader headerRestZero kindOf spareOf linksOf sizeOf parentOf putLinks attributeEntry putAttributes addressOf putAddress addressesOf putAddresses inodeOf putInode slots slotAt entryOf slotHasName findSlot slotEmpty emptySlot putEntry clearEntry deskOf putDesk copiedOf putCopied marksOf putMarks markOf setMark clearMark clearNotes sameNames namingB newNameB entryB attributesB addressesB zeroTailB inodeB countedB leadB isSlot entryAt filled naming allowed deskAllowed framedB headerB freeCountsB blankBlockB blanksB bodyB isSound enter created written dropLink unlinked setParent moved putFile addBlock putSize zeroRest cutTo isKind zeroInode lessFree moreFree createPlan writePlan shortenPlan holdsNone unlinkPlan isBelow renameTo renamePlan roomIn makeRoom freshHeader emptyRoot freshStore freshDesk startImage startDesk nextInode targetBlock lockedStep freeStep stepOf copiedEntry copiedEntries copiedBlock putCounts finishImage deskFramed imageBlocks imageAllowed isRunning blocksFit deskFits lacksAddresses imageFits notesFit hasSlot slotNames inodeNamed outcome next run started start step isCopied noteMade noteTaken cutsImage cutImage zeroed guardOf locksAny threeGuards startGuards decision live cutEntries clearMarks setMarks
 going = runs (opened-runs 3 13 (fresh 3 13) opening refl refl .runs)
 
 -- entries of file 2 by the names of one byte from a on
@@ -107,31 +107,31 @@ rootWith k c marks = record {
 }
 
 to-12 : behindAll (entered 12) (opened (fresh 3 13)) ≡ rootWith 12 3 (255 ∷ 15 ∷ 0 ∷ 0 ∷ 0 ∷ 0 ∷ 0 ∷ 0 ∷ [])
-unfolding fresh desk.deskRestZero allBelow someBelow leadsB count firstFrom first table part splice numAt toBytes putNum wordBytes digit marked withMark withoutMark entryInode isEmpty sameByte sameName nameLength entryName legalEntry entryFor plainByte isDots legalName blockOf putInBlock zeroBlock blocksUsed bytesPlace isLong furtherOf kthBy rowBy putKth putRow freeInode namedBy lowestBy longBut across added grown kept lowestFrom nthFree zeroBlocks putBlocks taken extended cutBlocks headerOf putFree putComplete putHeader headerRestZero kindOf spareOf linksOf sizeOf parentOf putLinks attributeEntry putAttributes addressOf putAddress addressesOf putAddresses inodeOf putInode slots slotAt entryOf slotHasName findSlot slotEmpty emptySlot putEntry clearEntry deskOf putDesk copiedOf putCopied marksOf putMarks markOf setMark clearMark clearNotes sameNames namingB newNameB entryB attributesB addressesB zeroTailB inodeB countedB leadB isSlot entryAt filled naming allowed deskAllowed framedB headerB freeCountsB blankBlockB blanksB bodyB isSound enter created written dropLink unlinked setParent moved putFile addBlock putSize zeroRest cutTo isKind zeroInode lessFree moreFree createPlan writePlan shortenPlan holdsNone unlinkPlan isBelow renameTo renamePlan roomIn makeRoom freshHeader emptyRoot freshStore freshDesk isLocked startImage startDesk nextInode targetBlock lockedStep freeStep stepOf copiedEntry copiedEntries copiedBlock putCounts finishImage deskFramed imageBlocks imageAllowed isRunning blocksFit deskFits lacksAddresses imageFits notesFit hasSlot slotNames inodeNamed outcome next run started start step isCopied noteMade noteTaken cutsImage cutImage zeroed guardOf anyLocked threeGuards startGuards decision live cutEntries clearMarks setMarks entered linkedFrom linked linkPlan behind behindAll entriesFrom rootWith joined inodeIs pairs
+unfolding fresh desk.deskRestZero allBelow someBelow leadsB count firstFrom first table part splice numAt toBytes putNum wordBytes digit marked withMark withoutMark entryInode isEmpty sameByte sameName nameLength entryName legalEntry entryFor plainByte isDots legalName blockOf putInBlock zeroBlock blocksUsed bytesPlace isLong furtherOf kthBy rowBy putKth putRow freeInode namedBy lowestBy longBut across added grown kept lowestFrom nthFree zeroBlocks putBlocks taken extended cutBlocks headerOf putFree putComplete putHeader headerRestZero kindOf spareOf linksOf sizeOf parentOf putLinks attributeEntry putAttributes addressOf putAddress addressesOf putAddresses inodeOf putInode slots slotAt entryOf slotHasName findSlot slotEmpty emptySlot putEntry clearEntry deskOf putDesk copiedOf putCopied marksOf putMarks markOf setMark clearMark clearNotes sameNames namingB newNameB entryB attributesB addressesB zeroTailB inodeB countedB leadB isSlot entryAt filled naming allowed deskAllowed framedB headerB freeCountsB blankBlockB blanksB bodyB isSound enter created written dropLink unlinked setParent moved putFile addBlock putSize zeroRest cutTo isKind zeroInode lessFree moreFree createPlan writePlan shortenPlan holdsNone unlinkPlan isBelow renameTo renamePlan roomIn makeRoom freshHeader emptyRoot freshStore freshDesk startImage startDesk nextInode targetBlock lockedStep freeStep stepOf copiedEntry copiedEntries copiedBlock putCounts finishImage deskFramed imageBlocks imageAllowed isRunning blocksFit deskFits lacksAddresses imageFits notesFit hasSlot slotNames inodeNamed outcome next run started start step isCopied noteMade noteTaken cutsImage cutImage zeroed guardOf locksAny threeGuards startGuards decision live cutEntries clearMarks setMarks entered linkedFrom linked linkPlan behind behindAll entriesFrom rootWith joined inodeIs pairs
 to-12 = refl
 
 to-24 : behindAll (linkedFrom 109 12) (rootWith 12 3 (255 ∷ 15 ∷ 0 ∷ 0 ∷ 0 ∷ 0 ∷ 0 ∷ 0 ∷ [])) ≡ rootWith 24 6 (255 ∷ 255 ∷ 255 ∷ 0 ∷ 0 ∷ 0 ∷ 0 ∷ 0 ∷ [])
-unfolding fresh desk.deskRestZero allBelow someBelow leadsB count firstFrom first table part splice numAt toBytes putNum wordBytes digit marked withMark withoutMark entryInode isEmpty sameByte sameName nameLength entryName legalEntry entryFor plainByte isDots legalName blockOf putInBlock zeroBlock blocksUsed bytesPlace isLong furtherOf kthBy rowBy putKth putRow freeInode namedBy lowestBy longBut across added grown kept lowestFrom nthFree zeroBlocks putBlocks taken extended cutBlocks headerOf putFree putComplete putHeader headerRestZero kindOf spareOf linksOf sizeOf parentOf putLinks attributeEntry putAttributes addressOf putAddress addressesOf putAddresses inodeOf putInode slots slotAt entryOf slotHasName findSlot slotEmpty emptySlot putEntry clearEntry deskOf putDesk copiedOf putCopied marksOf putMarks markOf setMark clearMark clearNotes sameNames namingB newNameB entryB attributesB addressesB zeroTailB inodeB countedB leadB isSlot entryAt filled naming allowed deskAllowed framedB headerB freeCountsB blankBlockB blanksB bodyB isSound enter created written dropLink unlinked setParent moved putFile addBlock putSize zeroRest cutTo isKind zeroInode lessFree moreFree createPlan writePlan shortenPlan holdsNone unlinkPlan isBelow renameTo renamePlan roomIn makeRoom freshHeader emptyRoot freshStore freshDesk isLocked startImage startDesk nextInode targetBlock lockedStep freeStep stepOf copiedEntry copiedEntries copiedBlock putCounts finishImage deskFramed imageBlocks imageAllowed isRunning blocksFit deskFits lacksAddresses imageFits notesFit hasSlot slotNames inodeNamed outcome next run started start step isCopied noteMade noteTaken cutsImage cutImage zeroed guardOf anyLocked threeGuards startGuards decision live cutEntries clearMarks setMarks entered linkedFrom linked linkPlan behind behindAll entriesFrom rootWith joined inodeIs pairs
+unfolding fresh desk.deskRestZero allBelow someBelow leadsB count firstFrom first table part splice numAt toBytes putNum wordBytes digit marked withMark withoutMark entryInode isEmpty sameByte sameName nameLength entryName legalEntry entryFor plainByte isDots legalName blockOf putInBlock zeroBlock blocksUsed bytesPlace isLong furtherOf kthBy rowBy putKth putRow freeInode namedBy lowestBy longBut across added grown kept lowestFrom nthFree zeroBlocks putBlocks taken extended cutBlocks headerOf putFree putComplete putHeader headerRestZero kindOf spareOf linksOf sizeOf parentOf putLinks attributeEntry putAttributes addressOf putAddress addressesOf putAddresses inodeOf putInode slots slotAt entryOf slotHasName findSlot slotEmpty emptySlot putEntry clearEntry deskOf putDesk copiedOf putCopied marksOf putMarks markOf setMark clearMark clearNotes sameNames namingB newNameB entryB attributesB addressesB zeroTailB inodeB countedB leadB isSlot entryAt filled naming allowed deskAllowed framedB headerB freeCountsB blankBlockB blanksB bodyB isSound enter created written dropLink unlinked setParent moved putFile addBlock putSize zeroRest cutTo isKind zeroInode lessFree moreFree createPlan writePlan shortenPlan holdsNone unlinkPlan isBelow renameTo renamePlan roomIn makeRoom freshHeader emptyRoot freshStore freshDesk startImage startDesk nextInode targetBlock lockedStep freeStep stepOf copiedEntry copiedEntries copiedBlock putCounts finishImage deskFramed imageBlocks imageAllowed isRunning blocksFit deskFits lacksAddresses imageFits notesFit hasSlot slotNames inodeNamed outcome next run started start step isCopied noteMade noteTaken cutsImage cutImage zeroed guardOf locksAny threeGuards startGuards decision live cutEntries clearMarks setMarks entered linkedFrom linked linkPlan behind behindAll entriesFrom rootWith joined inodeIs pairs
 to-24 = refl
 
 to-34 : behindAll (linkedFrom 121 10) (rootWith 24 6 (255 ∷ 255 ∷ 255 ∷ 0 ∷ 0 ∷ 0 ∷ 0 ∷ 0 ∷ [])) ≡ rootWith 34 9 (255 ∷ 255 ∷ 255 ∷ 255 ∷ 3 ∷ 0 ∷ 0 ∷ 0 ∷ [])
-unfolding fresh desk.deskRestZero allBelow someBelow leadsB count firstFrom first table part splice numAt toBytes putNum wordBytes digit marked withMark withoutMark entryInode isEmpty sameByte sameName nameLength entryName legalEntry entryFor plainByte isDots legalName blockOf putInBlock zeroBlock blocksUsed bytesPlace isLong furtherOf kthBy rowBy putKth putRow freeInode namedBy lowestBy longBut across added grown kept lowestFrom nthFree zeroBlocks putBlocks taken extended cutBlocks headerOf putFree putComplete putHeader headerRestZero kindOf spareOf linksOf sizeOf parentOf putLinks attributeEntry putAttributes addressOf putAddress addressesOf putAddresses inodeOf putInode slots slotAt entryOf slotHasName findSlot slotEmpty emptySlot putEntry clearEntry deskOf putDesk copiedOf putCopied marksOf putMarks markOf setMark clearMark clearNotes sameNames namingB newNameB entryB attributesB addressesB zeroTailB inodeB countedB leadB isSlot entryAt filled naming allowed deskAllowed framedB headerB freeCountsB blankBlockB blanksB bodyB isSound enter created written dropLink unlinked setParent moved putFile addBlock putSize zeroRest cutTo isKind zeroInode lessFree moreFree createPlan writePlan shortenPlan holdsNone unlinkPlan isBelow renameTo renamePlan roomIn makeRoom freshHeader emptyRoot freshStore freshDesk isLocked startImage startDesk nextInode targetBlock lockedStep freeStep stepOf copiedEntry copiedEntries copiedBlock putCounts finishImage deskFramed imageBlocks imageAllowed isRunning blocksFit deskFits lacksAddresses imageFits notesFit hasSlot slotNames inodeNamed outcome next run started start step isCopied noteMade noteTaken cutsImage cutImage zeroed guardOf anyLocked threeGuards startGuards decision live cutEntries clearMarks setMarks entered linkedFrom linked linkPlan behind behindAll entriesFrom rootWith joined inodeIs pairs
+unfolding fresh desk.deskRestZero allBelow someBelow leadsB count firstFrom first table part splice numAt toBytes putNum wordBytes digit marked withMark withoutMark entryInode isEmpty sameByte sameName nameLength entryName legalEntry entryFor plainByte isDots legalName blockOf putInBlock zeroBlock blocksUsed bytesPlace isLong furtherOf kthBy rowBy putKth putRow freeInode namedBy lowestBy longBut across added grown kept lowestFrom nthFree zeroBlocks putBlocks taken extended cutBlocks headerOf putFree putComplete putHeader headerRestZero kindOf spareOf linksOf sizeOf parentOf putLinks attributeEntry putAttributes addressOf putAddress addressesOf putAddresses inodeOf putInode slots slotAt entryOf slotHasName findSlot slotEmpty emptySlot putEntry clearEntry deskOf putDesk copiedOf putCopied marksOf putMarks markOf setMark clearMark clearNotes sameNames namingB newNameB entryB attributesB addressesB zeroTailB inodeB countedB leadB isSlot entryAt filled naming allowed deskAllowed framedB headerB freeCountsB blankBlockB blanksB bodyB isSound enter created written dropLink unlinked setParent moved putFile addBlock putSize zeroRest cutTo isKind zeroInode lessFree moreFree createPlan writePlan shortenPlan holdsNone unlinkPlan isBelow renameTo renamePlan roomIn makeRoom freshHeader emptyRoot freshStore freshDesk startImage startDesk nextInode targetBlock lockedStep freeStep stepOf copiedEntry copiedEntries copiedBlock putCounts finishImage deskFramed imageBlocks imageAllowed isRunning blocksFit deskFits lacksAddresses imageFits notesFit hasSlot slotNames inodeNamed outcome next run started start step isCopied noteMade noteTaken cutsImage cutImage zeroed guardOf locksAny threeGuards startGuards decision live cutEntries clearMarks setMarks entered linkedFrom linked linkPlan behind behindAll entriesFrom rootWith joined inodeIs pairs
 to-34 = refl
 
 to-44 : behindAll (linkedFrom 131 10) (rootWith 34 9 (255 ∷ 255 ∷ 255 ∷ 255 ∷ 3 ∷ 0 ∷ 0 ∷ 0 ∷ [])) ≡ rootWith 44 11 (255 ∷ 255 ∷ 255 ∷ 255 ∷ 255 ∷ 15 ∷ 0 ∷ 0 ∷ [])
-unfolding fresh desk.deskRestZero allBelow someBelow leadsB count firstFrom first table part splice numAt toBytes putNum wordBytes digit marked withMark withoutMark entryInode isEmpty sameByte sameName nameLength entryName legalEntry entryFor plainByte isDots legalName blockOf putInBlock zeroBlock blocksUsed bytesPlace isLong furtherOf kthBy rowBy putKth putRow freeInode namedBy lowestBy longBut across added grown kept lowestFrom nthFree zeroBlocks putBlocks taken extended cutBlocks headerOf putFree putComplete putHeader headerRestZero kindOf spareOf linksOf sizeOf parentOf putLinks attributeEntry putAttributes addressOf putAddress addressesOf putAddresses inodeOf putInode slots slotAt entryOf slotHasName findSlot slotEmpty emptySlot putEntry clearEntry deskOf putDesk copiedOf putCopied marksOf putMarks markOf setMark clearMark clearNotes sameNames namingB newNameB entryB attributesB addressesB zeroTailB inodeB countedB leadB isSlot entryAt filled naming allowed deskAllowed framedB headerB freeCountsB blankBlockB blanksB bodyB isSound enter created written dropLink unlinked setParent moved putFile addBlock putSize zeroRest cutTo isKind zeroInode lessFree moreFree createPlan writePlan shortenPlan holdsNone unlinkPlan isBelow renameTo renamePlan roomIn makeRoom freshHeader emptyRoot freshStore freshDesk isLocked startImage startDesk nextInode targetBlock lockedStep freeStep stepOf copiedEntry copiedEntries copiedBlock putCounts finishImage deskFramed imageBlocks imageAllowed isRunning blocksFit deskFits lacksAddresses imageFits notesFit hasSlot slotNames inodeNamed outcome next run started start step isCopied noteMade noteTaken cutsImage cutImage zeroed guardOf anyLocked threeGuards startGuards decision live cutEntries clearMarks setMarks entered linkedFrom linked linkPlan behind behindAll entriesFrom rootWith joined inodeIs pairs
+unfolding fresh desk.deskRestZero allBelow someBelow leadsB count firstFrom first table part splice numAt toBytes putNum wordBytes digit marked withMark withoutMark entryInode isEmpty sameByte sameName nameLength entryName legalEntry entryFor plainByte isDots legalName blockOf putInBlock zeroBlock blocksUsed bytesPlace isLong furtherOf kthBy rowBy putKth putRow freeInode namedBy lowestBy longBut across added grown kept lowestFrom nthFree zeroBlocks putBlocks taken extended cutBlocks headerOf putFree putComplete putHeader headerRestZero kindOf spareOf linksOf sizeOf parentOf putLinks attributeEntry putAttributes addressOf putAddress addressesOf putAddresses inodeOf putInode slots slotAt entryOf slotHasName findSlot slotEmpty emptySlot putEntry clearEntry deskOf putDesk copiedOf putCopied marksOf putMarks markOf setMark clearMark clearNotes sameNames namingB newNameB entryB attributesB addressesB zeroTailB inodeB countedB leadB isSlot entryAt filled naming allowed deskAllowed framedB headerB freeCountsB blankBlockB blanksB bodyB isSound enter created written dropLink unlinked setParent moved putFile addBlock putSize zeroRest cutTo isKind zeroInode lessFree moreFree createPlan writePlan shortenPlan holdsNone unlinkPlan isBelow renameTo renamePlan roomIn makeRoom freshHeader emptyRoot freshStore freshDesk startImage startDesk nextInode targetBlock lockedStep freeStep stepOf copiedEntry copiedEntries copiedBlock putCounts finishImage deskFramed imageBlocks imageAllowed isRunning blocksFit deskFits lacksAddresses imageFits notesFit hasSlot slotNames inodeNamed outcome next run started start step isCopied noteMade noteTaken cutsImage cutImage zeroed guardOf locksAny threeGuards startGuards decision live cutEntries clearMarks setMarks entered linkedFrom linked linkPlan behind behindAll entriesFrom rootWith joined inodeIs pairs
 to-44 = refl
 
 to-45 : behindAll (linkedFrom 141 1) (rootWith 44 11 (255 ∷ 255 ∷ 255 ∷ 255 ∷ 255 ∷ 15 ∷ 0 ∷ 0 ∷ [])) ≡ rootWith 45 12 (255 ∷ 255 ∷ 255 ∷ 255 ∷ 255 ∷ 31 ∷ 0 ∷ 0 ∷ [])
-unfolding fresh desk.deskRestZero allBelow someBelow leadsB count firstFrom first table part splice numAt toBytes putNum wordBytes digit marked withMark withoutMark entryInode isEmpty sameByte sameName nameLength entryName legalEntry entryFor plainByte isDots legalName blockOf putInBlock zeroBlock blocksUsed bytesPlace isLong furtherOf kthBy rowBy putKth putRow freeInode namedBy lowestBy longBut across added grown kept lowestFrom nthFree zeroBlocks putBlocks taken extended cutBlocks headerOf putFree putComplete putHeader headerRestZero kindOf spareOf linksOf sizeOf parentOf putLinks attributeEntry putAttributes addressOf putAddress addressesOf putAddresses inodeOf putInode slots slotAt entryOf slotHasName findSlot slotEmpty emptySlot putEntry clearEntry deskOf putDesk copiedOf putCopied marksOf putMarks markOf setMark clearMark clearNotes sameNames namingB newNameB entryB attributesB addressesB zeroTailB inodeB countedB leadB isSlot entryAt filled naming allowed deskAllowed framedB headerB freeCountsB blankBlockB blanksB bodyB isSound enter created written dropLink unlinked setParent moved putFile addBlock putSize zeroRest cutTo isKind zeroInode lessFree moreFree createPlan writePlan shortenPlan holdsNone unlinkPlan isBelow renameTo renamePlan roomIn makeRoom freshHeader emptyRoot freshStore freshDesk isLocked startImage startDesk nextInode targetBlock lockedStep freeStep stepOf copiedEntry copiedEntries copiedBlock putCounts finishImage deskFramed imageBlocks imageAllowed isRunning blocksFit deskFits lacksAddresses imageFits notesFit hasSlot slotNames inodeNamed outcome next run started start step isCopied noteMade noteTaken cutsImage cutImage zeroed guardOf anyLocked threeGuards startGuards decision live cutEntries clearMarks setMarks entered linkedFrom linked linkPlan behind behindAll entriesFrom rootWith joined inodeIs pairs
+unfolding fresh desk.deskRestZero allBelow someBelow leadsB count firstFrom first table part splice numAt toBytes putNum wordBytes digit marked withMark withoutMark entryInode isEmpty sameByte sameName nameLength entryName legalEntry entryFor plainByte isDots legalName blockOf putInBlock zeroBlock blocksUsed bytesPlace isLong furtherOf kthBy rowBy putKth putRow freeInode namedBy lowestBy longBut across added grown kept lowestFrom nthFree zeroBlocks putBlocks taken extended cutBlocks headerOf putFree putComplete putHeader headerRestZero kindOf spareOf linksOf sizeOf parentOf putLinks attributeEntry putAttributes addressOf putAddress addressesOf putAddresses inodeOf putInode slots slotAt entryOf slotHasName findSlot slotEmpty emptySlot putEntry clearEntry deskOf putDesk copiedOf putCopied marksOf putMarks markOf setMark clearMark clearNotes sameNames namingB newNameB entryB attributesB addressesB zeroTailB inodeB countedB leadB isSlot entryAt filled naming allowed deskAllowed framedB headerB freeCountsB blankBlockB blanksB bodyB isSound enter created written dropLink unlinked setParent moved putFile addBlock putSize zeroRest cutTo isKind zeroInode lessFree moreFree createPlan writePlan shortenPlan holdsNone unlinkPlan isBelow renameTo renamePlan roomIn makeRoom freshHeader emptyRoot freshStore freshDesk startImage startDesk nextInode targetBlock lockedStep freeStep stepOf copiedEntry copiedEntries copiedBlock putCounts finishImage deskFramed imageBlocks imageAllowed isRunning blocksFit deskFits lacksAddresses imageFits notesFit hasSlot slotNames inodeNamed outcome next run started start step isCopied noteMade noteTaken cutsImage cutImage zeroed guardOf locksAny threeGuards startGuards decision live cutEntries clearMarks setMarks entered linkedFrom linked linkPlan behind behindAll entriesFrom rootWith joined inodeIs pairs
 to-45 = refl
 
 to-47 : behindAll (linkedFrom 142 2) (rootWith 45 12 (255 ∷ 255 ∷ 255 ∷ 255 ∷ 255 ∷ 31 ∷ 0 ∷ 0 ∷ [])) ≡ rootWith 47 12 (255 ∷ 255 ∷ 255 ∷ 255 ∷ 255 ∷ 127 ∷ 0 ∷ 0 ∷ [])
-unfolding fresh desk.deskRestZero allBelow someBelow leadsB count firstFrom first table part splice numAt toBytes putNum wordBytes digit marked withMark withoutMark entryInode isEmpty sameByte sameName nameLength entryName legalEntry entryFor plainByte isDots legalName blockOf putInBlock zeroBlock blocksUsed bytesPlace isLong furtherOf kthBy rowBy putKth putRow freeInode namedBy lowestBy longBut across added grown kept lowestFrom nthFree zeroBlocks putBlocks taken extended cutBlocks headerOf putFree putComplete putHeader headerRestZero kindOf spareOf linksOf sizeOf parentOf putLinks attributeEntry putAttributes addressOf putAddress addressesOf putAddresses inodeOf putInode slots slotAt entryOf slotHasName findSlot slotEmpty emptySlot putEntry clearEntry deskOf putDesk copiedOf putCopied marksOf putMarks markOf setMark clearMark clearNotes sameNames namingB newNameB entryB attributesB addressesB zeroTailB inodeB countedB leadB isSlot entryAt filled naming allowed deskAllowed framedB headerB freeCountsB blankBlockB blanksB bodyB isSound enter created written dropLink unlinked setParent moved putFile addBlock putSize zeroRest cutTo isKind zeroInode lessFree moreFree createPlan writePlan shortenPlan holdsNone unlinkPlan isBelow renameTo renamePlan roomIn makeRoom freshHeader emptyRoot freshStore freshDesk isLocked startImage startDesk nextInode targetBlock lockedStep freeStep stepOf copiedEntry copiedEntries copiedBlock putCounts finishImage deskFramed imageBlocks imageAllowed isRunning blocksFit deskFits lacksAddresses imageFits notesFit hasSlot slotNames inodeNamed outcome next run started start step isCopied noteMade noteTaken cutsImage cutImage zeroed guardOf anyLocked threeGuards startGuards decision live cutEntries clearMarks setMarks entered linkedFrom linked linkPlan behind behindAll entriesFrom rootWith joined inodeIs pairs
+unfolding fresh desk.deskRestZero allBelow someBelow leadsB count firstFrom first table part splice numAt toBytes putNum wordBytes digit marked withMark withoutMark entryInode isEmpty sameByte sameName nameLength entryName legalEntry entryFor plainByte isDots legalName blockOf putInBlock zeroBlock blocksUsed bytesPlace isLong furtherOf kthBy rowBy putKth putRow freeInode namedBy lowestBy longBut across added grown kept lowestFrom nthFree zeroBlocks putBlocks taken extended cutBlocks headerOf putFree putComplete putHeader headerRestZero kindOf spareOf linksOf sizeOf parentOf putLinks attributeEntry putAttributes addressOf putAddress addressesOf putAddresses inodeOf putInode slots slotAt entryOf slotHasName findSlot slotEmpty emptySlot putEntry clearEntry deskOf putDesk copiedOf putCopied marksOf putMarks markOf setMark clearMark clearNotes sameNames namingB newNameB entryB attributesB addressesB zeroTailB inodeB countedB leadB isSlot entryAt filled naming allowed deskAllowed framedB headerB freeCountsB blankBlockB blanksB bodyB isSound enter created written dropLink unlinked setParent moved putFile addBlock putSize zeroRest cutTo isKind zeroInode lessFree moreFree createPlan writePlan shortenPlan holdsNone unlinkPlan isBelow renameTo renamePlan roomIn makeRoom freshHeader emptyRoot freshStore freshDesk startImage startDesk nextInode targetBlock lockedStep freeStep stepOf copiedEntry copiedEntries copiedBlock putCounts finishImage deskFramed imageBlocks imageAllowed isRunning blocksFit deskFits lacksAddresses imageFits notesFit hasSlot slotNames inodeNamed outcome next run started start step isCopied noteMade noteTaken cutsImage cutImage zeroed guardOf locksAny threeGuards startGuards decision live cutEntries clearMarks setMarks entered linkedFrom linked linkPlan behind behindAll entriesFrom rootWith joined inodeIs pairs
 to-47 = refl
 
 to-48 : behindAll (linkedFrom 144 1) (rootWith 47 12 (255 ∷ 255 ∷ 255 ∷ 255 ∷ 255 ∷ 127 ∷ 0 ∷ 0 ∷ [])) ≡ rootWith 48 12 (255 ∷ 255 ∷ 255 ∷ 255 ∷ 255 ∷ 255 ∷ 0 ∷ 0 ∷ [])
-unfolding fresh desk.deskRestZero allBelow someBelow leadsB count firstFrom first table part splice numAt toBytes putNum wordBytes digit marked withMark withoutMark entryInode isEmpty sameByte sameName nameLength entryName legalEntry entryFor plainByte isDots legalName blockOf putInBlock zeroBlock blocksUsed bytesPlace isLong furtherOf kthBy rowBy putKth putRow freeInode namedBy lowestBy longBut across added grown kept lowestFrom nthFree zeroBlocks putBlocks taken extended cutBlocks headerOf putFree putComplete putHeader headerRestZero kindOf spareOf linksOf sizeOf parentOf putLinks attributeEntry putAttributes addressOf putAddress addressesOf putAddresses inodeOf putInode slots slotAt entryOf slotHasName findSlot slotEmpty emptySlot putEntry clearEntry deskOf putDesk copiedOf putCopied marksOf putMarks markOf setMark clearMark clearNotes sameNames namingB newNameB entryB attributesB addressesB zeroTailB inodeB countedB leadB isSlot entryAt filled naming allowed deskAllowed framedB headerB freeCountsB blankBlockB blanksB bodyB isSound enter created written dropLink unlinked setParent moved putFile addBlock putSize zeroRest cutTo isKind zeroInode lessFree moreFree createPlan writePlan shortenPlan holdsNone unlinkPlan isBelow renameTo renamePlan roomIn makeRoom freshHeader emptyRoot freshStore freshDesk isLocked startImage startDesk nextInode targetBlock lockedStep freeStep stepOf copiedEntry copiedEntries copiedBlock putCounts finishImage deskFramed imageBlocks imageAllowed isRunning blocksFit deskFits lacksAddresses imageFits notesFit hasSlot slotNames inodeNamed outcome next run started start step isCopied noteMade noteTaken cutsImage cutImage zeroed guardOf anyLocked threeGuards startGuards decision live cutEntries clearMarks setMarks entered linkedFrom linked linkPlan behind behindAll entriesFrom rootWith joined inodeIs pairs
+unfolding fresh desk.deskRestZero allBelow someBelow leadsB count firstFrom first table part splice numAt toBytes putNum wordBytes digit marked withMark withoutMark entryInode isEmpty sameByte sameName nameLength entryName legalEntry entryFor plainByte isDots legalName blockOf putInBlock zeroBlock blocksUsed bytesPlace isLong furtherOf kthBy rowBy putKth putRow freeInode namedBy lowestBy longBut across added grown kept lowestFrom nthFree zeroBlocks putBlocks taken extended cutBlocks headerOf putFree putComplete putHeader headerRestZero kindOf spareOf linksOf sizeOf parentOf putLinks attributeEntry putAttributes addressOf putAddress addressesOf putAddresses inodeOf putInode slots slotAt entryOf slotHasName findSlot slotEmpty emptySlot putEntry clearEntry deskOf putDesk copiedOf putCopied marksOf putMarks markOf setMark clearMark clearNotes sameNames namingB newNameB entryB attributesB addressesB zeroTailB inodeB countedB leadB isSlot entryAt filled naming allowed deskAllowed framedB headerB freeCountsB blankBlockB blanksB bodyB isSound enter created written dropLink unlinked setParent moved putFile addBlock putSize zeroRest cutTo isKind zeroInode lessFree moreFree createPlan writePlan shortenPlan holdsNone unlinkPlan isBelow renameTo renamePlan roomIn makeRoom freshHeader emptyRoot freshStore freshDesk startImage startDesk nextInode targetBlock lockedStep freeStep stepOf copiedEntry copiedEntries copiedBlock putCounts finishImage deskFramed imageBlocks imageAllowed isRunning blocksFit deskFits lacksAddresses imageFits notesFit hasSlot slotNames inodeNamed outcome next run started start step isCopied noteMade noteTaken cutsImage cutImage zeroed guardOf locksAny threeGuards startGuards decision live cutEntries clearMarks setMarks entered linkedFrom linked linkPlan behind behindAll entriesFrom rootWith joined inodeIs pairs
 to-48 = refl
 
 -- together: behind the guards, and so by the calls
@@ -160,19 +160,19 @@ unfolding run
 ran k w e = behind-run 3 13 (entered k) (next starts (fresh 3 13)) going ∙ ap (behindAll (entered k)) (opening .is) ∙ e
 
 eleven : blocksUsed (sizeOf ((rootWith 44 11 (255 ∷ 255 ∷ 255 ∷ 255 ∷ 255 ∷ 15 ∷ 0 ∷ 0 ∷ [])) .store) 1) ≡ 11
-unfolding fresh desk.deskRestZero allBelow someBelow leadsB count firstFrom first table part splice numAt toBytes putNum wordBytes digit marked withMark withoutMark entryInode isEmpty sameByte sameName nameLength entryName legalEntry entryFor plainByte isDots legalName blockOf putInBlock zeroBlock blocksUsed bytesPlace isLong furtherOf kthBy rowBy putKth putRow freeInode namedBy lowestBy longBut across added grown kept lowestFrom nthFree zeroBlocks putBlocks taken extended cutBlocks headerOf putFree putComplete putHeader headerRestZero kindOf spareOf linksOf sizeOf parentOf putLinks attributeEntry putAttributes addressOf putAddress addressesOf putAddresses inodeOf putInode slots slotAt entryOf slotHasName findSlot slotEmpty emptySlot putEntry clearEntry deskOf putDesk copiedOf putCopied marksOf putMarks markOf setMark clearMark clearNotes sameNames namingB newNameB entryB attributesB addressesB zeroTailB inodeB countedB leadB isSlot entryAt filled naming allowed deskAllowed framedB headerB freeCountsB blankBlockB blanksB bodyB isSound enter created written dropLink unlinked setParent moved putFile addBlock putSize zeroRest cutTo isKind zeroInode lessFree moreFree createPlan writePlan shortenPlan holdsNone unlinkPlan isBelow renameTo renamePlan roomIn makeRoom freshHeader emptyRoot freshStore freshDesk isLocked startImage startDesk nextInode targetBlock lockedStep freeStep stepOf copiedEntry copiedEntries copiedBlock putCounts finishImage deskFramed imageBlocks imageAllowed isRunning blocksFit deskFits lacksAddresses imageFits notesFit hasSlot slotNames inodeNamed outcome next run started start step isCopied noteMade noteTaken cutsImage cutImage zeroed guardOf anyLocked threeGuards startGuards decision live cutEntries clearMarks setMarks entered linkedFrom linked linkPlan behind behindAll entriesFrom rootWith joined inodeIs pairs
+unfolding fresh desk.deskRestZero allBelow someBelow leadsB count firstFrom first table part splice numAt toBytes putNum wordBytes digit marked withMark withoutMark entryInode isEmpty sameByte sameName nameLength entryName legalEntry entryFor plainByte isDots legalName blockOf putInBlock zeroBlock blocksUsed bytesPlace isLong furtherOf kthBy rowBy putKth putRow freeInode namedBy lowestBy longBut across added grown kept lowestFrom nthFree zeroBlocks putBlocks taken extended cutBlocks headerOf putFree putComplete putHeader headerRestZero kindOf spareOf linksOf sizeOf parentOf putLinks attributeEntry putAttributes addressOf putAddress addressesOf putAddresses inodeOf putInode slots slotAt entryOf slotHasName findSlot slotEmpty emptySlot putEntry clearEntry deskOf putDesk copiedOf putCopied marksOf putMarks markOf setMark clearMark clearNotes sameNames namingB newNameB entryB attributesB addressesB zeroTailB inodeB countedB leadB isSlot entryAt filled naming allowed deskAllowed framedB headerB freeCountsB blankBlockB blanksB bodyB isSound enter created written dropLink unlinked setParent moved putFile addBlock putSize zeroRest cutTo isKind zeroInode lessFree moreFree createPlan writePlan shortenPlan holdsNone unlinkPlan isBelow renameTo renamePlan roomIn makeRoom freshHeader emptyRoot freshStore freshDesk startImage startDesk nextInode targetBlock lockedStep freeStep stepOf copiedEntry copiedEntries copiedBlock putCounts finishImage deskFramed imageBlocks imageAllowed isRunning blocksFit deskFits lacksAddresses imageFits notesFit hasSlot slotNames inodeNamed outcome next run started start step isCopied noteMade noteTaken cutsImage cutImage zeroed guardOf locksAny threeGuards startGuards decision live cutEntries clearMarks setMarks entered linkedFrom linked linkPlan behind behindAll entriesFrom rootWith joined inodeIs pairs
 eleven = refl
 
 twelve : blocksUsed (sizeOf ((rootWith 45 12 (255 ∷ 255 ∷ 255 ∷ 255 ∷ 255 ∷ 31 ∷ 0 ∷ 0 ∷ [])) .store) 1) ≡ 12
-unfolding fresh desk.deskRestZero allBelow someBelow leadsB count firstFrom first table part splice numAt toBytes putNum wordBytes digit marked withMark withoutMark entryInode isEmpty sameByte sameName nameLength entryName legalEntry entryFor plainByte isDots legalName blockOf putInBlock zeroBlock blocksUsed bytesPlace isLong furtherOf kthBy rowBy putKth putRow freeInode namedBy lowestBy longBut across added grown kept lowestFrom nthFree zeroBlocks putBlocks taken extended cutBlocks headerOf putFree putComplete putHeader headerRestZero kindOf spareOf linksOf sizeOf parentOf putLinks attributeEntry putAttributes addressOf putAddress addressesOf putAddresses inodeOf putInode slots slotAt entryOf slotHasName findSlot slotEmpty emptySlot putEntry clearEntry deskOf putDesk copiedOf putCopied marksOf putMarks markOf setMark clearMark clearNotes sameNames namingB newNameB entryB attributesB addressesB zeroTailB inodeB countedB leadB isSlot entryAt filled naming allowed deskAllowed framedB headerB freeCountsB blankBlockB blanksB bodyB isSound enter created written dropLink unlinked setParent moved putFile addBlock putSize zeroRest cutTo isKind zeroInode lessFree moreFree createPlan writePlan shortenPlan holdsNone unlinkPlan isBelow renameTo renamePlan roomIn makeRoom freshHeader emptyRoot freshStore freshDesk isLocked startImage startDesk nextInode targetBlock lockedStep freeStep stepOf copiedEntry copiedEntries copiedBlock putCounts finishImage deskFramed imageBlocks imageAllowed isRunning blocksFit deskFits lacksAddresses imageFits notesFit hasSlot slotNames inodeNamed outcome next run started start step isCopied noteMade noteTaken cutsImage cutImage zeroed guardOf anyLocked threeGuards startGuards decision live cutEntries clearMarks setMarks entered linkedFrom linked linkPlan behind behindAll entriesFrom rootWith joined inodeIs pairs
+unfolding fresh desk.deskRestZero allBelow someBelow leadsB count firstFrom first table part splice numAt toBytes putNum wordBytes digit marked withMark withoutMark entryInode isEmpty sameByte sameName nameLength entryName legalEntry entryFor plainByte isDots legalName blockOf putInBlock zeroBlock blocksUsed bytesPlace isLong furtherOf kthBy rowBy putKth putRow freeInode namedBy lowestBy longBut across added grown kept lowestFrom nthFree zeroBlocks putBlocks taken extended cutBlocks headerOf putFree putComplete putHeader headerRestZero kindOf spareOf linksOf sizeOf parentOf putLinks attributeEntry putAttributes addressOf putAddress addressesOf putAddresses inodeOf putInode slots slotAt entryOf slotHasName findSlot slotEmpty emptySlot putEntry clearEntry deskOf putDesk copiedOf putCopied marksOf putMarks markOf setMark clearMark clearNotes sameNames namingB newNameB entryB attributesB addressesB zeroTailB inodeB countedB leadB isSlot entryAt filled naming allowed deskAllowed framedB headerB freeCountsB blankBlockB blanksB bodyB isSound enter created written dropLink unlinked setParent moved putFile addBlock putSize zeroRest cutTo isKind zeroInode lessFree moreFree createPlan writePlan shortenPlan holdsNone unlinkPlan isBelow renameTo renamePlan roomIn makeRoom freshHeader emptyRoot freshStore freshDesk startImage startDesk nextInode targetBlock lockedStep freeStep stepOf copiedEntry copiedEntries copiedBlock putCounts finishImage deskFramed imageBlocks imageAllowed isRunning blocksFit deskFits lacksAddresses imageFits notesFit hasSlot slotNames inodeNamed outcome next run started start step isCopied noteMade noteTaken cutsImage cutImage zeroed guardOf locksAny threeGuards startGuards decision live cutEntries clearMarks setMarks entered linkedFrom linked linkPlan behind behindAll entriesFrom rootWith joined inodeIs pairs
 twelve = refl
 
 one-more : outcome (call (create 1 (96 ∷ []) File)) (rootWith 47 12 (255 ∷ 255 ∷ 255 ∷ 255 ∷ 255 ∷ 127 ∷ 0 ∷ 0 ∷ [])) .answer ≡ told (Done 3)
-unfolding fresh desk.deskRestZero allBelow someBelow leadsB count firstFrom first table part splice numAt toBytes putNum wordBytes digit marked withMark withoutMark entryInode isEmpty sameByte sameName nameLength entryName legalEntry entryFor plainByte isDots legalName blockOf putInBlock zeroBlock blocksUsed bytesPlace isLong furtherOf kthBy rowBy putKth putRow freeInode namedBy lowestBy longBut across added grown kept lowestFrom nthFree zeroBlocks putBlocks taken extended cutBlocks headerOf putFree putComplete putHeader headerRestZero kindOf spareOf linksOf sizeOf parentOf putLinks attributeEntry putAttributes addressOf putAddress addressesOf putAddresses inodeOf putInode slots slotAt entryOf slotHasName findSlot slotEmpty emptySlot putEntry clearEntry deskOf putDesk copiedOf putCopied marksOf putMarks markOf setMark clearMark clearNotes sameNames namingB newNameB entryB attributesB addressesB zeroTailB inodeB countedB leadB isSlot entryAt filled naming allowed deskAllowed framedB headerB freeCountsB blankBlockB blanksB bodyB isSound enter created written dropLink unlinked setParent moved putFile addBlock putSize zeroRest cutTo isKind zeroInode lessFree moreFree createPlan writePlan shortenPlan holdsNone unlinkPlan isBelow renameTo renamePlan roomIn makeRoom freshHeader emptyRoot freshStore freshDesk isLocked startImage startDesk nextInode targetBlock lockedStep freeStep stepOf copiedEntry copiedEntries copiedBlock putCounts finishImage deskFramed imageBlocks imageAllowed isRunning blocksFit deskFits lacksAddresses imageFits notesFit hasSlot slotNames inodeNamed outcome next run started start step isCopied noteMade noteTaken cutsImage cutImage zeroed guardOf anyLocked threeGuards startGuards decision live cutEntries clearMarks setMarks entered linkedFrom linked linkPlan behind behindAll entriesFrom rootWith joined inodeIs pairs
+unfolding fresh desk.deskRestZero allBelow someBelow leadsB count firstFrom first table part splice numAt toBytes putNum wordBytes digit marked withMark withoutMark entryInode isEmpty sameByte sameName nameLength entryName legalEntry entryFor plainByte isDots legalName blockOf putInBlock zeroBlock blocksUsed bytesPlace isLong furtherOf kthBy rowBy putKth putRow freeInode namedBy lowestBy longBut across added grown kept lowestFrom nthFree zeroBlocks putBlocks taken extended cutBlocks headerOf putFree putComplete putHeader headerRestZero kindOf spareOf linksOf sizeOf parentOf putLinks attributeEntry putAttributes addressOf putAddress addressesOf putAddresses inodeOf putInode slots slotAt entryOf slotHasName findSlot slotEmpty emptySlot putEntry clearEntry deskOf putDesk copiedOf putCopied marksOf putMarks markOf setMark clearMark clearNotes sameNames namingB newNameB entryB attributesB addressesB zeroTailB inodeB countedB leadB isSlot entryAt filled naming allowed deskAllowed framedB headerB freeCountsB blankBlockB blanksB bodyB isSound enter created written dropLink unlinked setParent moved putFile addBlock putSize zeroRest cutTo isKind zeroInode lessFree moreFree createPlan writePlan shortenPlan holdsNone unlinkPlan isBelow renameTo renamePlan roomIn makeRoom freshHeader emptyRoot freshStore freshDesk startImage startDesk nextInode targetBlock lockedStep freeStep stepOf copiedEntry copiedEntries copiedBlock putCounts finishImage deskFramed imageBlocks imageAllowed isRunning blocksFit deskFits lacksAddresses imageFits notesFit hasSlot slotNames inodeNamed outcome next run started start step isCopied noteMade noteTaken cutsImage cutImage zeroed guardOf locksAny threeGuards startGuards decision live cutEntries clearMarks setMarks entered linkedFrom linked linkPlan behind behindAll entriesFrom rootWith joined inodeIs pairs
 one-more = refl
 
 no-more : outcome (call (create 1 (96 ∷ []) File)) (rootWith 48 12 (255 ∷ 255 ∷ 255 ∷ 255 ∷ 255 ∷ 255 ∷ 0 ∷ 0 ∷ [])) .answer ≡ told (Refused NoSlot)
-unfolding fresh desk.deskRestZero allBelow someBelow leadsB count firstFrom first table part splice numAt toBytes putNum wordBytes digit marked withMark withoutMark entryInode isEmpty sameByte sameName nameLength entryName legalEntry entryFor plainByte isDots legalName blockOf putInBlock zeroBlock blocksUsed bytesPlace isLong furtherOf kthBy rowBy putKth putRow freeInode namedBy lowestBy longBut across added grown kept lowestFrom nthFree zeroBlocks putBlocks taken extended cutBlocks headerOf putFree putComplete putHeader headerRestZero kindOf spareOf linksOf sizeOf parentOf putLinks attributeEntry putAttributes addressOf putAddress addressesOf putAddresses inodeOf putInode slots slotAt entryOf slotHasName findSlot slotEmpty emptySlot putEntry clearEntry deskOf putDesk copiedOf putCopied marksOf putMarks markOf setMark clearMark clearNotes sameNames namingB newNameB entryB attributesB addressesB zeroTailB inodeB countedB leadB isSlot entryAt filled naming allowed deskAllowed framedB headerB freeCountsB blankBlockB blanksB bodyB isSound enter created written dropLink unlinked setParent moved putFile addBlock putSize zeroRest cutTo isKind zeroInode lessFree moreFree createPlan writePlan shortenPlan holdsNone unlinkPlan isBelow renameTo renamePlan roomIn makeRoom freshHeader emptyRoot freshStore freshDesk isLocked startImage startDesk nextInode targetBlock lockedStep freeStep stepOf copiedEntry copiedEntries copiedBlock putCounts finishImage deskFramed imageBlocks imageAllowed isRunning blocksFit deskFits lacksAddresses imageFits notesFit hasSlot slotNames inodeNamed outcome next run started start step isCopied noteMade noteTaken cutsImage cutImage zeroed guardOf anyLocked threeGuards startGuards decision live cutEntries clearMarks setMarks entered linkedFrom linked linkPlan behind behindAll entriesFrom rootWith joined inodeIs pairs
+unfolding fresh desk.deskRestZero allBelow someBelow leadsB count firstFrom first table part splice numAt toBytes putNum wordBytes digit marked withMark withoutMark entryInode isEmpty sameByte sameName nameLength entryName legalEntry entryFor plainByte isDots legalName blockOf putInBlock zeroBlock blocksUsed bytesPlace isLong furtherOf kthBy rowBy putKth putRow freeInode namedBy lowestBy longBut across added grown kept lowestFrom nthFree zeroBlocks putBlocks taken extended cutBlocks headerOf putFree putComplete putHeader headerRestZero kindOf spareOf linksOf sizeOf parentOf putLinks attributeEntry putAttributes addressOf putAddress addressesOf putAddresses inodeOf putInode slots slotAt entryOf slotHasName findSlot slotEmpty emptySlot putEntry clearEntry deskOf putDesk copiedOf putCopied marksOf putMarks markOf setMark clearMark clearNotes sameNames namingB newNameB entryB attributesB addressesB zeroTailB inodeB countedB leadB isSlot entryAt filled naming allowed deskAllowed framedB headerB freeCountsB blankBlockB blanksB bodyB isSound enter created written dropLink unlinked setParent moved putFile addBlock putSize zeroRest cutTo isKind zeroInode lessFree moreFree createPlan writePlan shortenPlan holdsNone unlinkPlan isBelow renameTo renamePlan roomIn makeRoom freshHeader emptyRoot freshStore freshDesk startImage startDesk nextInode targetBlock lockedStep freeStep stepOf copiedEntry copiedEntries copiedBlock putCounts finishImage deskFramed imageBlocks imageAllowed isRunning blocksFit deskFits lacksAddresses imageFits notesFit hasSlot slotNames inodeNamed outcome next run started start step isCopied noteMade noteTaken cutsImage cutImage zeroed guardOf locksAny threeGuards startGuards decision live cutEntries clearMarks setMarks entered linkedFrom linked linkPlan behind behindAll entriesFrom rootWith joined inodeIs pairs
 no-more = refl
 
 pub twelfth-block : (blocksUsed (sizeOf (run (starts ∷ entered 44) (fresh 3 13) .store) 1) ≡ 11)

@@ -15,6 +15,7 @@ use Rattle.names.specs.Name.{nameBytes, slash, legalName}
 use Rattle.directory.specs.Slot.{mostSlots, slots, findSlot, emptySlot, slotEmpty}
 use Rattle.desk.specs.Sizes.{finished}
 use Rattle.desk.specs.Desk.{deskOf}
+use Rattle.desk.specs.Next.{locks}
 use Rattle.answers.specs.declared.Refusal.the-variants.{IllegalName, PastEnd, NoSlot, WrongState, IntoItself}
 use Rattle.answers.specs.Told.{told}
 use Rattle.answers.specs.declared.Answer.the-variants.{Done, Refused}
@@ -25,7 +26,6 @@ use Rattle.entries.specs.declared.Kind.{Kind}
 use Rattle.entries.specs.declared.Kind.the-variants.{File}
 use Rattle.files.specs.Effect.{create, write, rename}
 use Rattle.checkpoint.specs.Fit.{isRunning}
-use Rattle.checkpoint.specs.Busy.{isLocked}
 use Rattle.checkpoint.specs.Live.{World}
 use Rattle.checkpoint.specs.List.{Ready, call, advances, starts, outcome, next, run, Finish}
 use Rattle.cases.specs.Worlds.{fresh, nameA, oneFile, tenBytes, entered, reusedBlock, overTheEdge, movedDirectory, unlinkedFile, parentAndChild}
@@ -42,7 +42,7 @@ pub record Writes (w : World) (i o : ℕ) (xs : List ℕ) : Type 0 where
   pub ready : Ready w
   pub file : isFile (w .store) (inodes w) i ≡ true
   pub free : (z : ℕ) → z ≤ mostFileBytes → blocksUsed z - blocksUsed (sizeOf (w .store) i) ≤ headerOf (w .store) .«free_blocks»
-  pub idle : isLocked (w .desk) i ≡ false
+  pub idle : locks (deskOf (w .desk)) i ≡ false
 
 -- a create of a new name in the directory d, of no locked inode, with an inode to be had
 pub record Creates (w : World) (d : ℕ) (name : List ℕ) : Type 0 where
@@ -51,7 +51,7 @@ pub record Creates (w : World) (d : ℕ) (name : List ℕ) : Type 0 where
   pub new : findSlot (w .store) (inodes w) d name ≡ Absent
   pub inode : ℕ
   pub free : freeInode (w .store) (inodes w) ≡ At inode
-  pub idle : isLocked (w .desk) d ≡ false
+  pub idle : locks (deskOf (w .desk)) d ≡ false
 
 pub record TrackCases : Type 0 where
   -- "N 1, empty root: three steps finish."

@@ -30,7 +30,7 @@ use Rattle.sound.specs.Sound.{inodesIn, blocksIn, Framed, limitOf, blankOf}
 use Rattle.sound.proofs.FactLaws.{limit-few}
 use Rattle.sound.proofs.SoundLaws.{framed, inode-sound, size-directory, entry-sound, counted-is, climbs}
 use Rattle.sound.specs.Test.{inodeB, entryB, countedB, leadB, framedB, headerB, freeCountsB, blankBlockB, blanksB, bodyB, isSound}
-use Rattle.inodes.specs.Pass.{MapsOf}
+use Rattle.check_inodes.specs.Pass.{MapsOf}
 use Rattle.sound.specs.declared.Form.the-variants.{Image}
 use Rattle.sound.specs.declared.Form.{Form}
 

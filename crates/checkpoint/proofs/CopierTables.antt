@@ -17,14 +17,13 @@ use Rattle.layout.specs.Sizes.{rootInode}
 use Rattle.layout.specs.Inode.{sizeOf}
 use Rattle.blocks.specs.Block.{blocksUsed, isLong, kthBlock}
 use Rattle.blocks.specs.Free.{namedBy, lowestBy, longBut}
-use Rattle.desk.specs.Desk.{deskOf}
+use Rattle.desk.specs.Desk.{deskOf, isCopied}
 use Rattle.sound.specs.Sound.{inodesIn}
 use Rattle.answers.specs.declared.Refusal.the-variants.{WrongState, ImageFull}
 use Rattle.answers.specs.declared.Answer.{Answer}
 use Rattle.answers.specs.declared.Answer.the-variants.{Done}
 use Rattle.answers.specs.Order.{row, firstOf}
 use Rattle.checkpoint.specs.Fit.{isRunning, allFramed}
-use Rattle.checkpoint.specs.Notes.{isCopied}
 use Rattle.checkpoint.specs.Copier.{targetBlock, stepOf, lock, copy, close, finish, full, lockedStep, freeStep, nextInode}
 use Rattle.checkpoint.specs.Live.{Outcome, left, refuse, doStep, started, start, step, status}
 use Rattle.checkpoint.proofs.DecisionLaws.{asStatus, status-is, start-is}

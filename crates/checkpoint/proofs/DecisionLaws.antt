@@ -1,14 +1,15 @@
 -- What a live file call is decided to do, for all calls at once: as the plain one, or the copy is in the way, or a guard refuses; and what holds of each planned effect holds of it.
 use Prim.Native.Nat.{ℕ}
 use mathlib.Core.Path.{_≡_, refl, sym, _∙_}
-use mathlib.Core.Logic.{⊎-elim}
 use mathlib.Core.Bool.{Bool, true, false, not, _&&_, _||_}
 use mathlib.Core.List.{List, [], _∷_}
 use borrow.Author.Tests.{eq-eqb}
 use lib.Dec.{eqb}
 use Rattle.bounded.specs.Search.{pick}
-use Rattle.bounded.proofs.BoolLaws.{clash, and-left, or-l, or-cases, or-false-r}
+use Rattle.bounded.proofs.BoolLaws.{clash, holds, or-l, or-false-r}
 use Rattle.desk.specs.Desk.{deskOf}
+use Rattle.desk.specs.Next.{locks, locksAny}
+use Rattle.desk.proofs.LockLaws.{locks-none}
 use Rattle.sound.specs.Sound.{inodesIn, blocksIn}
 use Rattle.sound.specs.declared.Form.the-variants.{Store}
 use Rattle.sound.specs.Test.{framedB, isSound}
@@ -25,7 +26,7 @@ use Rattle.files.proofs.Lawful.{Apart, Each}
 use Rattle.checkpoint.specs.declared.Status.{Status}
 use Rattle.checkpoint.specs.declared.Status.the-variants.{Is, NoStatus}
 use Rattle.checkpoint.specs.Fit.{deskFramed, isRunning, notesFit, bothFramed, allFramed}
-use Rattle.checkpoint.specs.Busy.{isLocked, anyLocked, unlessBusy}
+use Rattle.checkpoint.specs.Busy.{anyLocked, unlessBusy}
 use Rattle.checkpoint.specs.Live.{World, Outcome, left, refuse, threeGuards, storeAlone, decision, leavesIn, live, guarded, status, guardRows, startGuards, started, start}
 use Rattle.checkpoint.specs.Shown.{numberOf}
 use Rattle.checkpoint.specs.List.{Ready, call, outcome, accepted}
@@ -65,9 +66,8 @@ pub data Beside (w : World) (p q : Planned) : Type 0 where
 
 -- a call is busy only while a copy runs
 locked-runs : (d is : List ℕ) → anyLocked d is ≡ true → isRunning d ≡ true
-unfolding anyLocked isLocked
-locked-runs d [] e = absurd (clash false e refl)
-locked-runs d (i ∷ is) e = ⊎-elim (and-left (isRunning d) (eqb (deskOf d .locked) i)) (locked-runs d is) (or-cases (isLocked d i) (anyLocked d is) e)
+unfolding isRunning
+locked-runs d is e = holds (isRunning d) (λ f. clash (anyLocked d is) e (locks-none (deskOf d) _ f))
 
 beside-busy : (w : World) (p : Planned) → Beside w p (unlessBusy (w .desk) p)
 beside-busy w (refused e) = same refl
@@ -137,11 +137,11 @@ module _ (Q : Effect → Type 0) where
 
 -- ---- what an accepted call does, by the laws of its effect
 pub apart-locked : (d is : List ℕ) → isRunning d ≡ true → anyLocked d is ≡ false → Apart (deskOf d .locked) is
-unfolding anyLocked isLocked
+unfolding locksAny isRunning
 apart-locked d [] r e = tt
 apart-locked d (i ∷ is) r e = (
-  λ z. clash (isLocked d i || anyLocked d is) (or-l (isLocked d i) (anyLocked d is) (rw (r, eq-eqb (deskOf d .locked) i z) refl)) e,
-  apart-locked d is r (or-false-r (isLocked d i) (anyLocked d is) e),
+  λ z. clash (locks (deskOf d) i || anyLocked d is) (or-l (locks (deskOf d) i) (anyLocked d is) (rw (r, eq-eqb (deskOf d .locked) i z) refl)) e,
+  apart-locked d is r (or-false-r (locks (deskOf d) i) (anyLocked d is) e),
 )
 
 -- ---- accepted

@@ -31,8 +31,8 @@ use Rattle.desk.proofs.DeskLaws.{length-putDesk, length-putCopied, desk-putDesk
 use Rattle.sound.specs.Sound.{inodesIn}
 use Rattle.sound.specs.declared.Form.the-variants.{Store}
 use Rattle.sound.proofs.SoundLaws.{is-sound}
-use Rattle.changes.proofs.SameLaws.{SameFrame, InInode, frame-stays, same-long}
-use Rattle.changes.proofs.StoreLaws.{sound-store, blocks-of}
+use Rattle.preservation.proofs.SameLaws.{SameFrame, InInode, frame-stays, same-long}
+use Rattle.preservation.proofs.StoreLaws.{sound-store, blocks-of}
 use Rattle.answers.specs.declared.Refusal.the-variants.{BadDesk}
 use Rattle.checkpoint.specs.Fit.{deskFramed, isRunning, mostSteps, blocksFit, imageLong, lacksAddresses, imageFits, notesFit}
 use Rattle.checkpoint.specs.Copier.{lock, copy, close, targetBlock, copiedBlock, stepOf, stepImage, stepDesk}

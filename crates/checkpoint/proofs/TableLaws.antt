@@ -5,6 +5,7 @@ use mathlib.Core.List.{List, [], _∷_}
 use Prim.Native.Nat.{ℕ, _+_, _-_, min, max}
 use lib.Dec.{eqb, ltb}
 use lib.ListN.{length}
+use Rattle.desk.specs.Next.{locksAny}
 use Rattle.bounded.specs.Search.{pick, onFound}
 use Rattle.bounded.specs.declared.Found.{Found}
 use Rattle.bounded.specs.declared.Found.the-variants.{At, Absent}
@@ -68,7 +69,7 @@ module _ (w : World) where
   alone o = left (o .answer) (o .store) (w .image) (w .desk)
 
   pub look-up-alone : (e : ℕ) (name : List ℕ) → live (lookUp e name) w ≡ alone (plain (lookUp e name) (w .store))
-  unfolding live decision plain plainDecision anyLocked cutEntries clearMarks setMarks
+  unfolding live decision plain plainDecision locksAny cutEntries clearMarks setMarks
   look-up-alone e name = go (guardOf (w .store))
     where
       plan : (p : NumberPlan) → leavesIn w (unlessBusy (w .desk) (doLookUp (w .store) p)) ≡ alone (leaves (w .store) [] (doLookUp (w .store) p))
@@ -80,7 +81,7 @@ module _ (w : World) where
       go (Stop f) = refl
 
   pub read-alone : (i o : ℕ) (out : List ℕ) → live (read i o out) w ≡ alone (plain (read i o out) (w .store))
-  unfolding live decision plain plainDecision anyLocked cutEntries clearMarks setMarks
+  unfolding live decision plain plainDecision locksAny cutEntries clearMarks setMarks
   read-alone i o out = go (guardOf (w .store))
     where
       plan : (n : ℕ) (p : NumberPlan) → leavesIn w (unlessBusy (w .desk) (doRead (w .store) n i o out p)) ≡ alone (leaves (w .store) out (doRead (w .store) n i o out p))

@@ -17,11 +17,10 @@ use Rattle.blocks.specs.Free.{namedBy, lowestBy, longBut, blockFree}
 use Rattle.layout.specs.declared.inode.Inode.{Inode}
 use Rattle.names.specs.Entry.{entryBytes, entryInode}
 use Rattle.directory.specs.Slot.{mostSlots, slotsInBlock}
-use Rattle.desk.specs.Desk.{deskOf, putDesk, putCopied, markOf, clearNotes}
+use Rattle.desk.specs.Desk.{deskOf, putDesk, putCopied, markOf, clearNotes, isCopied}
 use Rattle.desk.specs.Next.{starting, locking, copyingOne, unlocking, finishing, stopping}
 use Rattle.checkpoint.specs.Fit.{imageBlocks}
 use Rattle.checkpoint.specs.Image.{imageNaming, inodeNamed}
-use Rattle.checkpoint.specs.Notes.{isCopied}
 
 -- ---- Start
 -- "the image's header (the store's N, block count from the image's length, root 1, the rest 0)", and all zero after it

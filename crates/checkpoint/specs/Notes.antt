@@ -2,17 +2,13 @@
 use Prim.Native.Nat.{ℕ}
 use mathlib.Core.Bool.{Bool, not, _&&_}
 use mathlib.Core.List.{List, [], _∷_}
-use lib.Dec.{eqb, leb}
+use lib.Dec.{eqb}
 use Rattle.bounded.specs.Search.{pick}
-use Rattle.desk.specs.Desk.{copiedOf, setMark, clearMark}
+use Rattle.desk.specs.Desk.{isCopied, setMark, clearMark}
 use Rattle.directory.specs.Slot.{clearEntry}
 use Rattle.files.specs.Effect.{Entry}
 use Rattle.checkpoint.specs.Fit.{isRunning}
 use Rattle.checkpoint.specs.Image.{slotNames}
-
--- inode i, from 1 to n, is copied
-unfoldable pub isCopied : List ℕ → ℕ → ℕ → Bool
-isCopied desk n i = leb 1 i && (leb i n && eqb (copiedOf desk i) 1)
 
 -- an entry was made in slot t of e
 unfoldable pub noteMade : List ℕ → ℕ → ℕ → ℕ → List ℕ

@@ -24,9 +24,9 @@ use Rattle.ledger.specs.Nth.{nthFree}
 use Rattle.ledger.proofs.ChangeLaws.{across-11, added-by, grown-by}
 use Rattle.ledger.proofs.BytesLaws.{used-long}
 use Rattle.sound.specs.Counted.{SoundStore}
-use Rattle.changes.proofs.StoreLaws.{sized-at}
-use Rattle.changes.proofs.KeepLaws.{body-of}
-use Rattle.changes.proofs.RecordLaws.{header-inode}
+use Rattle.preservation.proofs.StoreLaws.{sized-at}
+use Rattle.preservation.proofs.KeepLaws.{body-of}
+use Rattle.preservation.proofs.RecordLaws.{header-inode}
 use Rattle.growth.specs.Extend.{zeroBlocks, putSize, putBlocks, taken, extended, cutBlocks}
 use Rattle.growth.proofs.RowFrame.{row-attributes}
 use Rattle.content.specs.Fits.{byteAt}

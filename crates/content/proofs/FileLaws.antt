@@ -21,10 +21,11 @@ use Rattle.sound.specs.Inode.{InodeSound}
 use Rattle.sound.specs.Sound.{Sound}
 use Rattle.sound.specs.Counted.{SoundStore}
 use Rattle.sound.specs.declared.Form.the-variants.{Store}
-use Rattle.changes.proofs.StoreLaws.{one-at, blocks-of, data-at, kind-some, kind-most, kind-is, kind-of}
-use Rattle.changes.proofs.SameLaws.{same-body, SameInode, SameBlock, InBlock}
-use Rattle.changes.proofs.KeepLaws.{ZeroTail, body-of, inode-like, inode-kept, file-tree, sound-kept}
-use Rattle.changes.proofs.AddressLaws.{same-differ, same-unnamed}
+use Rattle.layout.proofs.KindLaws.{kind-some, kind-most, kind-is, kind-of}
+use Rattle.preservation.proofs.StoreLaws.{one-at, blocks-of, data-at}
+use Rattle.preservation.proofs.SameLaws.{same-body, SameInode, SameBlock, InBlock}
+use Rattle.preservation.proofs.KeepLaws.{ZeroTail, body-of, inode-like, inode-kept, file-tree, sound-kept}
+use Rattle.preservation.proofs.AddressLaws.{same-differ, same-unnamed}
 use Rattle.growth.specs.Extend.{fileByte}
 use Rattle.growth.proofs.FileFrame.{InFile}
 

@@ -35,11 +35,11 @@ use Rattle.sound.proofs.FactLaws.{unnamed}
 use Rattle.sound.proofs.PlaceLaws.{slot-is}
 use Rattle.sound.proofs.SoundLaws.{any-most}
 use Rattle.sound.specs.declared.Form.the-variants.{Store}
-use Rattle.changes.proofs.StoreLaws.{fits, blocks-of, no-one, free-at, dir-short}
-use Rattle.changes.proofs.SameLaws.{same-body, OtherInodes, SameFrame, SameBlock, frame-then, inode-then, zero-block, zero-block-is, put-inode, inode-new, inode-blocks, less-free}
-use Rattle.changes.proofs.KeepLaws.{SamePlace, SameTree, Body, body-of, inode-kept, entry-in, entry-kept, place-slot, place-new, place-kept, slot-kept, changed, sound-kept}
-use Rattle.changes.proofs.AddressLaws.{row-at, unnamed-change}
-use Rattle.changes.proofs.FreeLaws.{FreeBlock}
+use Rattle.preservation.proofs.StoreLaws.{fits, blocks-of, no-one, free-at, dir-short}
+use Rattle.preservation.proofs.SameLaws.{same-body, OtherInodes, SameFrame, SameBlock, frame-then, inode-then, zero-block, zero-block-is, put-inode, inode-new, inode-blocks, less-free}
+use Rattle.preservation.proofs.KeepLaws.{SamePlace, SameTree, Body, body-of, inode-kept, entry-in, entry-kept, place-slot, place-new, place-kept, slot-kept, changed, sound-kept}
+use Rattle.preservation.proofs.AddressLaws.{row-at, unnamed-change}
+use Rattle.preservation.proofs.FreeLaws.{FreeBlock}
 use Rattle.content.specs.Content.{addBlock}
 
 -- block c is the next of inode i in t

@@ -14,8 +14,8 @@ use Rattle.blocks.proofs.KthLaws.{kth-direct, kth-further}
 use Rattle.ledger.proofs.BytesLaws.{used-short, place-short, place-low, place-high}
 use Rattle.sound.specs.Counted.{SoundStore}
 use Rattle.sound.proofs.SoundLaws.{size-directory}
-use Rattle.changes.proofs.StoreLaws.{sized-at, blocks-of}
-use Rattle.changes.proofs.KeepLaws.{body-of}
+use Rattle.preservation.proofs.StoreLaws.{sized-at, blocks-of}
+use Rattle.preservation.proofs.KeepLaws.{body-of}
 use Rattle.content.proofs.FileLaws.{long-over, over-long}
 
 -- ---- the p-th block of bytes of a file

@@ -9,7 +9,7 @@ use Rattle.octets.specs.Octets.{part, splice, pasted}
 use Rattle.octets.proofs.PartLaws.{length-inside, part-all, part-join}
 use Rattle.blocks.specs.Block.{putInBlock, bytesBlock, isLong}
 use Rattle.sound.specs.Sound.{blocksIn}
-use Rattle.changes.proofs.SameLaws.{same-long}
+use Rattle.preservation.proofs.SameLaws.{same-long}
 use Rattle.content.specs.Fits.{byteAt, FileFits}
 use Rattle.content.specs.Content.{putFile}
 use Rattle.content.proofs.FileLaws.{Holds, holds-less, byte-few, same-bytes}

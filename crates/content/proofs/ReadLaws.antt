@@ -17,7 +17,7 @@ use Rattle.layout.specs.Fits.{InodeFits}
 use Rattle.blocks.specs.Block.{blockAt, blockOf, blocksUsed, isLong, kthBlock, bytesBlock}
 use Rattle.ledger.proofs.BytesLaws.{place-high}
 use Rattle.sound.specs.Sound.{blocksIn}
-use Rattle.changes.proofs.StoreLaws.{uncounted, kind-fits, kind-size}
+use Rattle.preservation.proofs.StoreLaws.{uncounted, kind-fits, kind-size}
 use Rattle.growth.specs.Extend.{fileByte}
 use Rattle.content.specs.Fits.{byteAt, FileFits}
 use Rattle.content.specs.Content.{fileBytes}

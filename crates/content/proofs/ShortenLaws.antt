@@ -14,9 +14,9 @@ use Rattle.blocks.specs.Block.{blockAt, blockOf, bytesBlock, putInBlock}
 use Rattle.sound.specs.Sound.{Sound}
 use Rattle.sound.specs.Counted.{SoundStore}
 use Rattle.sound.specs.declared.Form.the-variants.{Store}
-use Rattle.changes.proofs.StoreLaws.{same-counts, blocks-of}
-use Rattle.changes.proofs.SameLaws.{SameInode, InBlock, inode-stays, put-in-block, in-block-in}
-use Rattle.changes.proofs.KeepLaws.{body-of}
+use Rattle.preservation.proofs.StoreLaws.{same-counts, blocks-of}
+use Rattle.preservation.proofs.SameLaws.{SameInode, InBlock, inode-stays, put-in-block, in-block-in}
+use Rattle.preservation.proofs.KeepLaws.{body-of}
 use Rattle.growth.specs.Extend.{fileByte}
 use Rattle.growth.proofs.FileFrame.{InFile, file-stays, file-then}
 use Rattle.growth.proofs.CutLaws.{cut-keeps, cut-file}

@@ -20,10 +20,10 @@ use Rattle.sound.specs.Inode.{InodeSound}
 use Rattle.sound.specs.Sound.{Sound}
 use Rattle.sound.proofs.SoundLaws.{most-file}
 use Rattle.sound.specs.declared.Form.the-variants.{Store}
-use Rattle.changes.proofs.StoreLaws.{fits, same-counts}
-use Rattle.changes.proofs.SameLaws.{InInode, NewInode, put-attributes, attributes-new, attributes-blocks}
-use Rattle.changes.proofs.KeepLaws.{Body, body-of, inode-kept, file-tree, sound-kept}
-use Rattle.changes.proofs.AddressLaws.{same-differ, same-unnamed}
+use Rattle.preservation.proofs.StoreLaws.{fits, same-counts}
+use Rattle.preservation.proofs.SameLaws.{InInode, NewInode, put-attributes, attributes-new, attributes-blocks}
+use Rattle.preservation.proofs.KeepLaws.{Body, body-of, inode-kept, file-tree, sound-kept}
+use Rattle.preservation.proofs.AddressLaws.{same-differ, same-unnamed}
 use Rattle.growth.specs.Extend.{putSize, extended}
 use Rattle.growth.proofs.FileFrame.{InFile}
 use Rattle.growth.proofs.TakenLaws.{taken-keeps, taken-file}

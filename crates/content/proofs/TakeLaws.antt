@@ -28,8 +28,8 @@ use Rattle.ledger.specs.Nth.{lowestFrom, nthFree}
 use Rattle.ledger.proofs.NthLaws.{nth-is}
 use Rattle.ledger.proofs.TallyLaws.{ledger-bound}
 use Rattle.sound.specs.Counted.{SoundStore}
-use Rattle.changes.proofs.StoreLaws.{sized-at, ledger-at, rows-most}
-use Rattle.changes.proofs.KeepLaws.{body-of}
+use Rattle.preservation.proofs.StoreLaws.{sized-at, ledger-at, rows-most}
+use Rattle.preservation.proofs.KeepLaws.{body-of}
 use Rattle.growth.specs.Extend.{zeroBlocks}
 
 -- ---- each inode of a store is long by its own size

@@ -14,9 +14,9 @@ use Rattle.ledger.proofs.BytesLaws.{bytesBlocks}
 use Rattle.sound.specs.Sound.{Sound}
 use Rattle.sound.specs.Counted.{SoundStore}
 use Rattle.sound.specs.declared.Form.the-variants.{Store}
-use Rattle.changes.proofs.StoreLaws.{same-counts, blocks-of, kind-size}
-use Rattle.changes.proofs.SameLaws.{SameFrame, SameInode, InBlock, frame-stays, frame-then, inode-stays, inode-then, put-in-block, in-block-out}
-use Rattle.changes.proofs.KeepLaws.{body-of}
+use Rattle.preservation.proofs.StoreLaws.{same-counts, blocks-of, kind-size}
+use Rattle.preservation.proofs.SameLaws.{SameFrame, SameInode, InBlock, frame-stays, frame-then, inode-stays, inode-then, put-in-block, in-block-out}
+use Rattle.preservation.proofs.KeepLaws.{body-of}
 use Rattle.growth.specs.Extend.{fileByte, extended}
 use Rattle.growth.proofs.FileFrame.{InFile, file-stays, file-then}
 use Rattle.content.specs.declared.NumberPlan.the-variants.{To}

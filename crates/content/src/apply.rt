@@ -7,8 +7,8 @@ ghost use lib.ListN.{length, getD, take, drop};
 ghost use Rattle.bounded.specs.Search.{pick};
 ghost use Rattle.bounded.specs.Table.{table};
 ghost use Rattle.octets.specs.Octets.{splice, wordBytes};
-ghost use Rattle.layout.specs.Sizes.{headerBytes, addressCount, addressPlace, blockBytes, mostBlocks, mostDirectBytes, mostFileBytes, mostImageBlocks};
-ghost use Rattle.layout.specs.Header.{headerOf, lessFree, moreFree};
+ghost use Rattle.layout.specs.Sizes.{addressCount, addressPlace, blockBytes, mostBlocks, mostDirectBytes, mostFileBytes, mostImageBlocks};
+ghost use Rattle.layout.specs.Header.{headerOf};
 ghost use Rattle.layout.specs.Inode.{sizeOf, isFile};
 ghost use Rattle.layout.specs.Fits.{InodeFits};
 ghost use Rattle.blocks.specs.Block.{blockAt, blocksUsed, isLong, kthBlock, bytesBlock};
@@ -33,8 +33,8 @@ use blocks::is_long;
 use blocks::kth_block;
 use blocks::map;
 use blocks::zero_block;
-use layout::header::Header;
-use layout::header::put_free;
+use layout::header::less_free;
+use layout::header::more_free;
 use layout::inode;
 use layout::inode::Inode;
 use layout::sizes::ADDRESS_COUNT;
@@ -118,23 +118,6 @@ fn put_file(s: &mut [u8], n: usize, i: usize, o: usize, xs: &[u8])
         octets::copy_range(&mut *s, p, xs, j, count);
         j = j + count;
     }
-}
-
-// ---- free counts
-pub fn more_free(s: &mut [u8], inodes: u16, blocks: u16)
-    requires { ⌜ (headerBytes ≤ length (now s)) × (headerOf (now s) .«free_inodes» + inodes < 65536) × (headerOf (now s) .«free_blocks» + blocks < 65536) ⌝ }
-    ensures { λ _. ⌜ now (s .exit) ≡ moreFree (now (s .entry)) inodes blocks ⌝ }
-{
-    let h = Header::read(s);
-    put_free(&mut *s, h.free_inodes + inodes, h.free_blocks + blocks);
-}
-
-pub fn less_free(s: &mut [u8], inodes: u16, blocks: u16)
-    requires { ⌜ (headerBytes ≤ length (now s)) × (inodes ≤ headerOf (now s) .«free_inodes») × (blocks ≤ headerOf (now s) .«free_blocks») ⌝ }
-    ensures { λ _. ⌜ now (s .exit) ≡ lessFree (now (s .entry)) inodes blocks ⌝ }
-{
-    let h = Header::read(s);
-    put_free(&mut *s, h.free_inodes - inodes, h.free_blocks - blocks);
 }
 
 // Block c becomes the next of directory i, zeroed first.

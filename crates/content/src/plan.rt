@@ -1,7 +1,6 @@
 // What a read, a write and a shortening are to do, decided before any byte changes. n is the count of inodes.
 ghost use mathlib.Core.Path.{_≡_};
 ghost use Prim.Native.Nat.{min, max};
-ghost use Rattle.layout.specs.Inode.{isKind};
 ghost use Rattle.sound.specs.Sound.{blocksIn};
 ghost use Rattle.sound.specs.Counted.{SoundStore};
 ghost use Rattle.content.specs.Plan.{readPlan, writePlan, shortenPlan};
@@ -10,22 +9,9 @@ use answers::Refusal;
 use blocks::blocks_used;
 use layout::header::Header;
 use layout::inode;
+use layout::inode::is_kind;
 use layout::sizes::FILE;
 use layout::sizes::MOST_FILE_BYTES;
-
-// The number i is an inode of the kind.
-pub fn is_kind(s: &[u8], n: usize, kind: u8, i: usize) -> bool
-    requires { ⌜ SoundStore (now s) n (blocksIn (now s)) ⌝ }
-    ensures { λ r. ⌜ r ≡ isKind (now (s .entry)) n kind i ⌝ }
-{
-    if i < 1 {
-        return false;
-    }
-    if n < i {
-        return false;
-    }
-    inode::kind(s, n, i) == kind
-}
 
 pub fn lesser(a: usize, b: usize) -> usize
     ensures { λ r. ⌜ r ≡ min a b ⌝ }

@@ -1,2 +1,4 @@
+pub mod StartLaws
 pub mod StepLaws
+pub mod FiveLaws
 pub mod ReadyLaws

@@ -18,13 +18,13 @@ use Rattle.desk.specs.Sizes.{deskLength, stepsAnInode}
 use Rattle.desk.specs.Desk.{deskOf}
 use Rattle.desk.specs.declared.Desk.{Desk}
 use Rattle.sound.specs.Sound.{inodesIn}
-use Rattle.changes.proofs.StoreLaws.{sound-store}
+use Rattle.preservation.proofs.StoreLaws.{sound-store}
 use Rattle.checkpoint.specs.Fit.{isRunning, mostSteps, blocksFit, deskFits, imageFits, imageLong, lacksAddresses}
 use Rattle.checkpoint.specs.Shown.{world}
 use Rattle.checkpoint.specs.List.{Ready}
 use Rattle.checkpoint.proofs.Call.LiveLaws.{ready-sound}
 use Rattle.checkpoint.proofs.Copy.FitLaws.{desk-framed-is, desk-fits-is, image-fits-is, notes-fit-is}
-use Rattle.tallies.specs.Addressed.{Addressed}
+use Rattle.image.specs.Addressed.{Addressed}
 use Rattle.blocks.proofs.LongLaws.{but-else, row-direct, fit-flags}
 use Rattle.copier.specs.Held.{Held, Locked, FreeImage, OpenImage}
 

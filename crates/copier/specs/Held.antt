@@ -14,7 +14,7 @@ use Rattle.desk.specs.Desk.{deskOf}
 use Rattle.desk.specs.declared.Desk.{Desk}
 use Rattle.sound.specs.Sound.{blocksIn}
 use Rattle.sound.specs.Counted.{SoundStore}
-use Rattle.tallies.specs.Addressed.{Addressed}
+use Rattle.image.specs.Addressed.{Addressed}
 
 -- h is the header of the desk, and a step more can be counted
 pub record Held (desk : List ℕ) (n : ℕ) (h : Desk) : Type 0 where

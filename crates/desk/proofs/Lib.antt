@@ -1,1 +1,3 @@
 pub mod DeskLaws
+pub mod CopiedLaws
+pub mod LockLaws

@@ -2,7 +2,7 @@
 use Prim.Native.Nat.{ℕ, _*_}
 use mathlib.Core.Bool.{Bool, _&&_}
 use mathlib.Core.List.{List}
-use lib.Dec.{eqb}
+use lib.Dec.{eqb, leb}
 use Rattle.octets.specs.Octets.{numAt, putNum, zeroed}
 use Rattle.marks.specs.Mark.{marked, withMark, withoutMark}
 use Rattle.desk.specs.Sizes.{deskHeaderBytes, deskInodeBytes, copiedAt, marksAt}
@@ -31,6 +31,10 @@ deskRestZero desk = eqb (numAt 1 desk 5) 0 && eqb (numAt 2 desk 10) 0
 -- the copied byte of inode i
 unfoldable pub copiedOf : List ℕ → ℕ → ℕ
 copiedOf desk i = numAt 1 desk (copiedAt i)
+
+-- inode i, from 1 to n, is copied
+unfoldable pub isCopied : List ℕ → ℕ → ℕ → Bool
+isCopied desk n i = leb 1 i && (leb i n && eqb (copiedOf desk i) 1)
 
 unfoldable pub putCopied : List ℕ → ℕ → ℕ → List ℕ
 putCopied desk i v = putNum 1 desk (copiedAt i) v

@@ -1,7 +1,22 @@
--- The desk header's next states. "Each accepted step adds 1."
+-- What the desk's header says of the copy, and its next states. "Each accepted step adds 1."
 use Prim.Native.Nat.{ℕ, _+_}
+use mathlib.Core.Bool.{Bool, false, _&&_, _||_}
+use mathlib.Core.List.{List, [], _∷_}
+use lib.Dec.{eqb}
 use Rattle.desk.specs.Sizes.{running, finished, stopped}
 use Rattle.desk.specs.declared.Desk.{Desk}
+
+-- the copy runs
+abbrev pub runs : Desk → Bool
+runs h = eqb (h .state) running
+
+-- a running copy has locked inode i, or one of the inodes
+abbrev pub locks : Desk → ℕ → Bool
+locks h i = runs h && eqb (h .locked) i
+
+unfoldable pub locksAny : Desk → List ℕ → Bool
+locksAny h [] = false
+locksAny h (i ∷ is) = locks h i || locksAny h is
 
 -- "sets the desk's block count and running", and zeroes the steps
 abbrev pub starting : Desk → ℕ → Desk

@@ -4,8 +4,8 @@ ghost use Prim.Native.Nat.{_+_, _<_, _≤_};
 ghost use lib.ListN.{length};
 ghost use Rattle.marks.specs.Mark.{markBits};
 ghost use Rattle.desk.specs.Sizes.{deskHeaderBytes, deskLength, deskAllowed};
-ghost use Rattle.desk.specs.Desk.{deskOf, putDesk, deskRestZero, copiedOf, putCopied, marksOf, putMarks, markOf, setMark, clearMark, clearNotes};
-ghost use Rattle.desk.specs.Next.{starting, locking, copyingOne, unlocking, finishing, stopping};
+ghost use Rattle.desk.specs.Desk.{deskOf, putDesk, deskRestZero, copiedOf, isCopied, putCopied, marksOf, putMarks, markOf, setMark, clearMark, clearNotes};
+ghost use Rattle.desk.specs.Next.{runs, locksAny, starting, locking, copyingOne, unlocking, finishing, stopping};
 use layout::sizes::MOST_BLOCKS;
 use layout::sizes::MOST_INODES;
 
@@ -73,6 +73,28 @@ impl Desk {
         octets::put_16(&mut *d, 6, self.locked);
         octets::put_16(&mut *d, 8, self.transferred);
         octets::put_32(&mut *d, 12, self.steps);
+    }
+
+    // The copy runs.
+    pub fn runs(self) -> bool
+        ensures { λ r. ⌜ r ≡ runs self ⌝ }
+    {
+        self.state == RUNNING
+    }
+
+    // A running copy has locked one of the inodes.
+    pub fn locks_any(self, inodes: &[usize]) -> bool
+        ensures { λ r. ⌜ r ≡ locksAny self (now (inodes .entry)) ⌝ }
+    {
+        if self.state != RUNNING {
+            return false;
+        }
+        for k in 0..inodes.len() {
+            if self.locked as usize == inodes[k] {
+                return true;
+            }
+        }
+        false
     }
 
     pub fn start(mut self, blocks: u16) -> Desk
@@ -145,6 +167,20 @@ pub fn copied_byte(d: &[u8], i: usize) -> u8
     ensures { λ r. ⌜ r ≡ copiedOf (now (d .entry)) i ⌝ }
 {
     octets::get_8(d, DESK_HEADER_BYTES + (i - 1))
+}
+
+// Inode i, which may be no inode, is copied.
+pub fn is_copied(d: &[u8], n: usize, i: usize) -> bool
+    requires { ⌜ deskLength n ≤ length (now d) ⌝ }
+    ensures { λ r. ⌜ r ≡ isCopied (now (d .entry)) n i ⌝ }
+{
+    if i < 1 {
+        return false;
+    }
+    if n < i {
+        return false;
+    }
+    copied_byte(d, i) == 1
 }
 
 pub fn put_copied(d: &mut [u8], i: usize, v: u8)

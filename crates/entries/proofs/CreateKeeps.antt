@@ -23,18 +23,18 @@ use Rattle.sound.specs.Sound.{Sound}
 use Rattle.sound.specs.Counted.{SoundStore}
 use Rattle.sound.proofs.PlaceLaws.{slot-is, filled-is, place-dir}
 use Rattle.sound.specs.declared.Form.the-variants.{Store}
-use Rattle.changes.proofs.SameLaws.{OtherInodes, NewInode, frame-then, inode-then, InCounts, less-free}
-use Rattle.changes.proofs.KeepLaws.{body-of}
-use Rattle.changes.proofs.StoreLaws.{fits}
-use Rattle.changes.proofs.FreeLaws.{free-inode}
-use Rattle.changes.proofs.RecordLaws.{header-inode}
-use Rattle.changes.proofs.ChangeLaws.{Filled, filled-then, names-filled}
-use Rattle.changes.proofs.TreeLaws.{Tree, tree-create}
-use Rattle.changes.proofs.SoundTreeLaws.{nodesOf, nodes-else, names-at, above-at, tree-at}
-use Rattle.changes.proofs.EntryWriteLaws.{EntriesAlone, entries-stay, SlotIn, slot-in, place-below, put-alone, put-filled}
-use Rattle.changes.proofs.SlotPlaceLaws.{absent-new, place-bare}
-use Rattle.changes.proofs.StockLaws.{Stock, entries-stock, stock-sound}
-use Rattle.changes.proofs.BaredLaws.{Bared, put-bared, bared-places, bared-unnamed, bared-free, bared-stock, no-blocks}
+use Rattle.preservation.proofs.SameLaws.{OtherInodes, NewInode, frame-then, inode-then, InCounts, less-free}
+use Rattle.preservation.proofs.KeepLaws.{body-of}
+use Rattle.preservation.proofs.StoreLaws.{fits}
+use Rattle.preservation.proofs.FreeLaws.{free-inode}
+use Rattle.preservation.proofs.RecordLaws.{header-inode}
+use Rattle.preservation.proofs.ChangeLaws.{Filled, filled-then, names-filled}
+use Rattle.preservation.proofs.TreeLaws.{Tree, tree-create}
+use Rattle.preservation.proofs.SoundTreeLaws.{nodesOf, nodes-else, names-at, above-at, tree-at}
+use Rattle.preservation.proofs.EntryWriteLaws.{EntriesAlone, entries-stay, SlotIn, slot-in, place-below, put-alone, put-filled}
+use Rattle.preservation.proofs.SlotPlaceLaws.{absent-new, place-bare}
+use Rattle.preservation.proofs.StockLaws.{Stock, entries-stock, stock-sound}
+use Rattle.preservation.proofs.BaredLaws.{Bared, put-bared, bared-places, bared-unnamed, bared-free, bared-stock, no-blocks}
 use Rattle.entries.specs.declared.Kind.{Kind}
 use Rattle.entries.specs.declared.Kind.the-variants.{File, Directory}
 use Rattle.entries.specs.Apply.{newInode}

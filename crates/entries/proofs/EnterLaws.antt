@@ -29,11 +29,12 @@ use Rattle.sound.specs.Sound.{Sound, inodesIn}
 use Rattle.sound.specs.Counted.{SoundStore}
 use Rattle.sound.specs.Place.{naming, IsDir}
 use Rattle.sound.specs.declared.Form.the-variants.{Store}
-use Rattle.changes.proofs.StoreLaws.{same-counts, sized-at, fits, is-dir, dir-of, dir-short, data-at, kind-some, kind-most, kind-fits}
-use Rattle.changes.proofs.SameLaws.{SameInode, put-entry, clear-entry}
-use Rattle.changes.proofs.KeepLaws.{same-slots, body-of}
-use Rattle.changes.proofs.FreeLaws.{free-inode, inode-counted, free-block, block-counted, few-free-inodes, few-free-blocks}
-use Rattle.changes.proofs.RecordLaws.{header-inode}
+use Rattle.layout.proofs.KindLaws.{kind-some, kind-most}
+use Rattle.preservation.proofs.StoreLaws.{same-counts, sized-at, fits, is-dir, dir-of, dir-short, data-at, kind-fits}
+use Rattle.preservation.proofs.SameLaws.{SameInode, put-entry, clear-entry}
+use Rattle.preservation.proofs.KeepLaws.{same-slots, body-of}
+use Rattle.preservation.proofs.FreeLaws.{free-inode, inode-counted, free-block, block-counted, few-free-inodes, few-free-blocks}
+use Rattle.preservation.proofs.RecordLaws.{header-inode}
 use Rattle.content.specs.Content.{addBlock}
 use Rattle.entries.specs.declared.Room.{Room}
 use Rattle.entries.specs.declared.RoomPlan.the-variants.{Has}

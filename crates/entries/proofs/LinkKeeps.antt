@@ -14,16 +14,17 @@ use Rattle.sound.specs.Place.{placeOf}
 use Rattle.sound.specs.Sound.{Sound}
 use Rattle.sound.specs.Counted.{SoundStore}
 use Rattle.sound.specs.declared.Form.the-variants.{Store}
-use Rattle.changes.proofs.SameLaws.{OtherInodes, SameBody, same-body, body-then, links-new, links-parent, frame-then, inode-then}
-use Rattle.changes.proofs.KeepLaws.{body-of}
-use Rattle.changes.proofs.StoreLaws.{kind-some, kind-most, kind-is, kind-fits}
-use Rattle.changes.proofs.ChangeLaws.{Filled, filled-then, names-filled}
-use Rattle.changes.proofs.TreeLaws.{Tree, tree-link}
-use Rattle.changes.proofs.SoundTreeLaws.{nodesOf, nodes-else, names-at, above-at, tree-at}
-use Rattle.changes.proofs.EntryWriteLaws.{EntriesAlone, entries-stay, SlotIn, slot-in, place-below, put-alone, put-filled}
-use Rattle.changes.proofs.InodeWriteLaws.{Relinked, relinked-places, links-relinked}
-use Rattle.changes.proofs.SlotPlaceLaws.{absent-new, place-bare}
-use Rattle.changes.proofs.StockLaws.{entries-stock, relinked-stock, stock-sound}
+use Rattle.preservation.proofs.SameLaws.{OtherInodes, SameBody, same-body, body-then, links-new, links-parent, frame-then, inode-then}
+use Rattle.preservation.proofs.KeepLaws.{body-of}
+use Rattle.layout.proofs.KindLaws.{kind-some, kind-most, kind-is}
+use Rattle.preservation.proofs.StoreLaws.{kind-fits}
+use Rattle.preservation.proofs.ChangeLaws.{Filled, filled-then, names-filled}
+use Rattle.preservation.proofs.TreeLaws.{Tree, tree-link}
+use Rattle.preservation.proofs.SoundTreeLaws.{nodesOf, nodes-else, names-at, above-at, tree-at}
+use Rattle.preservation.proofs.EntryWriteLaws.{EntriesAlone, entries-stay, SlotIn, slot-in, place-below, put-alone, put-filled}
+use Rattle.preservation.proofs.InodeWriteLaws.{Relinked, relinked-places, links-relinked}
+use Rattle.preservation.proofs.SlotPlaceLaws.{absent-new, place-bare}
+use Rattle.preservation.proofs.StockLaws.{entries-stock, relinked-stock, stock-sound}
 
 module _ (s : List ℕ) (n d t i : ℕ) (name : List ℕ) {b : ℕ} (h : SoundStore s n b)
     (dir : isDirectory s n d ≡ true) (file : isFile s n i ≡ true) (inside : t < slots s d) (empty : slotEmpty s n d t ≡ true)

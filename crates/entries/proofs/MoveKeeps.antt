@@ -22,16 +22,17 @@ use Rattle.sound.specs.Sound.{Sound}
 use Rattle.sound.specs.Counted.{SoundStore}
 use Rattle.sound.proofs.PlaceLaws.{place-dir}
 use Rattle.sound.specs.declared.Form.the-variants.{Store}
-use Rattle.changes.proofs.SameLaws.{OtherInodes, SameBody, same-body, body-then, SameFrame, frame-stays, frame-then, inode-stays, inode-then}
-use Rattle.changes.proofs.KeepLaws.{SamePlace, SameTree, tree-stays, body-of}
-use Rattle.changes.proofs.StoreLaws.{fits, kind-some, kind-most, kind-is}
-use Rattle.changes.proofs.ChangeLaws.{Emptied, Filled, filled-then, names-emptied, names-filled, new-emptied}
-use Rattle.changes.proofs.TreeLaws.{Nodes, Tree, Dir, Above, parent-dir, tree-move}
-use Rattle.changes.proofs.SoundTreeLaws.{nodesOf, nodes-else, names-at, above-at, tree-at}
-use Rattle.changes.proofs.EntryWriteLaws.{EntriesAlone, entries-stay, SlotIn, slot-in, place-below, clear-alone, clear-emptied, put-alone, put-filled}
-use Rattle.changes.proofs.InodeWriteLaws.{relinked-places, parent-relinked, parent-links, parent-put}
-use Rattle.changes.proofs.SlotPlaceLaws.{EntryHere, entry-here, absent-new, place-bare}
-use Rattle.changes.proofs.StockLaws.{Stock, entries-stock, relinked-stock, stock-sound}
+use Rattle.preservation.proofs.SameLaws.{OtherInodes, SameBody, same-body, body-then, SameFrame, frame-stays, frame-then, inode-stays, inode-then}
+use Rattle.preservation.proofs.KeepLaws.{SamePlace, SameTree, tree-stays, body-of}
+use Rattle.layout.proofs.KindLaws.{kind-some, kind-most, kind-is}
+use Rattle.preservation.proofs.StoreLaws.{fits}
+use Rattle.preservation.proofs.ChangeLaws.{Emptied, Filled, filled-then, names-emptied, names-filled, new-emptied}
+use Rattle.preservation.proofs.TreeLaws.{Nodes, Tree, Dir, Above, parent-dir, tree-move}
+use Rattle.preservation.proofs.SoundTreeLaws.{nodesOf, nodes-else, names-at, above-at, tree-at}
+use Rattle.preservation.proofs.EntryWriteLaws.{EntriesAlone, entries-stay, SlotIn, slot-in, place-below, clear-alone, clear-emptied, put-alone, put-filled}
+use Rattle.preservation.proofs.InodeWriteLaws.{relinked-places, parent-relinked, parent-links, parent-put}
+use Rattle.preservation.proofs.SlotPlaceLaws.{EntryHere, entry-here, absent-new, place-bare}
+use Rattle.preservation.proofs.StockLaws.{Stock, entries-stock, relinked-stock, stock-sound}
 use Rattle.entries.specs.Plan.{isBelow}
 use Rattle.entries.specs.Apply.{setParent}
 use Rattle.entries.proofs.ParentLaws.{zero-parent}

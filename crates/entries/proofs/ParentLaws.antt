@@ -14,7 +14,7 @@ use Rattle.sound.specs.Sound.{inodesIn}
 use Rattle.sound.specs.Counted.{SoundStore}
 use Rattle.sound.specs.Place.{IsDir}
 use Rattle.sound.proofs.FactLaws.{naming-dir}
-use Rattle.changes.proofs.StoreLaws.{is-dir}
+use Rattle.preservation.proofs.StoreLaws.{is-dir}
 
 -- ---- above the root there is nothing
 -- the root has no parent, and number 0 reads as it does

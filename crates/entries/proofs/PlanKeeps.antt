@@ -11,9 +11,9 @@ use Rattle.directory.proofs.SlotLaws.{find-below}
 use Rattle.sound.specs.Sound.{Sound}
 use Rattle.sound.specs.Counted.{SoundStore}
 use Rattle.sound.specs.declared.Form.the-variants.{Store}
-use Rattle.changes.proofs.KeepLaws.{same-slots}
-use Rattle.changes.proofs.StoreLaws.{same-counts, is-dir}
-use Rattle.changes.proofs.SlotPlaceLaws.{entry-here, found-full}
+use Rattle.preservation.proofs.KeepLaws.{same-slots}
+use Rattle.preservation.proofs.StoreLaws.{same-counts, is-dir}
+use Rattle.preservation.proofs.SlotPlaceLaws.{entry-here, found-full}
 use Rattle.entries.specs.declared.Kind.{Kind}
 use Rattle.entries.specs.declared.Room.{Room}
 use Rattle.entries.specs.declared.RoomPlan.the-variants.{Has}

@@ -12,13 +12,13 @@ use Rattle.sound.specs.Place.{naming, placeOf}
 use Rattle.sound.specs.Sound.{Sound}
 use Rattle.sound.specs.Counted.{SoundStore}
 use Rattle.sound.specs.declared.Form.the-variants.{Store}
-use Rattle.changes.proofs.KeepLaws.{body-of}
-use Rattle.changes.proofs.ChangeLaws.{Filled, names-filled}
-use Rattle.changes.proofs.TreeLaws.{Tree, tree-rename}
-use Rattle.changes.proofs.SoundTreeLaws.{nodesOf, nodes-else, names-at, above-at, tree-at}
-use Rattle.changes.proofs.EntryWriteLaws.{EntriesAlone, entries-stay, put-alone, put-filled}
-use Rattle.changes.proofs.SlotPlaceLaws.{EntryHere, entry-here, absent-new}
-use Rattle.changes.proofs.StockLaws.{entries-stock, stock-sound}
+use Rattle.preservation.proofs.KeepLaws.{body-of}
+use Rattle.preservation.proofs.ChangeLaws.{Filled, names-filled}
+use Rattle.preservation.proofs.TreeLaws.{Tree, tree-rename}
+use Rattle.preservation.proofs.SoundTreeLaws.{nodesOf, nodes-else, names-at, above-at, tree-at}
+use Rattle.preservation.proofs.EntryWriteLaws.{EntriesAlone, entries-stay, put-alone, put-filled}
+use Rattle.preservation.proofs.SlotPlaceLaws.{EntryHere, entry-here, absent-new}
+use Rattle.preservation.proofs.StockLaws.{entries-stock, stock-sound}
 use Rattle.entries.specs.Apply.{renamed}
 
 module _ (s : List ℕ) (n d t i : ℕ) (other : List ℕ) {b : ℕ} (h : SoundStore s n b)

@@ -26,10 +26,10 @@ use Rattle.sound.specs.Sound.{Sound}
 use Rattle.sound.specs.Counted.{SoundStore}
 use Rattle.sound.specs.declared.Form.the-variants.{Store}
 use Rattle.answers.specs.declared.Refusal.the-variants.{NoBlocks, NoSlot}
-use Rattle.changes.proofs.StoreLaws.{kind-read, kind-low, kind-high, kind-some, kind-most, kind-is}
-use Rattle.changes.proofs.SameLaws.{OtherInodes, SameFrame, frame-stays, inode-stays}
-use Rattle.changes.proofs.KeepLaws.{SameTree, tree-stays}
-use Rattle.changes.proofs.FreeLaws.{FreeBlock, free-block}
+use Rattle.layout.proofs.KindLaws.{kind-read, kind-low, kind-high, kind-some, kind-most, kind-is}
+use Rattle.preservation.proofs.SameLaws.{OtherInodes, SameFrame, frame-stays, inode-stays}
+use Rattle.preservation.proofs.KeepLaws.{SameTree, tree-stays}
+use Rattle.preservation.proofs.FreeLaws.{FreeBlock, free-block}
 use Rattle.content.specs.Content.{addBlock}
 use Rattle.content.proofs.GrowLaws.{block-added, add-block-sound, grown-tree, grown-slots, grown-entry, grown-empty}
 use Rattle.entries.specs.declared.Room.{Room}

@@ -25,18 +25,18 @@ use Rattle.sound.specs.Sound.{Sound}
 use Rattle.sound.specs.Counted.{SoundStore}
 use Rattle.sound.proofs.PlaceLaws.{slot-is, filled-is}
 use Rattle.sound.specs.declared.Form.the-variants.{Store}
-use Rattle.changes.proofs.SameLaws.{OtherInodes, SameBody, same-body, body-then, links-new, links-parent, NewInode, frame-then, inode-then, InCounts, more-free}
-use Rattle.changes.proofs.KeepLaws.{body-of}
-use Rattle.changes.proofs.StoreLaws.{fits}
-use Rattle.changes.proofs.RecordLaws.{header-inode}
-use Rattle.changes.proofs.ChangeLaws.{Emptied, emptied-then, names-emptied}
-use Rattle.changes.proofs.TreeLaws.{Tree, tree-less, tree-last, counted-some}
-use Rattle.changes.proofs.SoundTreeLaws.{nodesOf, nodes-else, names-at, above-at, tree-at}
-use Rattle.changes.proofs.EntryWriteLaws.{EntriesAlone, entries-stay, place-below, clear-alone, clear-emptied}
-use Rattle.changes.proofs.InodeWriteLaws.{Relinked, relinked-places, links-relinked}
-use Rattle.changes.proofs.SlotPlaceLaws.{EntryHere, entry-here}
-use Rattle.changes.proofs.StockLaws.{Stock, entries-stock, relinked-stock, stock-sound}
-use Rattle.changes.proofs.BaredLaws.{Bared, put-bared, bared-places, bared-unnamed, bared-free, bared-stock, naming-none}
+use Rattle.preservation.proofs.SameLaws.{OtherInodes, SameBody, same-body, body-then, links-new, links-parent, NewInode, frame-then, inode-then, InCounts, more-free}
+use Rattle.preservation.proofs.KeepLaws.{body-of}
+use Rattle.preservation.proofs.StoreLaws.{fits}
+use Rattle.preservation.proofs.RecordLaws.{header-inode}
+use Rattle.preservation.proofs.ChangeLaws.{Emptied, emptied-then, names-emptied}
+use Rattle.preservation.proofs.TreeLaws.{Tree, tree-less, tree-last, counted-some}
+use Rattle.preservation.proofs.SoundTreeLaws.{nodesOf, nodes-else, names-at, above-at, tree-at}
+use Rattle.preservation.proofs.EntryWriteLaws.{EntriesAlone, entries-stay, place-below, clear-alone, clear-emptied}
+use Rattle.preservation.proofs.InodeWriteLaws.{Relinked, relinked-places, links-relinked}
+use Rattle.preservation.proofs.SlotPlaceLaws.{EntryHere, entry-here}
+use Rattle.preservation.proofs.StockLaws.{Stock, entries-stock, relinked-stock, stock-sound}
+use Rattle.preservation.proofs.BaredLaws.{Bared, put-bared, bared-places, bared-unnamed, bared-free, bared-stock, naming-none}
 use Rattle.entries.specs.Plan.{holdsNone}
 use Rattle.entries.specs.Apply.{dropLink, unlinked}
 

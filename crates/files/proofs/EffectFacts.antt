@@ -16,9 +16,9 @@ use Rattle.sound.specs.Place.{dirOf, filled, naming}
 use Rattle.sound.specs.Sound.{Sound, inodesIn, blocksIn}
 use Rattle.sound.proofs.PlaceLaws.{slot-is, filled-is, naming-filled}
 use Rattle.sound.specs.declared.Form.the-variants.{Store}
-use Rattle.changes.proofs.SameLaws.{same-body}
-use Rattle.changes.proofs.KeepLaws.{SamePlace, place-kept, Body, body-of}
-use Rattle.changes.proofs.StoreLaws.{sound-store}
+use Rattle.preservation.proofs.SameLaws.{same-body}
+use Rattle.preservation.proofs.KeepLaws.{SamePlace, place-kept, Body, body-of}
+use Rattle.preservation.proofs.StoreLaws.{sound-store}
 use Rattle.files.specs.Effect.{Entry, placeIn, Effect}
 use Rattle.files.proofs.Lawful.{Apart, Away, Stands, Lawful}
 

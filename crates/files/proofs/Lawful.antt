@@ -12,7 +12,7 @@ use Rattle.directory.specs.Slot.{mostSlots}
 use Rattle.sound.specs.Place.{filled, naming}
 use Rattle.sound.specs.Sound.{Sound}
 use Rattle.sound.specs.declared.Form.the-variants.{Store}
-use Rattle.changes.proofs.SameLaws.{SameFrame, SameInode, SameBody, same-body, SameBlock}
+use Rattle.preservation.proofs.SameLaws.{SameFrame, SameInode, SameBody, same-body, SameBlock}
 use Rattle.files.specs.Effect.{Entry, placeIn, Effect, Planned, refused, does}
 
 -- j is none of them; place q is the place of none

@@ -9,9 +9,9 @@ use Rattle.layout.specs.Inode.{kindOf, fileKind}
 use Rattle.sound.specs.Sound.{Sound}
 use Rattle.sound.specs.Counted.{SoundStore}
 use Rattle.sound.specs.declared.Form.the-variants.{Store}
-use Rattle.changes.proofs.SameLaws.{same-body}
-use Rattle.changes.proofs.StoreLaws.{kind-some, kind-most, kind-is}
-use Rattle.changes.proofs.KeepLaws.{SameTree, file-tree}
+use Rattle.preservation.proofs.SameLaws.{same-body}
+use Rattle.layout.proofs.KindLaws.{kind-some, kind-most, kind-is}
+use Rattle.preservation.proofs.KeepLaws.{SameTree, file-tree}
 use Rattle.growth.proofs.FileFrame.{InFile}
 use Rattle.content.specs.declared.NumberPlan.the-variants.{To, NoNumber}
 use Rattle.content.specs.Content.{cutTo}

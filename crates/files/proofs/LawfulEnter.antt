@@ -16,10 +16,10 @@ use Rattle.sound.specs.Sound.{Sound}
 use Rattle.sound.specs.Counted.{SoundStore}
 use Rattle.sound.proofs.PlaceLaws.{filled-is, entry-place}
 use Rattle.sound.specs.declared.Form.the-variants.{Store}
-use Rattle.changes.proofs.StoreLaws.{is-dir, kind-fits, fits}
-use Rattle.changes.proofs.FreeLaws.{free-inode}
-use Rattle.changes.proofs.EntryWriteLaws.{SlotIn, place-below}
-use Rattle.changes.proofs.ChangeLaws.{Filled}
+use Rattle.preservation.proofs.StoreLaws.{is-dir, kind-fits, fits}
+use Rattle.preservation.proofs.FreeLaws.{free-inode}
+use Rattle.preservation.proofs.EntryWriteLaws.{SlotIn, place-below}
+use Rattle.preservation.proofs.ChangeLaws.{Filled}
 use Rattle.entries.specs.declared.Room.{Room}
 use Rattle.entries.specs.declared.Kind.{Kind}
 use Rattle.entries.specs.declared.RoomPlan.the-variants.{Has}

@@ -19,12 +19,12 @@ use Rattle.names.specs.Name.{legalName}
 use Rattle.names.specs.Entry.{isEmpty, entryInode}
 use Rattle.sound.specs.Place.{placeOf}
 use Rattle.sound.specs.Counted.{SoundStore}
-use Rattle.changes.proofs.SameLaws.{SameInode, frame-stays, inode-stays, same-body}
-use Rattle.changes.proofs.StoreLaws.{is-dir, fits}
-use Rattle.changes.proofs.EntryWriteLaws.{SlotIn, slot-in, place-below}
-use Rattle.changes.proofs.InodeWriteLaws.{parent-relinked, body-all}
-use Rattle.changes.proofs.SlotPlaceLaws.{entry-here, found-full, place-filled}
-use Rattle.changes.proofs.KeepLaws.{same-slots, body-of}
+use Rattle.preservation.proofs.SameLaws.{SameInode, frame-stays, inode-stays, same-body}
+use Rattle.preservation.proofs.StoreLaws.{is-dir, fits}
+use Rattle.preservation.proofs.EntryWriteLaws.{SlotIn, slot-in, place-below}
+use Rattle.preservation.proofs.InodeWriteLaws.{parent-relinked, body-all}
+use Rattle.preservation.proofs.SlotPlaceLaws.{entry-here, found-full, place-filled}
+use Rattle.preservation.proofs.KeepLaws.{same-slots, body-of}
 use Rattle.entries.specs.declared.Room.{Room}
 use Rattle.entries.specs.Room.{makeRoom}
 use Rattle.entries.specs.Plan.{renamePlan}

@@ -7,7 +7,7 @@ use native.Mathlib.Omega.{arith}
 use lib.ListN.{length}
 use Rattle.sound.specs.Sound.{Sound}
 use Rattle.sound.specs.declared.Form.the-variants.{Store}
-use Rattle.changes.proofs.SameLaws.{frame-stays, inode-stays, same-body}
+use Rattle.preservation.proofs.SameLaws.{frame-stays, inode-stays, same-body}
 use Rattle.content.specs.Plan.{readPlan}
 use Rattle.content.specs.declared.NumberPlan.{NumberPlan}
 use Rattle.content.specs.declared.NumberPlan.the-variants.{To, NoNumber}

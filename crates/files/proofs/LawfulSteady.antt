@@ -22,12 +22,13 @@ use Rattle.layout.specs.Fits.{InodeFits}
 use Rattle.directory.specs.Slot.{putEntry, clearEntry}
 use Rattle.sound.specs.Counted.{SoundStore}
 use Rattle.sound.specs.Place.{IsDir}
-use Rattle.changes.proofs.SameLaws.{SameFrame, SameInode, SameBlock, InBlock, same-body, same-long, body-then, frame-then, inode-then, put-entry, clear-entry, less-free}
-use Rattle.changes.proofs.StoreLaws.{same-counts, blocks-of, data-at, dir-short, one-at, is-dir, kind-is}
-use Rattle.changes.proofs.FreeLaws.{free-block}
-use Rattle.changes.proofs.EntryWriteLaws.{SlotIn, slot-in, slot-block}
-use Rattle.changes.proofs.InodeWriteLaws.{links-relinked, body-all}
-use Rattle.changes.proofs.BaredLaws.{put-bared}
+use Rattle.preservation.proofs.SameLaws.{SameFrame, SameInode, SameBlock, InBlock, same-body, same-long, body-then, frame-then, inode-then, put-entry, clear-entry, less-free}
+use Rattle.layout.proofs.KindLaws.{kind-is}
+use Rattle.preservation.proofs.StoreLaws.{same-counts, blocks-of, data-at, dir-short, one-at, is-dir}
+use Rattle.preservation.proofs.FreeLaws.{free-block}
+use Rattle.preservation.proofs.EntryWriteLaws.{SlotIn, slot-in, slot-block}
+use Rattle.preservation.proofs.InodeWriteLaws.{links-relinked, body-all}
+use Rattle.preservation.proofs.BaredLaws.{put-bared}
 use Rattle.content.specs.Content.{addBlock}
 use Rattle.content.proofs.GrowLaws.{grown-bytes, block-added}
 use Rattle.entries.specs.declared.Room.{Room}

@@ -19,12 +19,12 @@ use Rattle.layout.specs.Fits.{InodeFits}
 use Rattle.directory.specs.Slot.{slots, slotEmpty, clearEntry, inodeAt}
 use Rattle.directory.proofs.SlotLaws.{find-below}
 use Rattle.sound.specs.Counted.{SoundStore}
-use Rattle.changes.proofs.SameLaws.{SameFrame, SameBody, SameBlock, same-body, frame-then, more-free}
-use Rattle.changes.proofs.StoreLaws.{fits}
-use Rattle.changes.proofs.EntryWriteLaws.{EntriesAlone, entries-stay, clear-alone}
-use Rattle.changes.proofs.InodeWriteLaws.{links-relinked}
-use Rattle.changes.proofs.BaredLaws.{put-bared}
-use Rattle.changes.proofs.SlotPlaceLaws.{EntryHere, entry-here, found-full, place-filled}
+use Rattle.preservation.proofs.SameLaws.{SameFrame, SameBody, SameBlock, same-body, frame-then, more-free}
+use Rattle.preservation.proofs.StoreLaws.{fits}
+use Rattle.preservation.proofs.EntryWriteLaws.{EntriesAlone, entries-stay, clear-alone}
+use Rattle.preservation.proofs.InodeWriteLaws.{links-relinked}
+use Rattle.preservation.proofs.BaredLaws.{put-bared}
+use Rattle.preservation.proofs.SlotPlaceLaws.{EntryHere, entry-here, found-full, place-filled}
 use Rattle.entries.specs.Plan.{holdsNone, unlinkPlan}
 use Rattle.entries.specs.Apply.{dropLink, unlinked}
 use Rattle.entries.specs.declared.UnlinkPlan.{UnlinkPlan}

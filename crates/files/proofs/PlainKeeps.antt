@@ -8,7 +8,7 @@ use Rattle.sound.specs.Sound.{Sound, inodesIn, blocksIn}
 use Rattle.sound.specs.declared.Form.the-variants.{Store}
 use Rattle.sound.specs.Test.{framedB, isSound}
 use Rattle.answers.specs.declared.Refusal.the-variants.{BadBuffer, UnsoundStore}
-use Rattle.changes.proofs.StoreLaws.{sound-store}
+use Rattle.preservation.proofs.StoreLaws.{sound-store}
 use Rattle.files.specs.Effect.{Call, Effect, Planned, refused, does, planned, plainDecision, given}
 use Rattle.files.specs.Plain.{leaves, plain}
 use Rattle.files.proofs.PlainLaws.{on-guard}

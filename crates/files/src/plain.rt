@@ -12,7 +12,6 @@ ghost use Rattle.files.specs.Plain.{plainLeft, plainShown, leaves, plain
 use crate::Guard;
 use answers::Answer;
 use answers::Refusal;
-use checker::check;
 use content::NumberPlan;
 use entries::CreatePlan;
 use entries::Kind;
@@ -26,13 +25,13 @@ use sound::Form;
 pub fn guard(s: &[u8]) -> Guard
     ensures { λ r. ⌜ r ≡ guardOf (now (s .entry)) ⌝ }
 {
-    if !check::framed(Form::Store, s) {
+    if !checker::framed(Form::Store, s) {
         return Guard::Stop(Refusal::BadBuffer);
     }
     let h = Header::read(s);
     let n = h.inodes as usize;
     let b = h.blocks as usize;
-    if !check::body_right(Form::Store, s, n, b) {
+    if !checker::body_right(Form::Store, s, n, b) {
         return Guard::Stop(Refusal::UnsoundStore);
     }
     Guard::Pass(n, b)

@@ -23,9 +23,9 @@ use Rattle.sound.specs.Sound.{Sound}
 use Rattle.sound.specs.Counted.{SoundStore}
 use Rattle.sound.proofs.SoundLaws.{size-most}
 use Rattle.sound.specs.declared.Form.the-variants.{Store}
-use Rattle.changes.proofs.SameLaws.{InCounts, more-free}
-use Rattle.changes.proofs.KeepLaws.{body-of}
-use Rattle.changes.proofs.StoreLaws.{sized-at, blocks-of}
+use Rattle.preservation.proofs.SameLaws.{InCounts, more-free}
+use Rattle.preservation.proofs.KeepLaws.{body-of}
+use Rattle.preservation.proofs.StoreLaws.{sized-at, blocks-of}
 use Rattle.growth.specs.Extend.{putSize, putBlocks, cutBlocks}
 use Rattle.growth.proofs.FileFrame.{InFile}
 use Rattle.growth.proofs.ResizeLaws as new

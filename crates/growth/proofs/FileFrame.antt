@@ -7,7 +7,7 @@ use native.Mathlib.Omega.{arith}
 use Rattle.layout.specs.Sizes.{mostBlocks}
 use Rattle.layout.specs.Inode.{kindOf, linksOf, sizeOf, parentOf}
 use Rattle.blocks.specs.Block.{blockOf, blocksUsed, kthBlock}
-use Rattle.changes.proofs.SameLaws.{OtherInodes, SameFrame, SameBlock, frame-then, frame-stays, inode-then, inode-stays}
+use Rattle.preservation.proofs.SameLaws.{OtherInodes, SameFrame, SameBlock, frame-then, frame-stays, inode-then, inode-stays}
 
 -- file i alone changes, and is of z bytes then
 pub record InFile (s t : List ℕ) (n i z : ℕ) : Type 0 where

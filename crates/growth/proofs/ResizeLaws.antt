@@ -26,10 +26,10 @@ use Rattle.sound.specs.Sound.{Sound}
 use Rattle.sound.specs.Counted.{SoundStore}
 use Rattle.sound.proofs.SoundLaws.{most-file}
 use Rattle.sound.specs.declared.Form.the-variants.{Store}
-use Rattle.changes.proofs.SameLaws.{SameFrame, SameInode, SameBlock, OtherInodes, InInode, InCounts, same-long, frame-stays, frame-then, inode-stays, inode-then, put-attributes, attributes-blocks, attributes-new}
-use Rattle.changes.proofs.KeepLaws.{Body, body-of, inode-kept, file-tree, sound-kept}
-use Rattle.changes.proofs.AddressLaws.{same-differ, unnamed-change}
-use Rattle.changes.proofs.StoreLaws.{sized-at, fits, blocks-of, ledger-at}
+use Rattle.preservation.proofs.SameLaws.{SameFrame, SameInode, SameBlock, OtherInodes, InInode, InCounts, same-long, frame-stays, frame-then, inode-stays, inode-then, put-attributes, attributes-blocks, attributes-new}
+use Rattle.preservation.proofs.KeepLaws.{Body, body-of, inode-kept, file-tree, sound-kept}
+use Rattle.preservation.proofs.AddressLaws.{same-differ, unnamed-change}
+use Rattle.preservation.proofs.StoreLaws.{sized-at, fits, blocks-of, ledger-at}
 use Rattle.growth.proofs.FileFrame.{InFile}
 use Rattle.growth.proofs.RowFrame.{SameAttributes, row-attributes}
 

@@ -25,9 +25,9 @@ use Rattle.ledger.proofs.NthLaws.{nth-is, nth-rising}
 use Rattle.sound.specs.Sound.{Sound}
 use Rattle.sound.specs.Counted.{SoundStore}
 use Rattle.sound.specs.declared.Form.the-variants.{Store}
-use Rattle.changes.proofs.SameLaws.{SameBlock, InInode, InCounts, put-attributes, less-free}
-use Rattle.changes.proofs.KeepLaws.{Body, body-of}
-use Rattle.changes.proofs.StoreLaws.{sized-at, fits, blocks-of, no-one, free-at}
+use Rattle.preservation.proofs.SameLaws.{SameBlock, InInode, InCounts, put-attributes, less-free}
+use Rattle.preservation.proofs.KeepLaws.{Body, body-of}
+use Rattle.preservation.proofs.StoreLaws.{sized-at, fits, blocks-of, no-one, free-at}
 use Rattle.blocks.proofs.ViewLaws.{inode-fits}
 use Rattle.growth.specs.Extend.{fileByte, zeroBlocks, putSize, putBlocks, taken}
 use Rattle.growth.proofs.ZeroLaws.{Zeroed, zero-blocks}

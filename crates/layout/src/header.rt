@@ -1,9 +1,9 @@
 // The header of a store or an image: a struct by value.
 ghost use mathlib.Core.Path.{_≡_};
-ghost use Prim.Native.Nat.{_≤_};
+ghost use Prim.Native.Nat.{_+_, _<_, _≤_};
 ghost use lib.ListN.{length};
 ghost use Rattle.layout.specs.Sizes.{headerBytes};
-ghost use Rattle.layout.specs.Header.{headerOf, putHeader, putFree, putComplete, headerRestZero};
+ghost use Rattle.layout.specs.Header.{headerOf, putHeader, putFree, moreFree, lessFree, putComplete, headerRestZero};
 
 pub struct Header {
     pub inodes: u16,
@@ -47,6 +47,23 @@ pub fn put_free(s: &mut [u8], inodes: u16, blocks: u16)
 {
     octets::put_16(&mut *s, 4, inodes);
     octets::put_16(&mut *s, 6, blocks);
+}
+
+// So many inodes and blocks more are free, or fewer.
+pub fn more_free(s: &mut [u8], inodes: u16, blocks: u16)
+    requires { ⌜ (headerBytes ≤ length (now s)) × (headerOf (now s) .«free_inodes» + inodes < 65536) × (headerOf (now s) .«free_blocks» + blocks < 65536) ⌝ }
+    ensures { λ _. ⌜ now (s .exit) ≡ moreFree (now (s .entry)) inodes blocks ⌝ }
+{
+    let h = Header::read(s);
+    put_free(&mut *s, h.free_inodes + inodes, h.free_blocks + blocks);
+}
+
+pub fn less_free(s: &mut [u8], inodes: u16, blocks: u16)
+    requires { ⌜ (headerBytes ≤ length (now s)) × (inodes ≤ headerOf (now s) .«free_inodes») × (blocks ≤ headerOf (now s) .«free_blocks») ⌝ }
+    ensures { λ _. ⌜ now (s .exit) ≡ lessFree (now (s .entry)) inodes blocks ⌝ }
+{
+    let h = Header::read(s);
+    put_free(&mut *s, h.free_inodes - inodes, h.free_blocks - blocks);
 }
 
 pub fn put_complete(s: &mut [u8], v: u8)

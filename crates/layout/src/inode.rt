@@ -5,7 +5,7 @@ ghost use lib.ListN.{length};
 ghost use Rattle.bounded.specs.Count.{countTo};
 ghost use Rattle.octets.specs.Octets.{splice, wordBytes};
 ghost use Rattle.layout.specs.Sizes.{headerBytes, inodeBytes, addressCount, addressBytes, mostInodes, mostFileBytes};
-ghost use Rattle.layout.specs.Inode.{attributesAt, addressAt, kindOf, spareOf, linksOf, sizeOf, parentOf, inodeFree, freeInode, attributesZero, addressesZero, putLinks, putAttributes, addressOf, putAddress, addressesOf, inodeOf, putInode, emptyInode, withLinks, withSize, withBlocks, withParent};
+ghost use Rattle.layout.specs.Inode.{attributesAt, addressAt, kindOf, spareOf, linksOf, sizeOf, parentOf, isKind, inodeFree, freeInode, attributesZero, addressesZero, putLinks, putAttributes, addressOf, putAddress, addressesOf, inodeOf, putInode, emptyInode, withLinks, withSize, withBlocks, withParent};
 ghost use Rattle.layout.specs.Fits.{InodeFits};
 use crate::sizes::ADDRESS_COUNT;
 use crate::sizes::ATTRIBUTE_BYTES;
@@ -42,6 +42,20 @@ pub fn kind(s: &[u8], n: usize, i: usize) -> u8
     ensures { λ r. ⌜ r ≡ kindOf (now (s .entry)) i ⌝ }
 {
     octets::get_8(s, attributes_at(i))
+}
+
+// The number i, which may be no inode, is one of the kind wanted.
+pub fn is_kind(s: &[u8], n: usize, wanted: u8, i: usize) -> bool
+    requires { ⌜ (n ≤ mostInodes) × (headerBytes + inodeBytes * n ≤ length (now s)) ⌝ }
+    ensures { λ r. ⌜ r ≡ isKind (now (s .entry)) n wanted i ⌝ }
+{
+    if i < 1 {
+        return false;
+    }
+    if n < i {
+        return false;
+    }
+    kind(s, n, i) == wanted
 }
 
 pub fn spare(s: &[u8], n: usize, i: usize) -> u8

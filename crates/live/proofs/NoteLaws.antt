@@ -1,124 +1,37 @@
--- What the code has read of desk and image, as the definitions say it. m is the image, d the desk, n the inode count, e a directory, t a slot, i an inode.
-use Prim.Native.Nat.{ℕ, zero, suc, _+_, _-_, _/_, _≤_}
+-- What a call writes on the desk while the copy runs, and what that leaves. d is the desk, n the inode count, e a directory, t a slot.
+use Prim.Native.Nat.{ℕ, _≤_}
 use mathlib.Core.Path.{_≡_, refl, sym, ap, _∙_}
-use mathlib.Core.Bool.{Bool, true, false, not, _&&_, _||_}
-use mathlib.Core.List.{List, [], _∷_}
+use mathlib.Core.Bool.{Bool, true, false}
+use mathlib.Core.List.{List}
 use native.Mathlib.Omega.{arith}
-use borrow.Author.Tests.{eq-eqb, ne-eqb}
-use lib.Dec.{eqb}
-use lib.ListN.{length, take, drop}
+use lib.ListN.{length}
 use Rattle.bounded.specs.Search.{pick}
-use Rattle.bounded.proofs.BoolLaws.{and-false-l, chain-end}
-use Rattle.octets.specs.Octets.{zeroed}
-use Rattle.octets.proofs.PartLaws.{cut}
-use Rattle.layout.specs.Inode.{kindOf, directoryKind}
-use Rattle.blocks.specs.Block.{kthBlock}
-use Rattle.names.specs.Entry.{entryInode, entryBytes}
-use Rattle.directory.specs.Slot.{slotsInBlock, slotAt, entryOf, clearEntry}
 use Rattle.desk.specs.declared.Desk.{Desk}
-use Rattle.desk.specs.Sizes.{running}
 use Rattle.desk.specs.Desk.{deskOf, clearMark}
+use Rattle.desk.specs.Next.{runs}
 use Rattle.desk.proofs.DeskLaws.{length-clearMark}
 use Rattle.checkpoint.specs.Fit.{isRunning}
-use Rattle.checkpoint.specs.Image.{hasSlot, slotNames}
-use Rattle.checkpoint.specs.Busy.{isLocked, anyLocked}
-use Rattle.checkpoint.specs.Notes.{isCopied, noteTaken, cutsImage, cutImage}
+use Rattle.image.proofs.CutLaws.{running-is}
+use Rattle.checkpoint.specs.Notes.{noteTaken}
+use Rattle.checkpoint.proofs.Run.Counts.{taken-head}
 
--- ---- locked
-module _ (d : List ℕ) (h : Desk) (q : h ≡ deskOf d) where
-  pub running-is : eqb (h .state) running ≡ isRunning d
-  unfolding isRunning
-  running-is = ap (λ (x : Desk). eqb (x .state) running) q
-
-  pub locked-idle : (i : ℕ) → (h .state ≡ running → ⊥) → false ≡ isLocked d i
-  unfolding isLocked
-  locked-idle i f = sym (and-false-l _ _ (sym running-is ∙ ne-eqb (h .state) running f))
-
-  pub locked-is : (i : ℕ) → h .state ≡ running → eqb (h .locked) i ≡ isLocked d i
-  unfolding isLocked
-  locked-is i e = chain-end _ _ _ (sym running-is ∙ eq-eqb (h .state) running e) (ap (λ (x : Desk). eqb (x .locked) i) q)
-
-module _ (d : List ℕ) (i : ℕ) where
-  pub locked-one : isLocked d i ≡ anyLocked d (i ∷ [])
-  unfolding anyLocked
-  locked-one = go (isLocked d i)
-    where
-      go : (b : Bool) → b ≡ (b || false)
-      go true = refl
-      go false = refl
-
-  module _ (is : List ℕ) (r : Bool) (q : r ≡ isLocked d i) where
-    pub locked-first : r ≡ true → true ≡ anyLocked d (i ∷ is)
-    unfolding anyLocked
-    locked-first e = rw (sym q ∙ e) refl
-
-    pub locked-rest : r ≡ false → anyLocked d is ≡ anyLocked d (i ∷ is)
-    unfolding anyLocked
-    locked-rest e = rw (sym q ∙ e) refl
-
--- ---- what is written only while the copy runs
-module _ (d : List ℕ) (r : Bool) (q : r ≡ isRunning d) (y : List ℕ) where
+-- ---- what is written only while the copy runs: h is the desk's header, r what the code has asked of it
+module _ (d : List ℕ) (h : Desk) (q : h ≡ deskOf d) (r : Bool) (k : r ≡ runs h) (y : List ℕ) where
   pub while-running : r ≡ true → y ≡ pick (isRunning d) y d
-  while-running e = rw (sym q ∙ e) refl
+  while-running e = rw (sym (running-is d h q) ∙ sym k ∙ e) refl
 
   pub while-idle : r ≡ false → d ≡ pick (isRunning d) y d
-  while-idle e = rw (sym q ∙ e) refl
+  while-idle e = rw (sym (running-is d h q) ∙ sym k ∙ e) refl
 
--- a cleared mark leaves the desk as long as it was
-pub still-long : (d x : List ℕ) (n e t k : ℕ) → x ≡ noteTaken d n e t → k ≤ length d → k ≤ length x
-unfolding noteTaken
-still-long d x n e t k q l = let z = ap length q ∙ go (isRunning d) in omega arith
-  where
-    go : (b : Bool) → length (pick b (clearMark d n e t) d) ≡ length d
-    go true = length-clearMark d n e t
-    go false = refl
-
--- ---- the image's slots
-module _ (m : List ℕ) (n e t : ℕ) where
-  pub names-other : (kindOf m e ≡ directoryKind → ⊥) → 0 ≡ slotNames m n e t
-  unfolding slotNames hasSlot
-  names-other f = rw (ne-eqb (kindOf m e) directoryKind f) refl
-
-  module _ (k : kindOf m e ≡ directoryKind) where
-    pub names-none : kthBlock m n e (t / slotsInBlock) ≡ 0 → 0 ≡ slotNames m n e t
-    unfolding slotNames hasSlot
-    names-none z = rw (eq-eqb (kindOf m e) directoryKind k, eq-eqb (kthBlock m n e (t / slotsInBlock)) 0 z) refl
-
-    pub names-there : (o x : ℕ) → (kthBlock m n e (t / slotsInBlock) ≡ 0 → ⊥) → o ≡ slotAt m n e t → x ≡ entryInode (take (o + 16 - o) (drop o m)) → x ≡ slotNames m n e t
-    unfolding slotNames hasSlot entryOf
-    names-there o x f p q = rw (eq-eqb (kindOf m e) directoryKind k, ne-eqb (kthBlock m n e (t / slotsInBlock)) 0 f) (q ∙ ap entryInode (cut m o 16 ∙ rw p refl))
-
-  -- a slot that names an inode is there
-  pub named-there : (i : ℕ) → 1 ≤ i → slotNames m n e t ≡ i → 1 ≤ kthBlock m n e (t / slotsInBlock)
-  unfolding slotNames hasSlot
-  named-there i l q = go (eqb (kindOf m e) directoryKind) (kthBlock m n e (t / slotsInBlock)) q
+-- ---- a cleared mark leaves the desk as long as it was, and its header
+module _ (d x : List ℕ) (n e t : ℕ) (q : x ≡ noteTaken d n e t) where
+  pub still-long : (k : ℕ) → k ≤ length d → k ≤ length x
+  unfolding noteTaken
+  still-long k l = let z = ap length q ∙ go (isRunning d) in omega arith
     where
-      go : (a : Bool) (c : ℕ) → pick (a && not (eqb c 0)) (entryInode (entryOf m n e t)) 0 ≡ i → 1 ≤ c
-      go true zero p = absurd (omega arith)
-      go true (suc c) p = omega arith
-      go false c p = absurd (omega arith)
+      go : (b : Bool) → length (pick b (clearMark d n e t) d) ≡ length d
+      go true = length-clearMark d n e t
+      go false = refl
 
--- ---- the image's entry goes, or stays
-module _ (m d : List ℕ) (n e t i : ℕ) where
-  pub cut-idle : isRunning d ≡ false → m ≡ cutImage m d n e t i
-  unfolding cutImage cutsImage
-  cut-idle g = rw g refl
-
-  module _ (g : isRunning d ≡ true) where
-    pub cut-uncopied : isCopied d n e ≡ false → m ≡ cutImage m d n e t i
-    unfolding cutImage cutsImage
-    cut-uncopied f = rw (g, f) refl
-
-    module _ (f : isCopied d n e ≡ true) where
-      pub cut-copied : isCopied d n i ≡ true → m ≡ cutImage m d n e t i
-      unfolding cutImage cutsImage
-      cut-copied c = rw (g, f, c) refl
-
-      module _ (c : isCopied d n i ≡ false) where
-        pub cut-other : (slotNames m n e t ≡ i → ⊥) → m ≡ cutImage m d n e t i
-        unfolding cutImage cutsImage
-        cut-other x = rw (g, f, c, ne-eqb (slotNames m n e t) i x) refl
-
-        pub cut-there : (o : ℕ) → slotNames m n e t ≡ i → o ≡ slotAt m n e t → zeroed m o entryBytes ≡ cutImage m d n e t i
-        unfolding cutImage cutsImage clearEntry zeroed
-        cut-there o x p = rw (g, f, c, eq-eqb (slotNames m n e t) i x, p) refl
+  pub still-read : (h : Desk) → h ≡ deskOf d → h ≡ deskOf x
+  still-read h r = r ∙ sym (ap deskOf q ∙ taken-head d n e t)

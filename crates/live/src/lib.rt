@@ -1,3 +1,127 @@
-// The file calls over store, image and desk behind their guards, and what they write for a running copy.
+// The file calls over store, image and desk but look up and read: guards, then the call behind them and what it writes for a running
+// copy. Any bytes may be lent; a refused call changes nothing.
 mod notes;
-pub mod work;
+mod work;
+
+ghost use mathlib.Core.Path.{_≡_};
+ghost use Rattle.files.specs.Effect.{create, write, shorten, link, unlink, rename};
+ghost use Rattle.checkpoint.specs.Live.{left, live};
+ghost use Rattle.checkpoint.specs.Shown.{world, shown};
+use answers::Answer;
+use entries::Kind;
+use guards::Watched;
+use guards::three_guards;
+
+pub fn create(
+    store: &mut [u8],
+    image: &mut [u8],
+    desk: &mut [u8],
+    dir: usize,
+    name: &[u8],
+    kind: Kind,
+) -> Answer
+    ensures { λ r. ⌜ shown (left r (now (store .exit)) (now (image .exit)) (now (desk .exit))) ≡ shown (live (create dir (now (name .entry)) kind) (world (now (store .entry)) (now (image .entry)) (now (desk .entry)))) ⌝ }
+{
+    match three_guards(store, image, desk) {
+        Watched::Open(n, b, h) => work::create(&mut *store, &mut *desk, h, n, b, dir, name, kind),
+        Watched::Shut(why) => Answer::Refused(why),
+    }
+}
+
+pub fn write(
+    store: &mut [u8],
+    image: &mut [u8],
+    desk: &mut [u8],
+    inode: usize,
+    offset: usize,
+    bytes: &[u8],
+) -> Answer
+    ensures { λ r. ⌜ shown (left r (now (store .exit)) (now (image .exit)) (now (desk .exit))) ≡ shown (live (write inode offset (now (bytes .entry))) (world (now (store .entry)) (now (image .entry)) (now (desk .entry)))) ⌝ }
+{
+    match three_guards(store, image, desk) {
+        Watched::Open(n, b, h) => work::write(&mut *store, h, n, b, inode, offset, bytes),
+        Watched::Shut(why) => Answer::Refused(why),
+    }
+}
+
+pub fn shorten(
+    store: &mut [u8],
+    image: &mut [u8],
+    desk: &mut [u8],
+    inode: usize,
+    size: usize,
+) -> Answer
+    ensures { λ r. ⌜ shown (left r (now (store .exit)) (now (image .exit)) (now (desk .exit))) ≡ shown (live (shorten inode size) (world (now (store .entry)) (now (image .entry)) (now (desk .entry)))) ⌝ }
+{
+    match three_guards(store, image, desk) {
+        Watched::Open(n, _, h) => work::shorten(&mut *store, h, n, inode, size),
+        Watched::Shut(why) => Answer::Refused(why),
+    }
+}
+
+pub fn link(
+    store: &mut [u8],
+    image: &mut [u8],
+    desk: &mut [u8],
+    dir: usize,
+    name: &[u8],
+    inode: usize,
+) -> Answer
+    ensures { λ r. ⌜ shown (left r (now (store .exit)) (now (image .exit)) (now (desk .exit))) ≡ shown (live (link dir (now (name .entry)) inode) (world (now (store .entry)) (now (image .entry)) (now (desk .entry)))) ⌝ }
+{
+    match three_guards(store, image, desk) {
+        Watched::Open(n, b, h) => work::link(&mut *store, &mut *desk, h, n, b, dir, name, inode),
+        Watched::Shut(why) => Answer::Refused(why),
+    }
+}
+
+pub fn unlink(
+    store: &mut [u8],
+    image: &mut [u8],
+    desk: &mut [u8],
+    dir: usize,
+    name: &[u8],
+) -> Answer
+    ensures { λ r. ⌜ shown (left r (now (store .exit)) (now (image .exit)) (now (desk .exit))) ≡ shown (live (unlink dir (now (name .entry))) (world (now (store .entry)) (now (image .entry)) (now (desk .entry)))) ⌝ }
+{
+    match three_guards(store, image, desk) {
+        Watched::Open(n, _, h) => work::unlink(
+            &mut *store,
+            &mut *image,
+            &mut *desk,
+            h,
+            n,
+            dir,
+            name,
+        ),
+        Watched::Shut(why) => Answer::Refused(why),
+    }
+}
+
+pub fn rename(
+    store: &mut [u8],
+    image: &mut [u8],
+    desk: &mut [u8],
+    dir: usize,
+    name: &[u8],
+    to_dir: usize,
+    to_name: &[u8],
+) -> Answer
+    ensures { λ r. ⌜ shown (left r (now (store .exit)) (now (image .exit)) (now (desk .exit))) ≡ shown (live (rename dir (now (name .entry)) «to_dir» (now («to_name» .entry))) (world (now (store .entry)) (now (image .entry)) (now (desk .entry)))) ⌝ }
+{
+    match three_guards(store, image, desk) {
+        Watched::Open(n, b, h) => work::rename(
+            &mut *store,
+            &mut *image,
+            &mut *desk,
+            h,
+            n,
+            b,
+            dir,
+            name,
+            to_dir,
+            to_name,
+        ),
+        Watched::Shut(why) => Answer::Refused(why),
+    }
+}

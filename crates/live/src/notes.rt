@@ -1,128 +1,29 @@
-// What a file call asks of a running copy, and what it writes for it: locked inodes, marks, and entries of the image. n is the inode count.
+// What a file call writes on the desk for a running copy: marks. h is the desk's header, n the inode count.
 ghost use mathlib.Core.Path.{_≡_};
-ghost use mathlib.Core.List.{[], _∷_};
-ghost use Prim.Native.Nat.{_+_, _/_, _<_, _≤_};
+ghost use Prim.Native.Nat.{_<_, _≤_};
 ghost use lib.ListN.{length};
-ghost use Rattle.blocks.specs.Block.{kthBlock};
-ghost use Rattle.names.specs.Entry.{entryBytes};
-ghost use Rattle.directory.specs.Slot.{slotsInBlock, mostSlots, slotAt};
-ghost use Rattle.desk.specs.Sizes.{deskHeaderBytes, deskLength};
-ghost use Rattle.checkpoint.specs.Fit.{isRunning};
-ghost use Rattle.checkpoint.specs.Image.{slotNames};
-ghost use Rattle.checkpoint.specs.Busy.{isLocked, anyLocked};
-ghost use Rattle.checkpoint.specs.Notes.{noteMade, noteTaken, cutImage};
-ghost use Rattle.tallies.specs.Addressed.{Addressed};
-ghost use Rattle.live.specs.Fits.{Readable};
+ghost use Rattle.directory.specs.Slot.{mostSlots};
+ghost use Rattle.desk.specs.Sizes.{deskLength};
+ghost use Rattle.desk.specs.Desk.{deskOf};
+ghost use Rattle.checkpoint.specs.Notes.{noteMade, noteTaken};
 use desk::Desk;
-use directory::SLOTS_IN_BLOCK;
-use layout::inode;
-use layout::sizes::DIRECTORY;
-use names::ENTRY_BYTES;
-use tallies::is_copied;
-
-// The copy runs.
-fn is_running(d: &[u8]) -> bool
-    requires { ⌜ deskHeaderBytes ≤ length (now d) ⌝ }
-    ensures { λ r. ⌜ r ≡ isRunning (now (d .entry)) ⌝ }
-{
-    Desk::read(d).state == desk::RUNNING
-}
-
-// A running copy has locked inode i.
-pub fn is_locked(d: &[u8], i: usize) -> bool
-    requires { ⌜ deskHeaderBytes ≤ length (now d) ⌝ }
-    ensures { λ r. ⌜ r ≡ isLocked (now (d .entry)) i ⌝ }
-{
-    let h = Desk::read(d);
-    if h.state != desk::RUNNING {
-        return false;
-    }
-    h.locked as usize == i
-}
-
-// One of the two.
-pub fn either_locked(d: &[u8], i: usize, j: usize) -> bool
-    requires { ⌜ deskHeaderBytes ≤ length (now d) ⌝ }
-    ensures { λ r. ⌜ r ≡ anyLocked (now (d .entry)) (i ∷ j ∷ []) ⌝ }
-{
-    if is_locked(d, i) {
-        return true;
-    }
-    is_locked(d, j)
-}
-
-// One of the three.
-pub fn any_locked(d: &[u8], i: usize, j: usize, k: usize) -> bool
-    requires { ⌜ deskHeaderBytes ≤ length (now d) ⌝ }
-    ensures { λ r. ⌜ r ≡ anyLocked (now (d .entry)) (i ∷ j ∷ k ∷ []) ⌝ }
-{
-    if is_locked(d, i) {
-        return true;
-    }
-    either_locked(d, j, k)
-}
 
 // While the copy runs, the entry made in slot t of directory e is marked.
-pub fn note_made(d: &mut [u8], n: usize, e: usize, t: usize)
-    requires { ⌜ (1 ≤ e) × (e ≤ n) × (deskLength n ≤ length (now d)) × (t < mostSlots) ⌝ }
+pub fn note_made(d: &mut [u8], h: Desk, n: usize, e: usize, t: usize)
+    requires { ⌜ (h ≡ deskOf (now d)) × (1 ≤ e) × (e ≤ n) × (deskLength n ≤ length (now d)) × (t < mostSlots) ⌝ }
     ensures { λ _. ⌜ now (d .exit) ≡ noteMade (now (d .entry)) n e t ⌝ }
 {
-    if is_running(d) {
+    if h.runs() {
         desk::set_mark(&mut *d, n, e, t);
     }
 }
 
 // While the copy runs, the mark of the entry taken from slot t of directory e is cleared.
-pub fn note_taken(d: &mut [u8], n: usize, e: usize, t: usize)
-    requires { ⌜ (1 ≤ e) × (e ≤ n) × (deskLength n ≤ length (now d)) × (t < mostSlots) ⌝ }
+pub fn note_taken(d: &mut [u8], h: Desk, n: usize, e: usize, t: usize)
+    requires { ⌜ (h ≡ deskOf (now d)) × (1 ≤ e) × (e ≤ n) × (deskLength n ≤ length (now d)) × (t < mostSlots) ⌝ }
     ensures { λ _. ⌜ now (d .exit) ≡ noteTaken (now (d .entry)) n e t ⌝ }
 {
-    if is_running(d) {
+    if h.runs() {
         desk::clear_mark(&mut *d, n, e, t);
     }
-}
-
-// Where slot t of an image directory starts, by the block that its address names, whatever its size.
-fn image_slot(m: &[u8], n: usize, e: usize, t: usize) -> usize
-    requires { ⌜ Addressed (now m) n × (1 ≤ e) × (e ≤ n) × (t < mostSlots) × (1 ≤ kthBlock (now m) n e (t / slotsInBlock)) ⌝ }
-    ensures { λ r. ⌜ (r ≡ slotAt (now (m .entry)) n e t) × (r + entryBytes ≤ length (now (m .entry))) ⌝ }
-{
-    let c = blocks::kth_block(m, n, e, t / SLOTS_IN_BLOCK) as usize;
-    blocks::block_at(n, c) + ENTRY_BYTES * (t % SLOTS_IN_BLOCK)
-}
-
-// The inode that slot t of e names in the image, 0 for none.
-fn slot_names(m: &[u8], n: usize, e: usize, t: usize) -> usize
-    requires { ⌜ Addressed (now m) n × (1 ≤ e) × (e ≤ n) × (t < mostSlots) ⌝ }
-    ensures { λ r. ⌜ r ≡ slotNames (now (m .entry)) n e t ⌝ }
-{
-    if inode::kind(m, n, e) != DIRECTORY {
-        return 0;
-    }
-    if blocks::kth_block(m, n, e, t / SLOTS_IN_BLOCK) == 0 {
-        return 0;
-    }
-    let o = image_slot(m, n, e, t);
-    names::entry_inode(&m[o..o + ENTRY_BYTES]) as usize
-}
-
-// Inode i was taken from slot t of directory e: if e is copied and i is not, the entry that names i in the same slot of the image goes too.
-pub fn cut_image(m: &mut [u8], d: &[u8], n: usize, e: usize, t: usize, i: usize)
-    requires { ⌜ Readable (now m) (now d) n × (deskLength n ≤ length (now d)) × (1 ≤ e) × (e ≤ n) × (t < mostSlots) × (1 ≤ i) ⌝ }
-    ensures { λ _. ⌜ now (m .exit) ≡ cutImage (now (m .entry)) (now (d .entry)) n e t i ⌝ }
-{
-    if !is_running(d) {
-        return;
-    }
-    if !is_copied(d, n, e) {
-        return;
-    }
-    if is_copied(d, n, i) {
-        return;
-    }
-    if slot_names(m, n, e, t) != i {
-        return;
-    }
-    let o = image_slot(m, n, e, t);
-    octets::zero_range(&mut *m, o, ENTRY_BYTES);
 }

@@ -1,47 +1,55 @@
-// The file calls behind the guards: plan, then busy, then the bytes of the store, then the image's entry and the marks. s is the store, m the image, d the desk; n and b are the store's counts.
+// The file calls behind the guards: plan, then busy, then the bytes of the store, then the image's entry and the marks. s is the store, m the image, d the desk, h its
+// header; n and b are the store's counts.
 ghost use mathlib.Core.Path.{_≡_};
 ghost use mathlib.Core.List.{List};
 ghost use Prim.Native.Nat.{ℕ};
 ghost use lib.ListN.{length};
+ghost use Rattle.desk.specs.Desk.{deskOf};
 ghost use Rattle.sound.specs.Sound.{blocksIn};
+ghost use Rattle.sound.specs.Counted.{SoundStore};
 ghost use Rattle.content.specs.Plan.{writePlan, shortenPlan};
 ghost use Rattle.entries.specs.Plan.{createPlan, linkPlan, unlinkPlan, renamePlan};
 ghost use Rattle.files.specs.Effect.{doCreate, doWrite, doShorten, doLink, doUnlink, doRename};
 ghost use Rattle.checkpoint.specs.Busy.{unlessBusy};
 ghost use Rattle.checkpoint.specs.Live.{left, leavesIn};
 ghost use Rattle.checkpoint.specs.Shown.{world};
-ghost use Rattle.live.specs.Fits.{Fits, Readable};
+ghost use Rattle.image.specs.Addressed.{Readable};
+ghost use Rattle.live.specs.Fits.{Fits};
 use crate::notes;
 use answers::Answer;
 use answers::Refusal;
 use content::NumberPlan;
+use desk::Desk;
 use entries::CreatePlan;
 use entries::Kind;
 use entries::LinkPlan;
 use entries::RenamePlan;
 use entries::UnlinkPlan;
+use image::cut::cut_image;
 
 // ---- calls that leave the image as it is, whatever it is
 pub fn create(
     s: &mut [u8],
     d: &mut [u8],
+    h: Desk,
     n: usize,
     b: usize,
     dir: usize,
     name: &[u8],
     kind: Kind,
 ) -> Answer
-    requires { ⌜ Fits (now s) (now d) n b ⌝ }
+    requires { ⌜ Fits (now s) (now d) h n b ⌝ }
     ensures { λ r. ⌜ ((m : List ℕ) → left r (now (s .exit)) m (now (d .exit)) ≡ leavesIn (world (now (s .entry)) m (now (d .entry))) (unlessBusy (now (d .entry)) (doCreate (now (s .entry)) n dir (now (name .entry)) kind (createPlan (now (s .entry)) n b dir (now (name .entry)))))) ⌝ }
 {
     match entries::plan::create_plan(s, n, b, dir, name) {
         CreatePlan::Make { inode: i, room } => {
-            if notes::is_locked(d, dir) {
+            let touched = [dir];
+            if h.locks_any(&touched) {
                 return Answer::Refused(Refusal::Busy);
             }
             let t = room.slot;
             entries::apply::create(&mut *s, n, b, dir, name, kind, i, room);
-            notes::note_made(&mut *d, n, dir, t);
+            notes::note_made(&mut *d, h, n, dir, t);
             Answer::Done(i)
         }
         CreatePlan::NoCreate(why) => Answer::Refused(why),
@@ -51,36 +59,39 @@ pub fn create(
 pub fn link(
     s: &mut [u8],
     d: &mut [u8],
+    h: Desk,
     n: usize,
     b: usize,
     dir: usize,
     name: &[u8],
     inode: usize,
 ) -> Answer
-    requires { ⌜ Fits (now s) (now d) n b ⌝ }
+    requires { ⌜ Fits (now s) (now d) h n b ⌝ }
     ensures { λ r. ⌜ ((m : List ℕ) → left r (now (s .exit)) m (now (d .exit)) ≡ leavesIn (world (now (s .entry)) m (now (d .entry))) (unlessBusy (now (d .entry)) (doLink (now (s .entry)) n dir (now (name .entry)) inode (linkPlan (now (s .entry)) n b dir (now (name .entry)) inode)))) ⌝ }
 {
     match entries::plan::link_plan(s, n, b, dir, name, inode) {
         LinkPlan::Add(room) => {
-            if notes::either_locked(d, dir, inode) {
+            let touched = [dir, inode];
+            if h.locks_any(&touched) {
                 return Answer::Refused(Refusal::Busy);
             }
             let t = room.slot;
             entries::apply::link(&mut *s, n, b, dir, name, inode, room);
-            notes::note_made(&mut *d, n, dir, t);
+            notes::note_made(&mut *d, h, n, dir, t);
             Answer::Done(0)
         }
         LinkPlan::NoLink(why) => Answer::Refused(why),
     }
 }
 
-pub fn write(s: &mut [u8], d: &[u8], n: usize, b: usize, i: usize, o: usize, xs: &[u8]) -> Answer
-    requires { ⌜ Fits (now s) (now d) n b ⌝ }
-    ensures { λ r. ⌜ ((m : List ℕ) → left r (now (s .exit)) m (now (d .entry)) ≡ leavesIn (world (now (s .entry)) m (now (d .entry))) (unlessBusy (now (d .entry)) (doWrite (now (s .entry)) n b i o (now (xs .entry)) (writePlan (now (s .entry)) n i o (length (now (xs .entry))))))) ⌝ }
+pub fn write(s: &mut [u8], h: Desk, n: usize, b: usize, i: usize, o: usize, xs: &[u8]) -> Answer
+    requires { ⌜ SoundStore (now s) n b ⌝ }
+    ensures { λ r. ⌜ ((m d : List ℕ) → h ≡ deskOf d → left r (now (s .exit)) m d ≡ leavesIn (world (now (s .entry)) m d) (unlessBusy d (doWrite (now (s .entry)) n b i o (now (xs .entry)) (writePlan (now (s .entry)) n i o (length (now (xs .entry))))))) ⌝ }
 {
     match content::plan::write_plan(s, n, i, o, xs.len()) {
         NumberPlan::To(z) => {
-            if notes::is_locked(d, i) {
+            let touched = [i];
+            if h.locks_any(&touched) {
                 return Answer::Refused(Refusal::Busy);
             }
             content::apply::write_file(&mut *s, n, b, i, o, xs, z);
@@ -90,13 +101,14 @@ pub fn write(s: &mut [u8], d: &[u8], n: usize, b: usize, i: usize, o: usize, xs:
     }
 }
 
-pub fn shorten(s: &mut [u8], d: &[u8], n: usize, i: usize, z: usize) -> Answer
-    requires { ⌜ Fits (now s) (now d) n (blocksIn (now s)) ⌝ }
-    ensures { λ r. ⌜ ((m : List ℕ) → left r (now (s .exit)) m (now (d .entry)) ≡ leavesIn (world (now (s .entry)) m (now (d .entry))) (unlessBusy (now (d .entry)) (doShorten (now (s .entry)) n i (shortenPlan (now (s .entry)) n i z)))) ⌝ }
+pub fn shorten(s: &mut [u8], h: Desk, n: usize, i: usize, z: usize) -> Answer
+    requires { ⌜ SoundStore (now s) n (blocksIn (now s)) ⌝ }
+    ensures { λ r. ⌜ ((m d : List ℕ) → h ≡ deskOf d → left r (now (s .exit)) m d ≡ leavesIn (world (now (s .entry)) m d) (unlessBusy d (doShorten (now (s .entry)) n i (shortenPlan (now (s .entry)) n i z)))) ⌝ }
 {
     match content::plan::shorten_plan(s, n, i, z) {
         NumberPlan::To(y) => {
-            if notes::is_locked(d, i) {
+            let touched = [i];
+            if h.locks_any(&touched) {
                 return Answer::Refused(Refusal::Busy);
             }
             content::apply::shorten_file(&mut *s, n, i, y);
@@ -107,18 +119,27 @@ pub fn shorten(s: &mut [u8], d: &[u8], n: usize, i: usize, z: usize) -> Answer
 }
 
 // ---- calls that take an entry out
-pub fn unlink(s: &mut [u8], m: &mut [u8], d: &mut [u8], n: usize, dir: usize, name: &[u8]) -> Answer
-    requires { ⌜ Fits (now s) (now d) n (blocksIn (now s)) × Readable (now m) (now d) n ⌝ }
+pub fn unlink(
+    s: &mut [u8],
+    m: &mut [u8],
+    d: &mut [u8],
+    h: Desk,
+    n: usize,
+    dir: usize,
+    name: &[u8],
+) -> Answer
+    requires { ⌜ Fits (now s) (now d) h n (blocksIn (now s)) × Readable (now m) h n ⌝ }
     ensures { λ r. ⌜ left r (now (s .exit)) (now (m .exit)) (now (d .exit)) ≡ leavesIn (world (now (s .entry)) (now (m .entry)) (now (d .entry))) (unlessBusy (now (d .entry)) (doUnlink (now (s .entry)) n dir (unlinkPlan (now (s .entry)) n dir (now (name .entry))))) ⌝ }
 {
     match entries::plan::unlink_plan(s, n, dir, name) {
         UnlinkPlan::Take { slot: t, inode: i } => {
-            if notes::either_locked(d, dir, i) {
+            let touched = [dir, i];
+            if h.locks_any(&touched) {
                 return Answer::Refused(Refusal::Busy);
             }
             entries::apply::unlink(&mut *s, n, dir, t, i);
-            notes::cut_image(&mut *m, d, n, dir, t, i);
-            notes::note_taken(&mut *d, n, dir, t);
+            cut_image(&mut *m, d, h, n, dir, t, i);
+            notes::note_taken(&mut *d, h, n, dir, t);
             Answer::Done(0)
         }
         UnlinkPlan::NoUnlink(why) => Answer::Refused(why),
@@ -129,6 +150,7 @@ pub fn rename(
     s: &mut [u8],
     m: &mut [u8],
     d: &mut [u8],
+    h: Desk,
     n: usize,
     b: usize,
     from: usize,
@@ -136,18 +158,20 @@ pub fn rename(
     to: usize,
     other: &[u8],
 ) -> Answer
-    requires { ⌜ Fits (now s) (now d) n b × Readable (now m) (now d) n ⌝ }
+    requires { ⌜ Fits (now s) (now d) h n b × Readable (now m) h n ⌝ }
     ensures { λ r. ⌜ left r (now (s .exit)) (now (m .exit)) (now (d .exit)) ≡ leavesIn (world (now (s .entry)) (now (m .entry)) (now (d .entry))) (unlessBusy (now (d .entry)) (doRename (now (s .entry)) n from to (now (other .entry)) (renamePlan (now (s .entry)) n b from (now (name .entry)) to (now (other .entry))))) ⌝ }
 {
     match entries::plan::rename_plan(s, n, b, from, name, to, other) {
         RenamePlan::Same => {
-            if notes::is_locked(d, from) {
+            let touched = [from];
+            if h.locks_any(&touched) {
                 return Answer::Refused(Refusal::Busy);
             }
             Answer::Done(0)
         }
         RenamePlan::Rename { slot: t, inode: i } => {
-            if notes::is_locked(d, from) {
+            let touched = [from];
+            if h.locks_any(&touched) {
                 return Answer::Refused(Refusal::Busy);
             }
             entries::apply::rename(&mut *s, n, from, other, t, i);
@@ -158,14 +182,15 @@ pub fn rename(
             inode: i,
             room,
         } => {
-            if notes::any_locked(d, from, to, i) {
+            let touched = [from, to, i];
+            if h.locks_any(&touched) {
                 return Answer::Refused(Refusal::Busy);
             }
             let u = room.slot;
             entries::apply::move_entry(&mut *s, n, b, from, to, other, t, i, room);
-            notes::cut_image(&mut *m, d, n, from, t, i);
-            notes::note_taken(&mut *d, n, from, t);
-            notes::note_made(&mut *d, n, to, u);
+            cut_image(&mut *m, d, h, n, from, t, i);
+            notes::note_taken(&mut *d, h, n, from, t);
+            notes::note_made(&mut *d, h, n, to, u);
             Answer::Done(0)
         }
         RenamePlan::NoRename(why) => Answer::Refused(why),

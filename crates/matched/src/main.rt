@@ -7,10 +7,10 @@ ghost use lib.ListN.{length};
 ghost use Rattle.input.specs.Within.{Within};
 use answers::Answer;
 use answers::refusal_number;
-use commands::parse::command;
 use input::Input;
 use input::next_line;
 use laps::match_laps;
+use replay_commands::parse::command;
 
 fn respond(watch: &[u32], mat: &[u32])
     requires { ⌜ (length (now watch) ≤ 600) × (length (now mat) ≤ 600) ⌝ }

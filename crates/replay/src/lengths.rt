@@ -1,12 +1,12 @@
 // How many bytes of the program's arrays are store, image and desk: `new` changes it, if there is room.
 ghost use Prim.Native.Nat.{_≤_};
 ghost use Rattle.replay.specs.Fit.{Fit};
-use commands::Command;
 use desk::DESK_HEADER_BYTES;
 use desk::DESK_INODE_BYTES;
 use layout::sizes::BLOCK_BYTES;
 use layout::sizes::HEADER_BYTES;
 use layout::sizes::INODE_BYTES;
+use replay_commands::Command;
 
 pub struct Lengths {
     pub store: usize,

@@ -4,16 +4,16 @@ ghost use Rattle.replay.specs.Fit.{Inside};
 use crate::lengths::Lengths;
 use crate::lengths::planned;
 use checksum::checksum;
-use commands::Command;
-use commands::Reply;
-use commands::Sums;
-use commands::answer::put_line;
-use commands::parse::command;
-use commands::parse::parse;
 use input::Input;
 use input::next_line;
 use libc::STDOUT_FILENO;
-use runner::run;
+use replay_commands::Command;
+use replay_commands::Reply;
+use replay_commands::Sums;
+use replay_commands::answer::put_line;
+use replay_commands::parse::command;
+use replay_commands::parse::parse;
+use replay_run::run;
 use text::pieces::front;
 
 // What an out-buffer holds before a read.

@@ -12,13 +12,13 @@ use Rattle.sound.specs.Sound.{Sound, inodesIn}
 use Rattle.sound.specs.declared.Form.the-variants.{Image}
 use Rattle.answers.specs.declared.Answer.{Answer}
 use Rattle.format.specs.Format.{LaidOut, laidOut, layOutStore, layOutDesk}
-use Rattle.listing.specs.Listing.{printedText, mostPrinted, Listable}
+use Rattle.script_listing.specs.Listing.{printedText, mostPrinted, Listable}
 use Rattle.checkpoint.specs.Live.{World}
 use Rattle.checkpoint.specs.Shown.{world}
-use Rattle.session.specs.Reply.{Ran, ran, lineRuns, worldAfter}
-use Rattle.session.specs.Script.{printed, linesRun, FinishesSound, scriptInodes, scriptBlocks, fresh}
-use Rattle.session.specs.declared.Reply.{Reply}
-use Rattle.session.proofs.PrintLaws.{printed-short}
+use Rattle.script_run.specs.Reply.{Ran, ran, lineRuns, worldAfter}
+use Rattle.script_run.specs.Script.{printed, linesRun, FinishesSound, scriptInodes, scriptBlocks, fresh}
+use Rattle.script_run.specs.declared.Reply.{Reply}
+use Rattle.script_run.proofs.PrintLaws.{printed-short}
 
 pub after-line : (l : List ℕ) (w : World) (r : Reply) (s m d : List ℕ) → ran r (world s m d) ≡ lineRuns l w → world s m d ≡ worldAfter l w
 after-line l w r s m d e = ap (λ (x : Ran). world (x .store) (x .image) (x .desk)) e

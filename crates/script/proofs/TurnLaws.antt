@@ -7,14 +7,14 @@ use native.Mathlib.Omega.{arith}
 use lib.WfN.{Nat·lt-wfRel}
 use lib.ListN.{length, take, drop, length-append}
 use lib.Seq.{take-all}
-use Rattle.lines.specs.Lines.{linesIn, lineAt, nextAt, mostScriptBytes, scriptLines}
-use Rattle.lines.proofs.LineLaws.{lines-first, lines-end, next-later, next-within}
+use Rattle.script_lines.specs.Lines.{linesIn, lineAt, nextAt, mostScriptBytes, scriptLines}
+use Rattle.script_lines.proofs.LineLaws.{lines-first, lines-end, next-later, next-within}
 use Rattle.checkpoint.specs.Live.{World}
 use Rattle.checkpoint.specs.Shown.{world}
-use Rattle.session.specs.Reply.{worldAfter}
-use Rattle.session.specs.Script.{printed, linesRun, linesPrint, FinishesSound, scriptInodes, fresh, scriptPrints}
-use Rattle.session.proofs.PrintLaws.{printed-short, prints-all, prints-line, prints-none}
-use Rattle.listing.specs.Listing.{mostPrinted}
+use Rattle.script_run.specs.Reply.{worldAfter}
+use Rattle.script_run.specs.Script.{printed, linesRun, linesPrint, FinishesSound, scriptInodes, fresh, scriptPrints}
+use Rattle.script_run.proofs.PrintLaws.{printed-short, prints-all, prints-line, prints-none}
+use Rattle.script_listing.specs.Listing.{mostPrinted}
 
 -- whatever follows the line, a copy that finishes is sound
 pub later-sound : (l : List ℕ) (w v : World) → v ≡ worldAfter l w → FinishesSound w → FinishesSound v

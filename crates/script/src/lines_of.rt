@@ -5,12 +5,12 @@ ghost use lib.ListN.{length};
 ghost use Rattle.layout.specs.Sizes.{headerBytes};
 ghost use Rattle.desk.specs.Sizes.{deskHeaderBytes};
 ghost use Rattle.checkpoint.specs.Shown.{world};
-ghost use Rattle.lines.specs.Lines.{mostScriptBytes, scriptLines};
-ghost use Rattle.session.specs.Script.{linesRun, fresh, scriptPrints};
+ghost use Rattle.script_lines.specs.Lines.{mostScriptBytes, scriptLines};
+ghost use Rattle.script_run.specs.Script.{linesRun, fresh, scriptPrints};
 use crate::print;
-use lines::after;
-use lines::line;
-use lines::start;
+use script_lines::after;
+use script_lines::line;
+use script_lines::start;
 
 // All lines, in order, from the fresh buffers on: the reader is moved behind each. How many bytes
 // they print, so that a line which changes nothing has its turn too.

@@ -6,11 +6,11 @@ ghost use Rattle.layout.specs.Sizes.{headerBytes};
 ghost use Rattle.desk.specs.Sizes.{deskHeaderBytes};
 ghost use Rattle.text.specs.Put.{Put};
 ghost use Rattle.checkpoint.specs.Shown.{world};
-ghost use Rattle.listing.specs.Listing.{mostPrinted};
-ghost use Rattle.session.specs.Reply.{worldAfter};
-ghost use Rattle.session.specs.Script.{printed, FinishesSound, scriptInodes};
+ghost use Rattle.script_listing.specs.Listing.{mostPrinted};
+ghost use Rattle.script_run.specs.Reply.{worldAfter};
+ghost use Rattle.script_run.specs.Script.{printed, FinishesSound, scriptInodes};
 use libc::STDOUT_FILENO;
-use listing::put_printed;
+use script_listing::put_printed;
 use text::pieces::front;
 
 // No line prints more: `mostPrinted` of a store of 16 inodes.
@@ -28,7 +28,7 @@ fn put_line(
     ensures { λ _. ⌜ world (now (store .exit)) (now (image .exit)) (now (desk .exit)) ≡ worldAfter (now (line .entry)) (world (now (store .entry)) (now (image .entry)) (now (desk .entry))) ⌝ }
     ensures { λ r. ⌜ Put (now (out .entry)) 0 (printed (now (line .entry)) (world (now (store .entry)) (now (image .entry)) (now (desk .entry)))) r (now (out .exit)) ⌝ }
 {
-    let r = session::run::run(line, &mut *store, &mut *image, &mut *desk);
+    let r = script_run::run::run(line, &mut *store, &mut *image, &mut *desk);
     put_printed(out, r.ok, r.number, r.finished, &*image, &*desk)
 }
 

@@ -18,11 +18,10 @@ use Rattle.layout.specs.Sizes.{mostInodes, addressCount, addressPlace}
 use Rattle.layout.specs.Inode.{kindOf, directoryKind, sizeOf}
 use Rattle.blocks.specs.Block.{blockAt, blockOf, putInBlock, isLong, kthBlock, blocksUsed}
 use Rattle.names.specs.Entry.{entryInode}
-use Rattle.desk.specs.Desk.{markOf}
+use Rattle.desk.specs.Desk.{markOf, isCopied}
 use Rattle.sound.specs.Sound.{blocksIn}
 use Rattle.sound.specs.Counted.{SoundStore}
-use Rattle.changes.proofs.StoreLaws.{blocks-of, dir-of}
-use Rattle.checkpoint.specs.Notes.{isCopied}
+use Rattle.preservation.proofs.StoreLaws.{blocks-of, dir-of}
 use Rattle.checkpoint.specs.Copier.{copiedEntry, copiedEntries, copiedBlock}
 use Rattle.checkpoint.proofs.Copy.NoteLaws.{length-copied-block}
 

@@ -124,7 +124,7 @@ fn copy_entry(x: &mut [u8], d: &[u8], n: usize, i: usize, k: usize, j: usize)
         return;
     }
     let named = names::entry_inode(&x[o..o + ENTRY_BYTES]) as usize;
-    if !tallies::is_copied(d, n, named) {
+    if !desk::is_copied(d, n, named) {
         return;
     }
     octets::zero_range(&mut *x, o, ENTRY_BYTES);

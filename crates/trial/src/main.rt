@@ -2,11 +2,11 @@
 // Words: a seed, and how many lists.
 mod print;
 
-use chance::print::difference;
-use follow::list::run;
 use text::Number;
 use text::numbers::number;
 use text::pieces::front;
+use trial_events::print::difference;
+use trial_record::list::run;
 
 // Word k, or the number given where there is none.
 fn word(k: usize, given: usize) -> usize {

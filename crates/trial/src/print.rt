@@ -1,18 +1,18 @@
 // What was tried.
-use chance::print::number;
-use chance::print::word;
-use follow::tried::BLOCKS;
-use follow::tried::BURST_FINISHES;
-use follow::tried::BURST_STEPS;
-use follow::tried::BURST_STOPS;
-use follow::tried::CROSSED;
-use follow::tried::ENTRIES;
-use follow::tried::EVENTS;
-use follow::tried::FINISHES;
-use follow::tried::INODES;
-use follow::tried::LISTS;
-use follow::tried::LONG;
-use follow::tried::MOVES;
+use trial_events::print::number;
+use trial_events::print::word;
+use trial_record::tried::BLOCKS;
+use trial_record::tried::BURST_FINISHES;
+use trial_record::tried::BURST_STEPS;
+use trial_record::tried::BURST_STOPS;
+use trial_record::tried::CROSSED;
+use trial_record::tried::ENTRIES;
+use trial_record::tried::EVENTS;
+use trial_record::tried::FINISHES;
+use trial_record::tried::INODES;
+use trial_record::tried::LISTS;
+use trial_record::tried::LONG;
+use trial_record::tried::MOVES;
 
 fn row(what: &[u8], n: u64) {
     word(what);

@@ -1,4 +1,3 @@
-pub mod ReturnLaws
 pub mod OutLaws
 pub mod SinglesLaws
 pub mod MadeLaws

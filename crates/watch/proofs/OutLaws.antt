@@ -4,6 +4,7 @@ use mathlib.Core.Path.{_≡_, refl}
 use mathlib.Core.Bool.{Bool, true, false, true≢false}
 use mathlib.Core.List.{List, []}
 use lib.ListN.{length}
+use Rattle.desk.specs.Next.{locksAny}
 use Rattle.bounded.specs.Search.{pick}
 use Rattle.answers.specs.declared.Refusal.the-variants.{Busy}
 use Rattle.content.specs.declared.NumberPlan.{NumberPlan}
@@ -104,7 +105,7 @@ module _ (w : World) where
       go (NoNumber e) = refl
 
   pub read-out : (i o : ℕ) (out : List ℕ) → outOf (read i o out) w ≡ plain (read i o out) (w .store) .out
-  unfolding outOf decision plain plainDecision anyLocked
+  unfolding outOf decision plain plainDecision locksAny
   read-out i o out = go (guardOf (w .store))
     where
       plan : (n : ℕ) (p : NumberPlan) → onPlanned (unlessBusy (w .desk) (doRead (w .store) n i o out p)) (λ x. x .out) (λ e. out) ≡ leaves (w .store) out (doRead (w .store) n i o out p) .out

@@ -50,7 +50,7 @@ pub data Did : Act → World → Received → World → Type 0 where
   renamed : {dir : ℕ} {name : List ℕ} {to-dir : ℕ} {to-name : List ℕ} {w v : World} (r : Answer)
       → shown (left r (v .store) (v .image) (v .desk)) ≡ shown (live (rename dir name to-dir to-name) w)
       → Did (one (call (rename dir name to-dir to-name))) w (got (told r) []) v
-  -- start, step and state (copystart/src/start.rt, copystep/src/lib.rt, guards/src/state.rt)
+  -- start, step and state (copier/src/lib.rt, guards/src/lib.rt)
   started : {w : World} {image desk : List ℕ} (r : Answer)
       → shown (left r (w .store) image desk) ≡ shown (start (w .store) (w .image) (w .desk))
       → Did (one starts) w (got (told r) []) (world (w .store) image desk)

@@ -5,22 +5,22 @@ use crate::history::on_file;
 use crate::history::refill;
 use crate::history::steps;
 use crate::print;
-use beside::burst::compare;
-use beside::calls::Got;
-use chance::event;
-use chance::event::Event;
-use chance::event::MOST_BURST;
-use chance::print::word;
-use commands::Reply;
-use commands::parse::parse;
-use follow::copy::Copy;
-use follow::copy::follow;
-use follow::finished::find;
-use follow::list::turn;
+use replay_commands::Reply;
+use replay_commands::parse::parse;
 use text::Number;
 use text::numbers::number;
 use text::pieces::piece;
 use text::pieces::pieces;
+use trial_compare::burst::compare;
+use trial_compare::calls::Got;
+use trial_events::event;
+use trial_events::event::Event;
+use trial_events::event::MOST_BURST;
+use trial_events::print::word;
+use trial_record::copy::Copy;
+use trial_record::copy::follow;
+use trial_record::finished::find;
+use trial_record::list::turn;
 
 const SPACE: u8 = 32;
 
@@ -40,7 +40,7 @@ fn apply(command: &[u8], store: &mut [u8], image: &mut [u8], desk: &mut [u8]) ->
     let mut other = [0u8; 64];
     let mut page = [0u8; 64];
     let asked = parse(command, &mut name, &mut other);
-    is_made(runner::run(asked, store, image, desk, &mut page, &name, &other))
+    is_made(replay_run::run(asked, store, image, desk, &mut page, &name, &other))
 }
 
 // Does the commands; says so where one is refused.

@@ -1,12 +1,12 @@
 // A list of events from a laid-out store on, with a copy under way; the one behind it finishes the
 // copy.
 use crate::print;
-use beside::calls::ALIKE;
-use chance::event;
-use chance::event::Event;
-use chance::print::word;
-use follow::copy::Copy;
-use follow::list::turn;
+use trial_compare::calls::ALIKE;
+use trial_events::event;
+use trial_events::event::Event;
+use trial_events::print::word;
+use trial_record::copy::Copy;
+use trial_record::list::turn;
 
 pub const INODES: usize = 8;
 

@@ -1,11 +1,11 @@
 // The lines of the input.
 use crate::cases;
-use chance::print::word;
-use follow::copy::Copy;
 use libc::STDIN_FILENO;
 use text::pieces::is_word;
 use text::pieces::piece;
 use text::pieces::pieces;
+use trial_events::print::word;
+use trial_record::copy::Copy;
 
 const NEWLINE: u8 = 10;
 

@@ -7,7 +7,7 @@ mod history;
 mod lines;
 mod print;
 
-use chance::print::difference;
+use trial_events::print::difference;
 
 // The list that a difference is printed of, up to an event that is a burst.
 const LIST: u64 = 19;

@@ -1,9 +1,9 @@
 // What was found, in words.
-use beside::calls;
-use chance::print::number;
-use chance::print::word;
-use follow::copy;
-use follow::finished::Found;
+use trial_compare::calls;
+use trial_events::print::number;
+use trial_events::print::word;
+use trial_record::copy;
+use trial_record::finished::Found;
 
 const SLOTS: usize = 48;
 

@@ -41,7 +41,7 @@ go-on-requires : tie.Need-go-on-requires
 go-on-requires c κs =
     let z = c .before .before .before .before .before .before .before .before .before .before .before .before .before .before .before .before in
     let a = z .args in
-    burst-ready (now (a .store)) (now (a .image)) (now (a .desk)) (a .count) _ (c .before .before .before .before .before .before .before .before .before .before .before .both-framed .ensures) (c .before .before .before .before .before .before .before .before .before .before .if1 .left) _ (c .before .before .before .before .before .before .before .before .before .count-allowed .ensures) (c .before .before .before .before .before .before .before .before .if2 .left) _ (c .before .before .before .before .before .after-lengths .ensures) _ _ (c .before .before .before .n .given .1)
+    burst-ready (now (a .store)) (now (a .image)) (now (a .desk)) (a .count) _ (c .before .before .before .before .before .before .before .before .before .before .before .both-framed .ensures) (c .before .before .before .before .before .before .before .before .before .before .if1 .left) _ (c .before .before .before .before .before .before .before .before .before .count-allowed .ensures) (c .before .before .before .before .before .before .before .before .if2 .left) _ (c .before .before .before .before .before .after-lengths .ensures) (c .before .before .before .n .given .1)
 
 enum-known-why : tie.Need-enum-known-why
 enum-known-why c = search needs

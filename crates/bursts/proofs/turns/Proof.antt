@@ -6,7 +6,6 @@ use denote.Ref.{now}
 use lib.ListN.{length}
 use Rattle.checkpoint.specs.Shown.{world}
 use Rattle.checkpoint.specs.Burst.{burstFrom}
-use Rattle.copystep.proofs.StepLaws.{ready-long}
 use Rattle.bursts.specs.Turn.{Kept}
 use Rattle.bursts.proofs.TurnLaws.{turns-begin, turns-end, turns-ends, turns-stops, turns-goes, turns-kept}
 use Rattle.bursts.proofs.StepTurns.{going-addressed, first-asks, first-kept}
@@ -19,29 +18,29 @@ Inv-loop s m₀ d₀ n count map₀ counts₀ k₀ m d map counts k = (k ≤ cou
 abbrev μ-loop : tie.MeasureT-loop
 μ-loop s m₀ d₀ n count map₀ counts₀ k₀ m d map counts k = count - k
 
-read-requires : tie.Need-read-requires Inv-loop μ-loop
-read-requires c κs = ready-long (now (c .before .before .before .before .args .s)) (now (c .before .before .before .before .args .m)) (now (c .before .before .before .before .args .d)) (c .before .before .before .before .pre .0)
-
 cast-map-of : tie.Need-cast-map-of Inv-loop μ-loop
 cast-map-of c = search needs
 
 map-of-requires : tie.Need-map-of-requires Inv-loop μ-loop
 map-of-requires c κs =
-    let a = c .before .before .before .before .before .before .before .args in
-    let p = c .before .before .before .before .before .before .before .pre in
-    first-asks (now (a .s)) (now (a .m)) (now (a .d)) (a .n) _ (record { ready = p .0; running = p .2; inodes = p .1; read = c .before .before .read .ensures })
+    let z = c .before .before .before .before .before in
+    let a = z .args in
+    let p = z .pre in
+    first-asks (now (a .s)) (now (a .m)) (now (a .d)) (a .n) _ (record { ready = p .1; running = p .3; inodes = p .2; read = p .0 })
 
 count-names-requires : tie.Need-count-names-requires Inv-loop μ-loop
 count-names-requires c κs =
-    let a = c .before .before .before .before .before .before .before .before .before .args in
-    let p = c .before .before .before .before .before .before .before .before .before .pre in
-    going-addressed (now (a .s)) (now (a .m)) (now (a .d)) (a .n) _ (record { ready = p .0; running = p .2; inodes = p .1; read = c .before .before .before .before .read .ensures })
+    let z = c .before .before .before .before .before .before .before in
+    let a = z .args in
+    let p = z .pre in
+    going-addressed (now (a .s)) (now (a .m)) (now (a .d)) (a .n) _ (record { ready = p .1; running = p .3; inodes = p .2; read = p .0 })
 
 loop-holds : tie.Need-loop-holds Inv-loop μ-loop
 loop-holds c =
-    let a = c .before .before .before .before .before .before .before .before .before .before .args in
-    let p = c .before .before .before .before .before .before .before .before .before .before .pre in
-    (omega arith, refl, refl, turns-begin _ _, first-kept (now (a .s)) (now (a .m)) (now (a .d)) (a .n) _ (record { ready = p .0; running = p .2; inodes = p .1; read = c .before .before .before .before .before .read .ensures }) _ _ (c .before .before .map-of .ensures) (c .count-names .ensures))
+    let z = c .before .before .before .before .before .before .before .before in
+    let a = z .args in
+    let p = z .pre in
+    (omega arith, refl, refl, turns-begin _ _, first-kept (now (a .s)) (now (a .m)) (now (a .d)) (a .n) _ (record { ready = p .1; running = p .3; inodes = p .2; read = p .0 }) _ _ (c .before .before .map-of .ensures) (c .count-names .ensures))
 
 take-one-requires : tie.Need-take-one-requires Inv-loop μ-loop
 take-one-requires c κs = c .before .before .before .before .before .loop .inv .4
@@ -52,8 +51,8 @@ enum-told c = search needs
 enum-told-2 : tie.Need-enum-told-2 Inv-loop μ-loop
 enum-told-2 c = search needs
 
-add-t28 : tie.Need-add-t28 Inv-loop μ-loop
-add-t28 c = omega (arith, c .before .before .before .before .before .before .before .before .before .before .before .before .before .before .before .before .before .before .before .before .before .before .before .pre .3)
+add-t26 : tie.Need-add-t26 Inv-loop μ-loop
+add-t26 c = omega (arith, c .before .before .before .before .before .before .before .before .before .before .before .before .before .before .before .before .before .before .before .before .before .pre .4)
 
 same-length : tie.Need-same-length Inv-loop μ-loop
 same-length c = search needs
@@ -80,7 +79,7 @@ returns-2 : tie.Need-returns-2 Inv-loop μ-loop
 returns-2 c = turns-stops _ _ _ _ _ _ _ _ _ (c .before .before .before .before .before .before .before .before .take-one .ensures) _ _ (c .before .before .before .before .before .before .before .before .before .before .before .before .before .loop-test .taken) _ (c .before .before .why .given .1) _ (c .stopped-at .ensures) ∙ c .before .before .before .before .before .before .before .before .before .before .before .before .before .before .loop .inv .3
 
 add-k : tie.Need-add-k Inv-loop μ-loop
-add-k c = omega (arith, c .before .before .before .before .before .before .before .before .before .before .before .before .before .before .before .before .before .before .before .before .before .before .before .pre .3)
+add-k c = omega (arith, c .before .before .before .before .before .before .before .before .before .before .before .before .before .before .before .before .before .before .before .before .before .pre .4)
 
 loop-less : tie.Need-loop-less Inv-loop μ-loop
 loop-less c = omega arith
@@ -103,7 +102,6 @@ turns-spec =
     (tie.spec
     Inv-loop
     μ-loop
-    read-requires
     cast-map-of
     map-of-requires
     count-names-requires
@@ -111,7 +109,7 @@ turns-spec =
     take-one-requires
     enum-told
     enum-told-2
-    add-t28
+    add-t26
     same-length
     same-length-2
     returns

@@ -17,21 +17,21 @@ use Rattle.layout.specs.Inode.{kindOf, sizeOf, freeKind, directoryKind}
 use Rattle.blocks.specs.Block.{blockOf, blocksUsed, isLong, kthBy, kthBlock, rowBy}
 use Rattle.blocks.specs.Free.{longBut}
 use Rattle.blocks.proofs.LongLaws.{but-here, but-else}
-use Rattle.changes.proofs.SameLaws.{same-long}
+use Rattle.preservation.proofs.SameLaws.{same-long}
 use Rattle.directory.specs.Slot.{mostSlots, slotsInBlock}
 use Rattle.desk.specs.Sizes.{deskLength, running}
 use Rattle.desk.specs.declared.Desk.{Desk}
-use Rattle.desk.specs.Desk.{deskOf, markOf}
+use Rattle.desk.specs.Desk.{deskOf, markOf, isCopied}
 use Rattle.sound.specs.Place.{placeOf}
 use Rattle.sound.specs.Sound.{Sound, inodesIn}
 use Rattle.sound.specs.declared.Form.the-variants.{Store}
-use Rattle.changes.proofs.StoreLaws.{sound-store, dir-of, blocks-of}
-use Rattle.changes.proofs.KeepLaws.{body-of}
+use Rattle.preservation.proofs.StoreLaws.{sound-store, dir-of, blocks-of}
+use Rattle.preservation.proofs.KeepLaws.{body-of}
 use Rattle.files.specs.Effect.{Entry, placeIn, Effect}
 use Rattle.files.proofs.Lawful.{Away, Stands, Stays, Lawful}
 use Rattle.checkpoint.specs.Fit.{isRunning, imageLong}
 use Rattle.checkpoint.specs.Busy.{anyLocked}
-use Rattle.checkpoint.specs.Notes.{isCopied, cutEntries, clearMarks, setMarks}
+use Rattle.checkpoint.specs.Notes.{cutEntries, clearMarks, setMarks}
 use Rattle.checkpoint.specs.Copier.{copiedEntries, copiedBlock}
 use Rattle.checkpoint.proofs.Copy.Laid.{DeskLaid, Laid, Open, cost, costSoFar}
 use Rattle.checkpoint.proofs.Copy.LedgerLaws.{rows-named, rows-differ}

@@ -13,13 +13,13 @@ use Rattle.bounded.specs.Search.{pick}
 use Rattle.bounded.proofs.EachLaws.{All, Some}
 use Rattle.directory.specs.Slot.{mostSlots}
 use Rattle.desk.specs.Sizes.{deskLength}
-use Rattle.desk.specs.Desk.{deskOf, deskRestZero, copiedOf, markOf, setMark, clearMark}
+use Rattle.desk.specs.Desk.{deskOf, deskRestZero, copiedOf, markOf, setMark, clearMark, isCopied}
 use Rattle.desk.proofs.DeskLaws.{length-setMark, length-clearMark, desk-setMark, desk-clearMark, reserved-setMark, reserved-clearMark, copied-setMark, copied-clearMark, mark-setMark-same, mark-setMark-slot, mark-setMark-other, mark-clearMark-slot, mark-clearMark-other}
 use Rattle.sound.specs.Place.{placeOf}
 use Rattle.files.specs.Effect.{Entry, placeIn}
 use Rattle.files.proofs.Lawful.{Away}
 use Rattle.checkpoint.specs.Fit.{isRunning}
-use Rattle.checkpoint.specs.Notes.{isCopied, noteMade, noteTaken, cutsImage, cutImage, cutEntries, clearMarks, setMarks}
+use Rattle.checkpoint.specs.Notes.{noteMade, noteTaken, cutsImage, cutImage, cutEntries, clearMarks, setMarks}
 
 -- ---- the copy does not run
 cut-idle : (m d : List ℕ) (n : ℕ) (ys : List Entry) → isRunning d ≡ false → cutEntries m d n ys ≡ m

@@ -19,21 +19,21 @@ use Rattle.blocks.specs.Block.{blockOf, bytesPlace, kthBlock}
 use Rattle.ledger.proofs.BytesLaws.{place-used, used-limits}
 use Rattle.directory.specs.Slot.{mostSlots}
 use Rattle.desk.specs.declared.Desk.{Desk}
-use Rattle.desk.specs.Desk.{deskOf, markOf}
+use Rattle.desk.specs.Desk.{deskOf, markOf, isCopied}
 use Rattle.sound.specs.Place.{dirOf, slotOf, filled, naming, placeOf}
 use Rattle.sound.specs.Sound.{Sound, inodesIn}
 use Rattle.sound.proofs.SoundLaws.{size-most}
 use Rattle.sound.specs.declared.Form.the-variants.{Store}
-use Rattle.changes.proofs.BaredLaws.{naming-none}
+use Rattle.preservation.proofs.BaredLaws.{naming-none}
 use Rattle.growth.specs.Extend.{fileByte}
 use Rattle.content.specs.Content.{fileBytes}
 use Rattle.files.specs.Effect.{Entry, placeIn, Effect}
 use Rattle.files.proofs.Lawful.{Away, Stands, Lawful}
 use Rattle.files.proofs.EffectFacts.{away-or}
-use Rattle.copying.specs.View.{View}
-use Rattle.copying.specs.Deed.{Alike, Cut, cut, kept, Turn, stays, goes, comes, Called}
+use Rattle.copy_theory.specs.View.{View}
+use Rattle.copy_theory.specs.Deed.{Alike, Cut, cut, kept, Turn, stays, goes, comes, Called}
 use Rattle.checkpoint.specs.Busy.{anyLocked}
-use Rattle.checkpoint.specs.Notes.{isCopied, cutEntries, clearMarks, setMarks}
+use Rattle.checkpoint.specs.Notes.{cutEntries, clearMarks, setMarks}
 use Rattle.checkpoint.proofs.Copy.Seen.{shelfOf, markedAt, seen}
 use Rattle.checkpoint.proofs.Copy.Laid.{Laid}
 use Rattle.checkpoint.proofs.Copy.NamingLaws.{used-sound}

@@ -7,7 +7,7 @@ use Rattle.layout.specs.Inode.{kindOf, freeKind}
 use Rattle.desk.specs.Desk.{deskOf}
 use Rattle.sound.specs.Sound.{inodesIn}
 use Rattle.files.specs.Effect.{Call, Effect}
-use Rattle.copying.specs.Deed.{Called}
+use Rattle.copy_theory.specs.Deed.{Called}
 use Rattle.checkpoint.specs.Fit.{isRunning}
 use Rattle.checkpoint.specs.Live.{World}
 use Rattle.checkpoint.specs.List.{Ready, call, next}

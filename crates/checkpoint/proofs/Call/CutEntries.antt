@@ -20,13 +20,14 @@ use Rattle.sound.specs.Place.{entryAt, naming}
 use Rattle.sound.specs.Sound.{Sound, inodesIn}
 use Rattle.sound.proofs.PlaceLaws.{naming-slot, naming-filled, place-dir, place-slot, slot-place}
 use Rattle.sound.specs.declared.Form.the-variants.{Store}
-use Rattle.changes.proofs.SameLaws.{SameInode, SameBlock, inode-stays}
-use Rattle.changes.proofs.EntryWriteLaws.{SlotIn}
+use Rattle.preservation.proofs.SameLaws.{SameInode, SameBlock, inode-stays}
+use Rattle.preservation.proofs.EntryWriteLaws.{SlotIn}
 use Rattle.files.specs.Effect.{Entry, placeIn}
 use Rattle.files.proofs.Lawful.{Away}
+use Rattle.desk.specs.Desk.{isCopied}
 use Rattle.checkpoint.specs.Fit.{isRunning}
 use Rattle.checkpoint.specs.Image.{slotNames}
-use Rattle.checkpoint.specs.Notes.{isCopied, cutsImage, cutImage, cutEntries}
+use Rattle.checkpoint.specs.Notes.{cutsImage, cutImage, cutEntries}
 use Rattle.checkpoint.proofs.Copy.Laid.{Laid}
 use Rattle.checkpoint.proofs.Copy.NamingLaws.{same-naming}
 use Rattle.checkpoint.proofs.Call.CallNotes.{Ranged}

@@ -17,19 +17,18 @@ use Rattle.blocks.proofs.KthLaws.{row-kth}
 use Rattle.bounded.proofs.ReflectLaws.{r-no}
 use Rattle.ledger.proofs.BytesLaws.{place-used, used-limits}
 use Rattle.blocks.proofs.LongLaws.{but-here}
-use Rattle.changes.proofs.SameLaws.{SameBlock}
+use Rattle.preservation.proofs.SameLaws.{SameBlock}
 use Rattle.checkpoint.specs.Fit.{imageLong}
 use Rattle.checkpoint.proofs.Copy.LedgerLaws.{named-by, rows-named, rows-differ}
 use Rattle.names.specs.Entry.{isEmpty}
 use Rattle.directory.specs.Slot.{mostSlots, clearEntry}
-use Rattle.desk.specs.Desk.{deskOf}
+use Rattle.desk.specs.Desk.{deskOf, isCopied}
 use Rattle.sound.specs.Place.{isSlot, entryAt, placeOf}
 use Rattle.sound.specs.Sound.{Sound, inodesIn}
 use Rattle.sound.proofs.SoundLaws.{size-most}
 use Rattle.sound.specs.declared.Form.the-variants.{Store}
-use Rattle.changes.proofs.KeepLaws.{inode-kept}
-use Rattle.changes.proofs.EntryWriteLaws.{SlotIn}
-use Rattle.checkpoint.specs.Notes.{isCopied}
+use Rattle.preservation.proofs.KeepLaws.{inode-kept}
+use Rattle.preservation.proofs.EntryWriteLaws.{SlotIn}
 use Rattle.checkpoint.proofs.Copy.Laid.{Laid, Open, Frame, frame-kept, Fair, cost, costSoFar}
 use Rattle.checkpoint.proofs.Copy.NamingLaws.{used-other}
 use Rattle.checkpoint.proofs.Call.CutLaws.{inside, in-use, by-own, slot-same, cut-inode, cut-kth, cut-row, cut-block, cut-file, cut-empty, cut-other}

@@ -22,7 +22,7 @@ use Rattle.ledger.proofs.WriteLaws.{NoAddresses}
 use Rattle.ledger.proofs.LedgerLaws.{one-kth, data-none}
 use Rattle.blocks.proofs.LongLaws.{but-else}
 use Rattle.desk.specs.Desk.{deskOf}
-use Rattle.changes.proofs.StoreLaws.{dir-short}
+use Rattle.preservation.proofs.StoreLaws.{dir-short}
 use Rattle.checkpoint.specs.Fit.{imageLong}
 use Rattle.checkpoint.proofs.Copy.LedgerLaws.{laid-ledger}
 use Rattle.names.specs.Entry.{isEmpty}
@@ -32,9 +32,9 @@ use Rattle.directory.proofs.SlotLaws.{apart-blocks, apart-slots, entry-clear, e
 use Rattle.sound.specs.Place.{dirOf, slotOf, isSlot, entryAt, naming, placeOf}
 use Rattle.sound.specs.Inode.{InodeSound}
 use Rattle.sound.proofs.PlaceLaws.{slot-is, naming-entry, entry-place, slot-place}
-use Rattle.changes.proofs.SameLaws.{SameInode, SameBlock, InBlock, same-long, clear-entry}
-use Rattle.changes.proofs.KeepLaws.{SamePlace, place-slot, slot-kept, same-slots}
-use Rattle.changes.proofs.EntryWriteLaws.{SlotIn, slot-block}
+use Rattle.preservation.proofs.SameLaws.{SameInode, SameBlock, InBlock, same-long, clear-entry}
+use Rattle.preservation.proofs.KeepLaws.{SamePlace, place-slot, slot-kept, same-slots}
+use Rattle.preservation.proofs.EntryWriteLaws.{SlotIn, slot-block}
 use Rattle.checkpoint.proofs.Copy.Laid.{Laid}
 use Rattle.checkpoint.proofs.Copy.NamingLaws.{used-other, used-sound}
 

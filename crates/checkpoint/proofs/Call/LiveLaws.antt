@@ -19,7 +19,7 @@ use Rattle.sound.proofs.SoundLaws.{is-sound}
 use Rattle.answers.specs.declared.Refusal.the-variants.{Busy}
 use Rattle.answers.specs.Refusal.{refusalNumber}
 use Rattle.answers.proofs.RefusalLaws.{not-none}
-use Rattle.changes.proofs.StoreLaws.{sound-store}
+use Rattle.preservation.proofs.StoreLaws.{sound-store}
 use Rattle.files.specs.declared.Guard.the-variants.{Pass}
 use Rattle.files.specs.Guard.{guardOf, onGuard}
 use Rattle.files.specs.Effect.{Call, Entry, placeIn, Effect, Planned, refused, does, onPlanned, planned, plainDecision}

@@ -21,14 +21,13 @@ use Rattle.layout.specs.Inode.{sizeOf}
 use Rattle.blocks.specs.Block.{blocksUsed, kthBlock}
 use Rattle.blocks.specs.Free.{namedBy}
 use Rattle.directory.specs.Slot.{mostSlots}
-use Rattle.desk.specs.Desk.{deskOf}
+use Rattle.desk.specs.Desk.{deskOf, isCopied}
 use Rattle.sound.specs.Place.{naming}
 use Rattle.sound.specs.Sound.{Sound, inodesIn}
 use Rattle.sound.specs.declared.Form.the-variants.{Store}
-use Rattle.copying.specs.Holds.{Ended}
+use Rattle.copy_theory.specs.Holds.{Ended}
 use Rattle.checkpoint.specs.Image.{imageNaming, inodeNamed}
 use Rattle.checkpoint.specs.Fit.{imageLong}
-use Rattle.checkpoint.specs.Notes.{isCopied}
 use Rattle.checkpoint.specs.Copier.{Step, lock, copy, close, finish, full, nextInode, targetBlock, lockedStep, freeStep, stepOf}
 use Rattle.checkpoint.proofs.Copy.Seen.{shelfOf, seen}
 use Rattle.checkpoint.proofs.Copy.Laid.{Laid}

@@ -20,13 +20,12 @@ use Rattle.blocks.proofs.KthLaws.{kth-direct}
 use Rattle.ledger.proofs.BytesLaws.{used-limits}
 use Rattle.ledger.proofs.TallyLaws.{ledger-bound}
 use Rattle.desk.specs.Sizes.{deskLength, stopped, stepsAnInode}
-use Rattle.desk.specs.Desk.{deskOf, copiedOf, deskRestZero}
+use Rattle.desk.specs.Desk.{deskOf, copiedOf, deskRestZero, isCopied}
 use Rattle.sound.specs.Sound.{Sound, inodesIn}
 use Rattle.sound.specs.declared.Form.the-variants.{Store}
 use Rattle.sound.proofs.SoundLaws.{framed, is-sound, size-most}
-use Rattle.changes.proofs.StoreLaws.{sound-store, blocks-of}
+use Rattle.preservation.proofs.StoreLaws.{sound-store, blocks-of}
 use Rattle.checkpoint.specs.Fit.{deskFramed, isRunning, mostSteps, blocksFit, deskFits, imageLong, lacksAddresses, imageFits, notesFit}
-use Rattle.checkpoint.specs.Notes.{isCopied}
 use Rattle.checkpoint.specs.List.{Ready}
 use Rattle.checkpoint.proofs.Copy.Laid.{Laid, cost}
 use Rattle.checkpoint.proofs.Copy.LedgerLaws.{laid-ledger}

@@ -17,13 +17,12 @@ use Rattle.blocks.specs.Free.{namedBy}
 use Rattle.names.specs.Entry.{isEmpty, entryInode, legalEntry}
 use Rattle.directory.specs.Slot.{mostSlots}
 use Rattle.desk.specs.Sizes.{deskLength, running}
-use Rattle.desk.specs.Desk.{deskOf, copiedOf}
+use Rattle.desk.specs.Desk.{deskOf, copiedOf, isCopied}
 use Rattle.desk.specs.Desk as desk
 use Rattle.sound.specs.Place.{isSlot, entryAt}
 use Rattle.sound.specs.Inode.{InodeSound}
-use Rattle.changes.proofs.SameLaws.{SameFrame}
+use Rattle.preservation.proofs.SameLaws.{SameFrame}
 use Rattle.checkpoint.specs.Fit.{imageLong}
-use Rattle.checkpoint.specs.Notes.{isCopied}
 use Rattle.checkpoint.specs.Copier.{copiedBlock}
 
 -- the desk of a running copy

@@ -19,9 +19,8 @@ use Rattle.blocks.specs.Block.{blockOf, blocksUsed, isLong, kthBlock}
 use Rattle.names.specs.Entry.{entryBytes, entryInode}
 use Rattle.directory.specs.Slot.{slotsInBlock}
 use Rattle.desk.specs.declared.Desk.{Desk}
-use Rattle.desk.specs.Desk.{putDesk, copiedOf, markOf}
+use Rattle.desk.specs.Desk.{putDesk, copiedOf, markOf, isCopied}
 use Rattle.desk.proofs.DeskLaws.{copied-putDesk, mark-putDesk}
-use Rattle.checkpoint.specs.Notes.{isCopied}
 use Rattle.checkpoint.specs.Copier.{copiedEntry, copiedEntries, copiedBlock}
 use Rattle.checkpoint.proofs.Copy.Seen.{markedAt}
 use Rattle.checkpoint.proofs.Copy.Laid.{cost}
@@ -39,11 +38,6 @@ put-desk d h n = record {
   copied = λ i. ap (λ (x : ℕ). leb 1 i && (leb i n && eqb x 1)) (copied-putDesk d h i);
   marks = λ i t. mark-putDesk d h n i t;
 }
-
--- inode i is copied just where its byte says so
-pub copied-is : (d : List ℕ) (n i : ℕ) → Reflects (isCopied d n i) ((1 ≤ i) × ((i ≤ n) × (copiedOf d i ≡ 1)))
-unfolding isCopied
-copied-is d n i = r-and (r-le 1 i) (r-and (r-le i n) (r-eq (copiedOf d i) 1))
 
 -- ---- the block that a step copies
 -- "it starts zeroed in the image"

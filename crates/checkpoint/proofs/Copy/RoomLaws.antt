@@ -17,7 +17,7 @@ use Rattle.blocks.proofs.KthLaws.{row-kth}
 use Rattle.desk.specs.Desk.{deskOf}
 use Rattle.sound.specs.Sound.{Sound, inodesIn}
 use Rattle.sound.specs.declared.Form.the-variants.{Store}
-use Rattle.changes.proofs.StoreLaws.{sound-store, blocks-of}
+use Rattle.preservation.proofs.StoreLaws.{sound-store, blocks-of}
 use Rattle.blocks.proofs.LongLaws.{but-here}
 use Rattle.checkpoint.specs.Fit.{imageLong}
 use Rattle.checkpoint.specs.Copier.{targetBlock}

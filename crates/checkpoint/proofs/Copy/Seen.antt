@@ -7,11 +7,10 @@ use Rattle.bounded.specs.Search.{pick}
 use Rattle.bounded.proofs.RangeLaws.{within, below}
 use Rattle.layout.specs.Inode.{kindOf, sizeOf, parentOf}
 use Rattle.directory.specs.Slot.{mostSlots}
-use Rattle.desk.specs.Desk.{deskOf, markOf}
+use Rattle.desk.specs.Desk.{deskOf, markOf, isCopied}
 use Rattle.sound.specs.Place.{dirOf, slotOf, entryAt, naming}
 use Rattle.content.specs.Content.{fileBytes}
-use Rattle.copying.specs.View.{Shelf, View}
-use Rattle.checkpoint.specs.Notes.{isCopied}
+use Rattle.copy_theory.specs.View.{Shelf, View}
 
 unfoldable pub shelfOf : ℕ → List ℕ → Shelf
 shelfOf n s = record {

@@ -17,15 +17,14 @@ use Rattle.layout.specs.Inode.{kindOf, sizeOf, parentOf}
 use Rattle.blocks.specs.Block.{blockOf, blocksUsed, bytesPlace, kthBlock}
 use Rattle.ledger.proofs.BytesLaws.{place-used, place-bytes}
 use Rattle.directory.specs.Slot.{mostSlots}
-use Rattle.desk.specs.Desk.{copiedOf, markOf}
+use Rattle.desk.specs.Desk.{copiedOf, markOf, isCopied}
 use Rattle.sound.specs.Inode.{InodeSound}
 use Rattle.sound.specs.Place.{dirOf, slotOf, entryAt, naming}
 use Rattle.sound.proofs.SoundLaws.{size-most}
-use Rattle.changes.proofs.SameLaws.{SameBody, SameBlock}
+use Rattle.preservation.proofs.SameLaws.{SameBody, SameBlock}
 use Rattle.growth.specs.Extend.{fileByte}
 use Rattle.content.specs.Content.{fileBytes}
-use Rattle.copying.specs.Deed.{Alike}
-use Rattle.checkpoint.specs.Notes.{isCopied}
+use Rattle.copy_theory.specs.Deed.{Alike}
 use Rattle.checkpoint.proofs.Copy.Seen.{shelfOf, markedAt}
 
 module _ (n : ℕ) (s : List ℕ) where

@@ -18,10 +18,10 @@ use Rattle.sound.specs.Entry.{sameNames}
 use Rattle.sound.specs.Sound.{Sound, inodesIn}
 use Rattle.sound.proofs.PlaceLaws.{naming-filled}
 use Rattle.sound.specs.declared.Form.the-variants.{Store}
-use Rattle.changes.proofs.StoreLaws.{sound-store}
-use Rattle.changes.proofs.TreeLaws.{Tree, Names, Dir, entry-one, leads-same}
-use Rattle.changes.proofs.SoundTreeLaws.{nodesOf, names-at, above-at, tree-at}
-use Rattle.copying.specs.View.{Tidy}
+use Rattle.preservation.proofs.StoreLaws.{sound-store}
+use Rattle.preservation.proofs.TreeLaws.{Tree, Names, Dir, entry-one, leads-same}
+use Rattle.preservation.proofs.SoundTreeLaws.{nodesOf, names-at, above-at, tree-at}
+use Rattle.copy_theory.specs.View.{Tidy}
 use Rattle.checkpoint.proofs.Copy.Seen.{shelfOf}
 use Rattle.checkpoint.proofs.Copy.SeenLaws.{names-in, names-below, names-low, entry-in, kind-some, kind-in, parent-in}
 

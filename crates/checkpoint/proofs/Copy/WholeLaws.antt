@@ -20,11 +20,11 @@ use Rattle.directory.specs.Slot.{mostSlots, slots}
 use Rattle.sound.specs.Place.{dirOf, slotOf, isSlot, entryAt, naming}
 use Rattle.sound.specs.Inode.{InodeSound}
 use Rattle.sound.proofs.PlaceLaws.{slot-is, naming-slot}
-use Rattle.changes.proofs.SameLaws.{SameInode, SameBlock}
-use Rattle.changes.proofs.KeepLaws.{inode-kept, slot-kept, same-slots, entry-kept}
+use Rattle.preservation.proofs.SameLaws.{SameInode, SameBlock}
+use Rattle.preservation.proofs.KeepLaws.{inode-kept, slot-kept, same-slots, entry-kept}
 use Rattle.growth.specs.Extend.{fileByte}
 use Rattle.content.specs.Content.{fileBytes}
-use Rattle.copying.specs.Deed.{Alike}
+use Rattle.copy_theory.specs.Deed.{Alike}
 use Rattle.checkpoint.proofs.Copy.Seen.{shelfOf}
 
 pub record Whole (m t : List ℕ) (n i : ℕ) : Type 0 where

@@ -9,13 +9,13 @@ use Rattle.blocks.specs.Block.{storeLength, Allowed}
 use Rattle.sound.specs.Sound.{Sound, inodesIn, blocksIn}
 use Rattle.sound.specs.declared.Form.the-variants.{Store}
 use Rattle.answers.specs.declared.Refusal.the-variants.{WrongState}
-use Rattle.changes.proofs.StoreLaws.{sound-store}
+use Rattle.preservation.proofs.StoreLaws.{sound-store}
 use Rattle.files.specs.Effect.{Call, Effect, Planned, does, refused, planned}
 use Rattle.files.proofs.Lawful.{Each, Lawful}
 use Rattle.files.proofs.LawfulCalls.{lawful}
-use Rattle.copying.specs.View.{Shelf, Tidy}
-use Rattle.copying.specs.Deed.{Alike, called, rests}
-use Rattle.copying.proofs.HoldsLaws.{holds-does}
+use Rattle.copy_theory.specs.View.{Shelf, Tidy}
+use Rattle.copy_theory.specs.Deed.{Alike, called, rests}
+use Rattle.copy_theory.proofs.HoldsLaws.{holds-does}
 use Rattle.checkpoint.specs.Fit.{imageAllowed, imageBlocks}
 use Rattle.checkpoint.specs.Notes.{cutEntries, clearMarks, setMarks}
 use Rattle.checkpoint.specs.Busy.{anyLocked}

@@ -44,7 +44,7 @@ module _ (d : List ℕ) (n : ℕ) where
       go true = desk-setMark d n e t
       go false = refl
 
-  taken-head : (e t : ℕ) → deskOf (noteTaken d n e t) ≡ deskOf d
+  pub taken-head : (e t : ℕ) → deskOf (noteTaken d n e t) ≡ deskOf d
   unfolding noteTaken
   taken-head e t = go (isRunning d)
     where

@@ -21,8 +21,8 @@ use Rattle.desk.specs.Next.{finishing, stopping}
 use Rattle.desk.proofs.DeskLaws.{desk-putDesk, length-putDesk, copied-putDesk, reserved-putDesk, desk-allowed}
 use Rattle.sound.specs.Sound.{Sound, inodesIn}
 use Rattle.sound.specs.declared.Form.the-variants.{Image}
-use Rattle.copying.specs.Deed.{Quiet}
-use Rattle.copying.proofs.EndLaws.{tidy-image}
+use Rattle.copy_theory.specs.Deed.{Quiet}
+use Rattle.copy_theory.proofs.EndLaws.{tidy-image}
 use Rattle.answers.specs.declared.Refusal.the-variants.{ImageFull}
 use Rattle.answers.specs.declared.Answer.the-variants.{Done, Refused}
 use Rattle.answers.specs.Told.{Told, told}

@@ -10,10 +10,10 @@ use Rattle.bounded.proofs.BoolLaws.{clash, and-left, and-right}
 use Rattle.layout.specs.Sizes.{isComplete}
 use Rattle.layout.specs.Header.{headerOf}
 use Rattle.answers.specs.Told.{Told}
-use Rattle.copying.specs.View.{View, Tidy}
-use Rattle.copying.specs.Deed.{Deed, rests}
-use Rattle.copying.specs.Holds.{Fresh}
-use Rattle.copying.specs.History.{Recorded}
+use Rattle.copy_theory.specs.View.{View, Tidy}
+use Rattle.copy_theory.specs.Deed.{Deed, rests}
+use Rattle.copy_theory.specs.Holds.{Fresh}
+use Rattle.copy_theory.specs.History.{Recorded}
 use Rattle.checkpoint.specs.Live.{World}
 use Rattle.checkpoint.specs.Shown.{Shown}
 use Rattle.checkpoint.specs.List.{Event, call, advances, asks, starts, next, accepted, completes, run, Finish, last, more}

@@ -14,8 +14,8 @@ use Rattle.desk.specs.Sizes.{running}
 use Rattle.desk.specs.Desk.{deskOf}
 use Rattle.sound.specs.Sound.{Sound, inodesIn}
 use Rattle.sound.specs.declared.Form.the-variants.{Store}
-use Rattle.copying.specs.View.{View}
-use Rattle.copying.specs.Holds.{Holds}
+use Rattle.copy_theory.specs.View.{View}
+use Rattle.copy_theory.specs.Holds.{Holds}
 use Rattle.checkpoint.specs.Fit.{isRunning, imageAllowed}
 use Rattle.checkpoint.specs.Copier.{Step, lock, stepOf}
 use Rattle.checkpoint.specs.Live.{World, Outcome, guarded, doStep, step, threeGuards, start, started}

@@ -11,14 +11,16 @@ use Rattle.bounded.proofs.SearchLaws.{pick-not}
 use Rattle.bounded.proofs.BoolLaws.{clash, and-left, and-right, or-cases}
 use Rattle.bounded.proofs.EachLaws.{Some}
 use Rattle.desk.specs.Desk.{deskOf}
+use Rattle.desk.specs.Next.{locks, locksAny}
 use Rattle.layout.specs.Inode.{fileKind, directoryKind, isKind, isDirectory}
 use Rattle.names.specs.Name.{legalName}
 use Rattle.sound.specs.Sound.{Sound, inodesIn}
 use Rattle.sound.specs.declared.Form.the-variants.{Store}
 use Rattle.answers.specs.declared.Refusal.{Refusal}
 use Rattle.answers.specs.declared.Refusal.the-variants.{IllegalName, WrongInode}
-use Rattle.changes.proofs.StoreLaws.{sound-store, kind-some}
-use Rattle.changes.proofs.SlotPlaceLaws.{found-here}
+use Rattle.layout.proofs.KindLaws.{kind-some}
+use Rattle.preservation.proofs.StoreLaws.{sound-store}
+use Rattle.preservation.proofs.SlotPlaceLaws.{found-here}
 use Rattle.content.specs.declared.NumberPlan.{NumberPlan}
 use Rattle.content.specs.declared.NumberPlan.the-variants.{To, NoNumber}
 use Rattle.content.specs.Plan.{readPlan, writePlan, shortenPlan}
@@ -37,15 +39,15 @@ use Rattle.entries.proofs.PlanFacts.{FoundIn, creates, links, unlinks, renames,
 use Rattle.files.specs.Effect.{Call, lookUp, read, create, write, shorten, link, unlink, rename, Effect, planned, doLookUp, doRead, doCreate, doWrite, doShorten, doLink, doUnlink, doRename}
 use Rattle.files.proofs.Lawful.{Each}
 use Rattle.checkpoint.specs.Fit.{isRunning}
-use Rattle.checkpoint.specs.Busy.{isLocked, anyLocked}
+use Rattle.checkpoint.specs.Busy.{anyLocked}
 use Rattle.checkpoint.specs.Progress.{Hinders}
 use Rattle.checkpoint.specs.Progress as paper
 
 -- 14 by one of the inodes
 pub locked-one : (d is : List ℕ) → anyLocked d is ≡ true → (isRunning d ≡ true) × Some (λ i. deskOf d .locked ≡ i) is
-unfolding anyLocked isLocked
+unfolding locksAny isRunning
 locked-one d [] e = absurd (clash false e refl)
-locked-one d (i ∷ is) e = elim (or-cases (isLocked d i) (anyLocked d is) e) [
+locked-one d (i ∷ is) e = elim (or-cases (locks (deskOf d) i) (anyLocked d is) e) [
   | inl h ↦ (and-left (isRunning d) _ h, inl (eqb-true (deskOf d .locked) i (and-right (isRunning d) _ h)))
   | inr h ↦ let k = locked-one d is h in (k .0, inr (k .1))
 ]

@@ -12,12 +12,12 @@ use Rattle.directory.specs.Slot.{mostSlots}
 use Rattle.sound.specs.Entry.{EntrySound}
 use Rattle.sound.specs.Place.{entryAt, filled, naming}
 use Rattle.sound.proofs.PlaceLaws.{naming-filled}
-use Rattle.copying.specs.View.{View}
-use Rattle.copying.specs.Deed.{Alike}
-use Rattle.copying.specs.History.{Spell, Chain}
-use Rattle.copying.specs.History as history
-use Rattle.copying.proofs.HistoryLaws.{told-holds}
-use Rattle.copying.proofs.EndLaws.{all-honest, kept-there, kept-body, kept-kind}
+use Rattle.copy_theory.specs.View.{View}
+use Rattle.copy_theory.specs.Deed.{Alike}
+use Rattle.copy_theory.specs.History.{Spell, Chain}
+use Rattle.copy_theory.specs.History as history
+use Rattle.copy_theory.proofs.HistoryLaws.{told-holds}
+use Rattle.copy_theory.proofs.EndLaws.{all-honest, kept-there, kept-body, kept-kind}
 use Rattle.checkpoint.specs.Live.{World}
 use Rattle.checkpoint.specs.List.{Event, run, Moment, Kept}
 use Rattle.checkpoint.specs.Finished.{countOf, HadName, HadBytes, InCopy, Names, Throughout, Honest, OneMoment, Finished}

@@ -12,10 +12,10 @@ use Rattle.sound.specs.Place.{entryAt, naming}
 use Rattle.sound.specs.Sound.{Sound, inodesIn}
 use Rattle.sound.specs.declared.Form.the-variants.{Image}
 use Rattle.content.specs.Content.{fileBytes}
-use Rattle.copying.specs.View.{View}
-use Rattle.copying.specs.Deed.{Alike}
-use Rattle.copying.specs.Holds.{Fresh, Ended}
-use Rattle.copying.specs.History.{Recorded}
+use Rattle.copy_theory.specs.View.{View}
+use Rattle.copy_theory.specs.Deed.{Alike}
+use Rattle.copy_theory.specs.Holds.{Fresh, Ended}
+use Rattle.copy_theory.specs.History.{Recorded}
 use Rattle.checkpoint.specs.Copier.{finishImage}
 use Rattle.checkpoint.specs.Live.{World}
 use Rattle.checkpoint.specs.List.{Event, advances, next, run}

@@ -20,7 +20,7 @@ use Rattle.sound.specs.declared.Form.the-variants.{Store}
 use Rattle.sound.proofs.SoundLaws.{is-sound}
 use Rattle.sound.specs.Test.{framedB, isSound}
 use Rattle.answers.specs.declared.Refusal.the-variants.{WrongState}
-use Rattle.changes.proofs.StoreLaws.{sound-store}
+use Rattle.preservation.proofs.StoreLaws.{sound-store}
 use Rattle.files.specs.Effect.{Call, Planned, does, refused}
 use Rattle.files.proofs.Lawful.{Each, Lawful}
 use Rattle.files.proofs.LawfulCalls.{lawful}

@@ -20,9 +20,9 @@ use Rattle.sound.proofs.SoundLaws.{is-sound}
 use Rattle.sound.specs.Test.{framedB, isSound}
 use Rattle.answers.specs.declared.Answer.the-variants.{Done}
 use Rattle.answers.specs.declared.Refusal.the-variants.{BadBuffer, UnsoundStore, BadDesk, WrongState}
-use Rattle.copying.specs.View.{Tidy}
-use Rattle.copying.specs.Holds.{Fresh}
-use Rattle.copying.proofs.HoldsLight.{holds-fresh}
+use Rattle.copy_theory.specs.View.{Tidy}
+use Rattle.copy_theory.specs.Holds.{Fresh}
+use Rattle.copy_theory.proofs.HoldsLight.{holds-fresh}
 use Rattle.checkpoint.specs.Fit.{deskFramed, deskFits, imageAllowed, imageBlocks, isRunning, notesFit}
 use Rattle.checkpoint.specs.Copier.{startImage, startDesk}
 use Rattle.checkpoint.specs.Live.{World, Outcome, left, refuse, started, start}

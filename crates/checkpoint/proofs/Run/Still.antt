@@ -21,12 +21,12 @@ use Rattle.sound.specs.Link.{LinkSound}
 use Rattle.sound.specs.Sound.{Sound, inodesIn, blocksIn}
 use Rattle.sound.proofs.PlaceLaws.{naming-filled}
 use Rattle.sound.specs.declared.Form.{Form}
-use Rattle.copying.specs.View.{View, Shelf}
-use Rattle.copying.specs.Deed.{Alike}
-use Rattle.copying.specs.History.{Spell}
-use Rattle.copying.proofs.HistoryLaws.{told-holds}
-use Rattle.copying.proofs.EndLaws.{all-honest, kept-there}
-use Rattle.copying.proofs.ChainLaws.{tidy-chain}
+use Rattle.copy_theory.specs.View.{View, Shelf}
+use Rattle.copy_theory.specs.Deed.{Alike}
+use Rattle.copy_theory.specs.History.{Spell}
+use Rattle.copy_theory.proofs.HistoryLaws.{told-holds}
+use Rattle.copy_theory.proofs.EndLaws.{all-honest, kept-there}
+use Rattle.copy_theory.proofs.ChainLaws.{tidy-chain}
 use Rattle.checkpoint.specs.Live.{World}
 use Rattle.checkpoint.specs.List.{Event, run}
 use Rattle.checkpoint.specs.Finished.{countOf}

@@ -11,7 +11,7 @@ use Rattle.sound.specs.Place.{dirOf, filled, naming}
 use Rattle.sound.specs.Entry.{EntrySound}
 use Rattle.files.specs.Effect.{Call}
 use Rattle.files.proofs.Lawful.{Lawful}
-use Rattle.copying.specs.History.{Stood, Chain, top, below}
+use Rattle.copy_theory.specs.History.{Stood, Chain, top, below}
 use Rattle.checkpoint.specs.Live.{World}
 use Rattle.checkpoint.specs.List.{Event, call, advances, asks, starts, next, accepted, takes, Untouched, Kept}
 use Rattle.checkpoint.specs.List as list
@@ -69,11 +69,11 @@ kept-range n b es w g l p (list.below {q = q} f u d k) =
     record { below = omega arith; stands = subst (λ (m : ℕ). filled (w .store) m p ≡ true) (sym e) f }
 
 stood : (n b : ℕ) (es : List Event) (w : World) → Going n b w → (p : ℕ) → InRange n w p → Untouched es w p → (k : ℕ) → Stood (views n es w) k p
-stood n b es w g p r u k m l z =
+unfolding at
+stood n b es w g p r u k =
     let i = entry-of n b w g p (r .below) (r .stands) .low in
-    let e = store-names n (at es w m) p (r .below) in
-    let h = stood-names n b es w g p (r .below) (λ x. omega arith) u m in
-    omega arith
+    let e = store-names n (at es w 0) p (r .below) in
+    (λ z. omega arith, λ m _ _. store-names n (at es w m) p (r .below) ∙ stood-names n b es w g p (r .below) (λ x. omega arith) u m ∙ sym e)
 
 pub chain : (n b : ℕ) (es : List Event) (w : World) → Going n b w → 1 ≤ n → (p k : ℕ) → Kept es w p → Chain (views n es w) k p
 unfolding at

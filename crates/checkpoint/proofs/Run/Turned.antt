@@ -16,11 +16,11 @@ use Rattle.desk.specs.Next.{locking, copyingOne, unlocking}
 use Rattle.desk.specs.Desk.{deskOf, putCopied}
 use Rattle.desk.proofs.DeskLaws.{desk-putDesk, length-putCopied}
 use Rattle.sound.specs.Sound.{inodesIn}
-use Rattle.changes.proofs.StoreLaws.{sound-store}
-use Rattle.copying.specs.View.{Tidy}
-use Rattle.copying.specs.Deed.{Deed, locks, closes, rests}
-use Rattle.copying.specs.Holds.{Ended}
-use Rattle.copying.proofs.HoldsLaws.{holds-does}
+use Rattle.preservation.proofs.StoreLaws.{sound-store}
+use Rattle.copy_theory.specs.View.{Tidy}
+use Rattle.copy_theory.specs.Deed.{Deed, locks, closes, rests}
+use Rattle.copy_theory.specs.Holds.{Ended}
+use Rattle.copy_theory.proofs.HoldsLaws.{holds-does}
 use Rattle.answers.specs.declared.Answer.the-variants.{Done}
 use Rattle.answers.specs.Told.{told}
 use Rattle.checkpoint.specs.Copier.{Step, lock, copy, close, finish, full, stepOf, targetBlock}

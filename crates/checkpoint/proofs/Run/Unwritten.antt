@@ -13,7 +13,7 @@ use Rattle.blocks.specs.Block.{blockOf}
 use Rattle.directory.specs.Slot.{mostSlots}
 use Rattle.sound.specs.Place.{naming}
 use Rattle.sound.proofs.PlaceLaws.{naming-filled}
-use Rattle.changes.proofs.StoreLaws.{sound-store}
+use Rattle.preservation.proofs.StoreLaws.{sound-store}
 use Rattle.content.specs.Content.{fileBytes}
 use Rattle.files.specs.Effect.{Call, Effect, Planned, onPlanned}
 use Rattle.files.proofs.Lawful.{Apart, Keeps, Lawful}

@@ -11,7 +11,7 @@ use Rattle.layout.specs.Sizes.{headerBytes, attributeBytes, addressCount}
 use Rattle.layout.specs.Inode.{addressIndex, addressAt, kindOf, spareOf, linksOf, sizeOf, parentOf, putAddress}
 use Rattle.blocks.specs.Block.{blockAt, addressBlock, putInBlock, putKth}
 use Rattle.blocks.proofs.FrameLaws.{kind-apart, spare-apart, links-apart, size-apart, parent-apart}
-use Rattle.changes.proofs.SameLaws.{SameFrame, frame-past, frame-then}
+use Rattle.preservation.proofs.SameLaws.{SameFrame, frame-past, frame-then}
 
 -- the frame, and the attributes of every inode
 pub record SameAttributes (m t : List ℕ) (n : ℕ) : Type 0 where

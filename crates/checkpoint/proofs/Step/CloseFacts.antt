@@ -22,16 +22,15 @@ use Rattle.checkpoint.specs.Fit.{imageLong}
 use Rattle.layout.specs.Fits.{InodeFits}
 use Rattle.directory.specs.Slot.{slots, entryOf}
 use Rattle.desk.specs.declared.Desk.{Desk}
-use Rattle.desk.specs.Desk.{deskOf, copiedOf, putCopied, markOf}
+use Rattle.desk.specs.Desk.{deskOf, copiedOf, putCopied, markOf, isCopied}
 use Rattle.desk.specs.Next.{unlocking}
 use Rattle.desk.proofs.DeskLaws.{length-putDesk, length-putCopied, desk-putDesk, reserved-putDesk, reserved-putCopied, copied-putDesk, copied-same, copied-other, mark-putDesk, mark-putCopied}
 use Rattle.sound.specs.Inode.{InodeSound}
 use Rattle.sound.specs.Sound.{blocksIn}
 use Rattle.sound.specs.Counted.{SoundStore}
-use Rattle.changes.proofs.SameLaws.{InInode, NewInode}
-use Rattle.changes.proofs.KeepLaws.{body-of, inode-kept}
-use Rattle.changes.proofs.StoreLaws.{dir-of, blocks-of, dir-short}
-use Rattle.checkpoint.specs.Notes.{isCopied}
+use Rattle.preservation.proofs.SameLaws.{InInode, NewInode}
+use Rattle.preservation.proofs.KeepLaws.{body-of, inode-kept}
+use Rattle.preservation.proofs.StoreLaws.{dir-of, blocks-of, dir-short}
 use Rattle.checkpoint.specs.Copier.{close, copiedBlock, unlinkedInode, stepImage, stepDesk}
 use Rattle.checkpoint.proofs.Copy.Laid.{DeskLaid, Open, Laid}
 use Rattle.checkpoint.proofs.Copy.SeenLaws.{copied-is, copied-like}

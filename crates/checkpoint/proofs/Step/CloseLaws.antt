@@ -17,12 +17,11 @@ use Rattle.names.specs.Entry.{isEmpty}
 use Rattle.names.proofs.EntryLaws.{empty-zeros}
 use Rattle.directory.specs.Slot.{mostSlots, slots}
 use Rattle.desk.specs.declared.Desk.{Desk}
-use Rattle.desk.specs.Desk.{deskOf}
+use Rattle.desk.specs.Desk.{deskOf, isCopied}
 use Rattle.sound.specs.Place.{dirOf, slotOf, isSlot, entryAt}
 use Rattle.sound.proofs.PlaceLaws.{slot-is, filled-is, naming-entry}
-use Rattle.changes.proofs.SameLaws.{SameInode}
-use Rattle.changes.proofs.KeepLaws.{body-of, SamePlace, place-slot, slot-kept, same-slots, entry-kept}
-use Rattle.checkpoint.specs.Notes.{isCopied}
+use Rattle.preservation.proofs.SameLaws.{SameInode}
+use Rattle.preservation.proofs.KeepLaws.{body-of, SamePlace, place-slot, slot-kept, same-slots, entry-kept}
 use Rattle.checkpoint.specs.Copier.{close, stepImage, stepDesk}
 use Rattle.checkpoint.specs.Fit.{imageLong}
 use Rattle.checkpoint.proofs.Copy.LedgerLaws.{rows-named, rows-differ}

@@ -12,12 +12,11 @@ use Rattle.names.specs.Entry.{entryInode}
 use Rattle.names.proofs.EntryLaws.{empty-zeros, empty-inode}
 use Rattle.directory.specs.Slot.{mostSlots}
 use Rattle.desk.specs.declared.Desk.{Desk}
-use Rattle.desk.specs.Desk.{deskOf}
+use Rattle.desk.specs.Desk.{deskOf, isCopied}
 use Rattle.sound.specs.Place.{dirOf, slotOf, isSlot, entryAt, naming}
 use Rattle.sound.proofs.PlaceLaws.{naming-entry, naming-filled}
-use Rattle.changes.proofs.SameLaws.{same-body}
-use Rattle.copying.specs.Deed.{Alike, Pasted, elsewhere, skipped, taken, Closed}
-use Rattle.checkpoint.specs.Notes.{isCopied}
+use Rattle.preservation.proofs.SameLaws.{same-body}
+use Rattle.copy_theory.specs.Deed.{Alike, Pasted, elsewhere, skipped, taken, Closed}
 use Rattle.checkpoint.specs.Copier.{close, stepImage, stepDesk}
 use Rattle.checkpoint.proofs.Copy.Seen.{shelfOf, seen}
 use Rattle.checkpoint.proofs.Copy.SeenLaws.{names-in, names-out, names-below, names-low, entry-in, bytes-in, kind-in, parent-in, size-in, bytes-same, alike, marked-in, marked-same, zero-new}

@@ -31,10 +31,10 @@ use Rattle.sound.specs.Sound.{Sound, inodesIn}
 use Rattle.sound.proofs.PlaceLaws.{slot-is}
 use Rattle.sound.proofs.SoundLaws.{size-most}
 use Rattle.sound.specs.declared.Form.the-variants.{Store}
-use Rattle.changes.proofs.SameLaws.{SameBlock, same-long}
-use Rattle.changes.proofs.StoreLaws.{sound-store, blocks-of}
-use Rattle.changes.proofs.KeepLaws.{slot-kept}
-use Rattle.copying.specs.Deed.{Quiet}
+use Rattle.preservation.proofs.SameLaws.{SameBlock, same-long}
+use Rattle.preservation.proofs.StoreLaws.{sound-store, blocks-of}
+use Rattle.preservation.proofs.KeepLaws.{slot-kept}
+use Rattle.copy_theory.specs.Deed.{Quiet}
 use Rattle.checkpoint.specs.Fit.{imageLong}
 use Rattle.checkpoint.specs.Copier.{copy, targetBlock, copiedBlock, stepImage, stepDesk}
 use Rattle.checkpoint.proofs.Copy.Seen.{seen}

@@ -22,7 +22,7 @@ use Rattle.blocks.proofs.ViewLaws.{header-complete}
 use Rattle.blocks.specs.Free.{blockFree}
 use Rattle.layout.specs.Fits.{InodeFits}
 use Rattle.directory.specs.Slot.{mostSlots}
-use Rattle.changes.proofs.SameLaws.{SameFrame, SameInode, SameBody, SameBlock, same-body, same-blocks, body-then, frame-then, frame-stays, inode-stays, put-links, links-new, links-body, links-parent, put-free}
+use Rattle.preservation.proofs.SameLaws.{SameFrame, SameInode, SameBody, SameBlock, same-body, same-blocks, body-then, frame-then, frame-stays, inode-stays, put-links, links-new, links-body, links-parent, put-free}
 use Rattle.checkpoint.specs.Image.{imageNaming}
 use Rattle.checkpoint.specs.Copier.{putCounts, finishImage}
 

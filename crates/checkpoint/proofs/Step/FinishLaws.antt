@@ -24,13 +24,13 @@ use Rattle.sound.specs.Place.{dirOf, entryAt, filled, naming}
 use Rattle.sound.specs.Entry.{sameNames}
 use Rattle.sound.specs.Inode.{InodeSound}
 use Rattle.sound.proofs.PlaceLaws.{filled-is, naming-entry}
-use Rattle.changes.proofs.KeepLaws.{Body, SamePlace, place-kept, inode-like, tail-kept}
-use Rattle.changes.proofs.FreeLaws.{same-free}
-use Rattle.changes.proofs.AddressLaws.{same-differ, same-named, same-unnamed}
-use Rattle.changes.proofs.ChangeLaws.{NamesSound}
-use Rattle.changes.proofs.TreeLaws.{Tree, Names, Linked}
-use Rattle.changes.proofs.SoundTreeLaws.{nodesOf, entries-back, links-back}
-use Rattle.copying.specs.View.{Tidy}
+use Rattle.preservation.proofs.KeepLaws.{Body, SamePlace, place-kept, inode-like, tail-kept}
+use Rattle.preservation.proofs.FreeLaws.{same-free}
+use Rattle.preservation.proofs.AddressLaws.{same-differ, same-named, same-unnamed}
+use Rattle.preservation.proofs.ChangeLaws.{NamesSound}
+use Rattle.preservation.proofs.TreeLaws.{Tree, Names, Linked}
+use Rattle.preservation.proofs.SoundTreeLaws.{nodesOf, entries-back, links-back}
+use Rattle.copy_theory.specs.View.{Tidy}
 use Rattle.checkpoint.proofs.Copy.LedgerLaws.{free-named, free-once}
 use Rattle.checkpoint.specs.Image.{imageNaming}
 use Rattle.checkpoint.specs.Copier.{finishImage}

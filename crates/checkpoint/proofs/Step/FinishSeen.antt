@@ -19,9 +19,9 @@ use Rattle.desk.proofs.DeskLaws.{desk-putDesk, copied-putDesk, mark-putDesk}
 use Rattle.sound.specs.Sound.{Sound, inodesIn, blocksIn}
 use Rattle.sound.proofs.PlaceLaws.{naming-filled}
 use Rattle.sound.specs.declared.Form.the-variants.{Image}
-use Rattle.changes.proofs.KeepLaws.{Body}
-use Rattle.copying.specs.View.{Tidy}
-use Rattle.copying.specs.Deed.{Quiet}
+use Rattle.preservation.proofs.KeepLaws.{Body}
+use Rattle.copy_theory.specs.View.{Tidy}
+use Rattle.copy_theory.specs.Deed.{Quiet}
 use Rattle.checkpoint.specs.Copier.{finish, finishImage, stepDesk}
 use Rattle.checkpoint.proofs.Copy.Seen.{shelfOf, seen}
 use Rattle.checkpoint.proofs.Copy.SeenLaws.{names-in, names-out, names-below, names-low, entry-in, alike, marked-same, copied-like}

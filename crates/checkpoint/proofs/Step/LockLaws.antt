@@ -18,13 +18,12 @@ use Rattle.checkpoint.specs.Fit.{imageLong}
 use Rattle.checkpoint.proofs.Copy.LedgerLaws.{rows-named, rows-differ}
 use Rattle.directory.specs.Slot.{mostSlots}
 use Rattle.desk.specs.declared.Desk.{Desk}
-use Rattle.desk.specs.Desk.{deskOf, putDesk}
+use Rattle.desk.specs.Desk.{deskOf, putDesk, isCopied}
 use Rattle.desk.specs.Next.{locking}
 use Rattle.desk.proofs.DeskLaws.{length-putDesk, desk-putDesk, reserved-putDesk, copied-putDesk}
 use Rattle.sound.specs.Place.{naming}
-use Rattle.copying.specs.Deed.{Alike, Quiet, Locked}
+use Rattle.copy_theory.specs.Deed.{Alike, Quiet, Locked}
 use Rattle.checkpoint.specs.Image.{imageNaming}
-use Rattle.checkpoint.specs.Notes.{isCopied}
 use Rattle.checkpoint.specs.Copier.{lock, stepDesk}
 use Rattle.checkpoint.proofs.Copy.Seen.{shelfOf, seen}
 use Rattle.checkpoint.proofs.Copy.Laid.{Laid, DeskLaid, Open, costSoFar}

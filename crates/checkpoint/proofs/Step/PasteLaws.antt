@@ -16,12 +16,11 @@ use Rattle.octets.proofs.PartLaws.{part-apart, part-same}
 use Rattle.layout.specs.Sizes.{addressPlace, blockBytes}
 use Rattle.layout.specs.Inode.{kindOf, directoryKind}
 use Rattle.blocks.specs.Block.{blockOf, isLong, kthBlock}
-use Rattle.changes.proofs.StoreLaws.{dir-short}
+use Rattle.preservation.proofs.StoreLaws.{dir-short}
 use Rattle.names.specs.Entry.{entryBytes, entryInode}
 use Rattle.directory.specs.Slot.{slotsInBlock, entryOf}
-use Rattle.desk.specs.Desk.{markOf}
-use Rattle.changes.proofs.KeepLaws.{entry-in}
-use Rattle.checkpoint.specs.Notes.{isCopied}
+use Rattle.desk.specs.Desk.{markOf, isCopied}
+use Rattle.preservation.proofs.KeepLaws.{entry-in}
 use Rattle.checkpoint.specs.Copier.{copiedEntry, copiedEntries, copiedBlock}
 use Rattle.checkpoint.proofs.Copy.NoteLaws.{length-entries}
 

@@ -21,7 +21,7 @@ use Rattle.blocks.proofs.KthLaws.{kth-direct, kth-further, kth-none, kth-bare, 
 use Rattle.ledger.proofs.WriteLaws.{Within, put-within, kth-data, address-other, block-address, further-within, further-put, further-else, Place, put-kth, put-kth-others, put-kth-else}
 use Rattle.ledger.proofs.LedgerLaws.{Unnamed, free-none}
 use Rattle.blocks.proofs.LongLaws.{but-here, but-else}
-use Rattle.changes.proofs.SameLaws.{InInode, NewInode, same-long, put-attributes, attributes-blocks, attributes-new}
+use Rattle.preservation.proofs.SameLaws.{InInode, NewInode, same-long, put-attributes, attributes-blocks, attributes-new}
 use Rattle.checkpoint.specs.Copier.{unlinkedInode}
 
 -- ---- 3: block c, which no inode has, gets the bytes xs and is then the k-th of inode i; the address block that holds its address is there. long tells which inodes have one

@@ -18,22 +18,21 @@ use Rattle.blocks.proofs.AllowedLaws.{allowed-is}
 use Rattle.directory.specs.Slot.{mostSlots}
 use Rattle.desk.specs.Sizes.{deskLength}
 use Rattle.desk.specs.declared.Desk.{Desk}
-use Rattle.desk.specs.Desk.{deskOf, copiedOf, clearNotes}
+use Rattle.desk.specs.Desk.{deskOf, copiedOf, clearNotes, isCopied}
 use Rattle.desk.specs.Next.{starting}
 use Rattle.desk.proofs.DeskLaws.{length-putDesk, length-clearNotes, desk-putDesk, reserved-putDesk, reserved-clearNotes, copied-putDesk, copied-clearNotes, mark-putDesk, mark-clearNotes}
+use Rattle.desk.proofs.CopiedLaws.{copied-is}
 use Rattle.sound.specs.Place.{dirOf, slotOf, naming}
 use Rattle.sound.specs.Sound.{Sound, inodesIn}
 use Rattle.sound.specs.declared.Form.the-variants.{Store}
-use Rattle.copying.specs.Holds.{Fresh}
+use Rattle.copy_theory.specs.Holds.{Fresh}
 use Rattle.checkpoint.specs.Fit.{deskFramed, imageLong, imageBlocks, imageAllowed, isRunning, deskFits}
-use Rattle.checkpoint.specs.Notes.{isCopied}
 use Rattle.checkpoint.specs.Copier.{startImage, startDesk}
 use Rattle.checkpoint.proofs.Copy.Seen.{shelfOf, markedAt, seen}
 use Rattle.checkpoint.proofs.Copy.Laid.{Laid, DeskLaid, Frame, cost}
 use Rattle.bounded.proofs.SumLaws.{sum-none}
 use Rattle.bounded.proofs.CaseLaws.{in-range, is-below}
 use Rattle.bounded.proofs.RangeLaws.{within-in, within-out, below-in, below-out}
-use Rattle.checkpoint.proofs.Copy.NoteLaws.{copied-is}
 use Rattle.checkpoint.proofs.Step.LockLaws.{free-cost}
 use Rattle.checkpoint.proofs.Copy.FitLaws.{desk-framed-is, desk-fits-is, idle-free}
 use Rattle.checkpoint.proofs.Step.StartImageLaws.{length-start, start-header, start-kind, start-row, start-byte, start-reserved, start-inode, start-slot, start-naming}

@@ -1,6 +1,6 @@
 use borrow.Author.Tests.{not-true, not-false}
 use mathlib.Core.Path.{sym, _∙_}
-use Rattle.guards.proofs.FitLaws.{entries-short, entries-most}
+use Rattle.image.proofs.FitLaws.{entries-short, entries-most}
 use borrow.Author.Needs.{needs}
 use Rattle.bursts.proofs.kept.further_fit.Statement.{statement}
 use Rattle.bursts.proofs.kept.further_fit.Tie as tie

@@ -5,7 +5,7 @@ use borrow.Author.Tests.{not-true, not-false}
 use Rattle.bounded.proofs.BoolLaws.{clash}
 use denote.Ref.{now}
 use Rattle.blocks.specs.Block.{isLong, addressBlock}
-use Rattle.guards.proofs.FitLaws.{entries-bare}
+use Rattle.image.proofs.FitLaws.{entries-bare}
 use Rattle.bursts.proofs.KeptLaws.{twelfth, maps-bare}
 use borrow.Author.Needs.{needs}
 use Rattle.bursts.proofs.kept.may_hold.Statement.{statement}

@@ -1,7 +1,7 @@
 use mathlib.Core.Path.{_∙_}
 use denote.Ref.{now}
-use Rattle.tallies.proofs.NameLaws.{next-read}
-use Rattle.copier.proofs.StepLaws.{free-root, free-next}
+use Rattle.image.proofs.NamingLaws.{next-read}
+use Rattle.copier.proofs.FiveLaws.{free-root, free-next}
 use borrow.Author.Needs.{needs}
 use Rattle.bursts.proofs.kept.next_lock.Statement.{statement}
 use Rattle.bursts.proofs.kept.next_lock.Tie as tie

@@ -1,6 +1,6 @@
 use Prim.Native.Nat.{_<_}
 use native.Mathlib.Omega.{arith}
-use Rattle.changes.proofs.RecordLaws.{used-is}
+use Rattle.preservation.proofs.RecordLaws.{used-is}
 use Rattle.content.proofs.CodeLaws.{add-header, add-done}
 use borrow.Author.Needs.{needs}
 use Rattle.content.proofs.apply.add_block.Statement.{statement}

@@ -5,8 +5,8 @@ use denote.Ref.{now}
 use Rattle.layout.specs.Header.{headerOf}
 use Rattle.layout.specs.Inode.{sizeOf}
 use Rattle.blocks.specs.Block.{blocksUsed}
-use Rattle.changes.proofs.StoreLaws.{blocks-of}
-use Rattle.changes.proofs.FreeLaws.{few-free-inodes, few-free-blocks}
+use Rattle.preservation.proofs.StoreLaws.{blocks-of}
+use Rattle.preservation.proofs.FreeLaws.{few-free-inodes, few-free-blocks}
 use Rattle.ledger.proofs.BytesLaws.{used-up}
 use Rattle.content.proofs.ReadLaws.{fits-holds, fits-inode, fits-most}
 use Rattle.content.proofs.CodeLaws.{header-blocks, kept-address, crosses-more, cut-done}

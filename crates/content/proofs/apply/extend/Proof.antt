@@ -4,7 +4,7 @@ use native.Mathlib.Omega.{arith}
 use denote.Ref.{now}
 use Rattle.layout.specs.Inode.{sizeOf}
 use Rattle.blocks.specs.Block.{blocksUsed}
-use Rattle.changes.proofs.StoreLaws.{kind-fits}
+use Rattle.preservation.proofs.StoreLaws.{kind-fits}
 use Rattle.ledger.proofs.BytesLaws.{used-up}
 use Rattle.content.proofs.CodeLaws.{extend-none, extend-some}
 use borrow.Author.Needs.{needs}

@@ -11,8 +11,9 @@ use Rattle.blocks.proofs.ViewLaws.{inode-fits}
 use Rattle.ledger.specs.Change.{grown}
 use Rattle.ledger.specs.Nth.{nthFree}
 use Rattle.ledger.proofs.BytesLaws.{used-limits}
-use Rattle.changes.proofs.StoreLaws.{kind-some, kind-most, kind-fits}
-use Rattle.changes.proofs.FreeLaws.{few-free-blocks}
+use Rattle.layout.proofs.KindLaws.{kind-some, kind-most}
+use Rattle.preservation.proofs.StoreLaws.{kind-fits}
+use Rattle.preservation.proofs.FreeLaws.{few-free-blocks}
 use Rattle.content.proofs.RowLaws.{grown-row}
 use Rattle.content.proofs.TakeLaws.{length-zeros}
 use Rattle.content.proofs.CodeLaws.{length-blocks, grown-address, grow-header, grow-done}

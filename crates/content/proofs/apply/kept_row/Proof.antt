@@ -6,7 +6,7 @@ use Rattle.bounded.specs.Table.{table}
 use Rattle.layout.specs.Inode.{sizeOf}
 use Rattle.blocks.specs.Block.{blocksUsed, kthBlock}
 use Rattle.ledger.specs.Change.{kept}
-use Rattle.changes.proofs.StoreLaws.{blocks-of}
+use Rattle.preservation.proofs.StoreLaws.{blocks-of}
 use Rattle.content.proofs.RowLaws.{kept-begin, kept-turn, place-across-low}
 use borrow.Author.Needs.{needs}
 use Rattle.content.proofs.apply.kept_row.Statement.{statement}

@@ -10,7 +10,7 @@ use Rattle.blocks.specs.Free.{blockFree}
 use Rattle.blocks.specs.Map.{lacks}
 use Rattle.ledger.specs.Change.{added}
 use Rattle.ledger.specs.Nth.{nthFree}
-use Rattle.changes.proofs.StoreLaws.{sized-at, uncounted}
+use Rattle.preservation.proofs.StoreLaws.{sized-at, uncounted}
 use Rattle.growth.specs.Extend.{zeroBlocks}
 use Rattle.content.proofs.RowLaws.{added-begin, added-turn}
 use Rattle.content.proofs.TakeLaws.{rows-fit, map-own, lastTaken, last-next, last-high, next-is, next-some, nth-counted, nth-in, zeros-begin, zeros-turn, length-zeros, sized-same}

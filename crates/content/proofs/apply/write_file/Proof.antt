@@ -1,7 +1,7 @@
 use mathlib.Core.Path.{_∙_}
 use native.Mathlib.Omega.{arith}
 use denote.Ref.{now}
-use Rattle.changes.proofs.StoreLaws.{kind-size}
+use Rattle.preservation.proofs.StoreLaws.{kind-size}
 use Rattle.content.specs.Apply.{written}
 use Rattle.content.proofs.PlanFacts.{writes}
 use Rattle.content.proofs.WriteLaws.{sized-holds}

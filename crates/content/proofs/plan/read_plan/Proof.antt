@@ -1,6 +1,6 @@
 use mathlib.Core.Path.{sym, _∙_}
 use borrow.Author.Tests.{not-true, not-false}
-use Rattle.changes.proofs.StoreLaws.{kind-fits}
+use Rattle.preservation.proofs.StoreLaws.{kind-fits}
 use Rattle.content.proofs.SizePlanLaws.{read-wrong, read-past, read-done}
 use borrow.Author.Needs.{needs}
 use Rattle.content.proofs.plan.read_plan.Statement.{statement}

@@ -5,7 +5,7 @@ use native.Mathlib.Omega.{arith}
 use borrow.Author.Tests.{not-true, not-false}
 use denote.Ref.{now}
 use Rattle.layout.specs.Inode.{isFile}
-use Rattle.changes.proofs.StoreLaws.{kind-fits, kind-size}
+use Rattle.preservation.proofs.StoreLaws.{kind-fits, kind-size}
 use Rattle.ledger.proofs.BytesLaws.{used-up}
 use Rattle.content.proofs.SizePlanLaws.{write-wrong, write-off, write-long, write-full, write-done}
 use borrow.Author.Needs.{needs}

@@ -3,7 +3,7 @@ use mathlib.Core.List.{List}
 use mathlib.Core.Path.{ap, ap₂, _∙_}
 use native.Mathlib.Omega.{arith}
 use Rattle.layout.specs.Inode.{linksOf, putLinks}
-use Rattle.changes.proofs.StoreLaws.{kind-some, kind-most}
+use Rattle.layout.proofs.KindLaws.{kind-some, kind-most}
 use Rattle.entries.specs.Apply.{linked}
 use Rattle.entries.proofs.EnterLaws.{few-links, entered-fits, entered-links}
 use borrow.Author.Needs.{needs}

@@ -4,7 +4,7 @@ use mathlib.Core.Path.{ap, _∙_}
 use native.Mathlib.Omega.{arith}
 use denote.Ref.{now}
 use Rattle.directory.specs.Slot.{putEntry, clearEntry}
-use Rattle.changes.proofs.StoreLaws.{kind-most}
+use Rattle.layout.proofs.KindLaws.{kind-most}
 use Rattle.entries.specs.Apply.{setParent, moved}
 use Rattle.entries.proofs.EnterLaws.{roomed-dir, roomed-slot, moving-dir, moving-slot, moving-fits}
 use borrow.Author.Needs.{needs}

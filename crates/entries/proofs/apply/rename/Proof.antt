@@ -1,4 +1,4 @@
-use Rattle.changes.proofs.StoreLaws.{kind-dir}
+use Rattle.preservation.proofs.StoreLaws.{kind-dir}
 use borrow.Author.Needs.{needs}
 use Rattle.entries.proofs.apply.rename.Statement.{statement}
 use Rattle.entries.proofs.apply.rename.Tie as tie

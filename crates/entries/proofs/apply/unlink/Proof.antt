@@ -1,7 +1,7 @@
 use Prim.Native.Nat.{ℕ}
 use mathlib.Core.List.{List}
 use mathlib.Core.Path.{ap, _∙_}
-use Rattle.changes.proofs.StoreLaws.{kind-dir}
+use Rattle.preservation.proofs.StoreLaws.{kind-dir}
 use Rattle.entries.specs.Apply.{dropLink, unlinked}
 use Rattle.entries.proofs.EnterLaws.{cleared}
 use borrow.Author.Needs.{needs}

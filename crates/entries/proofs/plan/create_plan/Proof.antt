@@ -7,7 +7,7 @@ use Rattle.names.specs.Name.{legalName}
 use Rattle.names.proofs.NameLaws.{legal-bounds}
 use Rattle.layout.specs.Inode.{isDirectory}
 use Rattle.directory.specs.Slot.{findSlot}
-use Rattle.changes.proofs.StoreLaws.{kind-dir}
+use Rattle.preservation.proofs.StoreLaws.{kind-dir}
 use Rattle.entries.proofs.EntryPlanLaws.{create-illegal, create-wrong, create-taken, create-full, create-make, create-roomless}
 use borrow.Author.Needs.{needs}
 use Rattle.entries.proofs.plan.create_plan.Statement.{statement}

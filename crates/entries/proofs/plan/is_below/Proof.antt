@@ -1,5 +1,5 @@
 use mathlib.Core.Path.{sym, _∙_}
-use Rattle.changes.proofs.StoreLaws.{fits}
+use Rattle.preservation.proofs.StoreLaws.{fits}
 use Rattle.entries.proofs.TakePlanLaws.{below-file, below-directory}
 use borrow.Author.Needs.{needs}
 use Rattle.entries.proofs.plan.is_below.Statement.{statement}

@@ -1,6 +1,6 @@
 use Prim.Native.Nat.{_-_}
 use native.Mathlib.Omega.{arith}
-use Rattle.changes.proofs.StoreLaws.{fits}
+use Rattle.preservation.proofs.StoreLaws.{fits}
 use Rattle.entries.proofs.ParentLaws.{Climbing, climbing-start, climbing-found, climbing-root, climbing-turn, climbing-end}
 use borrow.Author.Needs.{needs}
 use Rattle.entries.proofs.plan.leads_to.Statement.{statement}

@@ -7,7 +7,7 @@ use Rattle.names.specs.Name.{legalName}
 use Rattle.names.proofs.NameLaws.{legal-bounds}
 use Rattle.layout.specs.Inode.{isFile, isDirectory}
 use Rattle.directory.specs.Slot.{findSlot}
-use Rattle.changes.proofs.StoreLaws.{kind-dir}
+use Rattle.preservation.proofs.StoreLaws.{kind-dir}
 use Rattle.entries.proofs.EntryPlanLaws.{link-illegal, link-wrong, link-other, link-taken, link-add, link-roomless}
 use borrow.Author.Needs.{needs}
 use Rattle.entries.proofs.plan.link_plan.Statement.{statement}

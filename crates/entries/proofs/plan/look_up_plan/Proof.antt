@@ -8,7 +8,7 @@ use Rattle.names.proofs.NameLaws.{legal-bounds}
 use Rattle.layout.specs.Inode.{isDirectory}
 use Rattle.directory.specs.Slot.{findSlot}
 use Rattle.directory.proofs.SlotLaws.{find-below}
-use Rattle.changes.proofs.StoreLaws.{kind-dir}
+use Rattle.preservation.proofs.StoreLaws.{kind-dir}
 use Rattle.entries.proofs.EntryPlanLaws.{look-illegal, look-wrong, look-absent, look-done}
 use borrow.Author.Needs.{needs}
 use Rattle.entries.proofs.plan.look_up_plan.Statement.{statement}

@@ -1,4 +1,4 @@
-use Rattle.changes.proofs.StoreLaws.{kind-dir}
+use Rattle.preservation.proofs.StoreLaws.{kind-dir}
 use Rattle.entries.proofs.TakePlanLaws.{move-taken, move-itself, move-room, move-roomless}
 use Rattle.directory.specs.Slot.{findSlot}
 use Rattle.bounded.specs.declared.Found.the-variants.{Absent}

@@ -9,8 +9,8 @@ use Rattle.names.proofs.NameLaws.{legal-bounds}
 use Rattle.layout.specs.Inode.{isDirectory}
 use Rattle.directory.specs.Slot.{findSlot, inodeAt}
 use Rattle.directory.proofs.SlotLaws.{find-below}
-use Rattle.changes.proofs.StoreLaws.{kind-dir}
-use Rattle.changes.proofs.SlotPlaceLaws.{found-here}
+use Rattle.preservation.proofs.StoreLaws.{kind-dir}
+use Rattle.preservation.proofs.SlotPlaceLaws.{found-here}
 use Rattle.entries.proofs.TakePlanLaws.{rename-illegal, rename-illegal-new, rename-wrong, rename-wrong-new, rename-absent, rename-here, rename-away}
 use borrow.Author.Needs.{needs}
 use Rattle.entries.proofs.plan.rename_plan.Statement.{statement}

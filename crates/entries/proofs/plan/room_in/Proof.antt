@@ -3,7 +3,7 @@ use denote.Ref.{now}
 use Rattle.bounded.specs.declared.Found.the-variants.{Absent}
 use Rattle.directory.specs.Slot.{emptySlot}
 use Rattle.directory.specs.Fits.{DirFits}
-use Rattle.changes.proofs.StoreLaws.{sized-at, kind-dir}
+use Rattle.preservation.proofs.StoreLaws.{sized-at, kind-dir}
 use Rattle.content.proofs.TakeLaws.{rows-fit, lowest-own}
 use Rattle.entries.proofs.EntryPlanLaws.{room-empty, room-none, room-blockless, room-more}
 use borrow.Author.Needs.{needs}

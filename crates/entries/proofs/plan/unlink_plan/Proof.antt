@@ -10,8 +10,8 @@ use Rattle.names.proofs.NameLaws.{legal-bounds}
 use Rattle.layout.specs.Inode.{isDirectory}
 use Rattle.directory.specs.Slot.{findSlot, inodeAt}
 use Rattle.directory.proofs.SlotLaws.{find-below}
-use Rattle.changes.proofs.StoreLaws.{fits, dir-of, kind-dir}
-use Rattle.changes.proofs.SlotPlaceLaws.{found-here}
+use Rattle.preservation.proofs.StoreLaws.{fits, dir-of, kind-dir}
+use Rattle.preservation.proofs.SlotPlaceLaws.{found-here}
 use Rattle.entries.proofs.TakePlanLaws.{unlink-illegal, unlink-wrong, unlink-absent, unlink-full, unlink-file, unlink-empty}
 use borrow.Author.Needs.{needs}
 use Rattle.entries.proofs.plan.unlink_plan.Statement.{statement}

@@ -6,8 +6,8 @@ use denote.Ref.{now}
 use Rattle.names.proofs.NameLaws.{legal-bounds}
 use Rattle.directory.proofs.SlotLaws.{find-below}
 use Rattle.answers.specs.declared.Answer.the-variants.{Done}
-use Rattle.changes.proofs.StoreLaws.{uncounted}
-use Rattle.changes.proofs.SlotPlaceLaws.{found-here}
+use Rattle.preservation.proofs.StoreLaws.{uncounted}
+use Rattle.preservation.proofs.SlotPlaceLaws.{found-here}
 use Rattle.entries.proofs.PlanFacts.{renames, moves}
 use Rattle.files.specs.Effect.{doRename}
 use Rattle.files.specs.Plain.{plainLeft, leaves}

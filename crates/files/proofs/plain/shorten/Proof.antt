@@ -1,5 +1,5 @@
 use mathlib.Core.Path.{sym, _∙_}
-use Rattle.changes.proofs.StoreLaws.{uncounted}
+use Rattle.preservation.proofs.StoreLaws.{uncounted}
 use Rattle.files.specs.Effect.{shorten}
 use Rattle.files.proofs.CallLaws.{passed, call-through, call-stopped}
 use borrow.Author.Needs.{needs}

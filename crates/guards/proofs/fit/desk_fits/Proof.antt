@@ -2,7 +2,8 @@ use mathlib.Core.Path.{ap, _∙_}
 use native.Mathlib.Omega.{arith}
 use Rattle.bounded.proofs.BoolLaws.{chain-on, chain-off}
 use Rattle.desk.specs.declared.Desk.{Desk}
-use Rattle.guards.proofs.FitLaws.{framed, fits-state, fits-blocks, fits-reserved, fits-copied, fits-counts}
+use Rattle.image.proofs.FitLaws.{framed}
+use Rattle.guards.proofs.FitLaws.{fits-state, fits-blocks, fits-reserved, fits-copied, fits-counts}
 use borrow.Author.Needs.{needs}
 use Rattle.guards.proofs.fit.desk_fits.Statement.{statement}
 use Rattle.guards.proofs.fit.desk_fits.Tie as tie

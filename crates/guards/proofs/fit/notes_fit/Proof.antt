@@ -1,7 +1,8 @@
 use mathlib.Core.Path.{_∙_}
 use native.Mathlib.Omega.{arith}
 use Rattle.bounded.proofs.BoolLaws.{chain-on, chain-off}
-use Rattle.guards.proofs.FitLaws.{framed, notes-area, notes-desk, notes-inodes, notes-idle, notes-running}
+use Rattle.image.proofs.FitLaws.{framed}
+use Rattle.guards.proofs.FitLaws.{notes-area, notes-desk, notes-inodes, notes-idle, notes-running}
 use borrow.Author.Needs.{needs}
 use Rattle.guards.proofs.fit.notes_fit.Statement.{statement}
 use Rattle.guards.proofs.fit.notes_fit.Tie as tie

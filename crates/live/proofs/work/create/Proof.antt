@@ -4,7 +4,6 @@ use Rattle.names.proofs.NameLaws.{legal-bounds}
 use Rattle.entries.proofs.PlanFacts.{creates}
 use Rattle.files.specs.Effect.{create, doCreate}
 use Rattle.checkpoint.specs.Notes.{cutEntries, clearMarks, setMarks}
-use Rattle.live.proofs.NoteLaws.{locked-one}
 use Rattle.live.proofs.CallLaws.{effect-laws, ends-refused, ends-busy, ends-done}
 use borrow.Author.Needs.{needs}
 use Rattle.live.proofs.work.create.Statement.{statement}
@@ -16,19 +15,21 @@ create-plan-requires c κs = search needs
 enum-known-i : tie.Need-enum-known-i
 enum-known-i c = search needs
 
-is-locked-requires : tie.Need-is-locked-requires
-is-locked-requires c κs = search needs
+slice-aggregate-locks-any : tie.Need-slice-aggregate-locks-any
+slice-aggregate-locks-any c = search needs
+
+locks-any-requires : tie.Need-locks-any-requires
+locks-any-requires c κs = search needs
 
 same-length : tie.Need-same-length
 same-length c = search needs
 
-same-length-2 : tie.Need-same-length-2
-same-length-2 c = search needs
-
 returns : tie.Need-returns
 returns c =
-    let a = c .before .before .before .before .before .before .before .before .before .before .before .args in
-    λ m. ends-busy _ _ _ (ap (doCreate (now (a .s)) (a .n) (a .dir) (now (a .name)) (a .kind)) (sym (c .before .before .before .before .i .given .1) ∙ c .before .before .before .before .before .before .create-plan .ensures)) _ (c .before .is-locked .ensures ∙ locked-one _ _) (c .if1 .taken)
+    let x = c .before .before .before .before in
+    let o = x .before .before .before .before .before .before .before in
+    let a = o .args in
+    λ m. ends-busy _ _ _ (ap (doCreate (now (a .s)) (a .n) (a .dir) (now (a .name)) (a .kind)) (sym (x .i .given .1) ∙ x .before .before .create-plan .ensures)) _ (o .pre .read) _ (c .before .locks-any .ensures) (c .if1 .taken)
 
 create-requires : tie.Need-create-requires
 create-requires c κs =
@@ -39,30 +40,31 @@ create-requires c κs =
 
 note-made-requires : tie.Need-note-made-requires
 note-made-requires c κs =
-    let x = c .before .before .before .before .before .before .before .before .before .before .before .before .before .before .before .before in
-    let a = x .args in
-    let k = effect-laws (create (a .dir) (now (a .name)) (a .kind)) (x .pre) _ (ap (doCreate (now (a .s)) (a .n) (a .dir) (now (a .name)) (a .kind)) (sym (c .before .before .before .before .before .before .before .before .before .i .given .1) ∙ c .before .before .before .before .before .before .before .before .before .before .before .create-plan .ensures)) .stands .0 in
-    (k .low, k .high, x .pre .long, k .small)
+    let x = c .before .before .before .before .before .before .before .before .before in
+    let o = x .before .before .before .before .before .before .before in
+    let a = o .args in
+    let k = effect-laws (create (a .dir) (now (a .name)) (a .kind)) (o .pre) _ (ap (doCreate (now (a .s)) (a .n) (a .dir) (now (a .name)) (a .kind)) (sym (x .i .given .1) ∙ x .before .before .create-plan .ensures)) .stands .0 in
+    (o .pre .read, k .low, k .high, o .pre .long, k .small)
 
 enum-known-why : tie.Need-enum-known-why
 enum-known-why c = search needs
 
+same-length-2 : tie.Need-same-length-2
+same-length-2 c = search needs
+
 same-length-3 : tie.Need-same-length-3
 same-length-3 c = search needs
-
-same-length-4 : tie.Need-same-length-4
-same-length-4 c = search needs
 
 returns-2 : tie.Need-returns-2
 unfolding cutEntries clearMarks setMarks
 returns-2 c =
-    let x = c .before .before .before .before .before .before .before .before in
-    let o = x .before .before .before .before .before .before .before .before .before .before .before in
+    let x = c .before .before .before .before .before .before .before .before .before in
+    let o = x .before .before .before .before .before .before .before .before .before .before in
     let a = o .args in
-    λ m. ends-done _ _ _ (ap (doCreate (now (a .s)) (a .n) (a .dir) (now (a .name)) (a .kind)) (sym (x .before .before .before .before .i .given .1) ∙ x .before .before .before .before .before .before .create-plan .ensures)) _ (x .before .is-locked .ensures ∙ locked-one _ _) (x .if1 .left) _ (o .pre .sound .inodes) _ _ _ (c .before .before .before .before .before .before .create .ensures) refl (c .before .before .note-made .ensures)
+    λ m. ends-done _ _ _ (ap (doCreate (now (a .s)) (a .n) (a .dir) (now (a .name)) (a .kind)) (sym (x .before .before .before .i .given .1) ∙ x .before .before .before .before .before .create-plan .ensures)) _ (o .pre .read) _ (x .locks-any .ensures) (c .before .before .before .before .before .before .before .before .if1 .left) _ (o .pre .sound .inodes) _ _ _ (c .before .before .before .before .before .before .create .ensures) refl (c .before .before .note-made .ensures)
 
-same-length-5 : tie.Need-same-length-5
-same-length-5 c = search needs
+same-length-4 : tie.Need-same-length-4
+same-length-4 c = search needs
 
 returns-3 : tie.Need-returns-3
 returns-3 c =
@@ -75,15 +77,15 @@ create-spec =
     (tie.spec
     create-plan-requires
     enum-known-i
-    is-locked-requires
+    slice-aggregate-locks-any
+    locks-any-requires
     same-length
-    same-length-2
     returns
     create-requires
     note-made-requires
     enum-known-why
+    same-length-2
     same-length-3
-    same-length-4
     returns-2
-    same-length-5
+    same-length-4
     returns-3)

@@ -15,19 +15,21 @@ link-plan-requires c κs = search needs
 enum-known-room : tie.Need-enum-known-room
 enum-known-room c = search needs
 
-either-locked-requires : tie.Need-either-locked-requires
-either-locked-requires c κs = search needs
+slice-aggregate-locks-any : tie.Need-slice-aggregate-locks-any
+slice-aggregate-locks-any c = search needs
+
+locks-any-requires : tie.Need-locks-any-requires
+locks-any-requires c κs = search needs
 
 same-length : tie.Need-same-length
 same-length c = search needs
 
-same-length-2 : tie.Need-same-length-2
-same-length-2 c = search needs
-
 returns : tie.Need-returns
 returns c =
-    let a = c .before .before .before .before .before .before .before .before .before .before .before .args in
-    λ m. ends-busy _ _ _ (ap (doLink (now (a .s)) (a .n) (a .dir) (now (a .name)) (a .inode)) (sym (c .before .before .before .before .room .given .1) ∙ c .before .before .before .before .before .before .link-plan .ensures)) _ (c .before .either-locked .ensures) (c .if1 .taken)
+    let x = c .before .before .before .before in
+    let o = x .before .before .before .before .before .before .before in
+    let a = o .args in
+    λ m. ends-busy _ _ _ (ap (doLink (now (a .s)) (a .n) (a .dir) (now (a .name)) (a .inode)) (sym (x .room .given .1) ∙ x .before .before .link-plan .ensures)) _ (o .pre .read) _ (c .before .locks-any .ensures) (c .if1 .taken)
 
 link-requires : tie.Need-link-requires
 link-requires c κs =
@@ -38,30 +40,31 @@ link-requires c κs =
 
 note-made-requires : tie.Need-note-made-requires
 note-made-requires c κs =
-    let x = c .before .before .before .before .before .before .before .before .before .before .before .before .before .before .before .before in
-    let a = x .args in
-    let k = effect-laws (link (a .dir) (now (a .name)) (a .inode)) (x .pre) _ (ap (doLink (now (a .s)) (a .n) (a .dir) (now (a .name)) (a .inode)) (sym (c .before .before .before .before .before .before .before .before .before .room .given .1) ∙ c .before .before .before .before .before .before .before .before .before .before .before .link-plan .ensures)) .stands .0 in
-    (k .low, k .high, x .pre .long, k .small)
+    let x = c .before .before .before .before .before .before .before .before .before in
+    let o = x .before .before .before .before .before .before .before in
+    let a = o .args in
+    let k = effect-laws (link (a .dir) (now (a .name)) (a .inode)) (o .pre) _ (ap (doLink (now (a .s)) (a .n) (a .dir) (now (a .name)) (a .inode)) (sym (x .room .given .1) ∙ x .before .before .link-plan .ensures)) .stands .0 in
+    (o .pre .read, k .low, k .high, o .pre .long, k .small)
 
 enum-known-why : tie.Need-enum-known-why
 enum-known-why c = search needs
 
+same-length-2 : tie.Need-same-length-2
+same-length-2 c = search needs
+
 same-length-3 : tie.Need-same-length-3
 same-length-3 c = search needs
-
-same-length-4 : tie.Need-same-length-4
-same-length-4 c = search needs
 
 returns-2 : tie.Need-returns-2
 unfolding cutEntries clearMarks setMarks
 returns-2 c =
-    let x = c .before .before .before .before .before .before .before .before in
-    let o = x .before .before .before .before .before .before .before .before .before .before .before in
+    let x = c .before .before .before .before .before .before .before .before .before in
+    let o = x .before .before .before .before .before .before .before .before .before .before in
     let a = o .args in
-    λ m. ends-done _ _ _ (ap (doLink (now (a .s)) (a .n) (a .dir) (now (a .name)) (a .inode)) (sym (x .before .before .before .before .room .given .1) ∙ x .before .before .before .before .before .before .link-plan .ensures)) _ (x .before .either-locked .ensures) (x .if1 .left) _ (o .pre .sound .inodes) _ _ _ (c .before .before .before .before .before .before .link .ensures) refl (c .before .before .note-made .ensures)
+    λ m. ends-done _ _ _ (ap (doLink (now (a .s)) (a .n) (a .dir) (now (a .name)) (a .inode)) (sym (x .before .before .before .room .given .1) ∙ x .before .before .before .before .before .link-plan .ensures)) _ (o .pre .read) _ (x .locks-any .ensures) (c .before .before .before .before .before .before .before .before .if1 .left) _ (o .pre .sound .inodes) _ _ _ (c .before .before .before .before .before .before .link .ensures) refl (c .before .before .note-made .ensures)
 
-same-length-5 : tie.Need-same-length-5
-same-length-5 c = search needs
+same-length-4 : tie.Need-same-length-4
+same-length-4 c = search needs
 
 returns-3 : tie.Need-returns-3
 returns-3 c =
@@ -74,15 +77,15 @@ link-spec =
     (tie.spec
     link-plan-requires
     enum-known-room
-    either-locked-requires
+    slice-aggregate-locks-any
+    locks-any-requires
     same-length
-    same-length-2
     returns
     link-requires
     note-made-requires
     enum-known-why
+    same-length-2
     same-length-3
-    same-length-4
     returns-2
-    same-length-5
+    same-length-4
     returns-3)

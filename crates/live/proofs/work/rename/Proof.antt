@@ -3,12 +3,12 @@ use native.Mathlib.Omega.{arith}
 use denote.Ref.{now}
 use Rattle.names.proofs.NameLaws.{legal-bounds}
 use Rattle.directory.proofs.SlotLaws.{find-below}
-use Rattle.changes.proofs.StoreLaws.{uncounted}
-use Rattle.changes.proofs.SlotPlaceLaws.{found-here}
+use Rattle.preservation.proofs.StoreLaws.{uncounted}
+use Rattle.preservation.proofs.SlotPlaceLaws.{found-here}
 use Rattle.entries.proofs.PlanFacts.{renames, moves}
 use Rattle.files.specs.Effect.{rename, doRename}
 use Rattle.checkpoint.specs.Notes.{noteMade, cutEntries, clearMarks, setMarks}
-use Rattle.live.proofs.NoteLaws.{locked-one, still-long}
+use Rattle.live.proofs.NoteLaws.{still-long, still-read}
 use Rattle.live.proofs.CallLaws.{effect-laws, ends-refused, ends-busy, ends-done}
 use borrow.Author.Needs.{needs}
 use Rattle.live.proofs.work.rename.Statement.{statement}
@@ -20,36 +20,40 @@ rename-plan-requires c κs = search needs
 enum-told : tie.Need-enum-told
 enum-told c = search needs
 
-is-locked-requires : tie.Need-is-locked-requires
-is-locked-requires c κs = search needs
+slice-aggregate-locks-any : tie.Need-slice-aggregate-locks-any
+slice-aggregate-locks-any c = search needs
+
+locks-any-requires : tie.Need-locks-any-requires
+locks-any-requires c κs = search needs
 
 same-length : tie.Need-same-length
 same-length c = search needs
 
-same-length-2 : tie.Need-same-length-2
-same-length-2 c = search needs
-
 returns : tie.Need-returns
 returns c =
-    let a = c .before .before .before .before .before .before .before .before .before .before .before .before .args in
-    ends-busy _ _ _ (ap (doRename (now (a .s)) (a .n) (a .from) (a .to) (now (a .other))) (sym (c .before .before .before .enum-told .given .1) ∙ c .before .before .before .before .before .rename-plan .ensures)) _ (c .before .is-locked .ensures ∙ locked-one _ _) (c .if1 .taken)
+    let x = c .before .before .before in
+    let o = x .before .before .before .before .before .before .before .before .before in
+    let a = o .args in
+    ends-busy _ _ _ (ap (doRename (now (a .s)) (a .n) (a .from) (a .to) (now (a .other))) (sym (x .enum-told .given .1) ∙ x .before .before .rename-plan .ensures)) _ (o .pre .0 .read) _ (c .before .locks-any .ensures) (c .if1 .taken)
 
 enum-known-t : tie.Need-enum-known-t
 enum-known-t c = search needs
 
-is-locked-requires-2 : tie.Need-is-locked-requires-2
-is-locked-requires-2 c κs = search needs
+slice-aggregate-locks-any-2 : tie.Need-slice-aggregate-locks-any-2
+slice-aggregate-locks-any-2 c = search needs
 
-same-length-3 : tie.Need-same-length-3
-same-length-3 c = search needs
+locks-any-requires-2 : tie.Need-locks-any-requires-2
+locks-any-requires-2 c κs = search needs
 
-same-length-4 : tie.Need-same-length-4
-same-length-4 c = search needs
+same-length-2 : tie.Need-same-length-2
+same-length-2 c = search needs
 
 returns-2 : tie.Need-returns-2
 returns-2 c =
-    let a = c .before .before .before .before .before .before .before .before .before .before .before .before .before .args in
-    ends-busy _ _ _ (ap (doRename (now (a .s)) (a .n) (a .from) (a .to) (now (a .other))) (sym (c .before .before .before .before .t .given .1) ∙ c .before .before .before .before .before .before .rename-plan .ensures)) _ (c .before .is-locked2 .ensures ∙ locked-one _ _) (c .if2 .taken)
+    let x = c .before .before .before .before in
+    let o = x .before .before .before .before .before .before .before .before .before in
+    let a = o .args in
+    ends-busy _ _ _ (ap (doRename (now (a .s)) (a .n) (a .from) (a .to) (now (a .other))) (sym (x .t .given .1) ∙ x .before .before .rename-plan .ensures)) _ (o .pre .0 .read) _ (c .before .locks-any2 .ensures) (c .if2 .taken)
 
 rename-requires : tie.Need-rename-requires
 rename-requires c κs =
@@ -64,19 +68,21 @@ rename-requires c κs =
 enum-known-t-2 : tie.Need-enum-known-t-2
 enum-known-t-2 c = search needs
 
-any-locked-requires : tie.Need-any-locked-requires
-any-locked-requires c κs = search needs
+slice-aggregate-locks-any-3 : tie.Need-slice-aggregate-locks-any-3
+slice-aggregate-locks-any-3 c = search needs
 
-same-length-5 : tie.Need-same-length-5
-same-length-5 c = search needs
+locks-any-requires-3 : tie.Need-locks-any-requires-3
+locks-any-requires-3 c κs = search needs
 
-same-length-6 : tie.Need-same-length-6
-same-length-6 c = search needs
+same-length-3 : tie.Need-same-length-3
+same-length-3 c = search needs
 
 returns-3 : tie.Need-returns-3
 returns-3 c =
-    let a = c .before .before .before .before .before .before .before .before .before .before .before .before .before .args in
-    ends-busy _ _ _ (ap (doRename (now (a .s)) (a .n) (a .from) (a .to) (now (a .other))) (sym (c .before .before .before .before .t2 .given .1) ∙ c .before .before .before .before .before .before .rename-plan .ensures)) _ (c .before .any-locked .ensures) (c .if3 .taken)
+    let x = c .before .before .before .before in
+    let o = x .before .before .before .before .before .before .before .before .before in
+    let a = o .args in
+    ends-busy _ _ _ (ap (doRename (now (a .s)) (a .n) (a .from) (a .to) (now (a .other))) (sym (x .t2 .given .1) ∙ x .before .before .rename-plan .ensures)) _ (o .pre .0 .read) _ (c .before .locks-any3 .ensures) (c .if3 .taken)
 
 move-entry-requires : tie.Need-move-entry-requires
 move-entry-requires c κs =
@@ -100,7 +106,7 @@ cut-image-requires c κs =
     let e = f .inode in
     let l = found-here (p .sound) _ _ _ (f .directory) (f .legal) (f .found) .low in
     let k = effect-laws (rename (a .from) (now (a .name)) (a .to) (now (a .other))) (o .pre .0) _ (ap (doRename (now (a .s)) (a .n) (a .from) (a .to) (now (a .other))) (sym (x .t2 .given .1) ∙ x .before .before .rename-plan .ensures)) .stood .0 in
-    (o .pre .1, p .long, k .low, k .high, k .small, omega arith)
+    (p .read, o .pre .1, p .long, k .low, k .high, k .small, omega arith)
 
 note-taken-requires : tie.Need-note-taken-requires
 note-taken-requires c κs =
@@ -108,18 +114,44 @@ note-taken-requires c κs =
     let o = x .before .before .before .before .before .before .before .before .before in
     let a = o .args in
     let k = effect-laws (rename (a .from) (now (a .name)) (a .to) (now (a .other))) (o .pre .0) _ (ap (doRename (now (a .s)) (a .n) (a .from) (a .to) (now (a .other))) (sym (x .t2 .given .1) ∙ x .before .before .rename-plan .ensures)) .stood .0 in
-    (k .low, k .high, o .pre .0 .long, k .small)
+    (o .pre .0 .read, k .low, k .high, o .pre .0 .long, k .small)
 
 note-made-requires : tie.Need-note-made-requires
 note-made-requires c κs =
     let x = c .before .before .before .before .before .before .before .before .before .before .before .before .before .before .before .before .before .before in
     let o = x .before .before .before .before .before .before .before .before .before in
     let a = o .args in
+    let q = c .before .before .before .note-taken .ensures in
     let k = effect-laws (rename (a .from) (now (a .name)) (a .to) (now (a .other))) (o .pre .0) _ (ap (doRename (now (a .s)) (a .n) (a .from) (a .to) (now (a .other))) (sym (x .t2 .given .1) ∙ x .before .before .rename-plan .ensures)) .stands .0 in
-    (k .low, k .high, still-long _ _ _ _ _ _ (c .before .before .before .note-taken .ensures) (o .pre .0 .long), k .small)
+    (still-read _ _ _ _ _ q _ (o .pre .0 .read), k .low, k .high, still-long _ _ _ _ _ q _ (o .pre .0 .long), k .small)
 
 enum-known-why : tie.Need-enum-known-why
 enum-known-why c = search needs
+
+same-length-4 : tie.Need-same-length-4
+same-length-4 c = search needs
+
+returns-4 : tie.Need-returns-4
+unfolding cutEntries clearMarks setMarks
+returns-4 c =
+    let x = c .before in
+    let o = x .before .before .before .before .before .before .before .before .before .before .before in
+    let a = o .args in
+    ends-done _ _ _ (ap (doRename (now (a .s)) (a .n) (a .from) (a .to) (now (a .other))) (sym (x .before .before .enum-told .given .1) ∙ x .before .before .before .before .rename-plan .ensures)) _ (o .pre .0 .read) _ (x .locks-any .ensures) (c .if1 .left) _ (o .pre .0 .sound .inodes) _ _ _ refl refl refl
+
+same-length-5 : tie.Need-same-length-5
+same-length-5 c = search needs
+
+returns-5 : tie.Need-returns-5
+unfolding cutEntries clearMarks setMarks
+returns-5 c =
+    let x = c .before .before .before .before .before in
+    let o = x .before .before .before .before .before .before .before .before .before .before .before .before in
+    let a = o .args in
+    ends-done _ _ _ (ap (doRename (now (a .s)) (a .n) (a .from) (a .to) (now (a .other))) (sym (x .before .before .before .t .given .1) ∙ x .before .before .before .before .before .rename-plan .ensures)) _ (o .pre .0 .read) _ (x .locks-any2 .ensures) (c .before .before .before .before .if2 .left) _ (o .pre .0 .sound .inodes) _ _ _ (c .before .before .rename .ensures) refl refl
+
+same-length-6 : tie.Need-same-length-6
+same-length-6 c = search needs
 
 same-length-7 : tie.Need-same-length-7
 same-length-7 c = search needs
@@ -127,47 +159,16 @@ same-length-7 c = search needs
 same-length-8 : tie.Need-same-length-8
 same-length-8 c = search needs
 
-returns-4 : tie.Need-returns-4
-unfolding cutEntries clearMarks setMarks
-returns-4 c =
-    let x = c .before .before .before .before .before in
-    let o = x .before .before .before .before .before .before .before in
-    let a = o .args in
-    ends-done _ _ _ (ap (doRename (now (a .s)) (a .n) (a .from) (a .to) (now (a .other))) (sym (c .before .before .before .enum-told .given .1) ∙ x .rename-plan .ensures)) _ (c .before .is-locked .ensures ∙ locked-one _ _) (c .if1 .left) _ (o .pre .0 .sound .inodes) _ _ _ refl refl refl
-
-same-length-9 : tie.Need-same-length-9
-same-length-9 c = search needs
-
-same-length-10 : tie.Need-same-length-10
-same-length-10 c = search needs
-
-returns-5 : tie.Need-returns-5
-unfolding cutEntries clearMarks setMarks
-returns-5 c =
-    let x = c .before .before .before .before .before .before .before .before in
-    let o = x .before .before .before .before .before .before .before .before .before in
-    let a = o .args in
-    ends-done _ _ _ (ap (doRename (now (a .s)) (a .n) (a .from) (a .to) (now (a .other))) (sym (x .t .given .1) ∙ x .before .before .rename-plan .ensures)) _ (c .before .before .before .before .before .is-locked2 .ensures ∙ locked-one _ _) (c .before .before .before .before .if2 .left) _ (o .pre .0 .sound .inodes) _ _ _ (c .before .before .rename .ensures) refl refl
-
-same-length-11 : tie.Need-same-length-11
-same-length-11 c = search needs
-
-same-length-12 : tie.Need-same-length-12
-same-length-12 c = search needs
-
-same-length-13 : tie.Need-same-length-13
-same-length-13 c = search needs
-
 returns-6 : tie.Need-returns-6
 unfolding cutEntries clearMarks setMarks
 returns-6 c =
-    let x = c .before .before .before .before .before .before .before .before .before .before .before .before .before .before .before in
-    let o = x .before .before .before .before .before .before .before .before .before .before .before .before .before .before .before in
+    let x = c .before .before .before .before .before .before .before .before .before .before .before .before .before .before .before .before .before .before in
+    let o = x .before .before .before .before .before .before .before .before .before .before .before .before in
     let a = o .args in
-    ends-done _ _ _ (ap (doRename (now (a .s)) (a .n) (a .from) (a .to) (now (a .other))) (sym (x .before .before .before .before .before .before .t2 .given .1) ∙ x .before .before .before .before .before .before .before .before .rename-plan .ensures)) _ (x .before .before .before .any-locked .ensures) (x .before .before .if3 .left) _ (o .pre .0 .sound .inodes) _ _ _ (x .move-entry .ensures) (c .before .before .before .before .before .before .before .before .before .before .cut-image .ensures) (c .before .before .note-made .ensures ∙ ap (λ y. noteMade y (a .n) (a .to) (x .before .before .before .before .before .before .t2 .given .0 .1 .1 .0 .slot)) (c .before .before .before .before .before .before .note-taken .ensures))
+    ends-done _ _ _ (ap (doRename (now (a .s)) (a .n) (a .from) (a .to) (now (a .other))) (sym (x .before .before .before .t2 .given .1) ∙ x .before .before .before .before .before .rename-plan .ensures)) _ (o .pre .0 .read) _ (x .locks-any3 .ensures) (c .before .before .before .before .before .before .before .before .before .before .before .before .before .before .before .before .before .if3 .left) _ (o .pre .0 .sound .inodes) _ _ _ (c .before .before .before .before .before .before .before .before .before .before .before .before .before .before .before .move-entry .ensures) (c .before .before .before .before .before .before .before .before .before .before .cut-image .ensures) (c .before .before .note-made .ensures ∙ ap (λ y. noteMade y (a .n) (a .to) (x .before .before .before .t2 .given .0 .1 .1 .0 .slot)) (c .before .before .before .before .before .before .note-taken .ensures))
 
-same-length-14 : tie.Need-same-length-14
-same-length-14 c = search needs
+same-length-9 : tie.Need-same-length-9
+same-length-9 c = search needs
 
 returns-7 : tie.Need-returns-7
 returns-7 c =
@@ -180,35 +181,33 @@ rename-spec =
     (tie.spec
     rename-plan-requires
     enum-told
-    is-locked-requires
+    slice-aggregate-locks-any
+    locks-any-requires
     same-length
-    same-length-2
     returns
     enum-known-t
-    is-locked-requires-2
-    same-length-3
-    same-length-4
+    slice-aggregate-locks-any-2
+    locks-any-requires-2
+    same-length-2
     returns-2
     rename-requires
     enum-known-t-2
-    any-locked-requires
-    same-length-5
-    same-length-6
+    slice-aggregate-locks-any-3
+    locks-any-requires-3
+    same-length-3
     returns-3
     move-entry-requires
     cut-image-requires
     note-taken-requires
     note-made-requires
     enum-known-why
+    same-length-4
+    returns-4
+    same-length-5
+    returns-5
+    same-length-6
     same-length-7
     same-length-8
-    returns-4
-    same-length-9
-    same-length-10
-    returns-5
-    same-length-11
-    same-length-12
-    same-length-13
     returns-6
-    same-length-14
+    same-length-9
     returns-7)

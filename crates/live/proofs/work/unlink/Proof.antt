@@ -2,7 +2,7 @@ use mathlib.Core.Path.{sym, ap, _∙_}
 use native.Mathlib.Omega.{arith}
 use denote.Ref.{now}
 use Rattle.directory.proofs.SlotLaws.{find-below}
-use Rattle.changes.proofs.SlotPlaceLaws.{found-here}
+use Rattle.preservation.proofs.SlotPlaceLaws.{found-here}
 use Rattle.entries.proofs.PlanFacts.{unlinks}
 use Rattle.files.specs.Effect.{unlink, doUnlink}
 use Rattle.checkpoint.specs.Notes.{cutEntries, clearMarks, setMarks}
@@ -17,19 +17,21 @@ unlink-plan-requires c κs = search needs
 enum-known-t : tie.Need-enum-known-t
 enum-known-t c = search needs
 
-either-locked-requires : tie.Need-either-locked-requires
-either-locked-requires c κs = search needs
+slice-aggregate-locks-any : tie.Need-slice-aggregate-locks-any
+slice-aggregate-locks-any c = search needs
+
+locks-any-requires : tie.Need-locks-any-requires
+locks-any-requires c κs = search needs
 
 same-length : tie.Need-same-length
 same-length c = search needs
 
-same-length-2 : tie.Need-same-length-2
-same-length-2 c = search needs
-
 returns : tie.Need-returns
 returns c =
-    let a = c .before .before .before .before .before .before .before .before .before .before .before .before .args in
-    ends-busy _ _ _ (ap (doUnlink (now (a .s)) (a .n) (a .dir)) (sym (c .before .before .before .before .t .given .1) ∙ c .before .before .before .before .before .before .unlink-plan .ensures)) _ (c .before .either-locked .ensures) (c .if1 .taken)
+    let x = c .before .before .before .before in
+    let o = x .before .before .before .before .before .before .before .before in
+    let a = o .args in
+    ends-busy _ _ _ (ap (doUnlink (now (a .s)) (a .n) (a .dir)) (sym (x .t .given .1) ∙ x .before .before .unlink-plan .ensures)) _ (o .pre .0 .read) _ (c .before .locks-any .ensures) (c .if1 .taken)
 
 unlink-requires : tie.Need-unlink-requires
 unlink-requires c κs =
@@ -51,7 +53,7 @@ cut-image-requires c κs =
     let e = f .inode in
     let l = found-here (p .sound) _ _ _ (f .directory) (f .legal) (f .found) .low in
     let k = effect-laws (unlink (a .dir) (now (a .name))) p _ (ap (doUnlink (now (a .s)) (a .n) (a .dir)) (sym (x .t .given .1) ∙ x .before .before .unlink-plan .ensures)) .stood .0 in
-    (o .pre .1, p .long, k .low, k .high, k .small, omega arith)
+    (p .read, o .pre .1, p .long, k .low, k .high, k .small, omega arith)
 
 note-taken-requires : tie.Need-note-taken-requires
 note-taken-requires c κs =
@@ -59,10 +61,13 @@ note-taken-requires c κs =
     let o = x .before .before .before .before .before .before .before .before in
     let a = o .args in
     let k = effect-laws (unlink (a .dir) (now (a .name))) (o .pre .0) _ (ap (doUnlink (now (a .s)) (a .n) (a .dir)) (sym (x .t .given .1) ∙ x .before .before .unlink-plan .ensures)) .stood .0 in
-    (k .low, k .high, o .pre .0 .long, k .small)
+    (o .pre .0 .read, k .low, k .high, o .pre .0 .long, k .small)
 
 enum-known-why : tie.Need-enum-known-why
 enum-known-why c = search needs
+
+same-length-2 : tie.Need-same-length-2
+same-length-2 c = search needs
 
 same-length-3 : tie.Need-same-length-3
 same-length-3 c = search needs
@@ -70,19 +75,16 @@ same-length-3 c = search needs
 same-length-4 : tie.Need-same-length-4
 same-length-4 c = search needs
 
-same-length-5 : tie.Need-same-length-5
-same-length-5 c = search needs
-
 returns-2 : tie.Need-returns-2
 unfolding cutEntries clearMarks setMarks
 returns-2 c =
-    let x = c .before .before .before .before .before .before .before .before .before .before .before in
-    let o = x .before .before .before .before .before .before .before .before .before .before .before .before .before .before in
+    let x = c .before .before .before .before .before .before .before .before .before .before .before .before .before .before in
+    let o = x .before .before .before .before .before .before .before .before .before .before .before in
     let a = o .args in
-    ends-done _ _ _ (ap (doUnlink (now (a .s)) (a .n) (a .dir)) (sym (x .before .before .before .before .before .before .t .given .1) ∙ x .before .before .before .before .before .before .before .before .unlink-plan .ensures)) _ (x .before .before .before .either-locked .ensures) (x .before .before .if1 .left) _ (o .pre .0 .sound .inodes) _ _ _ (x .unlink .ensures) (c .before .before .before .before .before .before .cut-image .ensures) (c .before .before .note-taken .ensures)
+    ends-done _ _ _ (ap (doUnlink (now (a .s)) (a .n) (a .dir)) (sym (x .before .before .before .t .given .1) ∙ x .before .before .before .before .before .unlink-plan .ensures)) _ (o .pre .0 .read) _ (x .locks-any .ensures) (c .before .before .before .before .before .before .before .before .before .before .before .before .before .if1 .left) _ (o .pre .0 .sound .inodes) _ _ _ (c .before .before .before .before .before .before .before .before .before .before .before .unlink .ensures) (c .before .before .before .before .before .before .cut-image .ensures) (c .before .before .note-taken .ensures)
 
-same-length-6 : tie.Need-same-length-6
-same-length-6 c = search needs
+same-length-5 : tie.Need-same-length-5
+same-length-5 c = search needs
 
 returns-3 : tie.Need-returns-3
 returns-3 c =
@@ -95,17 +97,17 @@ unlink-spec =
     (tie.spec
     unlink-plan-requires
     enum-known-t
-    either-locked-requires
+    slice-aggregate-locks-any
+    locks-any-requires
     same-length
-    same-length-2
     returns
     unlink-requires
     cut-image-requires
     note-taken-requires
     enum-known-why
+    same-length-2
     same-length-3
     same-length-4
-    same-length-5
     returns-2
-    same-length-6
+    same-length-5
     returns-3)

@@ -47,28 +47,28 @@ use denote.Triple.Table.{entered, cited}
 use denote.Triple.Walked.{says, needs, Stays, stay-slice, stay-none-slice, walkOf, goes-slice, goes-none-slice, Walks, ends-at, walked, walk-meets}
 use denote.Triple.Clauses.{ensured, lasts}
 use denote.Exit.{yes as kept}
-use Rattle.lines.specs.declared.Reader.{Reader}
-use Rattle.lines.proofs.Reader as T
-use Rattle.lines.proofs.Reader.Laws as T′
-use Rattle.lines.specs.Lines.{lineAt, nextAt, mostScriptBytes, scriptLines}
-use Rattle.lines.proofs.start as start
-use Rattle.lines.proofs.start.Symbol as start-def
-use Rattle.lines.proofs.start.Symbol.{name as #lines·start}
-use Rattle.lines.proofs.start.Met as start-thm
-use Rattle.lines.proofs.line as line
-use Rattle.lines.proofs.line.Symbol as line-def
-use Rattle.lines.proofs.line.Symbol.{name as #lines·line}
-use Rattle.lines.proofs.line.Met as line-thm
-use Rattle.lines.proofs.after as after
-use Rattle.lines.proofs.after.Symbol as after-def
-use Rattle.lines.proofs.after.Symbol.{name as #lines·after}
-use Rattle.lines.proofs.after.Met as after-thm
+use Rattle.script_lines.specs.declared.Reader.{Reader}
+use Rattle.script_lines.proofs.Reader as T
+use Rattle.script_lines.proofs.Reader.Laws as T′
+use Rattle.script_lines.specs.Lines.{lineAt, nextAt, mostScriptBytes, scriptLines}
+use Rattle.script_lines.proofs.start as start
+use Rattle.script_lines.proofs.start.Symbol as start-def
+use Rattle.script_lines.proofs.start.Symbol.{name as #script-lines·start}
+use Rattle.script_lines.proofs.start.Met as start-thm
+use Rattle.script_lines.proofs.line as line
+use Rattle.script_lines.proofs.line.Symbol as line-def
+use Rattle.script_lines.proofs.line.Symbol.{name as #script-lines·line}
+use Rattle.script_lines.proofs.line.Met as line-thm
+use Rattle.script_lines.proofs.after as after
+use Rattle.script_lines.proofs.after.Symbol as after-def
+use Rattle.script_lines.proofs.after.Symbol.{name as #script-lines·after}
+use Rattle.script_lines.proofs.after.Met as after-thm
 use Rattle.layout.specs.Sizes.{headerBytes}
 use Rattle.desk.specs.Sizes.{deskHeaderBytes}
 use Rattle.checkpoint.specs.Shown.{world}
-use Rattle.session.specs.Reply.{worldAfter}
-use Rattle.session.specs.Script.{printed, linesRun, FinishesSound, fresh, scriptPrints}
-use Rattle.session.proofs.FinishLaws.{fresh-finishes}
+use Rattle.script_run.specs.Reply.{worldAfter}
+use Rattle.script_run.specs.Script.{printed, linesRun, FinishesSound, fresh, scriptPrints}
+use Rattle.script_run.proofs.FinishLaws.{fresh-finishes}
 use Rattle.script.proofs.LentAgain.{LentAgain, lends-again, comes-back}
 use Rattle.script.proofs.TurnLaws.{Turn, Nearer, nearer-ends, turn-first, turn-next, next-nearer, turn-last, bytes-last, bytes-fit, more-fits}
 use Rattle.script.proofs.print.line as print
@@ -271,7 +271,7 @@ module _ {M : Type 1} (𝓤 : URA M) (H : Heap 𝓤) (A : Atoms 𝓤) (W : Given
     asks-print : (headerBytes ≤ length y) × (deskHeaderBytes ≤ length z) × FinishesSound (world x y z) → ent 𝓤 (sep 𝓤 (mean 𝓤 H A Tokens) (mean 𝓤 H A Owned)) (PrintC 𝓤 H A mem run .pre to-print)
     asks-print h = qed W (Tokens ∷ Owned ∷ []) ∵ says ! h $ frame ! $ done !
 
-  module _ (𝓣 : Tables 𝓤 H) (fm : FmC 𝓤 H (W .laws) (𝓣 .C)) (known-start : Triple 𝓤 (𝓣 .C #lines·start) (StartC 𝓤 H A mem run)) (known-line : Triple 𝓤 (𝓣 .C #lines·line) (LineC 𝓤 H A mem run)) (known-after : Triple 𝓤 (𝓣 .C #lines·after) (AfterC 𝓤 H A mem run)) (known-print : Triple 𝓤 (𝓣 .C #script·print·line) (PrintC 𝓤 H A mem run))
+  module _ (𝓣 : Tables 𝓤 H) (fm : FmC 𝓤 H (W .laws) (𝓣 .C)) (known-start : Triple 𝓤 (𝓣 .C #script-lines·start) (StartC 𝓤 H A mem run)) (known-line : Triple 𝓤 (𝓣 .C #script-lines·line) (LineC 𝓤 H A mem run)) (known-after : Triple 𝓤 (𝓣 .C #script-lines·after) (AfterC 𝓤 H A mem run)) (known-print : Triple 𝓤 (𝓣 .C #script·print·line) (PrintC 𝓤 H A mem run))
       (rooms : Room u8 (length s₀)) (roomm : Room u8 (length m₀)) (roomd : Room u8 (length d₀)) (typed : WT vs) (big-image : headerBytes ≤ length m₀) (big-desk : deskHeaderBytes ≤ length d₀) (few : length (now s) ≤ mostScriptBytes) (begins : world s₀ m₀ d₀ ≡ fresh) (l₀ l₁ l₂ l₃ l₄ l₅ l₆ l₇ l₈ l₉ l₁₀ l₁₁ l₁₂ l₁₃ l₁₄ l₁₅ l₁₆ l₁₇ l₁₈ l₁₉ : ℕ) where
     abbrev C : Calls 𝓤 H
     C = 𝓣 .C
@@ -385,7 +385,7 @@ module _ {M : Type 1} (𝓤 : URA M) (H : Heap 𝓤) (A : Atoms 𝓤) (W : Given
         go (no l) = ends t (omega arith)
 
   -- the MIR up to the loop, and the loop
-  walk : (𝓣 : Tables 𝓤 H) → FmC 𝓤 H (W .laws) (𝓣 .C) → Triple 𝓤 (𝓣 .C #lines·start) (StartC 𝓤 H A mem run) → Triple 𝓤 (𝓣 .C #lines·line) (LineC 𝓤 H A mem run) → Triple 𝓤 (𝓣 .C #lines·after) (AfterC 𝓤 H A mem run) → Triple 𝓤 (𝓣 .C #script·print·line) (PrintC 𝓤 H A mem run)
+  walk : (𝓣 : Tables 𝓤 H) → FmC 𝓤 H (W .laws) (𝓣 .C) → Triple 𝓤 (𝓣 .C #script-lines·start) (StartC 𝓤 H A mem run) → Triple 𝓤 (𝓣 .C #script-lines·line) (LineC 𝓤 H A mem run) → Triple 𝓤 (𝓣 .C #script-lines·after) (AfterC 𝓤 H A mem run) → Triple 𝓤 (𝓣 .C #script·print·line) (PrintC 𝓤 H A mem run)
       → Is (ShrSlice (named 0) κ₀ u8) s (vs ∷ []) → Room u8 (length s₀) → Room u8 (length m₀) → Room u8 (length d₀)
       → (headerBytes ≤ length m₀) × (deskHeaderBytes ≤ length d₀) × (length (now s) ≤ mostScriptBytes) × (world s₀ m₀ d₀ ≡ fresh)
       → ent 𝓤 (onEntry 𝓤 H A function.signature κs qs a at) (WpFn 𝓤 H (𝓣 .C) (𝓣 .Λ) code.function (vs ∷ vb sb s₀ ∷ vb mb m₀ ∷ vb db d₀ ∷ []) Post)
@@ -413,7 +413,7 @@ module _ {M : Type 1} (𝓤 : URA M) (H : Heap 𝓤) (A : Atoms 𝓤) (W : Given
       (turn-first (now s) s₀ m₀ d₀ (subst FinishesSound (sym (pre .3)) fresh-finishes))))))))))))))))))))))))))
 
 module _ {M : Type 1} (𝓤 : URA M) (H : Heap 𝓤) (A : Atoms 𝓤) (W : Given 𝓤 H A) (mem : Memory → SProp 𝓤) (run : Routine → Fun 𝓤) (𝓣 : Tables 𝓤 H) where
-  run-walks : FmC 𝓤 H (W .laws) (𝓣 .C) → Triple 𝓤 (𝓣 .C #lines·start) (StartC 𝓤 H A mem run) → Triple 𝓤 (𝓣 .C #lines·line) (LineC 𝓤 H A mem run) → Triple 𝓤 (𝓣 .C #lines·after) (AfterC 𝓤 H A mem run) → Triple 𝓤 (𝓣 .C #script·print·line) (PrintC 𝓤 H A mem run)
+  run-walks : FmC 𝓤 H (W .laws) (𝓣 .C) → Triple 𝓤 (𝓣 .C #script-lines·start) (StartC 𝓤 H A mem run) → Triple 𝓤 (𝓣 .C #script-lines·line) (LineC 𝓤 H A mem run) → Triple 𝓤 (𝓣 .C #script-lines·after) (AfterC 𝓤 H A mem run) → Triple 𝓤 (𝓣 .C #script·print·line) (PrintC 𝓤 H A mem run)
       → Walks 𝓤 H A function.ended stayed (WpFn 𝓤 H (𝓣 .C) (𝓣 .Λ) code.function) (function.clauses 𝓤 H A mem run)
   run-walks fm known-start known-line known-after known-print =
       walked 𝓤 H A function.ended stayed (function.clauses 𝓤 H A mem run) (WpFn 𝓤 H (𝓣 .C) (𝓣 .Λ) code.function) (λ κs. (slice-vals, (slice-vals, (slice-vals, (slice-vals, tt)))))
@@ -424,7 +424,7 @@ module _ {M : Type 1} (𝓤 : URA M) (H : Heap 𝓤) (A : Atoms 𝓤) (W : Given
       𝓣 fm known-start known-line known-after known-print (are .0) (are .1 .0 .0 .1) (are .1 .1 .0 .0 .1) (are .1 .1 .1 .0 .0 .1) pre))
 
 run-meets : {M : Type 1} (𝓤 : URA M) (H : Heap 𝓤) (A : Atoms 𝓤) (W : Given 𝓤 H A) (mem : Memory → SProp 𝓤) (run : Routine → Fun 𝓤) (𝓣 : Tables 𝓤 H)
-    → Triple 𝓤 (𝓣 .C #lines·start) (StartC 𝓤 H A mem run) → Triple 𝓤 (𝓣 .C #lines·line) (LineC 𝓤 H A mem run) → Triple 𝓤 (𝓣 .C #lines·after) (AfterC 𝓤 H A mem run) → Triple 𝓤 (𝓣 .C #script·print·line) (PrintC 𝓤 H A mem run)
+    → Triple 𝓤 (𝓣 .C #script-lines·start) (StartC 𝓤 H A mem run) → Triple 𝓤 (𝓣 .C #script-lines·line) (LineC 𝓤 H A mem run) → Triple 𝓤 (𝓣 .C #script-lines·after) (AfterC 𝓤 H A mem run) → Triple 𝓤 (𝓣 .C #script·print·line) (PrintC 𝓤 H A mem run)
     → Meets 𝓤 H A function.signature (WpFn 𝓤 H (𝓣 .C) (𝓣 .Λ) code.function) (function.spec 𝓤 H A mem run)
 run-meets 𝓤 H A W mem run 𝓣 known-start known-line known-after known-print =
     walk-meets 𝓤 H A function.ended stayed W
@@ -438,7 +438,7 @@ run-spec 𝓤 H 𝓜 𝓖 𝓡 =
     entered 𝓤 H (tripleOf 𝓤 H (𝓖 .A) function.signature (function.spec 𝓤 H (𝓖 .A) (𝓜 .mem) (𝓡 .run)))
     (tables 𝓤 H 𝓜 𝓡 code.env .C) (tables 𝓤 H 𝓜 𝓡 code.env .Λ) #script·lines-of·run code.function (code.unfolded 𝓤 H 𝓜 𝓡)
     (run-meets 𝓤 H (𝓖 .A) (givenOf 𝓤 H 𝓜 𝓖) (𝓜 .mem) (𝓡 .run) (tablesOf 𝓤 H 𝓜 (tables 𝓤 H 𝓜 𝓡 code.env))
-    (cited 𝓤 H (StartC 𝓤 H (𝓖 .A) (𝓜 .mem) (𝓡 .run)) 𝓜 𝓡 code.env #lines·start start-def.routine code.calls-lines·start (start-thm.met 𝓤 H 𝓜 𝓖 𝓡))
-    (cited 𝓤 H (LineC 𝓤 H (𝓖 .A) (𝓜 .mem) (𝓡 .run)) 𝓜 𝓡 code.env #lines·line line-def.routine code.calls-lines·line (line-thm.met 𝓤 H 𝓜 𝓖 𝓡))
-    (cited 𝓤 H (AfterC 𝓤 H (𝓖 .A) (𝓜 .mem) (𝓡 .run)) 𝓜 𝓡 code.env #lines·after after-def.routine code.calls-lines·after (after-thm.met 𝓤 H 𝓜 𝓖 𝓡))
+    (cited 𝓤 H (StartC 𝓤 H (𝓖 .A) (𝓜 .mem) (𝓡 .run)) 𝓜 𝓡 code.env #script-lines·start start-def.routine code.calls-script-lines·start (start-thm.met 𝓤 H 𝓜 𝓖 𝓡))
+    (cited 𝓤 H (LineC 𝓤 H (𝓖 .A) (𝓜 .mem) (𝓡 .run)) 𝓜 𝓡 code.env #script-lines·line line-def.routine code.calls-script-lines·line (line-thm.met 𝓤 H 𝓜 𝓖 𝓡))
+    (cited 𝓤 H (AfterC 𝓤 H (𝓖 .A) (𝓜 .mem) (𝓡 .run)) 𝓜 𝓡 code.env #script-lines·after after-def.routine code.calls-script-lines·after (after-thm.met 𝓤 H 𝓜 𝓖 𝓡))
     (cited 𝓤 H (PrintC 𝓤 H (𝓖 .A) (𝓜 .mem) (𝓡 .run)) 𝓜 𝓡 code.env #script·print·line print-def.routine code.calls-script·print·line (print-thm.met 𝓤 H 𝓜 𝓖 𝓡)))

@@ -1,2 +1,0 @@
-// Start, the call that opens a copy.
-pub mod start;

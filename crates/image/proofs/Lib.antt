@@ -1,0 +1,3 @@
+pub mod NamingLaws
+pub mod FitLaws
+pub mod CutLaws
