@@ -4,6 +4,7 @@ use mathlib.Core.Path.{_≡_, refl, ap, ap₂, _∙_}
 use mathlib.Core.Bool.{Bool, true, false, not, _&&_}
 use native.Mathlib.Decide.{decLt}
 use native.Mathlib.Omega.{arith}
+use Rattle.bounded.specs.Search.{pick}
 use Rattle.bounded.specs.Sum.{sum}
 use Rattle.bounded.specs.Reflect.{Reflects}
 use Rattle.bounded.proofs.BoolLaws.{and-true, and-false-l, and-false-r, chain-on, chain-off}
@@ -131,3 +132,20 @@ module _ (n : ℕ) where
   -- the months are 600
   pub month-below : IsDate (dateOf n) → monthOf (dateOf n) < months
   month-below h = omega arith
+
+  -- what an answer says
+  pub reckoned-none : reckoned n ≡ NoDate → isDate (dateOf n) ≡ false
+  unfolding reckoned
+  reckoned-none e = go (isDate (dateOf n)) e
+    where
+      go : (b : Bool) → pick b (Day (dayNumber (dateOf n))) NoDate ≡ NoDate → b ≡ false
+      go true r = let z : _≡_ {A = ℕ} 0 1 = cc in absurd (omega arith)
+      go false r = refl
+
+  pub reckoned-day : (d : ℕ) → reckoned n ≡ Day d → (isDate (dateOf n) ≡ true) × (d ≡ dayNumber (dateOf n))
+  unfolding reckoned
+  reckoned-day d e = go (isDate (dateOf n)) e
+    where
+      go : (b : Bool) → pick b (Day (dayNumber (dateOf n))) NoDate ≡ Day d → (b ≡ true) × (d ≡ dayNumber (dateOf n))
+      go true r = (refl, cc)
+      go false r = let z : _≡_ {A = ℕ} 0 1 = cc in absurd (omega arith)

@@ -93,7 +93,7 @@ pub fn reckon(date: u32) -> Reckoned
 }
 
 // The Sunday of a day's week.
-pub fn sunday(day: u16) -> u16
+pub fn sunday(day: usize) -> usize
     requires { ⌜ day ≤ lastDay ⌝ }
     ensures { λ r. ⌜ r ≡ sunday day ⌝ }
 {
