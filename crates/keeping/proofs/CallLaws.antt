@@ -47,7 +47,7 @@ module _ (copies terms : List ℕ) (asked : ℕ) (out : List ℕ) where
   unfolding keepCall
   lengths-refused h = rw h
 
-  dates-refused : wrong ≡ false → allDates copies && (allDates terms && isDate (dateOf asked)) ≡ false → left (Refused NoDate) out ≡ keepCall copies terms asked out
+  pub dates-refused : wrong ≡ false → allDates copies && (allDates terms && isDate (dateOf asked)) ≡ false → left (Refused NoDate) out ≡ keepCall copies terms asked out
   unfolding keepCall
   dates-refused h k = rw (h, k)
 

@@ -5,3 +5,8 @@ pub mod TestLaws
 pub mod RangeLaws
 pub mod RuleLaws
 pub mod CallLaws
+pub mod SchoolLaws
+pub mod ChosenLaws
+pub mod LaterLaws
+pub mod Claims
+pub mod Examples

@@ -14,9 +14,10 @@ use Rattle.bounded.specs.Below.{allBelow}
 use Rattle.bounded.specs.Reflect.{Reflects}
 use Rattle.bounded.proofs.BelowLaws.{all-at, all-of}
 use Rattle.bounded.proofs.BoolLaws.{same-test, fails, and-false-l, and-false-r}
-use Rattle.bounded.proofs.ReflectLaws.{r-le, r-lt, r-and, r-or, r-some, r-no}
+use Rattle.bounded.proofs.ReflectLaws.{r-le, r-lt, r-and, r-or, r-some, r-no, r-says}
 use Rattle.keeping.specs.Keeping.{termCount, firstDay, lastDay}
-use Rattle.keeping.specs.Call.{overlap, backwards, outOfOrder, wrongTerms}
+use Rattle.keeping.specs.Call.{wrongTerms}
+use Rattle.keeping.specs.Claims.{DayIn, TermsWrong, overlap, backwards, out-of-order}
 
 module _ (ts : List ℕ) where
   -- what 24's test says
@@ -101,3 +102,29 @@ module _ (ts : List ℕ) where
 
   pub is-neat : (t : ℕ) → freeFrom t ≤ firstDay ts t → firstDay ts t ≤ lastDay ts t → neat t ≡ true
   is-neat t h k = neat-says t .from (h, k)
+
+  -- ---- then a day lies in at most one term
+  pub one-term : wrongTerms ts ≡ false → (d s t : ℕ) → s < termCount ts → t < termCount ts → DayIn ts d s → DayIn ts d t → s ≡ t
+  one-term g d s t h k a b =
+      let n = all-neat (r-no wrong-decides g) in
+      elim (decLt s t) as (λ _. s ≡ t) [
+        | yes l ↦ let e = before-later (termCount ts) n s t l k in let u = a .1 in let v = b .0 in absurd (omega arith)
+        | no l ↦ elim (decLt t s) as (λ _. s ≡ t) [
+          | yes m ↦ let e = before-later (termCount ts) n t s m h in let u = b .1 in let v = a .0 in absurd (omega arith)
+          | no m ↦ omega arith
+        ]
+      ]
+
+  -- ---- 24 in a school's words
+  to-words : Wrong → TermsWrong ts
+  to-words (t, l, inl b) = backwards t l b
+  to-words (t, l, inr (s, k, inl o)) = overlap s t (max (firstDay ts s) (firstDay ts t)) k l (omega arith, omega arith) (omega arith, omega arith)
+  to-words (t, l, inr (s, k, inr o)) = out-of-order s t k l o
+
+  from-words : TermsWrong ts → Wrong
+  from-words (overlap s t d k l a b) = let u = a .0 in let v = a .1 in let w = b .0 in let x = b .1 in (t, l, inr (s, k, inl (omega arith)))
+  from-words (backwards t l b) = (t, l, inl b)
+  from-words (out-of-order s t k l o) = (t, l, inr (s, k, inr o))
+
+  pub terms-wrong : Reflects (wrongTerms ts) (TermsWrong ts)
+  terms-wrong = r-says to-words from-words wrong-decides
