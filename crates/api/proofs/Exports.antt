@@ -1,7 +1,7 @@
 -- Each export is the public call of its name: from what a caller learns by its contract, whatever the arguments, follows that the call was made, and what its caller is told.
 -- a are the arguments, z is the result, e the parameters at exit; m and d are an image and a desk that the call does not have.
 use Prim.Native.Nat.{ℕ}
-use mathlib.Core.Path.{_≡_, refl, sym, ap, _∙_}
+use mathlib.Core.Path.{_≡_, refl, sym, ap, _∙_, subst}
 use mathlib.Core.Bool.{Bool, true, false, _&&_}
 use mathlib.Core.List.{List, [], _∷_}
 use mathlib.Core.Logic.{⊎-elim}
@@ -34,6 +34,7 @@ use Rattle.dealer.specs.Deal.{bays, served, gets, turn, turnAllowed, dealt}
 use Rattle.laps.specs.Times as times
 use Rattle.laps.specs.Walk.{Lists, lists, report}
 use Rattle.laps.specs.Call as laps
+use Rattle.laps.specs.Claim.{Matched, Delivered, matched, bad-times, no-room}
 use Rattle.laps.proofs.CallLaws.{refused-times, refused-room, accepted}
 use Rattle.laps.proofs.Claim as matching
 use Rattle.api.specs.Api.{Sent, codeOf, sends, sentLaid, sentAlone, sent, SentState, sentState, formTold, checked, maskFlags, sentDealt, sentLaps}
@@ -266,6 +267,11 @@ pub deal-exported : Gives 1 deal-kinds.ps deal-kinds.r deal-reads.Learnt (λ κs
 deal-exported κs a z e h = dealing (a .0) (a .1 .0) (a .1 .1 .0) z (now (e .1 .1 .1 .0)) h
 
 -- ---- laps against the mat
+told-pairs : {w m : List ℕ} {o v : Lists} {t : Told} {z : ℤ} → Delivered w m o v t → z ≡ codeOf t → (p : ℕ) → z ≡ pos p → Matched w m o v p
+told-pairs {w} {m} {o} {v} (matched q x) c p e = subst (Matched w m o v) (ap natAbs (sym c ∙ e)) x
+told-pairs (bad-times h k) c p e = absurd (pos-ne-negsuc p 25 (sym e ∙ c))
+told-pairs (no-room h f k) c p e = absurd (pos-ne-negsuc p 0 (sym e ∙ c))
+
 module _ (w m : List ℕ) (o v : Lists) (z : ℤ) (h : sends z (v .pairedWatch ∷ v .pairedMat ∷ v .aloneWatch ∷ v .aloneMat ∷ []) ≡ sentLaps (laps.matchLaps w m o)) where
   -- r is what the public call answers, u the lists that it leaves
   matched-by : (r : Answer) (u : Lists) → laps.left r u ≡ laps.matchLaps w m o → LapsMatched w m o z v
@@ -277,7 +283,9 @@ module _ (w m : List ℕ) (o v : Lists) (z : ℤ) (h : sends z (v .pairedWatch �
       let am = ap (λ (x : Sent). first (after (after (after (x .buffers))))) k in
       let same : v ≡ u = rw (pw, pm, aw, am) refl in
       let q : laps.left r v ≡ laps.matchLaps w m o = ap (λ (x : Lists). laps.left r x) same ∙ e in
-      record { answer = r; made = q; code = ap (λ (x : Sent). x .code) k; delivered = matching.claim .delivered w m o v r q }
+      let c = ap (λ (x : Sent). x .code) k in
+      let d = matching.claim .delivered w m o v r q in
+      record { answer = r; made = q; code = c; delivered = d; pairs = told-pairs d c }
 
   laps-matched : LapsMatched w m o z v
   laps-matched =

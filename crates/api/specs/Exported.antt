@@ -17,7 +17,7 @@ use Rattle.watch.specs.Made.{Received, Did}
 use Rattle.dealer.specs.Deal.{turn, dealt}
 use Rattle.laps.specs.Walk.{Lists}
 use Rattle.laps.specs.Call.{left, matchLaps}
-use Rattle.laps.specs.Claim.{Delivered}
+use Rattle.laps.specs.Claim.{Matched, Delivered}
 use Rattle.api.specs.Api.{codeOf, codeBy, formTold, maskFlags}
 
 -- a call made on w answered c and left v, and a read's out-buffer out ([] for the other calls): so it is the call x, whose caller got `received`
@@ -58,9 +58,11 @@ pub record Dealing (mask steps last : ℕ) (c : ℤ) (counts : List ℕ) : Type 
   pub bay : (x : ℕ) → c ≡ pos x → told answer ≡ told (Done x)
 
 -- laps against the mat: the call on watch times w and mat times m, with the lists o lent, answered c
--- and left v; so it is the public call, and delivered what is claimed of it (`Claim`, in `laps`)
+-- and left v; so it is the public call, and delivered what is claimed of it (`Claim`, in `laps`); a
+-- number that is not negative is that of the pairs
 pub record LapsMatched (w m : List ℕ) (o : Lists) (c : ℤ) (v : Lists) : Type 0 where
   pub answer : Answer
   pub made : left answer v ≡ matchLaps w m o
   pub code : c ≡ codeOf (told answer)
   pub delivered : Delivered w m o v (told answer)
+  pub pairs : (p : ℕ) → c ≡ pos p → Matched w m o v p

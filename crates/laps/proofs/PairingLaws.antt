@@ -8,8 +8,9 @@ use native.Mathlib.Nat.{le-trans, le-refl, le-of-lt, eq-or-lt-of-le, add-zero, z
 use native.Mathlib.Decide.{decLt}
 use native.Mathlib.Omega.{arith}
 use lib.ListN.{length, getD, drop}
-use Rattle.laps.specs.Times.{mostApart, Near, Rising, Pairing, none, pair, Largest}
+use Rattle.laps.specs.Times.{mostApart, Near, Rising, Pairing, none, pair}
 use Rattle.laps.specs.Walk.{Lists, report}
+use Rattle.laps.specs.Reported.{Largest}
 use Rattle.laps.proofs.WalkLaws.{turn-early, turn-late, turn-pair, turn-last}
 
 -- a pairing of later places is one of earlier places

@@ -5,9 +5,9 @@ use mathlib.Core.Path.{_≡_, refl, ap, _∙_}
 use mathlib.Core.List.{List, [], _∷_}
 use native.Mathlib.Omega.{arith}
 use lib.ListN.{length, getD}
-use Rattle.laps.specs.Times.{Near, Rising, Pairing, none, pair, watchTimes, matTimes}
+use Rattle.laps.specs.Times.{Near, Rising, Pairing, none, pair}
 use Rattle.laps.specs.Walk.{report}
-use Rattle.laps.specs.Reported.{Parted, nothing, one, other, OnePlace, Paired, PairsOf, Reported}
+use Rattle.laps.specs.Reported.{Paired, watchTimes, matTimes, PairsOf, Parted, nothing, one, other, OnePlace, Reported}
 use Rattle.laps.proofs.WalkLaws.{Turns, by-turns}
 use Rattle.laps.proofs.PairingLaws.{report-largest}
 use Rattle.laps.proofs.RisingLaws.{parted-rising}
@@ -125,9 +125,9 @@ reported w m hw hm =
     let watch = parted-rising (once .0) hw in
     let mat = parted-rising (once .1) hm in
     record {
-      largest = report-largest w m hw hm;
-      one-place = once;
       paired = report-paired w m;
       pairs = report-pairs w m;
       rise = (watch .0, mat .0, watch .1, mat .1);
+      largest = report-largest w m hw hm;
+      one-place = once;
     }

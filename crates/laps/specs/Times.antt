@@ -1,18 +1,14 @@
 -- Watch times and mat times: which lists are taken, which times may be paired, and what a pairing is.
 use Prim.Native.Nat.{ℕ, suc, _+_, _-_, _≤_, _<_}
 use mathlib.Core.Bool.{Bool, _&&_}
-use mathlib.Core.List.{List, [], _∷_}
+use mathlib.Core.List.{List}
 use lib.Dec.{leb, ltb}
 use lib.ListN.{length, getD}
 use Rattle.bounded.specs.Below.{allTo}
 
--- "lists of up to 512 times"
+-- "Take two lists of up to 512 times"
 abbrev pub mostTimes : ℕ
 mostTimes = 512
-
--- "at most 50 apart"
-abbrev pub mostApart : ℕ
-mostApart = 50
 
 -- "each strictly rising"
 abbrev pub Rising : List ℕ → Type 0
@@ -33,6 +29,9 @@ abbrev pub allowed : List ℕ → Bool
 allowed l = leb (length l) mostTimes && rising l
 
 -- "A watch time and a mat time may be paired when they are at most 50 apart"
+abbrev pub mostApart : ℕ
+mostApart = 50
+
 abbrev pub Near : ℕ → ℕ → Type 0
 Near a b = (a ≤ b + mostApart) × (b ≤ a + mostApart)
 
@@ -45,16 +44,3 @@ pub data Pairing (w m : List ℕ) : ℕ → ℕ → ℕ → Type 0 where
   none : {i j : ℕ} → Pairing w m i j 0
   pair : {i j k : ℕ} (a b : ℕ) → i ≤ a → a < length w → j ≤ b → b < length m → Near (getD w a 0) (getD m b 0)
       → Pairing w m (a + 1) (b + 1) k → Pairing w m i j (suc k)
-
--- the times of its pairs
-abbrev pub watchTimes : {w m : List ℕ} {i j k : ℕ} → Pairing w m i j k → List ℕ
-watchTimes none = []
-watchTimes {w} (pair a b hi hw hj hm near p) = getD w a 0 ∷ watchTimes p
-
-abbrev pub matTimes : {w m : List ℕ} {i j k : ℕ} → Pairing w m i j k → List ℕ
-matTimes none = []
-matTimes {w} {m} (pair a b hi hw hj hm near p) = getD m b 0 ∷ matTimes p
-
--- "the largest that any such pairing has"
-abbrev pub Largest : List ℕ → List ℕ → ℕ → Type 0
-Largest w m n = Pairing w m 0 0 n × ((k : ℕ) → Pairing w m 0 0 k → k ≤ n)
