@@ -34,7 +34,8 @@ order =
     ∷ NoDate ∷ BadTerms ∷ AfterAsked ∷ []
 
 -- the same by the paper's numbers: "looked at lowest first"; 17 "comes right after 1", and 21 and 26 are
--- "looked at first", each by the one call that has it
+-- "looked at first", each by the one call that has it; 23, 24 and 25, which one call has, come after 1,
+-- "in that order"
 abbrev pub lookedAt : List ℕ
 lookedAt = 21 ∷ 26 ∷ 1 ∷ 17 ∷ 2 ∷ 3 ∷ 4 ∷ 5 ∷ 6 ∷ 7 ∷ 8 ∷ 9 ∷ 10 ∷ 11 ∷ 12 ∷ 13 ∷ 14 ∷ 15 ∷ 16 ∷ 23 ∷ 24 ∷ 25 ∷ []
 

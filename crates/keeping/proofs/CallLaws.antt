@@ -1,16 +1,16 @@
 -- What the call answers and leaves, by what was found before.
-use Prim.Native.Nat.{ℕ, _+_, _*_, _%_, _/_, _≤_, _<_}
-use mathlib.Core.Path.{_≡_, refl, sym, ap, ap₂, subst, _∙_}
-use mathlib.Core.Bool.{Bool, true, false, not, _&&_, _||_}
+use Prim.Native.Nat.{ℕ, _*_, _%_, _≤_, _<_}
+use mathlib.Core.Path.{_≡_, sym, ap, subst, _∙_}
+use mathlib.Core.Bool.{Bool, true, false, not, _&&_}
 use mathlib.Core.List.{List}
 use native.Mathlib.Omega.{arith}
-use borrow.Author.Tests.{ltb-false, leb-true, not-true, not-false}
+use borrow.Author.Tests.{ltb-false}
 use lib.Dec.{ltb, eqb}
 use lib.ListN.{length, getD, take}
 use lib.Seq.{ext-getD, getD-take, length-take-le}
 use Rattle.bounded.specs.Table.{table, Tabulated}
 use Rattle.bounded.proofs.BelowLaws.{all-at}
-use Rattle.bounded.proofs.BoolLaws.{and-left, and-right, and-false-l, and-false-r, or-false-l, or-false-r}
+use Rattle.bounded.proofs.BoolLaws.{and-false-l, and-false-r, or-false-l, or-false-r}
 use Rattle.bounded.proofs.TableLaws.{length-table, getD-table}
 use Rattle.octets.specs.Octets.{splice}
 use Rattle.calendar.specs.Date as date
@@ -19,8 +19,7 @@ use Rattle.calendar.proofs.DayLaws.{days-end}
 use Rattle.answers.specs.declared.Refusal.the-variants.{BadBuffer, NoDate, BadTerms, AfterAsked}
 use Rattle.answers.specs.declared.Answer.{Answer}
 use Rattle.answers.specs.declared.Answer.the-variants.{Done, Refused}
-use Rattle.keeping.specs.Keeping.{copyCount, termCount}
-use Rattle.keeping.specs.Call.{mostCopies, mostTerms, wrongLengths, allDates, wrongDate, dayAt, inDays, wrongTerms, afterAsked, keptCount, flags, Left, left, keepCall}
+use Rattle.keeping.specs.Call.{mostCopies, mostTerms, wrongLengths, allDates, dayAt, inDays, wrongTerms, afterAsked, keptCount, flags, left, keepCall}
 use Rattle.keeping.specs.Days.{InYears, Ready, daysCall}
 
 -- ---- from 24 on

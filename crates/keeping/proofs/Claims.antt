@@ -112,7 +112,7 @@ module _ (copies terms : List ℕ) (asked : ℕ) (out : List ℕ) where
         (holds-or-fails (wrongTerms ts))
 
   -- whatever the lists
-  delivers : DeliveredBy call
+  pub delivers : DeliveredBy call
   delivers =
       ⊎-elim
       (λ (h : wrongLengths (length copies) (length terms) (length out) ≡ true). subst DeliveredBy (lengths-refused copies terms asked out h) (bad-lengths h refl))

@@ -1,6 +1,6 @@
 -- From day to day: what goes stays gone, and deleting it changes nothing for the others.
 use Prim.Native.Nat.{ℕ, _+_, _≤_, _<_}
-use mathlib.Core.Path.{_≡_, refl, sym, ap, ap₂, subst, _∙_}
+use mathlib.Core.Path.{_≡_, refl, sym, ap, ap₂, _∙_}
 use mathlib.Core.Logic.{_⊎_, inl, inr, ⊎-elim}
 use mathlib.Core.Bool.{Bool, true, false, not, _&&_, _||_}
 use mathlib.Core.List.{List}
@@ -8,15 +8,14 @@ use native.Mathlib.Nat.{le-refl}
 use native.Mathlib.Omega.{arith}
 use borrow.Author.Tests.{le-leb, leb-true, ltb-true, eq-eqb, eqb-true}
 use lib.Dec.{eqb, leb, ltb}
-use Rattle.bounded.specs.Below.{someBelow}
-use Rattle.bounded.proofs.BelowLaws.{some-of, some-at, none-some}
-use Rattle.bounded.proofs.BoolLaws.{clash, fails, same-test, and-true, and-left, and-right, or-l, or-r, or-cases, holds-or-fails}
+use Rattle.bounded.proofs.BelowLaws.{none-some}
+use Rattle.bounded.proofs.BoolLaws.{clash, fails, same-test, and-true, and-left, and-right, or-cases, holds-or-fails}
 use Rattle.calendar.specs.Date.{within, week}
 use Rattle.keeping.specs.Keeping.{copyCount, dayOf, termCount, firstDay, lastDay, youngDays, termDays, lookedAt, liesIn, laterIn, lastOfWeek, lastOfTerm, young, inTime, termKeeps, keeps}
 use Rattle.keeping.specs.Claims.{DayIn, Kept, remaining, Later}
 use Rattle.keeping.proofs.LoopLaws.{some-ext}
 use Rattle.keeping.proofs.ChosenLaws.{place, Places, places, chosen-twice}
-use Rattle.keeping.proofs.SchoolLaws.{best, one-looked, lies-says, later-in, later-says, term-last, last-in-term, week-last, last-in-week, last-in, keeps-looked, keeps-by, young-kept, term-kept, last-kept, week-kept}
+use Rattle.keeping.proofs.SchoolLaws.{best, one-looked, lies-says, later-in, later-says, term-last, last-in-term, week-last, last-in-week, last-in, keeps-looked, keeps-by, young-kept, last-kept, week-kept}
 
 module _ (cs ts : List ℕ) where
   -- ---- what is kept on a day was kept on every day before

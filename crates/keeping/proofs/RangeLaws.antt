@@ -1,12 +1,12 @@
 -- "The last of its week" and "the last of a term" by ranges of days: whether any copy, looked at or not,
 -- is dated there. So the code can keep a bit for each day.
-use Prim.Native.Nat.{ℕ, zero, suc, _+_, _*_, _/_, _≤_, _<_, min}
-use mathlib.Core.Path.{_≡_, refl, sym, ap, subst, _∙_}
+use Prim.Native.Nat.{ℕ, zero, suc, _+_, _≤_, _<_, min}
+use mathlib.Core.Path.{_≡_, refl, ap, _∙_}
 use mathlib.Core.Bool.{Bool, true, false, not, _&&_}
 use mathlib.Core.List.{List}
 use mathlib.Core.Logic.{⊎-elim}
 use native.Mathlib.Omega.{arith}
-use borrow.Author.Tests.{le-leb, lt-ltb, eq-eqb, leb-true, ltb-true, eqb-true, not-true, not-false}
+use borrow.Author.Tests.{le-leb, lt-ltb, eq-eqb, leb-true, ltb-true, eqb-true}
 use lib.Dec.{eqb, leb, ltb}
 use Rattle.bounded.specs.Below.{someBelow}
 use Rattle.bounded.proofs.BelowLaws.{some-of, some-at}

@@ -6,14 +6,12 @@ use mathlib.Core.Logic.{⊎-elim}
 use mathlib.Core.List.{List}
 use native.Mathlib.Decide.{decLt}
 use native.Mathlib.Omega.{arith}
-use borrow.Author.Tests.{le-leb, lt-leb, leb-true, leb-false, eq-eqb, eqb-true}
+use borrow.Author.Tests.{le-leb, lt-leb, leb-true, eq-eqb, eqb-true}
 use lib.Dec.{eqb, leb}
 use lib.ListN.{length, getD}
 use Rattle.bounded.specs.Below.{allBelow, someBelow}
 use Rattle.bounded.specs.Search.{pick}
 use Rattle.bounded.specs.Count.{one, count}
-use Rattle.bounded.specs.Most.{most}
-use Rattle.bounded.specs.Table.{table}
 use Rattle.bounded.proofs.BelowLaws.{all-ext, some-of, some-at}
 use Rattle.bounded.proofs.BoolLaws.{same-test, and-true, and-left, and-right, and-false-l, holds-or-fails}
 use Rattle.bounded.proofs.CountLaws.{count-ext}
@@ -22,9 +20,9 @@ use Rattle.bounded.proofs.TableLaws.{length-table, table-ext}
 use Rattle.octets.specs.Octets.{splice}
 use Rattle.octets.proofs.PartLaws.{splice-twice}
 use Rattle.calendar.specs.Date.{within, sunday}
-use Rattle.keeping.specs.Keeping.{dayOf, copyCount, termCount, firstDay, lastDay, youngDays, lookedAt, liesIn, lastOfWeek, lastOfTerm, inTime, termKeeps, keeps}
+use Rattle.keeping.specs.Keeping.{dayOf, copyCount, termCount, firstDay, lastDay, youngDays, lookedAt, liesIn, inTime, termKeeps, keeps}
 use Rattle.keeping.specs.Call.{keptCount, flags}
-use Rattle.keeping.specs.Days.{dayBits, noted, notedAfter, NotedFrom, InYears, upTo, latestBy, Latest, lookFlags, termTest, dayTest, copyTest, settled, settledFlags}
+use Rattle.keeping.specs.Days.{dayBits, noted, notedAfter, NotedFrom, InYears, upTo, latestBy, Latest, lookFlags, termTest, copyTest, settled, settledFlags}
 use Rattle.keeping.proofs.LoopLaws.{some-ext, front-at}
 use Rattle.keeping.proofs.TestLaws.{week-ends}
 use Rattle.keeping.proofs.RangeLaws.{copyIn, last-of-term, last-of-week}

@@ -1,20 +1,19 @@
 -- What stays: one copy a date, one a week of a term, one a term.
 use Prim.Native.Nat.{ℕ, zero, suc, _+_, _≤_, _<_}
-use mathlib.Core.Path.{_≡_, refl, sym, ap, subst, _∙_}
+use mathlib.Core.Path.{_≡_, sym, ap, subst, _∙_}
 use mathlib.Core.Logic.{_⊎_, inl, inr, ⊎-elim}
-use mathlib.Core.Bool.{Bool, true, false, not, _&&_, _||_}
+use mathlib.Core.Bool.{Bool, true, false, not, _&&_}
 use mathlib.Core.List.{List}
 use native.Mathlib.Decide.{decLt, ℕ-discrete}
 use native.Mathlib.Omega.{arith}
-use borrow.Author.Tests.{le-leb, lt-leb, lt-ltb, eq-eqb, leb-true, ltb-true, eqb-true, not-true, not-false}
-use lib.Dec.{eqb, leb, ltb}
-use Rattle.bounded.specs.Below.{someBelow}
+use borrow.Author.Tests.{le-leb, lt-leb, lt-ltb, eq-eqb, leb-true, ltb-true, eqb-true, not-true}
+use lib.Dec.{eqb, ltb}
 use Rattle.bounded.specs.Reflect.{Reflects}
-use Rattle.bounded.proofs.BelowLaws.{some-of, some-at, some-none, none-some}
-use Rattle.bounded.proofs.BoolLaws.{clash, fails, and-true, and-left, and-right, or-l, or-r, or-cases, or-right, holds-or-fails}
+use Rattle.bounded.proofs.BelowLaws.{some-of, some-at, none-some}
+use Rattle.bounded.proofs.BoolLaws.{clash, fails, and-true, and-left, and-right, or-l, or-r, or-cases, holds-or-fails}
 use Rattle.bounded.proofs.ReflectLaws.{r-and, r-le}
-use Rattle.calendar.specs.Date.{within, week}
-use Rattle.keeping.specs.Keeping.{copyCount, dayOf, termCount, firstDay, lastDay, youngDays, termDays, lookedAt, liesIn, laterIn, lastOfWeek, lastOfTerm, young, inTime, termKeeps, keeps}
+use Rattle.calendar.specs.Date.{week}
+use Rattle.keeping.specs.Keeping.{copyCount, dayOf, termCount, lastDay, youngDays, termDays, lookedAt, liesIn, laterIn, lastOfWeek, lastOfTerm, young, inTime, termKeeps, keeps}
 use Rattle.keeping.specs.Call.{wrongTerms}
 use Rattle.keeping.specs.Claims.{DayIn, Kept, Old, Sole, Stays}
 use Rattle.keeping.proofs.RangeLaws.{looked}

@@ -1,7 +1,7 @@
 -- What a school may rely on. Of the code this knows the contract of `keep`, and nothing else.
 use Prim.Native.Nat.{ℕ, suc, _+_, _≤_, _<_}
 use mathlib.Core.Path.{_≡_}
-use mathlib.Core.Bool.{Bool, true, false, _&&_}
+use mathlib.Core.Bool.{Bool, true, false}
 use mathlib.Core.List.{List, [], _∷_}
 use lib.ListN.{length, getD}
 use Rattle.bounded.specs.Reflect.{Reflects}
@@ -14,7 +14,7 @@ use Rattle.answers.specs.declared.Answer.the-variants.{Done, Refused}
 use Rattle.answers.specs.Order.{inOrder}
 use Rattle.answers.specs.Told.{Told, told}
 use Rattle.keeping.specs.Keeping.{copyCount, dayOf, termCount, firstDay, lastDay, youngDays, termDays, keeps}
-use Rattle.keeping.specs.Call.{wrongLengths, allDates, inDays, wrongTerms, afterAsked, keptCount, left, keepTable, keepCall}
+use Rattle.keeping.specs.Call.{wrongLengths, allDates, inDays, wrongTerms, keptCount, left, keepTable, keepCall}
 
 -- ---- terms
 -- day d lies in term t

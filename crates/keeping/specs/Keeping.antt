@@ -1,6 +1,6 @@
 -- Which copies to keep. Days are day numbers; cs are the days of the copies, which are counted from 0
 -- in list order; ts are the days of the terms: first, last, first, last, ..
-use Prim.Native.Nat.{ℕ, _+_, _*_, _/_, min, max}
+use Prim.Native.Nat.{ℕ, _+_, _*_, _/_}
 use mathlib.Core.Bool.{Bool, not, _&&_, _||_}
 use mathlib.Core.List.{List}
 use lib.Dec.{eqb, leb, ltb}

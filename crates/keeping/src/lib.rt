@@ -14,7 +14,7 @@ use calendar::Reckoned;
 
 const MOST_COPIES: usize = 256;
 
-const MOST_TERM_DAYS: usize = 24;
+const MOST_TERM_DAYS: usize = 2 * rule::MOST_TERMS;
 
 fn allowed_lengths(copies: usize, terms: usize, out: usize) -> bool
     ensures { λ r. ⌜ r ≡ not (wrongLengths copies terms out) ⌝ }

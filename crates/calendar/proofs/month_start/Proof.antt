@@ -1,8 +1,8 @@
 use Prim.Native.Nat.{_+_, _-_, _/_, _%_, _≤_}
-use mathlib.Core.Path.{_≡_, ap, sym, _∙_}
+use mathlib.Core.Path.{_≡_, ap, _∙_}
 use native.Mathlib.Omega.{arith}
 use borrow.Author.Needs.{needs}
-use Rattle.calendar.specs.Gregorian.{lengthOf, monthStart}
+use Rattle.calendar.specs.Gregorian.{monthStart}
 use Rattle.calendar.proofs.MonthLaws.{length-most, start-most, start-first, start-next}
 use Rattle.calendar.proofs.month_start.Statement.{statement}
 use Rattle.calendar.proofs.month_start.Tie as tie

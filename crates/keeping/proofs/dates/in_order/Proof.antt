@@ -1,13 +1,12 @@
 use Prim.Native.Nat.{_+_, _*_, _-_, _≤_}
 use mathlib.Core.Path.{_≡_, refl, sym, ap, _∙_}
-use mathlib.Core.Bool.{true, not}
+use mathlib.Core.Bool.{true}
 use native.Mathlib.Omega.{arith}
 use denote.Ref.{now}
-use lib.ListN.{length}
 use borrow.Author.Needs.{needs}
 use Rattle.bounded.specs.Below.{allBelow}
 use Rattle.bounded.proofs.BelowLaws.{all-none, all-more, all-stopped, all-done}
-use Rattle.keeping.specs.Keeping.{termCount, firstDay, lastDay}
+use Rattle.keeping.specs.Keeping.{termCount}
 use Rattle.keeping.proofs.TermLaws.{freeFrom, neat, free-next, neat-tells, not-free, not-ended, is-neat}
 use Rattle.keeping.proofs.dates.in_order.Statement.{statement}
 use Rattle.keeping.proofs.dates.in_order.Tie as tie

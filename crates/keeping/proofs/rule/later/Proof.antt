@@ -1,4 +1,3 @@
-use Prim.Native.Nat.{max}
 use native.Mathlib.Omega.{arith}
 use borrow.Author.Tests.{le-leb, lt-leb}
 use Rattle.keeping.proofs.rule.later.Statement.{statement}

@@ -4,11 +4,11 @@ use mathlib.Core.Bool.{Bool, not}
 use mathlib.Core.List.{List}
 use native.Mathlib.Omega.{arith}
 use denote.Ref.{now}
-use lib.ListN.{length, getD}
+use lib.ListN.{length}
 use borrow.Author.Needs.{needs}
 use Rattle.bounded.specs.Count.{one}
-use Rattle.keeping.specs.Keeping.{dayOf, lookedAt}
-use Rattle.keeping.specs.Days.{dayBits, NotedFrom, noting, lookFlags}
+use Rattle.keeping.specs.Keeping.{lookedAt}
+use Rattle.keeping.specs.Days.{dayBits, NotedFrom, lookFlags}
 use Rattle.keeping.proofs.LoopLaws.{FilledFrom, fill-begin, fill-more, fill-end}
 use Rattle.keeping.proofs.MapLaws.{one-noted, looks}
 use Rattle.keeping.proofs.rule.look_at.Statement.{statement}

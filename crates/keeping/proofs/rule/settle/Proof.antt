@@ -10,7 +10,6 @@ use Rattle.bounded.specs.Count.{one, count}
 use Rattle.bounded.proofs.CountLaws.{one-le, count-zero, count-step, count-le}
 use Rattle.octets.specs.Octets.{splice}
 use Rattle.octets.proofs.PartLaws.{length-splice}
-use Rattle.keeping.specs.Keeping.{dayOf}
 use Rattle.keeping.specs.Days.{copyTest, settled, settledFlags}
 use Rattle.keeping.proofs.LoopLaws.{front-none, front-more, front-rest}
 use Rattle.keeping.proofs.rule.settle.Statement.{statement}
