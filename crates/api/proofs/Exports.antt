@@ -321,7 +321,7 @@ module _ (copies terms : List ℕ) (day : ℕ) (out v : List ℕ) where
   told-kept (kept.bad-lengths h k) c n e = absurd (pos-ne-negsuc n 0 (sym e ∙ c))
   told-kept (kept.no-date h d k) c n e = absurd (pos-ne-negsuc n 22 (sym e ∙ c))
   told-kept (kept.bad-terms h d w k) c n e = absurd (pos-ne-negsuc n 23 (sym e ∙ c))
-  told-kept (kept.after-day h d w i l a k) c n e = absurd (pos-ne-negsuc n 24 (sym e ∙ c))
+  told-kept (kept.after-asked h d w i l a k) c n e = absurd (pos-ne-negsuc n 24 (sym e ∙ c))
 
   -- r is what the public call answers, u the list that it leaves
   kept-by : (z : ℤ) → sends z (v ∷ []) ≡ sentKept (keeping.keepCall copies terms day out) → (r : Answer) (u : List ℕ) → keeping.left r u ≡ keeping.keepCall copies terms day out
