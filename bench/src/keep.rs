@@ -38,7 +38,10 @@ fn compare(r: &mut Random) {
         let count = if r.next(500) == 0 { 250 + r.next(10) } else { r.next(30) };
         let list = copies(count, year, r);
         let mut school = terms(year - r.next(2));
-        school.truncate(r.next(26));
+        school.truncate(2 * r.next(13) + (r.next(40) == 0) as usize);
+        if r.next(40) == 0 {
+            school.extend([date(2049, 12, 30), date(2049, 12, 31)]);
+        }
         if r.next(20) == 0 && !school.is_empty() {
             let at = r.next(school.len());
             school[at] += r.next(4) as u32;
