@@ -12,9 +12,9 @@ use crate::{Refusal, ffi};
 /// `watch.len() - p` of `alone_watch` and the first `mat.len() - p` of `alone_mat`, each in rising
 /// order. What lies behind them stays.
 ///
-/// Unmatched: no time of the other list is near, or those near stand in earlier pairs. It does not
-/// say who is wrong: a mat time may be a missed lap, another runner, or a second foot just after the
-/// first.
+/// Unmatched: no time of the other list is near, or those near stand in earlier pairs (by the walk;
+/// this is not proved). It does not say who is wrong: a mat time may be a missed lap, another runner,
+/// or a second foot just after the first.
 ///
 /// Refused with [`BadTimes`](Refusal::BadTimes), looked at first; then with
 /// [`BadBuffer`](Refusal::BadBuffer) if one of the four is shorter than the list that its times come
