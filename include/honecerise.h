@@ -133,7 +133,7 @@ enum honecerise_refusal {
     /* the charging case */
     HONECERISE_BAD_TURN      = 21, /* a turn of no steps, or of more than 64, or a last bay above 15  */
     /* which copies to keep: whoever enters dates and terms */
-    HONECERISE_NO_DATE       = 23, /* a date that does not exist, or not from 2000-01-01 to 2049-12-31 */
+    HONECERISE_NO_DATE       = 23, /* no date that exists, from 2000-01-01 to 2049-12-31              */
     HONECERISE_BAD_TERMS     = 24, /* terms that share a day, run backwards or are out of order       */
     HONECERISE_AFTER_ASKED   = 25, /* a copy dated after the day asked                                */
     /* laps against the mat */
@@ -326,11 +326,13 @@ int32_t honecerise_match_laps(const uint32_t *watch, size_t watch_count,
  * Answers how many are kept, and sets out[i] to 1 if copy i is kept, else to 0; what lies behind stays
  * as it was. Refused with 1, 23 (a copy's date, a term's, or the day asked), 24 or 25, in that order.
  *
- * What goes on one day goes on every later day, and deleting it changes nothing for the others. Holidays
- * within a term make it two terms, so the last copy before them is kept for ever; copies between terms
- * go at 14 days. A case that holds 256 copies must ask before it takes the next one. */
+ * What goes on one day goes on every later day, and deleting it changes nothing for the others.
+ * Holidays within a term make it two terms, so the last copy before them is kept for ever; copies
+ * between terms go at 14 days. A case that holds 256 copies must ask before it takes the next one. */
 
-#define HONECERISE_DATE(year, month, day) ((uint32_t)(year) * 10000u + (uint32_t)(month) * 100u + (uint32_t)(day))
+/* for a month and a day of at most two digits */
+#define HONECERISE_DATE(year, month, day) \
+    ((uint32_t)(year) * 10000u + (uint32_t)(month) * 100u + (uint32_t)(day))
 
 int32_t honecerise_keep(const uint32_t *copies, size_t count,
                         const uint32_t *terms, size_t term_days,

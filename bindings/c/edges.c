@@ -358,7 +358,7 @@ static void copies(int at_end)
         long_terms[i] = i < TERM_DAYS ? terms[i] : asked;
 #define KEEP(n, t, day) honecerise_keep(dates, n, terms, t, day, out, COPIES)
     memset(out, 9, COPIES);
-    /* the last of each term, in November's and December's of each week too, and three young ones more */
+    /* the last of each term, of each week in November's and December's, and three young ones more */
     IS(21, KEEP(COPIES, TERM_DAYS, asked));
     for (i = 0; i < COPIES; i++)
         nines += out[i] > 1;

@@ -103,6 +103,7 @@ int main(void)
         most = used > most ? used : most;
     }
     kept = depth(keeps) - depth(nothing);
-    printf("stack: %u bytes at the deepest, of %u; keep %u, of %u\n", (unsigned)most, HONECERISE_STACK, (unsigned)kept, KEEP);
+    printf("stack: %u bytes at the deepest, of %u; keep %u, of %u\n",
+           (unsigned)most, HONECERISE_STACK, (unsigned)kept, KEEP);
     return most <= HONECERISE_STACK && kept <= KEEP ? 0 : 1;
 }

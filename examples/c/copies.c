@@ -52,7 +52,8 @@ static void delete_what_goes(uint32_t day)
 
 int main(void)
 {
-    static const uint32_t autumn[] = { 20230904, 20230907, 20230911, 20230914, 20230918, 20230921, 20230925, 20230928 };
+    static const uint32_t autumn[] = { 20230904, 20230907, 20230911, 20230914,
+                                       20230918, 20230921, 20230925, 20230928 };
     static const uint32_t december[] = { 20231204, 20231207, 20231211, 20231214, 20231218, 20231221 };
     uint32_t moved[4];
     size_t i;
@@ -73,7 +74,8 @@ int main(void)
     for (i = 0; i < 4; i++)
         moved[i] = terms[i];
     moved[1] = HONECERISE_DATE(2023, 12, 15);
-    printf("with a term that ends on %u: %d would stay\n", (unsigned)moved[1], (int)ask(HONECERISE_DATE(2024, 1, 31), moved, 4));
+    printf("with a term that ends on %u: %d would stay\n", (unsigned)moved[1],
+           (int)ask(HONECERISE_DATE(2024, 1, 31), moved, 4));
 
     delete_what_goes(HONECERISE_DATE(2024, 2, 15));
     delete_what_goes(HONECERISE_DATE(2024, 2, 16));
