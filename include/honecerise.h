@@ -10,16 +10,17 @@
  *     desk    the copier's notes
  *
  * The library allocates nothing, has no globals, keeps no pointer after a call returns, and does
- * no input or output. A buffer may lie anywhere and needs no alignment, save the lists of times that
- * honecerise_match_laps takes, which must be aligned for uint32_t. You may move or save a buffer
- * between two calls; the bytes of store, image and desk are the same on every machine.
+ * no input or output. A buffer may lie anywhere and needs no alignment, save the lists of times and
+ * dates that honecerise_match_laps and honecerise_keep take, which must be aligned for uint32_t. You
+ * may move or save a buffer between two calls; the bytes of store, image and desk are the same on
+ * every machine.
  *
  * Buffers
- *     A buffer is a pointer and a length in bytes; a list of times is a pointer and a count. What a
- *     call may write (store, image, desk, an out-buffer, state's three numbers, deal's counts, a
- *     report's lists) must not overlap anything else that it is lent, and nothing else may write what
- *     it is lent until it returns: no interrupt, no other thread. A rename's two names may be the same
- *     bytes. Calls on different buffers may run at the same time.
+ *     A buffer is a pointer and a length in bytes; a list of times or dates is a pointer and a count.
+ *     What a call may write (store, image, desk, an out-buffer, state's three numbers, deal's counts,
+ *     a report's lists) must not overlap anything else that it is lent, and nothing else may write
+ *     what it is lent until it returns: no interrupt, no other thread. A rename's two names may be the
+ *     same bytes. Calls on different buffers may run at the same time.
  *     Where a length or count is 0, the pointer may be anything, NULL included: an empty name is
  *     refused with 4, a write of no bytes is a write of no bytes. An empty image will do as long as
  *     no copy is started. The three pointers that honecerise_state takes, and honecerise_deal's
@@ -63,6 +64,8 @@ extern "C" {
 #define HONECERISE_MOST_TURN       64u /* steps of a case's turn: 1 to 64                       */
 #define HONECERISE_MAX_TIMES      512u /* times of a list of laps                               */
 #define HONECERISE_MOST_APART      50u /* of the two times of a pair, in hundredths of a second */
+#define HONECERISE_MAX_COPIES     256u /* finished images of a case                             */
+#define HONECERISE_MAX_TERMS       12u /* terms of a school                                     */
 
 /*
  * The deepest stack of any call, below its caller's frame, with room to spare: burst takes about
@@ -89,14 +92,16 @@ extern "C" {
 /* ---- refusals, by who causes them ----------------------------------------------------------
  * Where several apply, the lowest is answered, save that 17 is looked at right after 1, and 26 before
  * 1. 21 is honecerise_deal's only refusal, and no other call's; 26 comes to honecerise_match_laps
- * alone. A call answers one when, and only when, its condition holds for that call. */
+ * alone, and 23 to 25 to honecerise_keep. A call answers one when, and only when, its condition holds
+ * for that call. */
 
 enum honecerise_refusal {
     /* whoever wires the buffers */
     HONECERISE_BAD_BUFFER    =  1, /* no length or count allowed: a store or desk by its own counts, a
                                       layout call's by the numbers told, at start the image; or a list
                                       that a report goes to is shorter than the list its times come
-                                      from                                                            */
+                                      from; or a list of copies or terms is too long, a term has no
+                                      last day, or there is no room for a byte a copy                 */
     HONECERISE_UNSOUND_STORE =  2, /* the store is not sound: something else wrote to it              */
     HONECERISE_BAD_DESK      =  3, /* the desk breaks its layout or is of another inode count; or,
                                       while a copy runs, the image's length or counts are not the
@@ -127,6 +132,10 @@ enum honecerise_refusal {
     HONECERISE_BAD_COUNT     = 17, /* a burst of no steps, or of more than 64                         */
     /* the charging case */
     HONECERISE_BAD_TURN      = 21, /* a turn of no steps, or of more than 64, or a last bay above 15  */
+    /* which copies to keep: whoever enters dates and terms */
+    HONECERISE_NO_DATE       = 23, /* no date that exists, from 2000-01-01 to 2049-12-31              */
+    HONECERISE_BAD_TERMS     = 24, /* terms that share a day, run backwards or are out of order       */
+    HONECERISE_AFTER_ASKED   = 25, /* a copy dated after the day asked                                */
     /* laps against the mat */
     HONECERISE_BAD_TIMES     = 26  /* a list of more than 512 times, or one that does not rise        */
 };
@@ -299,6 +308,36 @@ int32_t honecerise_match_laps(const uint32_t *watch, size_t watch_count,
                               uint32_t *paired_mat, size_t paired_mat_count,
                               uint32_t *alone_watch, size_t alone_watch_count,
                               uint32_t *alone_mat, size_t alone_mat_count);
+
+/* ---- which copies to keep -------------------------------------------------------------------
+ * Takes no store, and deletes nothing: it says which of a case's finished images are kept on the day
+ * asked, so it can be asked before anything goes, and before new terms are applied.
+ *
+ * A date is one number, HONECERISE_DATE(2024, 2, 29) or 20240229; from 2050 on every date is refused.
+ * The copies are dated in any order. Terms are their first and last days, both included, one after the
+ * other: term_days is twice their number. Terms rise and share no day; one may begin the day after
+ * another ends.
+ *
+ * A copy aged 0 to 13 days on the day asked is kept. An older one that lies in a term is kept until 56
+ * days after the term's last day, that day included, if it is the last of its Monday-to-Sunday week
+ * within that term; the last copy of a term is always kept. Other copies go. Of several on one date
+ * only the last in the list is looked at; the others go at any age.
+ *
+ * Answers how many are kept, and sets out[i] to 1 if copy i is kept, else to 0; what lies behind stays
+ * as it was. Refused with 1, 23 (a copy's date, a term's, or the day asked), 24 or 25, in that order.
+ *
+ * What goes on one day goes on every later day, and deleting it changes nothing for the others.
+ * Holidays within a term make it two terms, so the last copy before them is kept for ever; copies
+ * between terms go at 14 days. A case that holds 256 copies must ask before it takes the next one. */
+
+/* for a month and a day of at most two digits */
+#define HONECERISE_DATE(year, month, day) \
+    ((uint32_t)(year) * 10000u + (uint32_t)(month) * 100u + (uint32_t)(day))
+
+int32_t honecerise_keep(const uint32_t *copies, size_t count,
+                        const uint32_t *terms, size_t term_days,
+                        uint32_t asked,
+                        uint8_t *out, size_t out_length);
 
 #ifdef __cplusplus
 }

@@ -3,6 +3,7 @@ mod altered;
 mod calls;
 mod checks;
 mod copies;
+mod keep;
 mod laps;
 mod lists;
 mod random;
@@ -21,6 +22,7 @@ fn main() {
     let copies = copies::run();
     let turns = turns::run();
     let laps = laps::run();
-    println!("\nlargest ratio to Rust: check {checks:.2}, call {calls:.2}, turn {turns:.2}, laps {laps:.2}, copy {:.2} (goal: at most {TO_RUST})", copies.plain);
+    let keep = keep::run();
+    println!("\nlargest ratio to Rust: check {checks:.2}, call {calls:.2}, turn {turns:.2}, laps {laps:.2}, keep {keep:.2}, copy {:.2} (goal: at most {TO_RUST})", copies.plain);
     println!("copy to its checks {:.2} (goal: at most {TO_CHECKS}), by bursts of 64 {:.2} (goal: at most {BURSTS_TO_CHECKS}); * is above its goal", copies.checks, copies.burst_checks);
 }

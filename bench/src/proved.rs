@@ -50,6 +50,9 @@ extern "C" {
         paired_watch: *mut u32, paired_watch_count: usize, paired_mat: *mut u32, paired_mat_count: usize,
         alone_watch: *mut u32, alone_watch_count: usize, alone_mat: *mut u32, alone_mat_count: usize,
     ) -> i32;
+    fn honecerise_keep(
+        copies: *const u32, count: usize, terms: *const u32, term_days: usize, asked: u32, out: *mut u8, out_length: usize,
+    ) -> i32;
 }
 
 fn answer(r: i32) -> Answer {
@@ -78,6 +81,11 @@ pub fn match_laps(
             alone_watch.as_mut_ptr(), alone_watch.len(), alone_mat.as_mut_ptr(), alone_mat.len(),
         )
     })
+}
+
+/// Which copies to keep, which takes no store either.
+pub fn keep(copies: &[u32], terms: &[u32], asked: u32, out: &mut [u8]) -> Answer {
+    answer(unsafe { honecerise_keep(copies.as_ptr(), copies.len(), terms.as_ptr(), terms.len(), asked, out.as_mut_ptr(), out.len()) })
 }
 
 pub struct Proved;

@@ -10,6 +10,8 @@
  *   in every case.
  * - Lists of laps are tested before the lists that the report goes to, and nothing is written if one
  *   is refused.
+ * - A case has at most 256 copies and twelve terms; dates are tested before terms, and these before the
+ *   day asked; nothing is written if one is refused.
  */
 #define _DEFAULT_SOURCE
 #include <stdio.h>
@@ -333,6 +335,57 @@ static void laps(int at_end)
     IS(TIMES, sevens(pw, pm, aw, am));
 }
 
+/* ---- which copies to keep */
+
+enum { COPIES = HONECERISE_MAX_COPIES, TERM_DAYS = 2 * HONECERISE_MAX_TERMS };
+
+/* Full lists, between pages that may not be touched. */
+static void copies(int at_end)
+{
+    uint32_t *dates = times_fenced(COPIES, at_end), *terms = times_fenced(TERM_DAYS, at_end);
+    uint8_t *out = fenced(COPIES, at_end);
+    uint32_t more[COPIES + 1], long_terms[TERM_DAYS + 2];
+    const uint32_t asked = HONECERISE_DATE(2024, 12, 31);
+    size_t i, nines = 0;
+    /* a term each month, and copies on its first 21 days */
+    for (i = 0; i < TERM_DAYS; i++)
+        terms[i] = HONECERISE_DATE(2024, i / 2 + 1, i % 2 ? 28 : 1);
+    for (i = 0; i < COPIES; i++)
+        dates[i] = HONECERISE_DATE(2024, i % 12 + 1, i / 12 % 21 + 1);
+    for (i = 0; i <= COPIES; i++)
+        more[i] = asked;
+    for (i = 0; i < TERM_DAYS + 2; i++)
+        long_terms[i] = i < TERM_DAYS ? terms[i] : asked;
+#define KEEP(n, t, day) honecerise_keep(dates, n, terms, t, day, out, COPIES)
+    memset(out, 9, COPIES);
+    /* the last of each term, of each week in November's and December's, and three young ones more */
+    IS(21, KEEP(COPIES, TERM_DAYS, asked));
+    for (i = 0; i < COPIES; i++)
+        nines += out[i] > 1;
+    IS(0, (int32_t)nines);
+    IS(0, honecerise_keep(NONE, NONE, asked, NONE));
+    IS(1, honecerise_keep(more, COPIES, NONE, asked, out, COPIES));
+    IS(1, out[COPIES - 1]);
+    memset(out, 9, COPIES);
+    IS(-1, honecerise_keep(more, COPIES + 1, NONE, asked, out, COPIES));
+    IS(-1, honecerise_keep(dates, COPIES, NONE, asked, out, COPIES - 1));
+    IS(-1, honecerise_keep(dates, COPIES, long_terms, TERM_DAYS + 2, asked, out, COPIES));
+    IS(-1, KEEP(COPIES, 3, asked));
+    IS(-23, KEEP(COPIES, TERM_DAYS, HONECERISE_DATE(2023, 2, 29)));
+    IS(-23, KEEP(COPIES, TERM_DAYS, UINT32_MAX));
+    dates[COPIES - 1] = 0;
+    IS(-23, KEEP(COPIES, TERM_DAYS, asked));
+    IS(12, KEEP(12, TERM_DAYS, asked));
+    memset(out, 9, COPIES);
+    terms[2] = terms[1];
+    IS(-24, KEEP(COPIES - 1, TERM_DAYS, terms[0]));
+    terms[2] = terms[1] + 1;
+    IS(-25, KEEP(COPIES - 1, TERM_DAYS, terms[0]));
+    for (i = nines = 0; i < COPIES; i++)
+        nines += out[i] == 9;
+    IS(COPIES, (int32_t)nines);
+}
+
 int main(void)
 {
     int at_end;
@@ -348,6 +401,7 @@ int main(void)
         counts();
         turns(at_end);
         laps(at_end);
+        copies(at_end);
     }
     printf("edges: %u answers as expected\n", tried);
     return 0;

@@ -1,6 +1,6 @@
 /*
  * How deep the library's calls go: all of them on a painted stack, with no copy running and with
- * one. Fails if they go deeper than include/honecerise.h says.
+ * one. Fails if they go deeper than include/honecerise.h says, or honecerise_keep deeper than 3 KB.
  */
 #include <stdio.h>
 #include <string.h>
@@ -8,12 +8,13 @@
 
 #include "honecerise.h"
 
-enum { INODES = 16, BLOCKS = 128, IMAGE_BLOCKS = 704, STACK = 1 << 18, PAINT = 0xa5 };
+enum { INODES = 16, BLOCKS = 128, IMAGE_BLOCKS = 704, STACK = 1 << 18, PAINT = 0xa5, KEEP = 3072 };
 
 static uint8_t store[HONECERISE_STORE_LENGTH(INODES, BLOCKS)];
 static uint8_t image[HONECERISE_IMAGE_LENGTH(INODES, IMAGE_BLOCKS)];
 static uint8_t desk[HONECERISE_DESK_LENGTH(INODES)];
 static const uint32_t times[3] = { 7100, 7200, 7300 };
+static const uint32_t dates[4] = { 20230904, 20231221, 20231220, 20231221 };
 static const uint8_t laps[2000] = "71.2 70.8 72.0 69.9";
 
 #define WATCH store, sizeof store, image, sizeof image, desk, sizeof desk
@@ -31,6 +32,7 @@ static void calls(void)
     static uint32_t lists[4][3];
     size_t n[3];
     honecerise_match_laps(times, 3, times, 2, lists[0], 3, lists[1], 3, lists[2], 3, lists[3], 3);
+    honecerise_keep(dates, 4, dates, 2, 20240201, out, sizeof out);
     if (copied) {
         honecerise_start(WATCH);
         honecerise_step(WATCH);
@@ -61,6 +63,12 @@ static void calls(void)
     honecerise_deal(0xffff, 64, 15, out);
 }
 
+static void keeps(void)
+{
+    static uint8_t out[4];
+    honecerise_keep(dates, 4, dates, 2, 20240201, out, sizeof out);
+}
+
 static void nothing(void)
 {
 }
@@ -83,7 +91,7 @@ static size_t depth(void (*what)(void))
 
 int main(void)
 {
-    size_t most = 0;
+    size_t most = 0, kept;
     honecerise_lay_out_store(store, sizeof store, INODES, BLOCKS);
     honecerise_lay_out_desk(desk, sizeof desk, INODES);
     honecerise_create_file(WATCH, 1, NAME("a"));
@@ -94,6 +102,8 @@ int main(void)
         const size_t used = depth(calls) - depth(nothing);
         most = used > most ? used : most;
     }
-    printf("stack: %u bytes at the deepest, of %u\n", (unsigned)most, HONECERISE_STACK);
-    return most <= HONECERISE_STACK ? 0 : 1;
+    kept = depth(keeps) - depth(nothing);
+    printf("stack: %u bytes at the deepest, of %u; keep %u, of %u\n",
+           (unsigned)most, HONECERISE_STACK, (unsigned)kept, KEEP);
+    return most <= HONECERISE_STACK && kept <= KEEP ? 0 : 1;
 }

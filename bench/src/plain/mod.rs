@@ -8,6 +8,7 @@ mod entries;
 mod format;
 mod guards;
 mod image;
+mod keep;
 mod laps;
 mod names;
 mod rename;
@@ -21,6 +22,7 @@ pub use copier::{start, state, step};
 pub use deal::deal;
 pub use entries::{create, link, look_up, unlink, Kind};
 pub use format::{lay_out_desk, lay_out_store};
+pub use keep::keep;
 pub use laps::match_laps;
 pub use rename::rename;
 pub use sound::check;
@@ -48,5 +50,8 @@ mod refusal {
     pub const IMAGE_FULL: u8 = 16;
     pub const BAD_COUNT: u8 = 17;
     pub const BAD_TURN: u8 = 21;
+    pub const NO_DATE: u8 = 23;
+    pub const BAD_TERMS: u8 = 24;
+    pub const AFTER_ASKED: u8 = 25;
     pub const BAD_TIMES: u8 = 26;
 }

@@ -66,6 +66,10 @@ mod c {
             paired_watch: *mut u32, paired_watch_count: usize, paired_mat: *mut u32, paired_mat_count: usize,
             alone_watch: *mut u32, alone_watch_count: usize, alone_mat: *mut u32, alone_mat_count: usize,
         ) -> i32;
+
+        pub fn honecerise_keep(
+            copies: *const u32, count: usize, terms: *const u32, term_days: usize, asked: u32, out: *mut u8, out_len: usize,
+        ) -> i32;
     }
 }
 
@@ -217,5 +221,13 @@ pub fn match_laps(
             alone_mat.as_mut_ptr(),
             alone_mat.len(),
         )
+    })
+}
+
+pub fn keep(copies: &[u32], terms: &[u32], asked: u32, out: &mut [u8]) -> Answer {
+    // SAFETY: each pointer and count are of one slice, aligned as a slice is; the list that is written is
+    // apart from the two that are only read, since it is `&mut`.
+    answer(unsafe {
+        c::honecerise_keep(copies.as_ptr(), copies.len(), terms.as_ptr(), terms.len(), asked, out.as_mut_ptr(), out.len())
     })
 }

@@ -7,7 +7,7 @@
 //! [`Watch`] holds the three lent buffers (store, image and desk) and has all calls on them.
 //! [`Files`] reads what a sound store or a finished image holds. [`deal`] parts a charging case's
 //! steps among its bays. [`match_laps`] holds a watch's lap times against those of the track's timing
-//! mat, and needs no store. [`Refusal`] says why a call was refused; a refused call has changed
+//! mat, and [`keep`] says which copies of a case stay; both need no store. [`Refusal`] says why a call was refused; a refused call has changed
 //! nothing, save that [`Refusal::ImageFull`] marks the copy stopped.
 //!
 //! ```
@@ -45,6 +45,7 @@ mod ffi;
 mod files;
 mod inode;
 mod iter;
+mod keep;
 mod laps;
 mod refusal;
 mod sizes;
@@ -54,11 +55,12 @@ mod watch;
 pub use files::{Entry, Files};
 pub use inode::{Inode, Kind};
 pub use iter::{All, Contents, Entries};
+pub use keep::{Date, Kept, Term, keep};
 pub use laps::match_laps;
 pub use refusal::Refusal;
 pub use sizes::{
-    BAYS, MAX_BLOCKS, MAX_FILE, MAX_IMAGE, MAX_INODES, MAX_NAME, MAX_SLOTS, MAX_TIMES, MOST_APART, MOST_BURST, MOST_TURN, desk_len,
-    enough_image, image_len, most_steps, store_len,
+    BAYS, MAX_BLOCKS, MAX_COPIES, MAX_FILE, MAX_IMAGE, MAX_INODES, MAX_NAME, MAX_SLOTS, MAX_TERMS, MAX_TIMES, MOST_APART,
+    MOST_BURST, MOST_TURN, desk_len, enough_image, image_len, most_steps, store_len,
 };
 pub use turn::{Turn, deal};
 pub use watch::{CopyState, Status, Watch};

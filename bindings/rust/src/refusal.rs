@@ -4,7 +4,8 @@ use core::fmt;
 /// The refusals, by who causes them. Where several apply, the lowest is answered, save that
 /// [`BadCount`](Refusal::BadCount) is looked at right after [`BadBuffer`](Refusal::BadBuffer), and
 /// [`BadTimes`](Refusal::BadTimes) before it. [`BadTurn`](Refusal::BadTurn) comes to
-/// [`deal`](crate::deal) alone, and `BadTimes` to [`match_laps`](crate::match_laps).
+/// [`deal`](crate::deal) alone, `BadTimes` to [`match_laps`](crate::match_laps), and
+/// [`NoDate`](Refusal::NoDate) to [`AfterAsked`](Refusal::AfterAsked) to [`keep`](crate::keep).
 ///
 /// ```
 /// use honecerise::Refusal;
@@ -15,8 +16,8 @@ use core::fmt;
 #[derive(Clone, Copy, Debug, PartialEq, Eq, Hash)]
 #[repr(u8)]
 pub enum Refusal {
-    /// Wiring: a buffer has no length or count that is allowed, or a list that a report goes to is
-    /// shorter than the list its times come from.
+    /// Wiring: a buffer has no length or count that is allowed, a list that a report goes to is
+    /// shorter than the list its times come from, or there are too many copies or terms.
     BadBuffer = 1,
     /// Wiring: the store is not sound; something else wrote to it.
     UnsoundStore = 2,
@@ -56,13 +57,19 @@ pub enum Refusal {
     /// The charging case: a turn of no steps, or of more than [`MOST_TURN`](crate::MOST_TURN), or a last bay that is none of the
     /// [`BAYS`](crate::BAYS).
     BadTurn = 21,
+    /// Copies: a date does not exist, or does not lie from 2000-01-01 to 2049-12-31.
+    NoDate = 23,
+    /// Copies: terms share a day, run backwards or are out of order.
+    BadTerms = 24,
+    /// Copies: one is dated after the day asked.
+    AfterAsked = 25,
     /// Laps: a list has more than [`MAX_TIMES`](crate::MAX_TIMES) times, or does not rise strictly.
     BadTimes = 26,
 }
 
 impl Refusal {
     /// All of them, by number.
-    pub const ALL: [Refusal; 19] = [
+    pub const ALL: [Refusal; 22] = [
         Refusal::BadBuffer,
         Refusal::UnsoundStore,
         Refusal::BadDesk,
@@ -81,10 +88,13 @@ impl Refusal {
         Refusal::ImageFull,
         Refusal::BadCount,
         Refusal::BadTurn,
+        Refusal::NoDate,
+        Refusal::BadTerms,
+        Refusal::AfterAsked,
         Refusal::BadTimes,
     ];
 
-    /// Its number: 1 to 17, 21 or 26.
+    /// Its number: 1 to 17, 21, or 23 to 26.
     pub const fn number(self) -> u8 {
         self as u8
     }
@@ -121,6 +131,9 @@ impl Refusal {
             Refusal::ImageFull => "the image has no block left",
             Refusal::BadCount => "a burst has 1 to 64 steps",
             Refusal::BadTurn => "a turn has 1 to 64 steps, and its last bay is 0 to 15",
+            Refusal::NoDate => "a date does not exist, or not from 2000 to 2049",
+            Refusal::BadTerms => "terms share a day, run backwards or are out of order",
+            Refusal::AfterAsked => "a copy is dated after the day asked",
             Refusal::BadTimes => "a list of times has more than 512, or does not rise",
         }
     }

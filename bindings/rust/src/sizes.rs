@@ -22,6 +22,10 @@ pub const MOST_TURN: usize = 64;
 pub const MAX_TIMES: usize = 512;
 /// How far apart a watch time and a mat time of one crossing may be, in hundredths of a second.
 pub const MOST_APART: u32 = 50;
+/// The most finished images of a case.
+pub const MAX_COPIES: usize = 256;
+/// The most terms of a school.
+pub const MAX_TERMS: usize = 12;
 
 /// The length of a store of so many inodes (1 to [`MAX_INODES`]) and blocks (1 to [`MAX_BLOCKS`]).
 ///

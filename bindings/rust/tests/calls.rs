@@ -32,7 +32,7 @@ fn copied(watch: &mut Watch) -> usize {
 
 #[test]
 fn numbers_and_reasons() {
-    for (refusal, number) in Refusal::ALL.into_iter().zip((1..=17).chain([21, 26])) {
+    for (refusal, number) in Refusal::ALL.into_iter().zip((1..=17).chain([21, 23, 24, 25, 26])) {
         assert_eq!(refusal.number(), number);
         assert_eq!(Refusal::from_number(number), Some(refusal));
         assert!(refusal.to_string().ends_with(&format!("({number})")));

@@ -1,7 +1,7 @@
 -- "Refusals, by who causes it. Given by number": the number of each.
 use Prim.Native.Nat.{ℕ}
 use Rattle.answers.specs.declared.Refusal.{Refusal}
-use Rattle.answers.specs.declared.Refusal.the-variants.{BadBuffer, UnsoundStore, BadDesk, IllegalName, WrongInode, NameAbsent, NameTaken, NotEmpty, PastEnd, IntoItself, NoInode, NoBlocks, NoSlot, Busy, WrongState, ImageFull, BadCount, BadTurn, BadTimes}
+use Rattle.answers.specs.declared.Refusal.the-variants.{BadBuffer, UnsoundStore, BadDesk, IllegalName, WrongInode, NameAbsent, NameTaken, NotEmpty, PastEnd, IntoItself, NoInode, NoBlocks, NoSlot, Busy, WrongState, ImageFull, BadCount, BadTurn, NoDate, BadTerms, AfterAsked, BadTimes}
 
 abbrev pub refusalNumber : Refusal → ℕ
 -- "Whoever wires the buffers": a length or count not allowed; the store not sound; the desk, or the image of a running copy, otherwise not as laid down
@@ -29,5 +29,10 @@ refusalNumber ImageFull = 16
 refusalNumber BadCount = 17
 -- "21 when the steps allowed are outside 1 to 64 or the last bay outside 0 to 15"
 refusalNumber BadTurn = 21
+-- "23 when a date doesn't exist or lies outside the years; 24 when terms overlap, run backwards or are
+-- out of order; 25 when a copy is dated after the day asked"
+refusalNumber NoDate = 23
+refusalNumber BadTerms = 24
+refusalNumber AfterAsked = 25
 -- "26 when a list is too long or not rising"
 refusalNumber BadTimes = 26

@@ -23,6 +23,9 @@ pub enum Refusal {
     ImageFull,
     BadCount,
     BadTurn,
+    NoDate,
+    BadTerms,
+    AfterAsked,
     BadTimes,
 }
 
@@ -55,6 +58,9 @@ pub fn refusal_number(e: Refusal) -> usize
         Refusal::ImageFull => 16,
         Refusal::BadCount => 17,
         Refusal::BadTurn => 21,
+        Refusal::NoDate => 23,
+        Refusal::BadTerms => 24,
+        Refusal::AfterAsked => 25,
         Refusal::BadTimes => 26,
     }
 }

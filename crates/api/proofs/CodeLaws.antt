@@ -24,7 +24,8 @@ use Rattle.checkpoint.specs.Shown.{Shown, shown, toldStatus}
 use Rattle.dealer.specs.Deal.{Dealt, turn}
 use Rattle.laps.specs.Walk.{Lists}
 use Rattle.laps.specs.Call as laps
-use Rattle.api.specs.Api.{mostResult, codeBy, codeOf, Fits, Sent, sends, sentLaid, sentAlone, sent, sendsState, sentState, sentDealt, sentLaps}
+use Rattle.keeping.specs.Call as keeping
+use Rattle.api.specs.Api.{mostResult, codeBy, codeOf, Fits, Sent, sends, sentLaid, sentAlone, sent, sendsState, sentState, sentDealt, sentLaps, sentKept}
 
 -- ---- numbers of 32 bits
 number-fits : (n : ℕ) → n ≤ mostResult → SFits w32 (pos n)
@@ -104,6 +105,13 @@ module _ (a : Answer) where
 
     pub sent-laps : (z : ℤ) → z ≡ codeOf (told a) → sends (toZ w32 (ofZ w32 z)) (v .pairedWatch ∷ v .pairedMat ∷ v .aloneWatch ∷ v .aloneMat ∷ []) ≡ sentLaps o
     sent-laps z f = sent-as z _ _ matched-fits f (ap sentLaps e)
+
+  module _ (v : List ℕ) (o : keeping.Left) (e : keeping.left a v ≡ o) (l : Fits (o .answer)) where
+    pub kept-fits : Fits (told a)
+    kept-fits = subst Fits (sym (ap (λ (x : keeping.Left). x .answer) e)) l
+
+    pub sent-kept : (z : ℤ) → z ≡ codeOf (told a) → sends (toZ w32 (ofZ w32 z)) (v ∷ []) ≡ sentKept o
+    sent-kept z f = sent-as z _ _ kept-fits f (ap sentKept e)
 
 -- ---- the state question
 pub state-told : (r : Status) (t : Told) (a l k : ℕ) (ns : List ℕ) → toldStatus r ≡ t → r ≡ Is a l k → sendsState (pos 0) (a ∷ l ∷ k ∷ []) ≡ sentState t ns

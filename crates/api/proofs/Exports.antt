@@ -37,8 +37,14 @@ use Rattle.laps.specs.Call as laps
 use Rattle.laps.specs.Claim.{Matched, Delivered, matched, bad-times, no-room}
 use Rattle.laps.proofs.CallLaws.{refused-times, refused-room, accepted}
 use Rattle.laps.proofs.Claim as matching
-use Rattle.api.specs.Api.{Sent, codeOf, sends, sentLaid, sentAlone, sent, SentState, sentState, formTold, checked, maskFlags, sentDealt, sentLaps}
-use Rattle.api.specs.Exported.{Exported, Asked, LaysOut, Checks, Dealing, LapsMatched}
+use Rattle.calendar.specs.Date.{dateOf, dayNumber}
+use Rattle.octets.specs.Octets.{splice}
+use Rattle.answers.specs.Order.{Row, firstBy}
+use Rattle.keeping.specs.Call as keeping
+use Rattle.keeping.specs.Claims as kept
+use Rattle.keeping.proofs.Claims as keeping-claims
+use Rattle.api.specs.Api.{Sent, codeOf, sends, sentLaid, sentAlone, sent, SentState, sentState, formTold, checked, maskFlags, sentDealt, sentLaps, sentKept}
+use Rattle.api.specs.Exported.{Exported, Asked, LaysOut, Checks, Dealing, LapsMatched, KeepTold}
 use Rattle.api.proofs.honecerise_lay_out_store.Kinds as lay-store-kinds
 use Rattle.api.proofs.honecerise_lay_out_store.Reads as lay-store-reads
 use Rattle.api.proofs.honecerise_lay_out_desk.Kinds as lay-desk-kinds
@@ -75,6 +81,8 @@ use Rattle.api.proofs.honecerise_state.Kinds as state-kinds
 use Rattle.api.proofs.honecerise_state.Reads as state-reads
 use Rattle.api.proofs.honecerise_match_laps.Kinds as match-laps-kinds
 use Rattle.api.proofs.honecerise_match_laps.Reads as match-laps-reads
+use Rattle.api.proofs.honecerise_keep.Kinds as keep-kinds
+use Rattle.api.proofs.honecerise_keep.Reads as keep-reads
 
 -- ---- the buffers that an equation tells
 abbrev first : List (List ℕ) → List ℕ
@@ -302,3 +310,48 @@ pub match-laps-exported : Gives 6 match-laps-kinds.ps match-laps-kinds.r match-l
     LapsMatched (now (a .0)) (now (a .1 .0)) (lists (now (a .1 .1 .0)) (now (a .1 .1 .1 .0)) (now (a .1 .1 .1 .1 .0)) (now (a .1 .1 .1 .1 .1 .0)))
     z (lists (now (e .1 .1 .0)) (now (e .1 .1 .1 .0)) (now (e .1 .1 .1 .1 .0)) (now (e .1 .1 .1 .1 .1 .0))))
 match-laps-exported κs a z e h = laps-matched _ _ _ (lists (now (e .1 .1 .0)) (now (e .1 .1 .1 .0)) (now (e .1 .1 .1 .1 .0)) (now (e .1 .1 .1 .1 .1 .0))) z h
+
+-- ---- which copies to keep
+module _ (copies terms : List ℕ) (day : ℕ) (out v : List ℕ) where
+  abbrev keptOf : ℕ
+  keptOf = keeping.keptCount (keeping.inDays copies) (keeping.inDays terms) (dayNumber (dateOf day))
+
+  told-kept : {t : Told} {z : ℤ} → kept.Delivered copies terms day out v t → z ≡ codeOf t → (n : ℕ) → z ≡ pos n → kept.Answered copies terms day out v × (n ≡ keptOf)
+  told-kept (kept.answered x) c n e = (x, ap natAbs (sym e ∙ c))
+  told-kept (kept.bad-lengths h k) c n e = absurd (pos-ne-negsuc n 0 (sym e ∙ c))
+  told-kept (kept.no-date h d k) c n e = absurd (pos-ne-negsuc n 22 (sym e ∙ c))
+  told-kept (kept.bad-terms h d w k) c n e = absurd (pos-ne-negsuc n 23 (sym e ∙ c))
+  told-kept (kept.after-asked h d w i l a k) c n e = absurd (pos-ne-negsuc n 24 (sym e ∙ c))
+
+  -- r is what the public call answers, u the list that it leaves
+  kept-by : (z : ℤ) → sends z (v ∷ []) ≡ sentKept (keeping.keepCall copies terms day out) → (r : Answer) (u : List ℕ) → keeping.left r u ≡ keeping.keepCall copies terms day out
+      → KeepTold copies terms day out z v
+  kept-by z h r u e =
+      let k : sends z (v ∷ []) ≡ sentKept (keeping.left r u) = h ∙ ap sentKept (sym e) in
+      let same : v ≡ u = ap (λ (x : Sent). first (x .buffers)) k in
+      let q : keeping.left r v ≡ keeping.keepCall copies terms day out = ap (keeping.left r) same ∙ e in
+      let c = ap (λ (x : Sent). x .code) k in
+      let d = keeping-claims.claims .delivered copies terms day out v r q in
+      record { answer = r; made = q; code = c; delivered = d; flags = told-kept d c }
+
+-- by any table: what was answered and left
+kept-given : (rs : List Row) (n : ℕ) (o u : List ℕ) → (r : Answer) × (v : List ℕ) × (keeping.left r v ≡ firstBy (λ e. keeping.left (Refused e) o) rs (keeping.left (Done n) u))
+kept-given [] n o u = (Done n, u, refl)
+kept-given (r ∷ rs) n o u = go (r .holds) (kept-given rs n o u)
+  where
+    rest : keeping.Left
+    rest = firstBy (λ e. keeping.left (Refused e) o) rs (keeping.left (Done n) u)
+
+    go : (b : Bool) → (r : Answer) × (v : List ℕ) × (keeping.left r v ≡ rest) → (a : Answer) × (v : List ℕ) × (keeping.left a v ≡ pick b (keeping.left (Refused (r .refusal)) o) rest)
+    go true t = (Refused (r .refusal), o, refl)
+    go false t = t
+
+keep-told : (copies terms : List ℕ) (day : ℕ) (out v : List ℕ) (z : ℤ) → sends z (v ∷ []) ≡ sentKept (keeping.keepCall copies terms day out) → KeepTold copies terms day out z v
+unfolding keeping.keepCall
+keep-told copies terms day out v z h =
+    let today = dayNumber (dateOf day) in
+    let g = kept-given (keeping.keepTable copies terms day out) (keptOf copies terms day out v) out (splice out 0 (keeping.flags (keeping.inDays copies) (keeping.inDays terms) today)) in
+    kept-by copies terms day out v z h (g .0) (g .1) (g .2)
+
+pub keep-exported : Gives 3 keep-kinds.ps keep-kinds.r keep-reads.Learnt (λ κs a z e. KeepTold (now (a .0)) (now (a .1 .0)) (a .1 .1 .0) (now (a .1 .1 .1 .0)) z (now (e .1 .1 .1 .0)))
+keep-exported κs a z e h = keep-told (now (a .0)) (now (a .1 .0)) (a .1 .1 .0) (now (a .1 .1 .1 .0)) (now (e .1 .1 .1 .0)) z h

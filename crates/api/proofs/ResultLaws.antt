@@ -51,6 +51,13 @@ use Rattle.laps.specs.Call.{matchLaps}
 use Rattle.laps.specs.Claim.{Delivered, matched, bad-times, no-room}
 use Rattle.laps.proofs.RisingLaws.{parted-length}
 use Rattle.laps.proofs.Claim.{delivers}
+use Rattle.bounded.proofs.CountLaws.{count-le}
+use Rattle.calendar.specs.Date.{dateOf, dayNumber}
+use Rattle.keeping.specs.Keeping.{keeps}
+use Rattle.keeping.specs.Call as keeping
+use Rattle.keeping.specs.Claims as kept
+use Rattle.keeping.proofs.CallLaws as keeping-laws
+use Rattle.keeping.proofs.Claims as keeping-claims
 use Rattle.watch.specs.Answered.{ByTable, result, holds, passes, tableOf, resultOf}
 use Rattle.watch.specs.Claim.{outcomeOf}
 use Rattle.watch.proofs.AnswerLaws.{by-table}
@@ -198,3 +205,18 @@ few-pairs (no-room h f k) = omega arith
 
 pub laps-fits : (w m : List ℕ) (o : Lists) → Fits (matchLaps w m o .answer)
 laps-fits w m o = few-pairs (delivers w m o)
+
+-- of copies no more are kept than there are, and these are at most 256
+few-kept : {copies terms : List ℕ} {asked : ℕ} {out v : List ℕ} {t : Told} → kept.Delivered copies terms asked out v t → Fits t
+few-kept {copies} {terms} {asked} {out} (kept.answered x) =
+    let few = keeping-laws.lengths copies terms asked out (x .lengths) .0 in
+    let long = keeping-laws.days-long copies in
+    let count = count-le (keeps (keeping.inDays copies) (keeping.inDays terms) (dayNumber (dateOf asked))) (length (keeping.inDays copies)) in
+    omega arith
+few-kept (kept.bad-lengths h k) = omega arith
+few-kept (kept.no-date h d k) = omega arith
+few-kept (kept.bad-terms h d w k) = omega arith
+few-kept (kept.after-asked h d w i l a k) = omega arith
+
+pub keep-fits : (copies terms : List ℕ) (asked : ℕ) (out : List ℕ) → Fits (keeping.keepCall copies terms asked out .answer)
+keep-fits copies terms asked out = few-kept (keeping-claims.delivers copies terms asked out)

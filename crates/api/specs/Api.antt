@@ -17,6 +17,7 @@ use Rattle.checkpoint.specs.Shown.{Shown}
 use Rattle.marks.specs.Mark.{marked}
 use Rattle.dealer.specs.Deal.{bays, Dealt}
 use Rattle.laps.specs.Call.{Left}
+use Rattle.keeping.specs.Call as keeping
 
 abbrev pub codeBy : ℕ → List ℕ → ℤ
 codeBy zero (x ∷ xs) = pos x
@@ -81,6 +82,10 @@ sentDealt d = sends (codeOf (d .answer)) (d .counts ∷ [])
 -- ---- laps against the mat: the four lists that the report goes to
 abbrev pub sentLaps : Left → Sent
 sentLaps o = sends (codeOf (o .answer)) (o .lists .pairedWatch ∷ o .lists .pairedMat ∷ o .lists .aloneWatch ∷ o .lists .aloneMat ∷ [])
+
+-- ---- which copies to keep: the list that the flags go to
+abbrev pub sentKept : keeping.Left → Sent
+sentKept o = sends (codeOf (o .answer)) (o .out ∷ [])
 
 -- ---- the check
 -- "The check is told store or image, takes any bytes and answers yes or no": 0 tells a store, any other number an image; 1 is yes

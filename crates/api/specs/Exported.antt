@@ -18,6 +18,10 @@ use Rattle.dealer.specs.Deal.{turn, dealt}
 use Rattle.laps.specs.Walk.{Lists}
 use Rattle.laps.specs.Call.{left, matchLaps}
 use Rattle.laps.specs.Claim.{Matched, Delivered}
+use Rattle.calendar.specs.Date.{dateOf, dayNumber}
+use Rattle.keeping.specs.Call as keeping
+use Rattle.keeping.specs.Call.{inDays, keptCount, keepCall}
+use Rattle.keeping.specs.Claims as kept
 use Rattle.api.specs.Api.{codeOf, codeBy, formTold, maskFlags}
 
 -- a call made on w answered c and left v, and a read's out-buffer out ([] for the other calls): so it is the call x, whose caller got `received`
@@ -66,3 +70,13 @@ pub record LapsMatched (w m : List ℕ) (o : Lists) (c : ℤ) (v : Lists) : Type
   pub code : c ≡ codeOf (told answer)
   pub delivered : Delivered w m o v (told answer)
   pub pairs : (p : ℕ) → c ≡ pos p → Matched w m o v p
+
+-- which copies to keep: the call on copies, terms and the day asked, with the list out lent, answered c
+-- and left v; so it is the public call, and delivered what is claimed of it (`Claims`, in `keeping`); a
+-- number that is not negative is that of the copies kept, and then there is a flag for each
+pub record KeepTold (copies terms : List ℕ) (asked : ℕ) (out : List ℕ) (c : ℤ) (v : List ℕ) : Type 0 where
+  pub answer : Answer
+  pub made : keeping.left answer v ≡ keepCall copies terms asked out
+  pub code : c ≡ codeOf (told answer)
+  pub delivered : kept.Delivered copies terms asked out v (told answer)
+  pub flags : (n : ℕ) → c ≡ pos n → kept.Answered copies terms asked out v × (n ≡ keptCount (inDays copies) (inDays terms) (dayNumber (dateOf asked)))

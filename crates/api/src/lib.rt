@@ -18,7 +18,8 @@ ghost use Rattle.checkpoint.specs.Burst.{burst};
 ghost use Rattle.dealer.specs.Deal.{dealt};
 ghost use Rattle.laps.specs.Walk.{lists};
 ghost use Rattle.laps.specs.Call.{matchLaps};
-ghost use Rattle.api.specs.Api.{sends, sentLaid, sentAlone, sent, sendsState, sentState, maskFlags, sentDealt, sentLaps, checked};
+ghost use Rattle.keeping.specs.Call.{keepCall};
+ghost use Rattle.api.specs.Api.{sends, sentLaid, sentAlone, sent, sendsState, sentState, maskFlags, sentDealt, sentLaps, sentKept, checked};
 use crate::code::code;
 use crate::code::refused;
 use crate::mask::flags;
@@ -27,6 +28,7 @@ use watch::Form;
 use watch::Kind;
 use watch::Status;
 use watch::check;
+use watch::keep;
 use watch::match_laps;
 
 // ---- laying out
@@ -253,4 +255,12 @@ pub extern "C" fn honecerise_match_laps(
     ensures { λ r. ⌜ sends r (now («paired_watch» .exit) ∷ now («paired_mat» .exit) ∷ now («alone_watch» .exit) ∷ now («alone_mat» .exit) ∷ []) ≡ sentLaps (matchLaps (now (watch .entry)) (now (mat .entry)) (lists (now («paired_watch» .entry)) (now («paired_mat» .entry)) (now («alone_watch» .entry)) (now («alone_mat» .entry)))) ⌝ }
 {
     code(match_laps(watch, mat, paired_watch, paired_mat, alone_watch, alone_mat))
+}
+
+// ---- which copies to keep
+#[no_mangle]
+pub extern "C" fn honecerise_keep(copies: &[u32], terms: &[u32], asked: u32, out: &mut [u8]) -> i32
+    ensures { λ r. ⌜ sends r (now (out .exit) ∷ []) ≡ sentKept (keepCall (now (copies .entry)) (now (terms .entry)) asked (now (out .entry))) ⌝ }
+{
+    code(keep(copies, terms, asked, out))
 }

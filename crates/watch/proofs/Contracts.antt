@@ -16,6 +16,7 @@ use Rattle.checkpoint.specs.List.{call, advances, asks, starts}
 use Rattle.checkpoint.specs.Burst.{one, bursts}
 use Rattle.laps.specs.Walk.{lists}
 use Rattle.laps.specs.Call.{left, matchLaps}
+use Rattle.keeping.specs.Call as keeping
 use Rattle.watch.specs.Made.{got, Did, looked-up, has-read, created, written, shortened, linked, unlinked, renamed, started, stepped, asked, stepped-many}
 use Rattle.files.proofs.plain.look_up.Kinds as look-up-kinds
 use Rattle.files.proofs.plain.look_up.Reads as look-up-reads
@@ -49,6 +50,8 @@ use Rattle.format.proofs.lay_out_desk.Kinds as lay-desk-kinds
 use Rattle.format.proofs.lay_out_desk.Reads as lay-desk-reads
 use Rattle.laps.proofs.match_laps.Kinds as match-laps-kinds
 use Rattle.laps.proofs.match_laps.Reads as match-laps-reads
+use Rattle.keeping.proofs.keep.Kinds as keep-kinds
+use Rattle.keeping.proofs.keep.Reads as keep-reads
 
 -- what a caller learns of a function gives D; n lifetimes, parameters ps, result r
 abbrev pub Gives : (n : ℕ) (ps : List (PK n)) (r : RK n) → Out n ps r → ((κs : Lfts n) → Dens κs ps → resT r κs .Denot → AtExit (endedOf n ps r) κs → Type 0) → Type 0
@@ -121,3 +124,8 @@ pub match-laps-made : Gives 6 match-laps-kinds.ps match-laps-kinds.r match-laps-
     left z (lists (now (e .1 .1 .0)) (now (e .1 .1 .1 .0)) (now (e .1 .1 .1 .1 .0)) (now (e .1 .1 .1 .1 .1 .0)))
     ≡ matchLaps (now (a .0)) (now (a .1 .0)) (lists (now (a .1 .1 .0)) (now (a .1 .1 .1 .0)) (now (a .1 .1 .1 .1 .0)) (now (a .1 .1 .1 .1 .1 .0))))
 match-laps-made κs a z e h = h
+
+-- ---- and which copies to keep
+pub keep-made : Gives 3 keep-kinds.ps keep-kinds.r keep-reads.Learnt (λ κs a z e.
+    keeping.left z (now (e .1 .1 .1 .0)) ≡ keeping.keepCall (now (a .0)) (now (a .1 .0)) (a .1 .1 .0) (now (a .1 .1 .1 .0)))
+keep-made κs a z e h = h

@@ -1,6 +1,6 @@
 -- Demand 1 is met by every call as its contract promises it.
 use Prim.Native.Nat.{ℕ}
-use mathlib.Core.Path.{_≡_, refl, ap}
+use mathlib.Core.Path.{_≡_, refl, ap, _∙_}
 use mathlib.Core.Bool.{Bool, true, false, not, _&&_}
 use mathlib.Core.List.{List, [], _∷_}
 use lib.ListN.{length, replicate}
@@ -23,8 +23,12 @@ use Rattle.dealer.specs.Deal.{bays, served, gets, Dealt, turn, turnAllowed}
 use Rattle.laps.specs.Times as times
 use Rattle.laps.specs.Walk.{Lists, report}
 use Rattle.laps.specs.Call.{room, Left, left, over, matchLaps}
+use Rattle.octets.specs.Octets.{splice}
+use Rattle.calendar.specs.Date.{dateOf, dayNumber}
+use Rattle.keeping.specs.Call as keeping
+use Rattle.keeping.specs.Call.{inDays, keptCount, flags, keepTable, keepCall}
 use Rattle.watch.specs.Made.{Received, Did}
-use Rattle.watch.specs.Answered.{ByTable, Answers, result, holds, passes, LayAnswers, LapsAnswers, FirstDemand}
+use Rattle.watch.specs.Answered.{ByTable, Answers, result, holds, passes, LayAnswers, LapsAnswers, KeepAnswers, FirstDemand}
 use Rattle.watch.proofs.AnswerLaws.{answered, known-by}
 use Rattle.watch.proofs.KeepLaws.{keeps, out-keeps, stops}
 use Rattle.watch.proofs.MadeLaws.{did}
@@ -85,6 +89,43 @@ matches {w} {m} {o} {v} r h =
     let p = laps-by a b n o u (told r) (ap (λ (l : Left). l .answer) h) in
     record { answered = record { by = p; in-order = refl; known = known-by p }; keeps = laps-keep a b n o u v r h }
 
+-- ---- which copies to keep: by any table rs, where n are kept and u is the list with the flags
+abbrev keepLeft : List Row → ℕ → List ℕ → List ℕ → keeping.Left
+keepLeft rs n o u = firstBy (λ e. keeping.left (Refused e) o) rs (keeping.left (Done n) u)
+
+keep-by : (rs : List Row) (n : ℕ) (o u : List ℕ) → ByTable (n ∷ []) rs (keepLeft rs n o u .answer)
+keep-by [] n o u = result
+keep-by (r ∷ rs) n o u = go (r .holds) refl (keep-by rs n o u)
+  where
+    go : (b : Bool) → r .holds ≡ b → ByTable (n ∷ []) rs (keepLeft rs n o u .answer)
+        → ByTable (n ∷ []) (r ∷ rs) (pick b (keeping.left (Refused (r .refusal)) o) (keepLeft rs n o u) .answer)
+    go true e t = holds e
+    go false e t = passes e t
+
+keep-keep : (rs : List Row) (n : ℕ) (o u : List ℕ) → (keepLeft rs n o u .answer .number ≡ 0 → ⊥) → keepLeft rs n o u .out ≡ o
+keep-keep [] n o u c = absurd (c refl)
+keep-keep (r ∷ rs) n o u c = go (r .holds) c (keep-keep rs n o u)
+  where
+    go : (b : Bool) → (pick b (keeping.left (Refused (r .refusal)) o) (keepLeft rs n o u) .answer .number ≡ 0 → ⊥)
+        → ((keepLeft rs n o u .answer .number ≡ 0 → ⊥) → keepLeft rs n o u .out ≡ o)
+        → pick b (keeping.left (Refused (r .refusal)) o) (keepLeft rs n o u) .out ≡ o
+    go true c t = refl
+    go false c t = t c
+
+keeps-copies : {copies terms out v : List ℕ} (asked : ℕ) (r : Answer) → keeping.left r v ≡ keepCall copies terms asked out → KeepAnswers copies terms asked out r v
+unfolding keepCall
+keeps-copies {copies} {terms} {out} {v} asked r h =
+    let rs = keepTable copies terms asked out in
+    let today = dayNumber (dateOf asked) in
+    let n = keptCount (inDays copies) (inDays terms) today in
+    let u = splice out 0 (flags (inDays copies) (inDays terms) today) in
+    let a : told r ≡ keepLeft rs n out u .answer = ap (λ (l : keeping.Left). l .answer) h in
+    let p : ByTable (n ∷ []) rs (told r) = rw a (keep-by rs n out u) in
+    record {
+      answered = record { by = p; in-order = refl; known = known-by p };
+      keeps = λ c. ap (λ (l : keeping.Left). l .out) h ∙ keep-keep rs n out u (λ e. c (ap (λ (t : Told). t .number) a ∙ e));
+    }
+
 pub first-demand : FirstDemand
 unfolding layOutStore layOutDesk
 first-demand = record {
@@ -100,5 +141,6 @@ first-demand = record {
         zeros = deal-zeros (turnAllowed steps last) (served flags last steps) cs (replicate bays 0) counts r h;
       };
   matches = λ r h. matches r h;
+  keeps-copies = λ asked r h. keeps-copies asked r h;
   checks = λ f s r h. rw h (is-sound f s);
 }

@@ -15,7 +15,7 @@ use Rattle.desk.specs.Sizes.{deskHeaderBytes}
 use Rattle.desk.specs.Desk.{deskOf, putDesk}
 use Rattle.desk.specs.Next.{stopping}
 use Rattle.answers.specs.declared.Refusal.{Refusal}
-use Rattle.answers.specs.declared.Refusal.the-variants.{BadBuffer, UnsoundStore, BadDesk, IllegalName, WrongInode, NameAbsent, NameTaken, NotEmpty, PastEnd, IntoItself, NoInode, NoBlocks, NoSlot, Busy, WrongState, ImageFull, BadCount, BadTurn, BadTimes}
+use Rattle.answers.specs.declared.Refusal.the-variants.{BadBuffer, UnsoundStore, BadDesk, IllegalName, WrongInode, NameAbsent, NameTaken, NotEmpty, PastEnd, IntoItself, NoInode, NoBlocks, NoSlot, Busy, WrongState, ImageFull, BadCount, BadTurn, NoDate, BadTerms, AfterAsked, BadTimes}
 use Rattle.answers.specs.declared.Answer.{Answer}
 use Rattle.answers.specs.declared.Answer.the-variants.{Done, Refused}
 use Rattle.answers.specs.Refusal.{refusalNumber}
@@ -59,6 +59,9 @@ is-full WrongState h = absurd (omega arith)
 is-full ImageFull h = refl
 is-full BadCount h = absurd (omega arith)
 is-full BadTurn h = absurd (omega arith)
+is-full NoDate h = absurd (omega arith)
+is-full BadTerms h = absurd (omega arith)
+is-full AfterAsked h = absurd (omega arith)
 is-full BadTimes h = absurd (omega arith)
 
 answer-full : (a : Answer) → numberOf a ≡ refusalNumber ImageFull → a ≡ Refused ImageFull

@@ -1,6 +1,6 @@
 -- Demand 1, of the calls' code: "The answer of each public call, for all bytes and numbers handed to
 -- it, is its result or one of the sixteen refusals of document 01", and which. F-2: "Demand 1's
--- refusals take in 17 and the numbers that later requests add": here 21 and 26.
+-- refusals take in 17 and the numbers that later requests add": here 21, 23 to 25 and 26.
 -- "A refusal changes no lent buffer, save that 16 marks the copy stopped and unlocks what was being copied."
 use Prim.Native.Nat.{ℕ, _+_, _-_, min, max}
 use mathlib.Core.Path.{_≡_}
@@ -31,6 +31,9 @@ use Rattle.checkpoint.specs.Progress.{Stopped}
 use Rattle.dealer.specs.Deal.{bays, served, turn, turnAllowed, dealt}
 use Rattle.laps.specs.Walk.{Lists, report}
 use Rattle.laps.specs.Call.{lapsTable, left, matchLaps}
+use Rattle.calendar.specs.Date.{dateOf, dayNumber}
+use Rattle.keeping.specs.Call as keeping
+use Rattle.keeping.specs.Call.{inDays, keptCount, keepTable, keepCall}
 use Rattle.watch.specs.Made.{Received, Did}
 
 -- ---- "Given by number, looked at lowest first, when and only when the condition holds for that call"
@@ -127,13 +130,20 @@ pub record LapsAnswers (w m : List ℕ) (o : Lists) (r : Answer) (v : Lists) : T
   pub answered : Answered (length (report w m .pairedWatch) ∷ []) (lapsTable w m o) (told r)
   pub keeps : (told r .number ≡ 0 → ⊥) → v ≡ o
 
+-- ---- which copies to keep: 1, then "23 .. 24 .. 25 .. in that order"
+-- the call on copies, terms and the day asked, with the list out lent, answered r and left v
+pub record KeepAnswers (copies terms : List ℕ) (asked : ℕ) (out : List ℕ) (r : Answer) (v : List ℕ) : Type 0 where
+  pub answered : Answered (keptCount (inDays copies) (inDays terms) (dayNumber (dateOf asked)) ∷ []) (keepTable copies terms asked out) (told r)
+  pub keeps : (told r .number ≡ 0 → ⊥) → v ≡ out
+
 -- ---- demand 1: each call as its contract promises it. The check refuses nothing: it "takes any bytes and answers yes or no"; demand 2: "The soundness check says yes to a store that meets its conditions and no to every other."
 pub record FirstDemand : Type 0 where
-  -- "looked at lowest first"; 17 "comes right after 1"; 21 and 26 are "looked at first", each by its own call
-  pub looked-at : numbers order ≡ 21 ∷ 26 ∷ 1 ∷ 17 ∷ 2 ∷ 3 ∷ 4 ∷ 5 ∷ 6 ∷ 7 ∷ 8 ∷ 9 ∷ 10 ∷ 11 ∷ 12 ∷ 13 ∷ 14 ∷ 15 ∷ 16 ∷ []
+  -- "looked at lowest first"; 17 "comes right after 1"; 21 and 26 are "looked at first", each by its own call; 23 to 25 come after 1, "in that order"
+  pub looked-at : numbers order ≡ 21 ∷ 26 ∷ 1 ∷ 17 ∷ 2 ∷ 3 ∷ 4 ∷ 5 ∷ 6 ∷ 7 ∷ 8 ∷ 9 ∷ 10 ∷ 11 ∷ 12 ∷ 13 ∷ 14 ∷ 15 ∷ 16 ∷ 23 ∷ 24 ∷ 25 ∷ []
   pub calls : {x : Act} {w v : World} {a : Received} → Did x w a v → Answers x w a v
   pub lays-store : {s t : List ℕ} (r : Answer) (inodes blocks : ℕ) → laidOut r t ≡ layOutStore s inodes blocks → LayAnswers (storeLayTable s inodes blocks) s r t
   pub lays-desk : {desk t : List ℕ} (r : Answer) (inodes : ℕ) → laidOut r t ≡ layOutDesk desk inodes → LayAnswers (deskLayTable desk inodes) desk r t
   pub deals : {counts : List ℕ} (r : Answer) (flags : List Bool) (steps last : ℕ) → turn r counts ≡ dealt flags steps last → DealAnswers flags steps last r counts
   pub matches : {w m : List ℕ} {o v : Lists} (r : Answer) → left r v ≡ matchLaps w m o → LapsAnswers w m o r v
+  pub keeps-copies : {copies terms out v : List ℕ} (asked : ℕ) (r : Answer) → keeping.left r v ≡ keepCall copies terms asked out → KeepAnswers copies terms asked out r v
   pub checks : (f : Form) (s : List ℕ) (r : Bool) → r ≡ isSound f s → Reflects r (Sound f s)

@@ -1,6 +1,8 @@
-// All public calls over store, image and desk; the dealer, which takes no buffer; and laps against the
-// mat, which take none of the three. Any bytes may be lent and any numbers handed in, and no call asks
-// anything of its caller. A refused call changes nothing, save that 16 writes the desk.
+// All public calls over store, image and desk; the dealer, which takes no buffer; and two that take none
+// of the three: laps against the mat, and which copies to keep. Any bytes may be lent and any numbers
+// handed in, and no call asks anything of its caller. A refused call changes nothing, save that 16 writes
+// the desk.
+
 // What calls take and answer.
 pub use answers::Answer;
 pub use answers::Refusal;
@@ -29,6 +31,9 @@ pub use dealer::deal;
 
 // Hold laps against the mat, which takes no store.
 pub use laps::match_laps;
+
+// Say which copies to keep, which takes no store.
+pub use keeping::keep;
 
 // The other file calls.
 pub use live::create;

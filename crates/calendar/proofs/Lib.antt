@@ -1,0 +1,2 @@
+pub mod MonthLaws
+pub mod DayLaws

@@ -1,0 +1,12 @@
+pub mod LoopLaws
+pub mod MapLaws
+pub mod TermLaws
+pub mod TestLaws
+pub mod RangeLaws
+pub mod RuleLaws
+pub mod CallLaws
+pub mod SchoolLaws
+pub mod ChosenLaws
+pub mod LaterLaws
+pub mod Claims
+pub mod Examples

@@ -1,0 +1,4 @@
+pub mod Keeping
+pub mod Call
+pub mod Days
+pub mod Claims
