@@ -69,7 +69,7 @@ extern "C" {
 
 /*
  * The deepest stack of any call, below its caller's frame, with room to spare: burst takes about
- * 10,700 bytes, step 10,500, write 10,200 and every other call less than 6,000 (bindings/c/stack.c
+ * 10,800 bytes, step 10,500, write 10,200 and every other call less than 6,000 (bindings/c/stack.c
  * paints a stack, makes all calls on it and looks how far they came).
  */
 #define HONECERISE_STACK        12288u
