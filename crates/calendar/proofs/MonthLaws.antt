@@ -8,6 +8,8 @@ use native.Mathlib.Omega.{arith}
 use mathlib.Core.Logic.{⊎-elim}
 use borrow.Author.Tests.{eq-eqb, ne-eqb}
 use lib.Dec.{eqb}
+use mathlib.Core.List.{[], _∷_}
+use Rattle.bounded.specs.Table.{table}
 use Rattle.bounded.specs.Sum.{sum}
 use Rattle.bounded.proofs.SearchLaws.{by-pick}
 use Rattle.bounded.proofs.SumLaws.{sum-most}
@@ -22,6 +24,15 @@ leap-2000 = refl
 
 pub common-2100 : isLeap 2100 ≡ false
 common-2100 = refl
+
+-- ---- and the lengths of months: of a common year, and of February in a leap year
+pub lengths-2023 : table (λ k. monthLength 2023 (k + 1)) 12 ≡ 31 ∷ 28 ∷ 31 ∷ 30 ∷ 31 ∷ 30 ∷ 31 ∷ 31 ∷ 30 ∷ 31 ∷ 30 ∷ 31 ∷ []
+unfolding table monthLength
+lengths-2023 = refl
+
+pub february-2024 : monthLength 2024 2 ≡ 29
+unfolding monthLength
+february-2024 = refl
 
 -- ---- at most 31 days
 abbrev AtMost31 : ℕ → Type 0
