@@ -1,33 +1,20 @@
 -- Each way that the tests of the desk, and of desk and image, return. s is the store, m the image, d the desk.
-use Prim.Native.Nat.{ℕ, _+_, _*_, _-_, _/_, _%_, _≤_, _<_}
-use mathlib.Core.Path.{_≡_, refl, sym, ap, _∙_, subst}
-use mathlib.Core.Bool.{Bool, true, false, not, _&&_, and-assoc}
+use Prim.Native.Nat.{ℕ, _+_, _*_, _≤_, _<_}
+use mathlib.Core.Path.{_≡_, refl, sym, ap, _∙_}
+use mathlib.Core.Bool.{Bool, true, false, _&&_}
 use mathlib.Core.List.{List}
-use native.Mathlib.Decide.{ℕ-discrete, decLt}
 use native.Mathlib.Omega.{arith}
 use borrow.Author.Tests.{le-leb, lt-leb, eq-eqb, ne-eqb}
 use lib.Dec.{eqb, leb}
 use lib.ListN.{length}
-use Rattle.bounded.specs.Search.{pick}
-use Rattle.bounded.specs.Most.{most}
 use Rattle.bounded.proofs.BoolLaws.{clash, and-false-l, chain-end}
-use Rattle.bounded.proofs.BelowLaws.{all-of, all-ext}
-use Rattle.bounded.proofs.MostLaws.{most-within}
-use Rattle.bounded.proofs.ReflectLaws.{r-eq, r-le, r-and, r-all, r-says, r-fails, reflects-ext}
-use Rattle.layout.specs.Sizes.{headerBytes, inodeBytes, mostInodes, mostImageBlocks, rootInode, notComplete, addressCount, addressPlace, furtherCount, mostBlocks}
-use Rattle.layout.specs.Inode.{addressIndex, addressOf}
-use Rattle.layout.specs.declared.header.Header.{Header}
-use Rattle.layout.specs.Header.{headerOf}
-use Rattle.blocks.specs.Block.{storeLength, allowed, isLong, addressBlock, furtherOf, kthBy, rowBy}
-use Rattle.blocks.specs.Free.{longBut}
-use Rattle.blocks.specs.Fits.{Sized}
-use Rattle.blocks.proofs.LongLaws.{row-direct}
-use Rattle.blocks.proofs.KthLaws.{kth-direct, kth-none, kth-bare, kth-behind, row-next}
-use Rattle.desk.specs.Sizes.{deskHeaderBytes, deskLength, idle, running, stopped, stepsAnInode, deskAllowed}
+use Rattle.bounded.proofs.ReflectLaws.{r-fails}
+use Rattle.layout.specs.Sizes.{headerBytes, inodeBytes, mostImageBlocks, mostBlocks}
+use Rattle.desk.specs.Sizes.{deskHeaderBytes, idle, running, stopped, stepsAnInode, deskAllowed}
 use Rattle.desk.specs.declared.Desk.{Desk}
 use Rattle.desk.specs.Desk.{deskOf, deskRestZero}
-use Rattle.checkpoint.specs.Fit.{deskFramed, imageBlocks, imageAllowed, isRunning, blocksFit, deskFits, imageLong, lacksAddresses, imageFits}
-use Rattle.checkpoint.proofs.Copy.FitLaws.{desk-framed-is, desk-fits-is, image-fits-is}
+use Rattle.checkpoint.specs.Fit.{deskFramed, isRunning, blocksFit, deskFits, imageFits}
+use Rattle.checkpoint.proofs.Copy.FitLaws.{desk-framed-is, desk-fits-is}
 use Rattle.guards.specs.Fit.{blocksRight, copiedRight, countsRight, notesRight}
 
 -- ---- the desk's frame

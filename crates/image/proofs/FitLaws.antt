@@ -1,11 +1,11 @@
 -- Each way that the tests of an image return. s is the store, m the image, d the desk.
 use Prim.Native.Nat.{ℕ, _+_, _*_, _-_, _/_, _%_, _≤_, _<_}
-use mathlib.Core.Path.{_≡_, refl, sym, ap, _∙_, subst}
+use mathlib.Core.Path.{_≡_, sym, ap, _∙_, subst}
 use mathlib.Core.Bool.{Bool, true, false, not, _&&_, and-assoc}
 use mathlib.Core.List.{List}
 use native.Mathlib.Decide.{ℕ-discrete, decLt}
 use native.Mathlib.Omega.{arith}
-use borrow.Author.Tests.{le-leb, lt-leb, eq-eqb, ne-eqb}
+use borrow.Author.Tests.{le-leb, eq-eqb, ne-eqb}
 use lib.Dec.{eqb, leb}
 use lib.ListN.{length}
 use Rattle.bounded.specs.Search.{pick}
@@ -23,10 +23,10 @@ use Rattle.blocks.specs.Free.{longBut}
 use Rattle.blocks.specs.Fits.{Sized}
 use Rattle.blocks.proofs.LongLaws.{row-direct}
 use Rattle.blocks.proofs.KthLaws.{kth-direct, kth-none, kth-bare, kth-behind, row-next}
-use Rattle.desk.specs.Sizes.{deskHeaderBytes, deskLength, idle, running, stopped, stepsAnInode, deskAllowed}
+use Rattle.desk.specs.Sizes.{deskLength, idle, running}
 use Rattle.desk.specs.declared.Desk.{Desk}
-use Rattle.desk.specs.Desk.{deskOf, deskRestZero}
-use Rattle.checkpoint.specs.Fit.{deskFramed, imageBlocks, imageAllowed, isRunning, blocksFit, deskFits, imageLong, lacksAddresses, imageFits}
+use Rattle.desk.specs.Desk.{deskOf}
+use Rattle.checkpoint.specs.Fit.{deskFramed, imageBlocks, imageAllowed, blocksFit, deskFits, imageLong, lacksAddresses, imageFits}
 use Rattle.checkpoint.proofs.Copy.FitLaws.{desk-framed-is, desk-fits-is, image-fits-is}
 use Rattle.image.specs.Fit.{addressesRight, directRight, furtherRightOf, furtherRight, lockedLong, addressesLacking, rowsRight}
 
