@@ -80,11 +80,26 @@ typedef uint64_t honecerise_size;
 #define HONECERISE_MAX_TERMS       12u /* terms of a school                                     */
 
 /*
- * The deepest stack of any call, below its caller's frame, with room to spare: burst takes about
- * 10,800 bytes, step 10,500, write 10,200 and every other call less than 6,000 (bindings/c/stack.c
- * paints a stack, makes all calls on it and looks how far they came).
+ * The deepest stack of any call, below its caller's frame, with room to spare, by machine; beside it what
+ * was measured. By frames: the frames of the deepest row of calls added up, without memcpy's and its like's
+ * (targets/build says them). Painted: all calls made on a painted stack (bindings/c/stack.c on x86-64,
+ * targets/run/stack.c on the others).
  */
-#define HONECERISE_STACK        12288u
+#if defined(__ARM_ARCH_6M__)        /* Cortex-M0+ */
+#define HONECERISE_STACK        12288u /* by frames 10,888, painted 11,028 */
+#elif defined(__ARM_ARCH_8M_MAIN__) /* Cortex-M33 */
+#define HONECERISE_STACK        12288u /* by frames 10,696, painted 10,816 */
+#elif defined(__arm__)              /* Cortex-M4; 32-bit Arm Linux */
+#define HONECERISE_STACK        12288u /* by frames 10,704, painted 10,832 */
+#elif defined(__riscv)              /* RISC-V, 32 bits */
+#define HONECERISE_STACK        12288u /* by frames 10,736, painted 10,832 */
+#elif defined(__aarch64__)
+#define HONECERISE_STACK        12288u /* by frames 10,688, painted 10,800 */
+#elif defined(__wasm__)             /* of its linear memory; what the engine takes beside it is not in it */
+#define HONECERISE_STACK        12288u /* by frames 10,352, painted 10,324 */
+#else                               /* x86-64 */
+#define HONECERISE_STACK        12288u /* painted 10,776 */
+#endif
 
 /* ---- lengths in bytes: exact, and constant where the arguments are ------------------------- */
 

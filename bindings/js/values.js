@@ -15,6 +15,12 @@ export function number(value, what) {
     throw new RangeError(`${what} is no whole number from 0 to 2^53 - 1, or as a bigint to 2^64 - 1: ${value}`);
 }
 
+/** The bytes of a store, an image or a desk. */
+export function buffer(value, what) {
+    if (value instanceof Uint8Array) return value;
+    throw new TypeError(`${what} is no Uint8Array`);
+}
+
 /** Bytes, from bytes or from a text, which goes as UTF-8. */
 export function bytesOf(value, what) {
     if (value instanceof Uint8Array) return value;
@@ -24,9 +30,15 @@ export function bytesOf(value, what) {
     return new TextEncoder().encode(value);
 }
 
+/** A list, from whatever can be gone through. */
+export function listOf(values, what) {
+    if (typeof values?.[Symbol.iterator] !== 'function') throw new TypeError(`${what} is no list`);
+    return Array.from(values);
+}
+
 /** Numbers of 32 bits. */
 export function times(values, what) {
-    const list = Array.from(values);
+    const list = listOf(values, what);
     for (const value of list)
         if (!Number.isInteger(value) || value < 0 || value > 0xffffffff)
             throw new RangeError(`${what}: ${String(value)} is no whole number of 32 bits`);

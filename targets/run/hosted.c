@@ -1,4 +1,5 @@
 /* port.h where there is an operating system with a C library. */
+#define _POSIX_C_SOURCE 200112L
 #include <unistd.h>
 
 #include "port.h"
