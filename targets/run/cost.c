@@ -67,6 +67,13 @@ static int32_t nothing(void)
     return 0;
 }
 
+/* Half a million times two instructions: says whether the timer tells the truth. */
+static int32_t million(void)
+{
+    __asm__ volatile("    .syntax unified\n    ldr r3, =500000\n1:  subs r3, #1\n    bne 1b\n" : : : "r3", "cc");
+    return 0;
+}
+
 /* ---- stores */
 
 static void must(int32_t answer)
@@ -93,6 +100,14 @@ static void fill(const char *folder, unsigned runs, unsigned size)
     }
 }
 
+/* A number of two bytes of the store. */
+static unsigned number_at(unsigned at)
+{
+    return now.store[at] | (unsigned)now.store[at + 1] << 8;
+}
+
+enum { FREE_INODES = 4, FREE_BLOCKS = 6, SIZE_OF_3 = 16 + 8 * 2 + 4 };
+
 static void lay_out(void)
 {
     memset(&now, 0, sizeof now);
@@ -100,7 +115,7 @@ static void lay_out(void)
     must(honecerise_lay_out_desk(now.desk, sizeof now.desk, INODES));
 }
 
-/* Twelve runs in three folders: 16 inodes and 86 blocks are used. */
+/* Twelve runs in three folders. */
 static void typical(void)
 {
     lay_out();
@@ -109,15 +124,15 @@ static void typical(void)
     fill("c", 4, 500);
 }
 
-/* 63 inodes and 244 blocks: all but an inode and twelve blocks. */
+/* All but an inode and twelve blocks. */
 static void full(void)
 {
     lay_out();
     fill("a", 19, 256);
     fill("b", 20, 256);
     fill("c", 20, 150);
-    while (now.store[6] > 12)
-        must(honecerise_write(WATCH, 3, (honecerise_size)(now.store[16 + 8 * 2 + 4] | now.store[16 + 8 * 2 + 5] << 8), bytes, 64));
+    while (number_at(FREE_BLOCKS) > 12)
+        must(honecerise_write(WATCH, 3, number_at(SIZE_OF_3), bytes, 64));
 }
 
 /* ---- calls: inode 2 is a folder, 3 its first file, whose name is run 00 */
@@ -132,10 +147,7 @@ static int32_t read_all(void) { return honecerise_read(STORE, 3, 0, out, sizeof 
 static int32_t create(void) { return honecerise_create_file(WATCH, 2, NAME("new run")); }
 static int32_t create_directory(void) { return honecerise_create_directory(WATCH, 1, NAME("new")); }
 static int32_t write_over(void) { return honecerise_write(WATCH, 3, 0, bytes, 20); }
-static int32_t write_block(void)
-{
-    return honecerise_write(WATCH, 3, (honecerise_size)(now.store[16 + 8 * 2 + 4] | now.store[16 + 8 * 2 + 5] << 8), bytes, 64);
-}
+static int32_t write_block(void) { return honecerise_write(WATCH, 3, number_at(SIZE_OF_3), bytes, 64); }
 static int32_t shorten(void) { return honecerise_shorten(WATCH, 3, 10); }
 static int32_t link_run(void) { return honecerise_link(WATCH, 1, NAME("link"), 3); }
 static int32_t unlink_run(void) { return honecerise_unlink(WATCH, 2, NAME("run 00")); }
@@ -213,8 +225,7 @@ enum { ROWS = sizeof rows / sizeof rows[0] };
 
 static uint32_t costs[ROWS][4];
 
-/* A copy that runs, with the root and the first folder copied, and file 20 or later locked with a block copied:
- * so that no call above meets the lock. */
+/* A copy that runs, with the first folder copied and a later file locked and begun: no call above meets the lock. */
 static void run_copy(void)
 {
     static honecerise_size n[3];
@@ -225,10 +236,16 @@ static void run_copy(void)
     } while (n[1] < 9 || now.desk[8] == 0);
 }
 
-static void measure(void (*make)(void), unsigned column)
+static void measure(const char *what, void (*make)(void), unsigned column)
 {
     unsigned k;
     make();
+    put(what);
+    put(": ");
+    put_number(INODES - number_at(FREE_INODES));
+    put(" of 64 inodes and ");
+    put_number(BLOCKS - number_at(FREE_BLOCKS));
+    put(" of 256 blocks are used\n");
     before = now;
     for (k = 0; k < ROWS; k++)
         if (rows[k].idle)
@@ -275,9 +292,12 @@ int main(void)
     for (k = 0; k < sizeof bytes; k++)
         bytes[k] = (uint8_t)(1 + k % 255);
     empty = ticks(nothing, &answer);
-    measure(typical, 0);
-    measure(full, 2);
-    put("| call | typical | typical, copied | full | full, copied |\n|---|---|---|---|---|\n");
+    put("a loop of 1,000,000 instructions: ");
+    put_number((ticks(million, &answer) - empty) * INSTRUCTIONS_A_TICK);
+    put("\n");
+    measure("typical", typical, 0);
+    measure("full", full, 2);
+    put("\n| call | typical | typical, copied | full | full, copied |\n|---|---|---|---|---|\n");
     for (k = 0; k < ROWS; k++) {
         put("| ");
         put(rows[k].what);
