@@ -12,6 +12,9 @@ const MAX_DIRECT = 768;
 const ADDRESS_PLACE = 11;
 const KINDS = [null, 'file', 'directory'];
 
+/** Whoever has it has checked the bytes: the module's own parts. */
+export const CHECKED = Symbol('checked');
+
 /** A byte with a small letter for a capital one. */
 const folded = (byte) => (byte >= 65 && byte <= 90 ? byte + 32 : byte);
 const sameName = (a, b) => a.length === b.length && a.every((byte, k) => folded(byte) === folded(b[k]));
@@ -24,7 +27,8 @@ export class Files {
     #bytes;
 
     /** @param {Uint8Array} bytes its own, of a sound store or finished image */
-    constructor(bytes) {
+    constructor(bytes, token) {
+        if (token !== CHECKED) throw new TypeError('the library makes it, of bytes that it has checked');
         this.#bytes = bytes;
     }
 

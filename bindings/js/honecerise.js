@@ -1,6 +1,6 @@
 // The file store of a running watch, and a copy of it that is taken while the watch goes on recording: the proved library as
 // WebAssembly, with JavaScript's types. The wrapping is tested, not proved.
-import { Files } from './files.js';
+import { CHECKED, Files } from './files.js';
 import { Heap } from './heap.js';
 import { Refusal, answered } from './refusal.js';
 import { BAYS, MAX_BLOCKS, MAX_IMAGE, MAX_INODES, deskLength, imageLength, storeLength } from './sizes.js';
@@ -30,7 +30,7 @@ export class Honecerise {
         return this.#shared.heap.used;
     }
 
-    /** An empty store, an idle desk, and room for an image of so many blocks. Refuses with `BadBuffer` if a count is not allowed. */
+    /** An empty store, an idle desk, and room for an image of so many blocks. Refuses with `BadBuffer`. */
     layOut({ inodes, blocks, imageBlocks = 0 }) {
         const [n, b] = [number(inodes, 'inodes'), number(blocks, 'blocks')];
         const i = number(imageBlocks, 'imageBlocks');
@@ -61,11 +61,11 @@ export class Honecerise {
         const own = bytes.slice();
         return heap.during([own.length], (at) => {
             heap.bytes(at, own.length).set(own);
-            return c.honecerise_check(form, at, BigInt(own.length)) === 1 ? new Files(own) : null;
+            return c.honecerise_check(form, at, BigInt(own.length)) === 1 ? new Files(own, CHECKED) : null;
         });
     }
 
-    /** Deals the steps of a charging case's turn among the bays that run: sixteen flags, bay 0 first. Refuses with `BadTurn`. */
+    /** Deals the steps of a turn among the bays that run: sixteen flags, bay 0 first. Refuses with `BadTurn`. */
     deal(running, steps, last) {
         const flags = listOf(running, 'running');
         if (flags.length !== BAYS || flags.some((flag) => typeof flag !== 'boolean'))
@@ -134,6 +134,7 @@ export async function load(source) {
     let module = given;
     if (!(given instanceof WebAssembly.Module)) {
         const isResponse = typeof Response !== 'undefined' && given instanceof Response;
+        if (isResponse && !given.ok) throw new Error(`${given.url} answers ${given.status}`);
         module = await WebAssembly.compile(isResponse ? await given.arrayBuffer() : given);
     }
     return new Honecerise(await WebAssembly.instantiate(module));

@@ -1,5 +1,5 @@
 // A watch: store, image and desk, with all calls on them.
-import { Files } from './files.js';
+import { CHECKED, Files } from './files.js';
 import { answered } from './refusal.js';
 import { MAX_FILE } from './sizes.js';
 import { bytesOf, number } from './values.js';
@@ -7,7 +7,7 @@ import { bytesOf, number } from './values.js';
 const STATES = ['idle', 'running', 'finished', 'stopped'];
 
 /** A piece of the library's memory, as the C names take it: a pointer and a length. */
-class Buffer {
+class Piece {
     constructor(at, length) {
         this.at = at;
         this.length = length;
@@ -39,7 +39,7 @@ export class Watch {
             for (const given of contents) {
                 const length = typeof given === 'number' ? given : given.length;
                 const at = heap.take(length);
-                buffers.push(new Buffer(at, length));
+                buffers.push(new Piece(at, length));
                 if (typeof given !== 'number') heap.bytes(at, length).set(given);
             }
             if (counts !== undefined) {
@@ -102,7 +102,7 @@ export class Watch {
     #checked(form, which) {
         const buffer = this.#lent()[which];
         const sound = this.#library.c.honecerise_check(form, ...buffer.words) === 1;
-        return sound ? new Files(this.#bytes(which)) : null;
+        return sound ? new Files(this.#bytes(which), CHECKED) : null;
     }
 
     /** A call over the three buffers, and what comes behind them. */
@@ -150,7 +150,10 @@ export class Watch {
 
     // ---- changing the store
 
-    /** A new empty file: its inode. Refuses with `IllegalName`, `WrongInode`, `NameTaken`, `NoInode`, `NoBlocks`, `NoSlot`, `Busy`. */
+    /**
+     * A new empty file: its inode. Refuses with `IllegalName`, `WrongInode`, `NameTaken`, `NoInode`, `NoBlocks`, `NoSlot`,
+     * `Busy`.
+     */
     createFile(directory, name) {
         return this.#create('honecerise_create_file', directory, name);
     }
@@ -165,7 +168,10 @@ export class Watch {
         return this.#with([bytesOf(name, 'name')], (...word) => this.#call(call, n, ...word));
     }
 
-    /** Lays bytes over a file from `offset`, and grows it as needed: the new size. Refuses with `WrongInode`, `PastEnd`, `NoBlocks`, `Busy`. */
+    /**
+     * Lays bytes over a file from `offset`, and grows it as needed: the new size. Refuses with `WrongInode`, `PastEnd`,
+     * `NoBlocks`, `Busy`.
+     */
     write(inode, offset, bytes) {
         const n = number(inode, 'inode');
         const from = number(offset, 'offset');
@@ -189,7 +195,10 @@ export class Watch {
         this.#create('honecerise_unlink', directory, name);
     }
 
-    /** Another name, another directory, or both. Refuses with `IllegalName`, `WrongInode`, `NameAbsent`, `NameTaken`, `IntoItself`, `NoBlocks`, `NoSlot`, `Busy`. */
+    /**
+     * Another name, another directory, or both. Refuses with `IllegalName`, `WrongInode`, `NameAbsent`, `NameTaken`,
+     * `IntoItself`, `NoBlocks`, `NoSlot`, `Busy`.
+     */
     rename(directory, name, to, toName) {
         const n = number(directory, 'directory');
         const m = number(to, 'directory');
@@ -200,12 +209,12 @@ export class Watch {
 
     // ---- the copier
 
-    /** Begins a copy, and writes over the whole image. Refuses with `BadBuffer` for an image that is too short, and with `WrongState`. */
+    /** Begins a copy, and writes over the whole image. Refuses with `BadBuffer` where there is none, and with `WrongState`. */
     start() {
         this.#call('honecerise_start');
     }
 
-    /** One short step of the copy: the steps so far. Refuses with `WrongState`, and with `ImageFull`, which stops the copy. */
+    /** One short step: the steps of this copy so far. Refuses with `WrongState`, and with `ImageFull`, which stops it. */
     step() {
         return this.#call('honecerise_step');
     }

@@ -5,7 +5,7 @@
  *     targets/build cortex-m4
  *     cd examples/cortex-m4
  *     arm-none-eabi-gcc -std=c99 -mcpu=cortex-m4 -mthumb -Os -ffunction-sections -nostartfiles \
- *         -Wl,--gc-sections -T link.ld -I../../include watch.c start.c semihosting.c \
+ *         -Wl,--gc-sections,--no-warn-execstack -T link.ld -I../../include watch.c start.c semihosting.c \
  *         ../../target/cortex-m4/libhonecerise.a -o watch.elf
  *     qemu-system-arm -M mps2-an386 -nographic -monitor none -serial none -chardev stdio,id=out \
  *         -semihosting-config enable=on,target=native,chardev=out -kernel watch.elf

@@ -1,7 +1,7 @@
 // Files against the library's own calls, on a store and on its finished image.
 import assert from 'node:assert/strict';
 import { test } from 'node:test';
-import { MAX_FILE, ROOT, enoughImage } from '../honecerise.js';
+import { Files, MAX_FILE, ROOT, enoughImage } from '../honecerise.js';
 import { fresh, refusal } from './library.js';
 
 const library = await fresh();
@@ -66,6 +66,10 @@ test('an image that is cut or changed is none', () => {
         assert.equal(library.filesOfImage(wrong), null, `byte ${at}`);
     }
     watch.free();
+});
+
+test('only the library makes files', () => {
+    assert.throws(() => new Files(new Uint8Array(100)), TypeError);
 });
 
 test('files are those of their time', () => {

@@ -68,5 +68,6 @@ test('lists of the wrong type are thrown out', () => {
     assert.throws(() => library.matchLaps([2 ** 32], []), RangeError);
     assert.throws(() => library.matchLaps(7, []), TypeError);
     assert.throws(() => library.keep([20240101], [], { year: 2024, month: 1, day: 1 }), TypeError);
-    assert.throws(() => library.keep([{ year: 2024, month: 100, day: 1 }], [], { year: 2024, month: 1, day: 1 }), { kind: 'NoDate' });
+    const wrong = { year: 2024, month: 100, day: 1 };
+    assert.throws(() => library.keep([wrong], [], { year: 2024, month: 1, day: 1 }), { kind: 'NoDate' });
 });

@@ -100,6 +100,7 @@ test('memory comes from a module, from bytes, and from a response', async () => 
         const watch = library.layOut({ inodes: 2, blocks: 2 });
         assert.equal(watch.createFile(ROOT, 'a'), 2);
     }
+    await assert.rejects(load(new Response('', { status: 404 })), /404/);
 });
 
 test('a watch that nothing holds gives its memory back', async () => {
