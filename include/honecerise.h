@@ -61,6 +61,8 @@ typedef size_t honecerise_size;
 #else
 typedef uint64_t honecerise_size;
 #endif
+/* does not compile where the two limits above are not what they should be */
+typedef char honecerise_size_has_64_bits[sizeof(honecerise_size) == 8 ? 1 : -1];
 
 /* ---- limits -------------------------------------------------------------------------------- */
 
