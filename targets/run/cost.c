@@ -76,10 +76,11 @@ static int32_t million(void)
 
 /* ---- stores */
 
+static int refused;
+
 static void must(int32_t answer)
 {
-    if (answer < 0)
-        put("a call was refused: ");
+    refused |= answer < 0;
 }
 
 static uint8_t name[] = "run 00";
@@ -319,5 +320,7 @@ int main(void)
     put_row("laps: 512 and 512 times, all pair", laps);
     put_row("copies: 256, twelve terms", keep);
     put_row("a turn of 64 steps, sixteen bays", deal);
-    return 0;
+    if (refused)
+        put("\nA call was refused: what stands above is not what it costs.\n");
+    return refused;
 }
