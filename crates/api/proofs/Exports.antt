@@ -24,8 +24,7 @@ use Rattle.answers.specs.Told.{Told, told}
 use Rattle.format.specs.Format.{laidOut, freshStore, freshDesk, layOutStore, layOutDesk}
 use Rattle.files.specs.Effect.{lookUp, read, create, write, shorten, link, unlink, rename}
 use Rattle.files.specs.Plain as alone
-use Rattle.checkpoint.specs.Live.{World, Outcome, left, live, start, step, status}
-use Rattle.checkpoint.specs.Shown.{world, shown, toldStatus}
+use Rattle.checkpoint.specs.Live.{World, Outcome, left, live, start, step, status, world, toldStatus}
 use Rattle.checkpoint.specs.List.{call, advances, starts}
 use Rattle.checkpoint.specs.Burst.{burst, one, bursts}
 use Rattle.watch.specs.Made.{got, looked-up, has-read, created, written, shortened, linked, unlinked, renamed, started, stepped, asked, stepped-many}
@@ -93,8 +92,8 @@ abbrev after : List (List ℕ) → List (List ℕ)
 after [] = []
 after (b ∷ bs) = bs
 
-module _ (v : World) (z : ℤ) (o : Outcome) (h : sends z (v .store ∷ v .image ∷ v .desk ∷ []) ≡ sent (shown o)) where
-  same-buffers : shown (left (o .answer) (v .store) (v .image) (v .desk)) ≡ shown o
+module _ (v : World) (z : ℤ) (o : Outcome) (h : sends z (v .store ∷ v .image ∷ v .desk ∷ []) ≡ sent (o)) where
+  same-buffers : left (o .answer) (v .store) (v .image) (v .desk) ≡ o
   same-buffers =
       let s = ap (λ (x : Sent). first (x .buffers)) h in
       let m = ap (λ (x : Sent). first (after (x .buffers))) h in
@@ -104,8 +103,8 @@ module _ (v : World) (z : ℤ) (o : Outcome) (h : sends z (v .store ∷ v .image
   same-code : z ≡ codeOf (told (o .answer))
   same-code = ap (λ (x : Sent). x .code) h
 
-module _ (s out : List ℕ) (z : ℤ) (o : alone.PlainOutcome) (h : sends z (s ∷ out ∷ []) ≡ sentAlone (alone.plainShown o)) where
-  alone-buffers : alone.plainShown (alone.plainLeft (o .answer) s out) ≡ alone.plainShown o
+module _ (s out : List ℕ) (z : ℤ) (o : alone.PlainOutcome) (h : sends z (s ∷ out ∷ []) ≡ sentAlone (o)) where
+  alone-buffers : alone.plainLeft (o .answer) s out ≡ o
   alone-buffers =
       let a = ap (λ (x : Sent). first (x .buffers)) h in
       let b = ap (λ (x : Sent). first (after (x .buffers))) h in

@@ -36,8 +36,7 @@ use Rattle.format.specs.Format.{LaidOut, layOutStore, layOutDesk}
 use Rattle.files.specs.Effect.{Call, lookUp, read, create, write, shorten, link, unlink, rename}
 use Rattle.files.specs.Plain.{plain}
 use Rattle.checkpoint.specs.Fit.{bothFramed, deskFramed, deskFits, isRunning, notesFit}
-use Rattle.checkpoint.specs.Live.{World, Outcome, live, start, step}
-use Rattle.checkpoint.specs.Shown.{world}
+use Rattle.checkpoint.specs.Live.{World, Outcome, live, start, step, world}
 use Rattle.checkpoint.specs.Table.{found, orZero, lookUpTable, readTable, createTable, writeTable, shortenTable, stepTable, burstTable}
 use Rattle.checkpoint.specs.List.{call, advances, asks, starts, Event, outcome, next, accepted, completes, acceptedSteps}
 use Rattle.checkpoint.specs.Burst.{mostBurst, countAllowed, burst, tries, triesOf, Act, one, bursts}

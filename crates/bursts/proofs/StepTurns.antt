@@ -37,9 +37,8 @@ use Rattle.answers.specs.declared.Refusal.the-variants.{BadDesk, ImageFull}
 use Rattle.checkpoint.specs.Fit.{imageLong, imageFits}
 use Rattle.checkpoint.specs.Image.{imageNaming}
 use Rattle.checkpoint.specs.Copier.{Step, lock, copy, close, finish, full, targetBlock, freeStep, stepOf, stepImage, stepDesk}
-use Rattle.checkpoint.specs.Live.{World, Outcome, left, refuse, doStep, step}
-use Rattle.checkpoint.specs.Shown.{world}
-use Rattle.checkpoint.specs.Burst.{burstFrom, worldIn, Steady}
+use Rattle.checkpoint.specs.Live.{World, Outcome, left, refuse, doStep, step, world, worldIn}
+use Rattle.checkpoint.specs.Burst.{burstFrom, Steady}
 use Rattle.checkpoint.proofs.Copy.FitLaws.{image-fits-is}
 use Rattle.checkpoint.proofs.Copy.ChosenLaws.{Chosen, chosen, will-lock, will-copy, will-close, will-finish, no-room}
 use Rattle.checkpoint.proofs.Step.BlockLaws.{SameAttributes}

@@ -25,10 +25,9 @@ use Rattle.answers.proofs.RefusalLaws.{not-none}
 use Rattle.files.specs.Guard.{guardBy}
 use Rattle.checkpoint.specs.Fit.{bothFramed, isRunning}
 use Rattle.checkpoint.specs.Copier.{Step, stepOf}
-use Rattle.checkpoint.specs.Live.{World, Outcome, left, refuse, guardRows, threeGuards, doStep, step}
-use Rattle.checkpoint.specs.Shown.{world, shown}
+use Rattle.checkpoint.specs.Live.{World, Outcome, left, refuse, guardRows, threeGuards, doStep, step, world, worldIn}
 use Rattle.checkpoint.specs.List.{Ready, advances, outcome, next, accepted, completes}
-use Rattle.checkpoint.specs.Burst.{mostBurst, countAllowed, burstFrom, burst, worldIn}
+use Rattle.checkpoint.specs.Burst.{mostBurst, countAllowed, burstFrom, burst}
 use Rattle.checkpoint.proofs.Copy.FitLaws.{desk-framed-is}
 use Rattle.checkpoint.proofs.DecisionLaws.{three-is}
 use Rattle.checkpoint.proofs.SteadyLaws.{ready-of, late, ready-step}
@@ -195,7 +194,7 @@ count-high k l = chain-end _ (leb 1 k) (leb k mostBurst) (le-leb 1 k l) refl
 
 -- ---- the whole: a and b are what the code has found of lengths and count
 module _ (s m d : List ℕ) (count : ℕ) (a : Bool) (f : a ≡ bothFramed s d) where
-  pub burst-unframed : not a ≡ true → shown (refuse BadBuffer s m d) ≡ shown (burst count (world s m d))
+  pub burst-unframed : not a ≡ true → refuse BadBuffer s m d ≡ burst count (world s m d)
   unfolding burst
   burst-unframed q = let g = sym f ∙ not-true a q in rw g
 
@@ -204,7 +203,7 @@ module _ (s m d : List ℕ) (count : ℕ) (a : Bool) (f : a ≡ bothFramed s d) 
     burst-framed = sym f ∙ not-false a q
 
     module _ (b : Bool) (h : b ≡ countAllowed count) where
-      pub burst-count : not b ≡ true → shown (refuse BadCount s m d) ≡ shown (burst count (world s m d))
+      pub burst-count : not b ≡ true → refuse BadCount s m d ≡ burst count (world s m d)
       unfolding burst
       burst-count x = let g = burst-framed in let k = sym h ∙ not-true b x in rw (g, k)
 
@@ -218,9 +217,9 @@ module _ (s m d : List ℕ) (count : ℕ) (a : Bool) (f : a ≡ bothFramed s d) 
         few-steps : count ≤ mostBurst
         few-steps = r-le count mostBurst .to (and-right (leb 1 count) (leb count mostBurst) counted)
 
-        pub burst-through : (o : Outcome) → o ≡ burstFrom count 0 (world s m d) → shown o ≡ shown (burst count (world s m d))
+        pub burst-through : (o : Outcome) → o ≡ burstFrom count 0 (world s m d) → o ≡ burst count (world s m d)
         unfolding burst
-        burst-through o e = let g = burst-framed in let k = counted in rw (g, k) (ap shown e)
+        burst-through o e = let g = burst-framed in let k = counted in rw (g, k) (e)
 
         -- w is what the guards have answered
         module _ (w : Watched) (e : w ≡ handed (guardBy s (guardRows true s m d)) (deskOf d)) where
@@ -233,5 +232,5 @@ module _ (s m d : List ℕ) (count : ℕ) (a : Bool) (f : a ≡ bothFramed s d) 
           unfolding step
           stops r y = let g = shut (threeGuards s m d) (deskOf d) w (three-framed s m d burst-framed w e) y in rw g
 
-          pub burst-stopped : (r : Refusal) → w ≡ Shut r → shown (refuse r s m d) ≡ shown (burst count (world s m d))
+          pub burst-stopped : (r : Refusal) → w ≡ Shut r → refuse r s m d ≡ burst count (world s m d)
           burst-stopped r y = burst-through (refuse r s m d) (first-stops s m d r (stops r y) count some-steps)

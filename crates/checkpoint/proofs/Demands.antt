@@ -15,8 +15,7 @@ use Rattle.answers.specs.Refusal.{refusalNumber}
 use Rattle.answers.specs.Told.{Told, told}
 use Rattle.directory.specs.Slot.{mostSlots}
 use Rattle.checkpoint.specs.Fit.{imageBlocks}
-use Rattle.checkpoint.specs.Live.{World}
-use Rattle.checkpoint.specs.Shown.{Shown}
+use Rattle.checkpoint.specs.Live.{World, Outcome}
 use Rattle.checkpoint.specs.List.{Event, advances, starts, outcome, next, refusalOf, accepted, run, Finish}
 use Rattle.checkpoint.specs.Finished.{countOf, Finished}
 use Rattle.checkpoint.specs.Progress.{noRestart, Roomy, Opens}
@@ -63,7 +62,7 @@ module _ (b : ℕ) (w : World) (s : Fresher (countOf w) b w) (es : List Event) w
       go (on g c a) = never (ap (λ (x : Told). x .number) a)
       go (ends f) = never (ap (λ (x : Told). x .number) (finals n b v r f .answer))
       go (halts f) = (r, f)
-  stop-there v (rests r) h = let k : refusalOf advances v ≡ 15 = ap (λ (o : Shown). o .answer .number) (step-idle n b v r) in absurd (omega arith)
+  stop-there v (rests r) h = let k : refusalOf advances v ≡ 15 = ap (λ (o : Outcome). o .answer .number) (step-idle n b v r) in absurd (omega arith)
 
   full-never : Roomy w → refusalOf advances (run es w) ≡ refusalNumber ImageFull → ⊥
   full-never m h =
@@ -94,7 +93,7 @@ module _ (b : ℕ) (w : World) (s : Fresher (countOf w) b w) (es : List Event) w
       go (on g c h) = h
       go (ends f) = finals n b v r f .answer
       go (halts f) = absurd (clash (accepted advances v) a (ap (λ (x : Told). eqb (x .number) 0) (halted n b v r f .answer)))
-  answer-is v (rests r) a = absurd (clash (accepted advances v) a (ap (λ (o : Shown). eqb (o .answer .number) 0) (step-idle n b v r)))
+  answer-is v (rests r) a = absurd (clash (accepted advances v) a (ap (λ (o : Outcome). eqb (o .answer .number) 0) (step-idle n b v r)))
 
   taking-later : (e : Event) (p : ℕ) → p < mostSlots * n → Takes e (run es w) p
   taking-later e p l =

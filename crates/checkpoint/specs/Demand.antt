@@ -16,8 +16,7 @@ use Rattle.answers.specs.declared.Answer.the-variants.{Done}
 use Rattle.answers.specs.Told.{told}
 use Rattle.sound.specs.Place.{filled, naming}
 use Rattle.checkpoint.specs.declared.Status.the-variants.{Is}
-use Rattle.checkpoint.specs.Live.{World}
-use Rattle.checkpoint.specs.Shown.{toldStatus}
+use Rattle.checkpoint.specs.Live.{World, toldStatus}
 use Rattle.checkpoint.specs.List.{Event, asks, starts, advances, outcome, next, refusalOf, accepted, run, Finish, takes, acceptedSteps, stateAfter, replies, heard, plainRun, plainReplies}
 use Rattle.checkpoint.specs.Finished.{countOf, Finished}
 use Rattle.checkpoint.specs.Progress.{Progress, Roomy, GetsDone, Timing, Calls, Stopped, Stays, Opens}

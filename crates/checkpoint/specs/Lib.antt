@@ -4,7 +4,6 @@ pub mod Busy
 pub mod Notes
 pub mod Copier
 pub mod Live
-pub mod Shown
 pub mod List
 pub mod Burst
 pub mod Table

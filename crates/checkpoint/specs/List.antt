@@ -8,7 +8,6 @@ use Rattle.bounded.specs.Search.{pick}
 use Rattle.layout.specs.Sizes.{rootInode, isComplete}
 use Rattle.layout.specs.Header.{headerOf}
 use Rattle.desk.specs.Sizes.{running, finished, stopped}
-use Rattle.answers.specs.declared.Answer.{Answer}
 use Rattle.answers.specs.declared.Refusal.the-variants.{Busy, ImageFull}
 use Rattle.answers.specs.Refusal.{refusalNumber}
 use Rattle.sound.specs.Sound.{inodesIn}
@@ -16,10 +15,9 @@ use Rattle.sound.specs.declared.Form.the-variants.{Store}
 use Rattle.sound.specs.Place.{dirOf, filled, naming}
 use Rattle.sound.specs.Test.{framedB, isSound}
 use Rattle.files.specs.Effect.{Call, Entry, placeIn, onPlanned, plainDecision}
-use Rattle.files.specs.Plain.{plain}
+use Rattle.files.specs.Plain.{Received, got, plain}
 use Rattle.checkpoint.specs.Fit.{deskFramed, notesFit}
-use Rattle.checkpoint.specs.Live.{World, live, outOf, start, step, status}
-use Rattle.checkpoint.specs.Shown.{numberOf, Shown, shown, toldStatus}
+use Rattle.checkpoint.specs.Live.{World, Outcome, worldIn, live, outOf, start, step, status}
 
 -- refusals 1, 2 and 3 do not come
 pub record Ready (w : World) : Type 0 where
@@ -35,15 +33,15 @@ pub data Event : Type 0 where
   asks : Event
   starts : Event
 
--- ---- one event: what its caller is told, by the paper's numbers, and the content of each buffer
-unfoldable pub outcome : Event → World → Shown
-outcome (call c) w = shown (live c w)
-outcome advances w = shown (step (w .store) (w .image) (w .desk))
-outcome asks w = record { answer = toldStatus (status (w .store) (w .image) (w .desk)); store = w .store; image = w .image; desk = w .desk }
-outcome starts w = shown (start (w .store) (w .image) (w .desk))
+-- ---- one event
+unfoldable pub outcome : Event → World → Outcome
+outcome (call c) w = live c w
+outcome advances w = step (w .store) (w .image) (w .desk)
+outcome asks w = record { answer = status (w .store) (w .image) (w .desk); store = w .store; image = w .image; desk = w .desk }
+outcome starts w = start (w .store) (w .image) (w .desk)
 
 unfoldable pub next : Event → World → World
-next e w = record { store = outcome e w .store; image = outcome e w .image; desk = outcome e w .desk }
+next e w = worldIn (outcome e w)
 
 -- the number of its refusal, 0 for none
 abbrev pub refusalOf : Event → World → ℕ
@@ -126,19 +124,14 @@ stateAfter (asks ∷ es) w c = stateAfter es (next asks w) c
 
 -- ---- the plain store: "fed the list's file calls and their arguments in order, less those answered 14"
 abbrev pub isBusy : Call → World → Bool
-isBusy c w = eqb (numberOf (live c w .answer)) (refusalNumber Busy)
-
--- what a file call answers: its answer, and a read's out-buffer
-pub record Reply : Type 0 where
-  pub answer : Answer
-  pub out : List ℕ
+isBusy c w = eqb (live c w .answer .number) (refusalNumber Busy)
 
 -- the library's replies to the calls that it did not answer 14
-unfoldable pub replies : List Event → World → List Reply
+unfoldable pub replies : List Event → World → List Received
 replies [] w = []
 replies (call c ∷ es) w =
     pick (isBusy c w) (replies es (next (call c) w))
-    (record { answer = live c w .answer; out = outOf c w } ∷ replies es (next (call c) w))
+    (got (live c w .answer) (outOf c w) ∷ replies es (next (call c) w))
 replies (advances ∷ es) w = replies es (next advances w)
 replies (asks ∷ es) w = replies es (next asks w)
 replies (starts ∷ es) w = replies es (next starts w)
@@ -156,6 +149,6 @@ unfoldable pub plainRun : List Call → List ℕ → List ℕ
 plainRun [] s = s
 plainRun (c ∷ cs) s = plainRun cs (plain c s .store)
 
-unfoldable pub plainReplies : List Call → List ℕ → List Reply
+unfoldable pub plainReplies : List Call → List ℕ → List Received
 plainReplies [] s = []
-plainReplies (c ∷ cs) s = record { answer = plain c s .answer; out = plain c s .out } ∷ plainReplies cs (plain c s .store)
+plainReplies (c ∷ cs) s = got (plain c s .answer) (plain c s .out) ∷ plainReplies cs (plain c s .store)

@@ -25,7 +25,6 @@ use Rattle.files.specs.Effect.{Call, create, write, shorten, link, unlink, rena
 use Rattle.files.specs.Plain.{plain}
 use Rattle.checkpoint.specs.Fit.{isRunning, imageAllowed, imageLong}
 use Rattle.checkpoint.specs.Live.{World, outOf}
-use Rattle.checkpoint.specs.Shown.{numberOf}
 use Rattle.checkpoint.specs.List.{Ready, Event, call, advances, asks, starts, outcome, next, refusalOf, accepted, restarts, completes, run, Finish}
 use Rattle.checkpoint.specs.Finished.{countOf}
 
@@ -100,7 +99,7 @@ pub record OnlyBusy (c : Call) (w : World) : Type 0 where
   pub runs : isRunning (w .desk) ≡ true
   pub locked : 1 ≤ deskOf (w .desk) .locked
   pub hinders : Hinders (w .store) (deskOf (w .desk) .locked) c
-  pub would : numberOf (plain c (w .store) .answer) ≡ 0
+  pub would : plain c (w .store) .answer .number ≡ 0
 
 -- a refused call leaves a read's out-buffer as it was, too
 pub record Calls (w : World) : Type 0 where

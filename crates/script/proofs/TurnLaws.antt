@@ -9,8 +9,7 @@ use lib.ListN.{length, take, drop, length-append}
 use lib.Seq.{take-all}
 use Rattle.script_lines.specs.Lines.{linesIn, lineAt, nextAt, mostScriptBytes, scriptLines}
 use Rattle.script_lines.proofs.LineLaws.{lines-first, lines-end, next-later, next-within}
-use Rattle.checkpoint.specs.Live.{World}
-use Rattle.checkpoint.specs.Shown.{world}
+use Rattle.checkpoint.specs.Live.{World, world}
 use Rattle.script_run.specs.Reply.{worldAfter}
 use Rattle.script_run.specs.Script.{printed, linesRun, linesPrint, FinishesSound, scriptInodes, fresh, scriptPrints}
 use Rattle.script_run.proofs.PrintLaws.{printed-short, prints-all, prints-line, prints-none}

@@ -29,7 +29,6 @@ use Rattle.format.specs.Format.{freshDesk, layOutDesk}
 use Rattle.format.proofs.FreshLaws.{desk-fresh}
 use Rattle.checkpoint.specs.Fit.{isRunning, imageBlocks}
 use Rattle.checkpoint.specs.Live.{World, Outcome, refuse, threeGuards, start, step}
-use Rattle.checkpoint.specs.Shown.{Shown, shown}
 use Rattle.checkpoint.specs.List.{Ready, Event, call, advances, asks, starts, outcome, next, accepted, completes}
 use Rattle.checkpoint.proofs.RefusedLaws.{start-refused}
 use Rattle.checkpoint.proofs.Run.Going.{Running, incomplete, next-is}
@@ -52,12 +51,12 @@ module _ (w : World) (i : isRunning (w .desk) ≡ false) where
   refusing (Pass n b) = (WrongState, refl)
   refusing (Stop e) = (e, refl)
 
-  idle-step : (e : Refusal) × (outcome advances w ≡ shown (refuse e (w .store) (w .image) (w .desk)))
+  idle-step : (e : Refusal) × (outcome advances w ≡ (refuse e (w .store) (w .image) (w .desk)))
   unfolding outcome step
-  idle-step = let r = refusing (threeGuards (w .store) (w .image) (w .desk)) in (r .0, rw i (ap shown (r .1)))
+  idle-step = let r = refusing (threeGuards (w .store) (w .image) (w .desk)) in (r .0, rw i ((r .1)))
 
   idle-not : accepted advances w ≡ false
-  idle-not = let r = idle-step in ap (λ (o : Shown). eqb (o .answer .number) 0) (r .1) ∙ not-none (r .0)
+  idle-not = let r = idle-step in ap (λ (o : Outcome). eqb (o .answer .number) 0) (r .1) ∙ not-none (r .0)
 
   idle-same : next advances w ≡ w
   idle-same = let r = idle-step in next-is advances w _ (r .1)
@@ -88,7 +87,7 @@ module _ (n : ℕ) where
     where
       go : (x : Answer) → start (w .store) (w .image) (w .desk) .answer ≡ x → Reached n (next starts w)
       go (Done x) e = absurd (clash (accepted starts w) (ap (λ (y : Answer). eqb (told y .number) 0) e) a)
-      go (Refused e) h = subst (Reached n) (sym (next-is starts w _ (ap shown (start-refused (w .store) (w .image) (w .desk) e h)))) (asleep i c)
+      go (Refused e) h = subst (Reached n) (sym (next-is starts w _ ((start-refused (w .store) (w .image) (w .desk) e h)))) (asleep i c)
 
   step-reached : (b : ℕ) (w : World) → Running n b w → Stepped n b w → Reached n (next advances w)
   step-reached b w r (on g q a) = awake b (g .still)

@@ -14,8 +14,7 @@ use Rattle.answers.specs.Told.{Told, told}
 use Rattle.answers.proofs.RefusalLaws.{known}
 use Rattle.answers.specs.Order.{Row, firstOf, inOrder, lookedAt, among}
 use Rattle.files.specs.Effect.{lookUp, read, create, write, shorten, link, unlink, rename}
-use Rattle.checkpoint.specs.Live.{World, Outcome}
-use Rattle.checkpoint.specs.Shown.{toldStatus}
+use Rattle.checkpoint.specs.Live.{World, Outcome, toldStatus}
 use Rattle.checkpoint.specs.Table.{askTable}
 use Rattle.checkpoint.specs.List.{call, advances, asks, starts, outcome}
 use Rattle.checkpoint.specs.Burst.{Act, one, bursts}

@@ -11,10 +11,9 @@ use Rattle.answers.specs.declared.Answer.the-variants.{Done}
 use Rattle.answers.specs.Told.{told}
 use Rattle.files.specs.Effect.{Call}
 use Rattle.files.specs.Plain.{plain}
-use Rattle.checkpoint.specs.Live.{World, Outcome}
-use Rattle.checkpoint.specs.Shown.{numberOf}
+use Rattle.checkpoint.specs.Live.{World, Outcome, worldIn}
 use Rattle.checkpoint.specs.List.{Event, call, advances, asks, starts, outcome, next, accepted, run, Finish, acceptedSteps, isBusy, Reply, replies, heard, plainReplies}
-use Rattle.checkpoint.specs.Burst.{burst, triesOf, Act, one, bursts, singles, worldIn}
+use Rattle.checkpoint.specs.Burst.{burst, triesOf, Act, one, bursts, singles}
 use Rattle.checkpoint.specs.Progress.{noRestart}
 use Rattle.checkpoint.specs.Demand.{Demand}
 use Rattle.checkpoint.proofs.BurstLaws.{burst-world}
@@ -116,10 +115,10 @@ delivers {xs} {w} {u} {rs} h d = rw (h .world, h .got) (run-delivers xs w d)
 
 -- ---- a burst on any bytes
 module _ (k : ℕ) (w : World) where
-  numbered : {o : Outcome} → burst k w ≡ o → numberOf (burst k w .answer) ≡ 0 → numberOf (o .answer) ≡ 0
-  numbered e h = sym (ap (λ (o : Outcome). numberOf (o .answer)) e) ∙ h
+  numbered : {o : Outcome} → burst k w ≡ o → burst k w .answer .number ≡ 0 → o .answer .number ≡ 0
+  numbered e h = sym (ap (λ (o : Outcome). o .answer .number) e) ∙ h
 
-  its-count : numberOf (burst k w .answer) ≡ 0 → told (burst k w .answer) ≡ told (Done (acceptedSteps (triesOf k w) w 0))
+  its-count : burst k w .answer .number ≡ 0 → told (burst k w .answer) ≡ told (Done (acceptedSteps (triesOf k w) w 0))
   unfolding outcome
   its-count h = go (ends k w)
     where

@@ -11,7 +11,7 @@ use Rattle.sound.specs.Test.{isSound}
 use Rattle.answers.specs.Told.{told}
 use Rattle.format.specs.Format.{laidOut, layOutStore, layOutDesk}
 use Rattle.files.specs.Effect.{lookUp, read, create, write, shorten, link, unlink, rename}
-use Rattle.checkpoint.specs.Shown.{world, toldStatus}
+use Rattle.checkpoint.specs.Live.{world, toldStatus}
 use Rattle.checkpoint.specs.List.{call, advances, asks, starts}
 use Rattle.checkpoint.specs.Burst.{one, bursts}
 use Rattle.laps.specs.Walk.{lists}

@@ -6,9 +6,8 @@ use mathlib.Core.List.{List, [], _∷_}
 use Rattle.answers.specs.declared.Answer.{Answer}
 use Rattle.answers.specs.Told.{Told, told}
 use Rattle.files.specs.Effect.{Call}
-use Rattle.files.specs.Plain.{PlainShown}
-use Rattle.checkpoint.specs.Live.{World, left, storeAlone, live}
-use Rattle.checkpoint.specs.Shown.{world, Shown, shown}
+use Rattle.files.specs.Plain.{PlainOutcome}
+use Rattle.checkpoint.specs.Live.{World, left, storeAlone, live, world, Outcome}
 use Rattle.checkpoint.specs.List.{call, outcome, run}
 use Rattle.checkpoint.specs.Burst.{Act, one, singles}
 use Rattle.checkpoint.proofs.TableLaws.{look-up-alone, read-alone}
@@ -23,23 +22,23 @@ pub record AsDefined (x : Act) (w : World) (a : Received) (v : World) : Type 0 w
   pub got : a ≡ got (outcomeOf x w .answer) (outAfter x w)
 
 module _ (w : World) where
-  -- an outcome is shown as it is defined
+  -- an outcome is as it is defined
   by-outcome : (x : Act) (t : Told) (s m d out : List ℕ) → record { answer = t; store = s; image = m; desk = d } ≡ outcomeOf x w → out ≡ outAfter x w → AsDefined x w (got t out) (world s m d)
-  by-outcome x t s m d out h k = record { world = ap (λ (o : Shown). world (o .store) (o .image) (o .desk)) h; got = ap₂ got (ap (λ (o : Shown). o .answer) h) k }
+  by-outcome x t s m d out h k = record { world = ap (λ (o : Outcome). world (o .store) (o .image) (o .desk)) h; got = ap₂ got (ap (λ (o : Outcome). o .answer) h) k }
 
   -- a call over the three buffers
-  by-live : (c : Call) → storeAlone c ≡ false → (r : Answer) (v : World) → shown (left r (v .store) (v .image) (v .desk)) ≡ shown (live c w) → AsDefined (one (call c)) w (got (told r) []) v
+  by-live : (c : Call) → storeAlone c ≡ false → (r : Answer) (v : World) → left r (v .store) (v .image) (v .desk) ≡ live c w → AsDefined (one (call c)) w (got (told r) []) v
   unfolding outcome
   by-live c n r v h = by-outcome (one (call c)) (told r) (v .store) (v .image) (v .desk) [] h (sym (no-out w c n))
 
   -- one on the store alone
-  abbrev beside : PlainShown → Shown
+  abbrev beside : PlainOutcome → Outcome
   beside o = record { answer = o .answer; store = o .store; image = w .image; desk = w .desk }
 
 pub did : {x : Act} {w v : World} {a : Received} → Did x w a v → AsDefined x w a v
 unfolding outcome
-did {w = w} (looked-up {dir} {name} r h) = by-outcome w _ (told r) _ _ _ _ (ap (beside w) h ∙ sym (ap shown (look-up-alone w dir name))) (sym (look-up-out w dir name))
-did {w = w} (has-read {inode} {offset} {out} r h) = by-outcome w _ (told r) _ _ _ _ (ap (beside w) h ∙ sym (ap shown (read-alone w inode offset out))) (ap (λ (o : PlainShown). o .out) h ∙ sym (read-out w inode offset out))
+did {w = w} (looked-up {dir} {name} r h) = by-outcome w _ (told r) _ _ _ _ (ap (beside w) h ∙ sym ((look-up-alone w dir name))) (sym (look-up-out w dir name))
+did {w = w} (has-read {inode} {offset} {out} r h) = by-outcome w _ (told r) _ _ _ _ (ap (beside w) h ∙ sym ((read-alone w inode offset out))) (ap (λ (o : PlainOutcome). o .out) h ∙ sym (read-out w inode offset out))
 did {w = w} {v = v} (created r h) = by-live w _ refl r v h
 did {w = w} {v = v} (written r h) = by-live w _ refl r v h
 did {w = w} {v = v} (shortened r h) = by-live w _ refl r v h

@@ -16,10 +16,9 @@ use Rattle.answers.specs.declared.Answer.the-variants.{Done, Refused}
 use Rattle.answers.specs.Refusal.{refusalNumber}
 use Rattle.answers.specs.Told.{Told, told}
 use Rattle.checkpoint.specs.Fit.{isRunning, bothFramed}
-use Rattle.checkpoint.specs.Live.{World, Outcome, step}
-use Rattle.checkpoint.specs.Shown.{numberOf}
+use Rattle.checkpoint.specs.Live.{World, Outcome, step, worldIn}
 use Rattle.checkpoint.specs.List.{Event, advances, outcome, next, refusalOf, accepted, completes, run, acceptedSteps}
-use Rattle.checkpoint.specs.Burst.{countAllowed, tries, triesOf, burst, worldIn}
+use Rattle.checkpoint.specs.Burst.{countAllowed, tries, triesOf, burst}
 use Rattle.checkpoint.specs.Progress.{Progress}
 use Rattle.checkpoint.specs.Demand.{Refusals, Demand}
 use Rattle.checkpoint.proofs.DecisionLaws.{three-is}
@@ -91,13 +90,13 @@ module _ (es : List Event) (w : World) (ds : (fs : List Event) → Demand fs w) 
   -- 1 would come to the step too
   unframed : bothFramed (u .store) (u .desk) ≡ false → ⊥
   unfolding outcome step
-  unframed f = d .refusals advances .buffers (ap (λ (o : Outcome). numberOf (o .answer)) (three-is (u .store) (u .image) (u .desk) _) ∙ rw f refl)
+  unframed f = d .refusals advances .buffers (ap (λ (o : Outcome). o .answer .number) (three-is (u .store) (u .image) (u .desk) _) ∙ rw f refl)
 
-  number-of : {o : Outcome} → burst k u ≡ o → numberOf (burst k u .answer) ≡ numberOf (o .answer)
-  number-of e = ap (λ (o : Outcome). numberOf (o .answer)) e
+  number-of : {o : Outcome} → burst k u ≡ o → burst k u .answer .number ≡ o .answer .number
+  number-of e = ap (λ (o : Outcome). o .answer .number) e
 
   -- its number is 0, or 17, or the step's
-  never : (x : ℕ) → (x ≡ 0 → ⊥) → (x ≡ refusalNumber BadCount → ⊥) → (refusalOf advances u ≡ x → ⊥) → numberOf (burst k u .answer) ≡ x → ⊥
+  never : (x : ℕ) → (x ≡ 0 → ⊥) → (x ≡ refusalNumber BadCount → ⊥) → (refusalOf advances u ≡ x → ⊥) → burst k u .answer .number ≡ x → ⊥
   unfolding outcome
   never x z y n h = go (ends k u)
     where
@@ -124,7 +123,7 @@ module _ (es : List Event) (w : World) (ds : (fs : List Event) → Demand fs w) 
       go true e = let z = eqb-true (refusalOf advances u) 0 (d .progress .moves e (λ q. omega arith)) in absurd (omega arith)
       go false e = let z : refusalOf advances u ≡ 15 = ap (λ (x : Told). x .number) (d .timing .late e) in absurd (omega arith)
 
-  allowed : countAllowed k ≡ true → numberOf (burst k u .answer) ≡ refusalNumber BadCount → ⊥
+  allowed : countAllowed k ≡ true → burst k u .answer .number ≡ refusalNumber BadCount → ⊥
   unfolding outcome
   allowed c h = go (ends k u)
     where

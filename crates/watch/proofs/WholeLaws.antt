@@ -20,9 +20,9 @@ use Rattle.sound.specs.Test.{isSound}
 use Rattle.answers.specs.declared.Refusal.the-variants.{ImageFull}
 use Rattle.answers.specs.Refusal.{refusalNumber}
 use Rattle.checkpoint.specs.Fit.{isRunning, notesFit, bothFramed}
-use Rattle.checkpoint.specs.Live.{World, Outcome, step}
+use Rattle.checkpoint.specs.Live.{World, Outcome, step, worldIn}
 use Rattle.checkpoint.specs.List.{Event, call, advances, asks, starts, outcome, next, refusalOf, accepted, completes, restarts, run}
-use Rattle.checkpoint.specs.Burst.{countAllowed, tries, triesOf, burst, worldIn, Act, one, bursts, singles}
+use Rattle.checkpoint.specs.Burst.{countAllowed, tries, triesOf, burst, Act, one, bursts, singles}
 use Rattle.checkpoint.proofs.DecisionLaws.{three-is}
 use Rattle.checkpoint.proofs.BurstLaws.{burst-world}
 use Rattle.checkpoint.proofs.Copy.FitLaws.{image-fits-is, notes-fit-is}

@@ -21,8 +21,7 @@ use Rattle.files.specs.Effect.{Call}
 use Rattle.files.specs.Plain.{plain}
 use Rattle.checkpoint.specs.declared.Status.the-variants.{Is}
 use Rattle.checkpoint.specs.Fit.{isRunning, imageAllowed, bothFramed}
-use Rattle.checkpoint.specs.Live.{World, outOf}
-use Rattle.checkpoint.specs.Shown.{world, Shown, shown, toldStatus}
+use Rattle.checkpoint.specs.Live.{World, outOf, world, Outcome, toldStatus}
 use Rattle.checkpoint.specs.List.{Ready, Event, call, advances, asks, starts, outcome, accepted, run, Finish, Kept, acceptedSteps, stateAfter, plainRun}
 use Rattle.checkpoint.specs.Burst.{countAllowed, burst, triesOf, Act, one, bursts, singles}
 use Rattle.checkpoint.specs.Finished.{countOf, InCopy}
@@ -31,9 +30,9 @@ use Rattle.checkpoint.specs.Demand.{Demand}
 use Rattle.watch.specs.Made.{Received, got, Did, Made}
 
 -- ---- told by the definitions: what the callers of a list get, from the world w on
-abbrev pub outcomeOf : Act → World → Shown
+abbrev pub outcomeOf : Act → World → Outcome
 outcomeOf (one e) w = outcome e w
-outcomeOf (bursts k) w = shown (burst k w)
+outcomeOf (bursts k) w = burst k w
 
 abbrev pub nextOf : Act → World → World
 nextOf x w = world (outcomeOf x w .store) (outcomeOf x w .image) (outcomeOf x w .desk)

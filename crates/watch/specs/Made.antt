@@ -7,10 +7,9 @@ use Rattle.answers.specs.declared.Answer.{Answer}
 use Rattle.answers.specs.Told.{Told, told}
 use Rattle.entries.specs.declared.Kind.{Kind}
 use Rattle.files.specs.Effect.{lookUp, read, create, write, shorten, link, unlink, rename}
-use Rattle.files.specs.Plain.{plain, plainLeft, plainShown}
+use Rattle.files.specs.Plain.{plain, plainLeft}
 use Rattle.checkpoint.specs.declared.Status.{Status}
-use Rattle.checkpoint.specs.Live.{World, left, live, start, step, status}
-use Rattle.checkpoint.specs.Shown.{world, shown, toldStatus}
+use Rattle.checkpoint.specs.Live.{World, left, live, start, step, status, world, toldStatus}
 use Rattle.checkpoint.specs.List.{call, advances, asks, starts}
 use Rattle.checkpoint.specs.Burst.{burst, Act, one, bursts}
 
@@ -26,43 +25,43 @@ got t out = record { answer = t; out = out }
 pub data Did : Act → World → Received → World → Type 0 where
   -- "Look up and read take the store alone" (files/src/plain.rt)
   looked-up : {dir : ℕ} {name : List ℕ} {w : World} (r : Answer)
-      → plainShown (plainLeft r (w .store) []) ≡ plainShown (plain (lookUp dir name) (w .store))
+      → plainLeft r (w .store) [] ≡ plain (lookUp dir name) (w .store)
       → Did (one (call (lookUp dir name))) w (got (told r) []) w
   has-read : {inode offset : ℕ} {out filled : List ℕ} {w : World} (r : Answer)
-      → plainShown (plainLeft r (w .store) filled) ≡ plainShown (plain (read inode offset out) (w .store))
+      → plainLeft r (w .store) filled ≡ plain (read inode offset out) (w .store)
       → Did (one (call (read inode offset out))) w (got (told r) filled) w
   -- the file calls over the three buffers (watch/src/lib.rt)
   created : {dir : ℕ} {name : List ℕ} {kind : Kind} {w v : World} (r : Answer)
-      → shown (left r (v .store) (v .image) (v .desk)) ≡ shown (live (create dir name kind) w)
+      → left r (v .store) (v .image) (v .desk) ≡ live (create dir name kind) w
       → Did (one (call (create dir name kind))) w (got (told r) []) v
   written : {inode offset : ℕ} {bytes : List ℕ} {w v : World} (r : Answer)
-      → shown (left r (v .store) (v .image) (v .desk)) ≡ shown (live (write inode offset bytes) w)
+      → left r (v .store) (v .image) (v .desk) ≡ live (write inode offset bytes) w
       → Did (one (call (write inode offset bytes))) w (got (told r) []) v
   shortened : {inode size : ℕ} {w v : World} (r : Answer)
-      → shown (left r (v .store) (v .image) (v .desk)) ≡ shown (live (shorten inode size) w)
+      → left r (v .store) (v .image) (v .desk) ≡ live (shorten inode size) w
       → Did (one (call (shorten inode size))) w (got (told r) []) v
   linked : {dir : ℕ} {name : List ℕ} {inode : ℕ} {w v : World} (r : Answer)
-      → shown (left r (v .store) (v .image) (v .desk)) ≡ shown (live (link dir name inode) w)
+      → left r (v .store) (v .image) (v .desk) ≡ live (link dir name inode) w
       → Did (one (call (link dir name inode))) w (got (told r) []) v
   unlinked : {dir : ℕ} {name : List ℕ} {w v : World} (r : Answer)
-      → shown (left r (v .store) (v .image) (v .desk)) ≡ shown (live (unlink dir name) w)
+      → left r (v .store) (v .image) (v .desk) ≡ live (unlink dir name) w
       → Did (one (call (unlink dir name))) w (got (told r) []) v
   renamed : {dir : ℕ} {name : List ℕ} {to-dir : ℕ} {to-name : List ℕ} {w v : World} (r : Answer)
-      → shown (left r (v .store) (v .image) (v .desk)) ≡ shown (live (rename dir name to-dir to-name) w)
+      → left r (v .store) (v .image) (v .desk) ≡ live (rename dir name to-dir to-name) w
       → Did (one (call (rename dir name to-dir to-name))) w (got (told r) []) v
   -- start, step and state (copier/src/lib.rt, guards/src/lib.rt)
   started : {w : World} {image desk : List ℕ} (r : Answer)
-      → shown (left r (w .store) image desk) ≡ shown (start (w .store) (w .image) (w .desk))
+      → left r (w .store) image desk ≡ start (w .store) (w .image) (w .desk)
       → Did (one starts) w (got (told r) []) (world (w .store) image desk)
   stepped : {w : World} {image desk : List ℕ} (r : Answer)
-      → shown (left r (w .store) image desk) ≡ shown (step (w .store) (w .image) (w .desk))
+      → left r (w .store) image desk ≡ step (w .store) (w .image) (w .desk)
       → Did (one advances) w (got (told r) []) (world (w .store) image desk)
   asked : {w : World} (r : Status)
-      → toldStatus r ≡ toldStatus (status (w .store) (w .image) (w .desk))
+      → toldStatus r ≡ status (w .store) (w .image) (w .desk)
       → Did (one asks) w (got (toldStatus r) []) w
   -- up to 64 steps in one call (bursts/src/lib.rt)
   stepped-many : {k : ℕ} {w : World} {image desk : List ℕ} (r : Answer)
-      → shown (left r (w .store) image desk) ≡ shown (burst k w)
+      → left r (w .store) image desk ≡ burst k w
       → Did (bursts k) w (got (told r) []) (world (w .store) image desk)
 
 -- a list of calls, one after another: from which world, what their callers got, and to which world

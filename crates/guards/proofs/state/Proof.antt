@@ -1,5 +1,5 @@
 use mathlib.Core.Path.{ap}
-use Rattle.checkpoint.specs.Shown.{toldStatus}
+use Rattle.checkpoint.specs.Live.{toldStatus}
 use Rattle.guards.proofs.GuardLaws.{state-through, state-stopped}
 use borrow.Author.Needs.{needs}
 use Rattle.guards.proofs.state.Statement.{statement}

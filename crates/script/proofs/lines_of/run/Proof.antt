@@ -65,7 +65,7 @@ use Rattle.script_lines.proofs.after.Symbol.{name as #script-lines·after}
 use Rattle.script_lines.proofs.after.Met as after-thm
 use Rattle.layout.specs.Sizes.{headerBytes}
 use Rattle.desk.specs.Sizes.{deskHeaderBytes}
-use Rattle.checkpoint.specs.Shown.{world}
+use Rattle.checkpoint.specs.Live.{world}
 use Rattle.script_run.specs.Reply.{worldAfter}
 use Rattle.script_run.specs.Script.{printed, linesRun, FinishesSound, fresh, scriptPrints}
 use Rattle.script_run.proofs.FinishLaws.{fresh-finishes}
