@@ -103,7 +103,7 @@ module _ (s m d : List ℕ) (n : ℕ) (h : Desk) (e : h ≡ deskOf d) where
       ∙ ap (λ (v : Desk). lockedStep s m n (v .blocks) (v .locked) (v .transferred)) (sym e)
 
 -- ---- what is left then
-pub same-left : (s : List ℕ) {r q : Answer} {m t d e : List ℕ} → r ≡ q → m ≡ t → d ≡ e → left r s m d ≡ left q s t e
+pub same-left : (s : List ℕ) {x y : ℕ} {m t d e : List ℕ} → x ≡ y → m ≡ t → d ≡ e → left (Done x) s m d ≡ left (Done y) s t e
 same-left s a b c = rw (a, b, c)
 
 module _ (s m d : List ℕ) (n : ℕ) (x : Step) where
