@@ -20,7 +20,7 @@ use Rattle.answers.specs.declared.Answer.{Answer}
 use Rattle.answers.specs.declared.Answer.the-variants.{Done, Refused}
 use Rattle.answers.specs.declared.Refusal.{Refusal}
 use Rattle.answers.specs.declared.Refusal.the-variants.{BadBuffer, BadCount, BadDesk, WrongState}
-use Rattle.answers.specs.Told.{told}
+use Rattle.answers.specs.Told.{Told, told}
 use Rattle.answers.proofs.RefusalLaws.{not-none}
 use Rattle.files.specs.Guard.{guardBy}
 use Rattle.checkpoint.specs.Fit.{bothFramed, isRunning}
@@ -58,28 +58,28 @@ module _ (s m d : List ℕ) (o : Outcome) (h : step s m d ≡ o) where
   abbrev w : World
   w = world s m d
 
-  taken : accepted advances w ≡ eqb (told (o .answer) .number) 0
+  taken : accepted advances w ≡ eqb (o .answer .number) 0
   unfolding outcome
-  taken = ap (λ (x : Outcome). eqb (told (x .answer) .number) 0) h
+  taken = ap (λ (x : Outcome). eqb (x .answer .number) 0) h
 
   left-in : next advances w ≡ worldIn o
   unfolding next outcome
   left-in = ap worldIn h
 
   module _ (k c : ℕ) where
-    from-refused : (e : Refusal) → o .answer ≡ Refused e → burstFrom (suc k) c w ≡ left (stoppedAt c e) (o .store) (o .image) (o .desk)
+    from-refused : (e : Refusal) → o .answer ≡ told (Refused e) → burstFrom (suc k) c w ≡ left (stoppedAt c e) (o .store) (o .image) (o .desk)
     unfolding burstFrom
     from-refused e q =
-        let a : accepted advances w ≡ false = taken ∙ ap (λ (x : Answer). eqb (told x .number) 0) q ∙ not-none e in
+        let a : accepted advances w ≡ false = taken ∙ ap (λ (x : Told). eqb (x .number) 0) q ∙ not-none e in
         rw (a, h) (go (eqb c 0))
       where
         go : (b : Bool) → pick b o (left (Done c) (o .store) (o .image) (o .desk)) ≡ left (pick b (Refused e) (Done c)) (o .store) (o .image) (o .desk)
-        go true = ap (λ (x : Answer). left x (o .store) (o .image) (o .desk)) q
+        go true = ap (λ (x : Told). record { answer = x; store = o .store; image = o .image; desk = o .desk }) q
         go false = refl
 
-    module _ (x : ℕ) (q : o .answer ≡ Done x) where
+    module _ (x : ℕ) (q : o .answer ≡ told (Done x)) where
       on : accepted advances w ≡ true
-      on = taken ∙ ap (λ (x : Answer). eqb (told x .number) 0) q
+      on = taken ∙ ap (λ (x : Told). eqb (x .number) 0) q
 
       ended : (b : Bool) → eqb (headerOf (o .image) .complete) isComplete ≡ b → completes advances w ≡ b
       ended b p = rw on (ap (λ (v : World). eqb (headerOf (v .image) .complete) isComplete) left-in ∙ p)
@@ -115,13 +115,13 @@ module _ (s m d : List ℕ) (n : ℕ) (h : Desk) (g : Going (world s m d) n h) (
   stepped : step s m d ≡ left a s t p
   stepped = ready-step s m d (g .ready) (g .running) ∙ ap (λ (y : ℕ). doStep s m d y (stepOf s m d y)) (sym (g .inodes)) ∙ ap (doStep s m d n) is ∙ sym f
 
-  answered : a ≡ doStep s m d n x .answer
+  answered : told a ≡ doStep s m d n x .answer
   answered = ap (λ (o : Outcome). o .answer) f
 
-  pub went-stops : (e : Refusal) → doStep s m d n x .answer ≡ Refused e → (k c : ℕ) → burstFrom (suc k) c (world s m d) ≡ left (stoppedAt c e) s t p
+  pub went-stops : (e : Refusal) → doStep s m d n x .answer ≡ told (Refused e) → (k c : ℕ) → burstFrom (suc k) c (world s m d) ≡ left (stoppedAt c e) s t p
   went-stops e q k c = from-refused s m d (left a s t p) stepped k c e (answered ∙ q)
 
-  module _ (y : ℕ) (q : doStep s m d n x .answer ≡ Done y) (k c : ℕ) where
+  module _ (y : ℕ) (q : doStep s m d n x .answer ≡ told (Done y)) (k c : ℕ) where
     pub went-last : headerOf t .complete ≡ isComplete → burstFrom (suc k) c (world s m d) ≡ left (Done (suc c)) s t p
     went-last w = from-last s m d (left a s t p) stepped k c y (answered ∙ q) (eq-eqb (headerOf t .complete) isComplete w)
 

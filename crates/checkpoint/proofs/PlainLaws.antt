@@ -19,8 +19,8 @@ use Rattle.files.specs.declared.Guard.the-variants.{Pass, Stop}
 use Rattle.checkpoint.specs.Fit.{isRunning}
 use Rattle.checkpoint.specs.Copier.{Step, lock, copy, close, finish, full, stepOf}
 use Rattle.checkpoint.specs.Live.{World, Outcome, refuse, leavesIn, live, outOf, guarded, doStep, started, start, step, threeGuards, startGuards}
-use Rattle.checkpoint.specs.List.{Event, Ready, call, advances, asks, starts, outcome, next, run, Moment, here, after, isBusy, replies, heard, plainRun, plainReplies}
-use Rattle.checkpoint.specs.Demand.{AsPlain}
+use Rattle.checkpoint.specs.List.{Event, Ready, call, advances, asks, starts, outcome, next, run, Moment, here, after, plainRun, plainReplies}
+use Rattle.checkpoint.proofs.OfEvents.{isBusy, replies, heard, AsPlain}
 use Rattle.checkpoint.proofs.DecisionLaws.{OfGuards, lengths, soundness, notes, same, busy, unfit, beside}
 use Rattle.checkpoint.proofs.PlainAnswers.{StoreFits, plainly, plain-never}
 

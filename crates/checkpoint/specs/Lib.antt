@@ -9,5 +9,4 @@ pub mod Burst
 pub mod Table
 pub mod Finished
 pub mod Progress
-pub mod Demand
 pub mod School

@@ -14,10 +14,7 @@ use Rattle.bounded.proofs.BoolLaws.{and-left, and-right}
 use Rattle.desk.specs.Sizes.{deskHeaderBytes}
 use Rattle.desk.specs.Desk.{deskOf, putDesk}
 use Rattle.desk.specs.Next.{stopping}
-use Rattle.answers.specs.declared.Refusal.{Refusal}
-use Rattle.answers.specs.declared.Refusal.the-variants.{BadBuffer, UnsoundStore, BadDesk, IllegalName, WrongInode, NameAbsent, NameTaken, NotEmpty, PastEnd, IntoItself, NoInode, NoBlocks, NoSlot, Busy, WrongState, ImageFull, BadCount, BadTurn, NoDate, BadTerms, AfterAsked, BadTimes}
-use Rattle.answers.specs.declared.Answer.{Answer}
-use Rattle.answers.specs.declared.Answer.the-variants.{Done, Refused}
+use Rattle.answers.specs.declared.Refusal.the-variants.{ImageFull}
 use Rattle.answers.specs.Refusal.{refusalNumber}
 use Rattle.answers.specs.Told.{Told}
 use Rattle.answers.specs.Order.{Row}
@@ -34,7 +31,7 @@ use Rattle.checkpoint.proofs.BurstTables.{Ends, lengths, number, first, counts,
 use Rattle.checkpoint.proofs.Run.Stops.{stop-leaves}
 use Rattle.checkpoint.proofs.Run.Busies.{out-kept}
 use Rattle.watch.specs.Answered.{ByTable, result, holds, passes, tableOf, lentTo, GetsFull, by-step, by-first}
-use Rattle.watch.specs.Claim.{outcomeOf, nextOf, outAfter}
+use Rattle.watch.specs.Received.{outcomeOf, nextOf, outAfter}
 use Rattle.watch.proofs.AnswerLaws.{by-table}
 
 -- a table without it does not give it

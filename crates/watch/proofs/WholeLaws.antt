@@ -27,8 +27,10 @@ use Rattle.checkpoint.proofs.DecisionLaws.{three-is}
 use Rattle.checkpoint.proofs.BurstLaws.{burst-world}
 use Rattle.checkpoint.proofs.Copy.FitLaws.{image-fits-is, notes-fit-is}
 use Rattle.checkpoint.specs.Finished.{countOf}
-use Rattle.checkpoint.specs.Progress.{noRestart, tried, Roomy, GetsDone}
-use Rattle.watch.specs.Claim.{thatMany, stepsAsked}
+use Rattle.checkpoint.specs.Progress.{noRestart, Roomy}
+use Rattle.checkpoint.proofs.OfEvents.{tried, GetsDone}
+use Rattle.watch.specs.Received.{stepsAsked}
+use Rattle.watch.specs.Claim.{thatMany}
 use Rattle.watch.proofs.SinglesLaws.{run-on, Steps, none, more, burst-steps}
 use Rattle.watch.proofs.KeepLaws.{keeps, stops}
 

@@ -23,7 +23,7 @@ use Rattle.checkpoint.specs.Fit.{isRunning}
 use Rattle.checkpoint.specs.Notes.{noteMade, noteTaken, clearMarks, setMarks}
 use Rattle.checkpoint.specs.Live.{World, decision, leavesIn, live, Outcome, toldStatus}
 use Rattle.checkpoint.specs.List.{Event, call, advances, asks, starts, outcome, next, accepted, run, acceptedSteps, refusalOf, completes, stateAfter}
-use Rattle.checkpoint.specs.Demand.{Reported}
+use Rattle.checkpoint.proofs.OfEvents.{Reported}
 use Rattle.checkpoint.proofs.Copy.FitLaws.{laid-steps, notes-fit-is, desk-fits-is}
 use Rattle.checkpoint.proofs.Run.Going.{Running, next-is, incomplete}
 use Rattle.checkpoint.proofs.Run.Turned.{Stepped, on, ends, halts, stepped}

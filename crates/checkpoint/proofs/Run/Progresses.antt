@@ -23,7 +23,8 @@ use Rattle.checkpoint.specs.Fit.{isRunning}
 use Rattle.checkpoint.specs.Live.{World, Outcome}
 use Rattle.checkpoint.specs.List.{Event, call, advances, asks, starts, next, accepted, restarts, run, refusalOf, completes}
 use Rattle.checkpoint.specs.Finished.{countOf}
-use Rattle.checkpoint.specs.Progress.{ImageTaken, Ended, Progress, noRestart, tried, Roomy, GetsDone, Timing}
+use Rattle.checkpoint.specs.Progress.{ImageTaken, Ended, Progress, noRestart, Roomy, Timing}
+use Rattle.checkpoint.proofs.OfEvents.{tried, GetsDone}
 use Rattle.checkpoint.proofs.Copy.FitLaws.{laid-steps}
 use Rattle.checkpoint.proofs.Copy.ChosenLaws.{never-full}
 use Rattle.checkpoint.proofs.Run.Going.{Running, incomplete, next-is}

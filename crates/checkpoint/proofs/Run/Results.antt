@@ -18,8 +18,7 @@ use Rattle.files.specs.Effect.{Call}
 use Rattle.checkpoint.proofs.DecisionLaws.{status-is}
 use Rattle.checkpoint.specs.Live.{World, Outcome, refuse, live, toldStatus}
 use Rattle.checkpoint.specs.List.{Event, call, advances, asks, starts, outcome, next, refusalOf}
-use Rattle.checkpoint.specs.Progress.{ImageTaken, Stopped}
-use Rattle.checkpoint.specs.Demand.{Refusals}
+use Rattle.checkpoint.specs.Progress.{Refusals, ImageTaken, Stopped}
 use Rattle.checkpoint.proofs.PlainAnswers.{plain-never}
 use Rattle.checkpoint.proofs.PlainLaws.{guards-pass}
 use Rattle.checkpoint.proofs.RefusedLaws.{live-refused}
