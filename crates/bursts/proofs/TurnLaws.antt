@@ -25,7 +25,7 @@ use Rattle.answers.proofs.RefusalLaws.{not-none}
 use Rattle.files.specs.Guard.{guardBy}
 use Rattle.checkpoint.specs.Fit.{bothFramed, isRunning}
 use Rattle.checkpoint.specs.Copier.{Step, stepOf}
-use Rattle.checkpoint.specs.Live.{World, Outcome, left, refuse, guardRows, threeGuards, doStep, step, world, worldIn}
+use Rattle.checkpoint.specs.Live.{World, Outcome, left, tells, refuse, guardRows, threeGuards, doStep, step, world, worldIn}
 use Rattle.checkpoint.specs.List.{Ready, advances, outcome, next, accepted, completes}
 use Rattle.checkpoint.specs.Burst.{mostBurst, countAllowed, burstFrom, burst}
 use Rattle.checkpoint.proofs.Copy.FitLaws.{desk-framed-is}
@@ -74,7 +74,7 @@ module _ (s m d : List ℕ) (o : Outcome) (h : step s m d ≡ o) where
         rw (a, h) (go (eqb c 0))
       where
         go : (b : Bool) → pick b o (left (Done c) (o .store) (o .image) (o .desk)) ≡ left (pick b (Refused e) (Done c)) (o .store) (o .image) (o .desk)
-        go true = ap (λ (x : Told). record { answer = x; store = o .store; image = o .image; desk = o .desk }) q
+        go true = ap (λ (x : Told). tells x (o .store) (o .image) (o .desk)) q
         go false = refl
 
     module _ (x : ℕ) (q : o .answer ≡ told (Done x)) where
@@ -111,23 +111,23 @@ module _ (s m d : List ℕ) (n : ℕ) (map counts : List ℕ) (z : Kept (world s
         record { ready = ready-of (world s m d) (z .steady) (omega arith); running = z .steady .running; inodes = z .inodes; read = r }
 
 -- ---- the step is x: it answered a, and left t and p
-module _ (s m d : List ℕ) (n : ℕ) (h : Desk) (g : Going (world s m d) n h) (x : Step) (is : stepOf s m d n ≡ x) (a : Answer) (t p : List ℕ) (f : left a s t p ≡ doStep s m d n x) where
-  stepped : step s m d ≡ left a s t p
+module _ (s m d : List ℕ) (n : ℕ) (h : Desk) (g : Going (world s m d) n h) (x : Step) (is : stepOf s m d n ≡ x) (a : Told) (t p : List ℕ) (f : tells a s t p ≡ doStep s m d n x) where
+  stepped : step s m d ≡ tells a s t p
   stepped = ready-step s m d (g .ready) (g .running) ∙ ap (λ (y : ℕ). doStep s m d y (stepOf s m d y)) (sym (g .inodes)) ∙ ap (doStep s m d n) is ∙ sym f
 
-  answered : told a ≡ doStep s m d n x .answer
+  answered : a ≡ doStep s m d n x .answer
   answered = ap (λ (o : Outcome). o .answer) f
 
   pub went-stops : (e : Refusal) → doStep s m d n x .answer ≡ told (Refused e) → (k c : ℕ) → burstFrom (suc k) c (world s m d) ≡ left (stoppedAt c e) s t p
-  went-stops e q k c = from-refused s m d (left a s t p) stepped k c e (answered ∙ q)
+  went-stops e q k c = from-refused s m d (tells a s t p) stepped k c e (answered ∙ q)
 
   module _ (y : ℕ) (q : doStep s m d n x .answer ≡ told (Done y)) (k c : ℕ) where
     pub went-last : headerOf t .complete ≡ isComplete → burstFrom (suc k) c (world s m d) ≡ left (Done (suc c)) s t p
-    went-last w = from-last s m d (left a s t p) stepped k c y (answered ∙ q) (eq-eqb (headerOf t .complete) isComplete w)
+    went-last w = from-last s m d (tells a s t p) stepped k c y (answered ∙ q) (eq-eqb (headerOf t .complete) isComplete w)
 
     module _ (w : headerOf t .complete ≡ notComplete) where
       pub went-on : burstFrom (suc k) c (world s m d) ≡ burstFrom k (suc c) (world s t p)
-      went-on = from-on s m d (left a s t p) stepped k c y (answered ∙ q) (ne-eqb (headerOf t .complete) isComplete (λ v. omega arith))
+      went-on = from-on s m d (tells a s t p) stepped k c y (answered ∙ q) (ne-eqb (headerOf t .complete) isComplete (λ v. omega arith))
 
       -- a step that is accepted, with none after it
       pub went-final : (e : Refusal) → step s t p ≡ refuse e s t p → burstFrom (suc k) c (world s m d) ≡ left (Done (suc c)) s t p

@@ -25,7 +25,7 @@ use Rattle.files.proofs.Lawful.{Apart, Each}
 use Rattle.checkpoint.specs.declared.Status.the-variants.{Is, NoStatus}
 use Rattle.checkpoint.specs.Fit.{deskFramed, isRunning, notesFit, bothFramed, allFramed}
 use Rattle.checkpoint.specs.Busy.{anyLocked, unlessBusy}
-use Rattle.checkpoint.specs.Live.{World, Outcome, left, refuse, threeGuards, storeAlone, decision, leavesIn, live, guarded, toldStatus, status, guardRows, startGuards, started, start}
+use Rattle.checkpoint.specs.Live.{World, Outcome, tells, left, refuse, threeGuards, storeAlone, decision, leavesIn, live, guarded, toldStatus, status, guardRows, startGuards, started, start}
 use Rattle.checkpoint.specs.List.{Ready, call, outcome, accepted}
 
 -- ---- the guards as a chain of tests; a says whether lengths and counts are those allowed
@@ -153,7 +153,7 @@ accepted-is c w = done-is w (decision c w)
 
 -- ---- the state question is answered as a call that does nothing would be
 abbrev pub stated : List ℕ → List ℕ → List ℕ → Outcome
-stated s m d = record { answer = toldStatus (Is (deskOf d .state) (deskOf d .locked) (deskOf d .steps)); store = s; image = m; desk = d }
+stated s m d = tells (toldStatus (Is (deskOf d .state) (deskOf d .locked) (deskOf d .steps))) s m d
 
 pub status-is : (s m d : List ℕ) → status s m d ≡ guarded (threeGuards s m d) s m d (stated s m d) .answer
 unfolding status

@@ -38,7 +38,7 @@ use Rattle.files.specs.Effect.{lookUp, read, create, write, shorten, link, unli
 use Rattle.files.specs.Plain.{leaves, plain, PlainOutcome}
 use Rattle.checkpoint.specs.Busy.{anyLocked, unlessBusy}
 use Rattle.checkpoint.specs.Notes.{cutEntries, clearMarks, setMarks}
-use Rattle.checkpoint.specs.Live.{World, Outcome, decision, leavesIn, live}
+use Rattle.checkpoint.specs.Live.{World, Outcome, tells, decision, leavesIn, live}
 use Rattle.checkpoint.specs.Table.{found, orZero, noBlock, noSlot, slotFor, inodeFor, lookUpTable, readTable, createTable, writeTable, shortenTable, linkTable, unlinkTable, renameTable}
 use Rattle.checkpoint.proofs.ConditionLaws.{firstOf, Gives, by-pick, by-found, by-absent, by-room, by-busy, by-three, by-store, by-none, give}
 
@@ -66,7 +66,7 @@ module _ (s : List ℕ) where
 -- "Look up and read take the store alone": their answer and store are the plain store's, and image and desk stay
 module _ (w : World) where
   abbrev alone : PlainOutcome → Outcome
-  alone o = record { answer = o .answer; store = o .store; image = w .image; desk = w .desk }
+  alone o = tells (o .answer) (o .store) (w .image) (w .desk)
 
   pub look-up-alone : (e : ℕ) (name : List ℕ) → live (lookUp e name) w ≡ alone (plain (lookUp e name) (w .store))
   unfolding live decision plain plainDecision locksAny cutEntries clearMarks setMarks

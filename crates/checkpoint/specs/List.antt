@@ -17,7 +17,7 @@ use Rattle.sound.specs.Test.{framedB, isSound}
 use Rattle.files.specs.Effect.{Call, Entry, placeIn, onPlanned, plainDecision}
 use Rattle.files.specs.Plain.{Received, got, plain}
 use Rattle.checkpoint.specs.Fit.{deskFramed, notesFit}
-use Rattle.checkpoint.specs.Live.{World, Outcome, worldIn, live, start, step, status}
+use Rattle.checkpoint.specs.Live.{World, Outcome, tells, worldIn, live, start, step, status}
 
 -- refusals 1, 2 and 3 do not come
 pub record Ready (w : World) : Type 0 where
@@ -44,7 +44,7 @@ onEvent starts file step question start = start
 unfoldable pub outcome : Event → World → Outcome
 outcome (call c) w = live c w
 outcome advances w = step (w .store) (w .image) (w .desk)
-outcome asks w = record { answer = status (w .store) (w .image) (w .desk); store = w .store; image = w .image; desk = w .desk }
+outcome asks w = tells (status (w .store) (w .image) (w .desk)) (w .store) (w .image) (w .desk)
 outcome starts w = start (w .store) (w .image) (w .desk)
 
 unfoldable pub next : Event → World → World

@@ -39,8 +39,11 @@ pub record Outcome : Type 0 where
   pub image : List ℕ
   pub desk : List ℕ
 
+abbrev pub tells : Told → List ℕ → List ℕ → List ℕ → Outcome
+tells t s m desk = record { answer = t; store = s; image = m; desk = desk }
+
 abbrev pub left : Answer → List ℕ → List ℕ → List ℕ → Outcome
-left a s m desk = record { answer = told a; store = s; image = m; desk = desk }
+left a s m desk = tells (told a) s m desk
 
 abbrev pub worldIn : Outcome → World
 worldIn o = world (o .store) (o .image) (o .desk)

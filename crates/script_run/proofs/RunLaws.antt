@@ -57,7 +57,7 @@ pub refused-reply : (a : Answer) (f : Refusal) (n : ℕ) → a ≡ Refused f →
 refused-reply a f n e h = rw (e, h, not-none f) refl
 
 -- ---- a step
-module _ (s m d m₂ d₂ : List ℕ) (a : Answer) (e : left a s m₂ d₂ ≡ (step s m d)) where
+module _ (s m d m₂ d₂ : List ℕ) (a : Answer) (e : left a s m₂ d₂ ≡ step s m d) where
   told-step : outcome advances (world s m d) ≡ left a s m₂ d₂
   unfolding outcome
   told-step = sym e

@@ -3,11 +3,10 @@ use Prim.Native.Nat.{ℕ}
 use mathlib.Core.Path.{_≡_, refl, sym, ap, ap₂, _∙_}
 use mathlib.Core.Bool.{true, true≢false}
 use mathlib.Core.List.{List, [], _∷_}
-use Rattle.answers.specs.declared.Answer.{Answer}
-use Rattle.answers.specs.Told.{Told, told}
+use Rattle.answers.specs.Told.{Told}
 use Rattle.files.specs.Effect.{Call, lookUp, read, create, write, shorten, link, unlink, rename}
 use Rattle.files.specs.Plain.{Received, got, PlainOutcome, plain}
-use Rattle.checkpoint.specs.Live.{World, Outcome, left, worldIn, storeAlone, live, outOf}
+use Rattle.checkpoint.specs.Live.{World, Outcome, tells, worldIn, storeAlone, live, outOf}
 use Rattle.checkpoint.specs.List.{call, advances, starts, outcome, run}
 use Rattle.checkpoint.specs.Burst.{Act, one, bursts, singles}
 use Rattle.checkpoint.proofs.TableLaws.{look-up-alone, read-alone}
@@ -23,12 +22,12 @@ pub record AsDefined (x : Act) (w : World) (a : Received) (v : World) : Type 0 w
 
 module _ (w : World) where
   -- what is left and told is the definition's
-  by-outcome : (x : Act) (r : Answer) (v : World) (out : List ℕ) → left r (v .store) (v .image) (v .desk) ≡ outcomeOf x w → out ≡ outAfter x w → AsDefined x w (got (told r) out) v
-  by-outcome x r v out h k = record { world = ap worldIn h; got = ap₂ got (ap (λ (o : Outcome). o .answer) h) k }
+  by-outcome : (x : Act) (t : Told) (v : World) (out : List ℕ) → tells t (v .store) (v .image) (v .desk) ≡ outcomeOf x w → out ≡ outAfter x w → AsDefined x w (got t out) v
+  by-outcome x t v out h k = record { world = ap worldIn h; got = ap₂ got (ap (λ (o : Outcome). o .answer) h) k }
 
   -- a call on the store alone leaves what the plain store does
   abbrev beside : PlainOutcome → Outcome
-  beside o = record { answer = o .answer; store = o .store; image = w .image; desk = w .desk }
+  beside o = tells (o .answer) (o .store) (w .image) (w .desk)
 
   alone : (c : Call) → storeAlone c ≡ true → (live c w ≡ beside (plain c (w .store))) × (outOf c w ≡ plain c (w .store) .out)
   alone (lookUp d name) h = (look-up-alone w d name, look-up-out w d name)
@@ -42,14 +41,14 @@ module _ (w : World) where
 
 pub did : {x : Act} {w v : World} {a : Received} → Did x w a v → AsDefined x w a v
 unfolding outcome
-did {w = w} (on-store {c} {out = out} r n h) =
+did {w = w} (on-store {c} {out = out} t n h) =
     let l = alone w c n in
-    by-outcome w (one (call c)) r w out (ap (beside w) h ∙ sym (l .0)) (ap (λ (o : PlainOutcome). o .out) h ∙ sym (l .1))
-did {w = w} {v = v} (on-three {c} r n h) = by-outcome w (one (call c)) r v [] h (sym (no-out w c n))
-did {w = w} {v = v} (started r h) = by-outcome w (one starts) r v [] h refl
-did {w = w} {v = v} (stepped r h) = by-outcome w (one advances) r v [] h refl
-did {w = w} (asked r h) = record { world = refl; got = ap (λ (t : Told). got t []) h }
-did {w = w} {v = v} (stepped-many {k} r h) = by-outcome w (bursts k) r v [] h refl
+    by-outcome w (one (call c)) t w out (ap (beside w) h ∙ sym (l .0)) (ap (λ (o : PlainOutcome). o .out) h ∙ sym (l .1))
+did {w = w} {v = v} (on-three {c} t n h) = by-outcome w (one (call c)) t v [] h (sym (no-out w c n))
+did {w = w} {v = v} (started t h) = by-outcome w (one starts) t v [] h refl
+did {w = w} {v = v} (stepped t h) = by-outcome w (one advances) t v [] h refl
+did {w = w} (asked t h) = record { world = refl; got = ap (λ (x : Told). got x []) h }
+did {w = w} {v = v} (stepped-many {k} t h) = by-outcome w (bursts k) t v [] h refl
 
 pub record AllDefined (xs : List Act) (w : World) (rs : List Received) (u : World) : Type 0 where
   pub world : u ≡ run (singles xs w) w
