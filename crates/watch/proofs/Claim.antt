@@ -20,7 +20,7 @@ use Rattle.checkpoint.proofs.BurstLaws.{burst-world}
 use Rattle.checkpoint.proofs.BurstTables.{Ends, lengths, number, first, counts, ends}
 use Rattle.checkpoint.proofs.OfEvents as events
 use Rattle.checkpoint.proofs.OfEvents.{isBusy, OfEvents}
-use Rattle.checkpoint.proofs.Demands as demands
+use Rattle.checkpoint.proofs.Demands.{open-start, lists}
 use Rattle.watch.specs.Received.{received, countTold, stepsTold, heard, replies}
 use Rattle.watch.specs.Demand.{Demand, Demands}
 use Rattle.watch.specs.Made.{Did}
@@ -107,7 +107,7 @@ meets xs w ds =
     }
 
 pub demands : Demands
-demands = record { opens = demands.open-start; lists = λ v a xs. meets xs (next starts v) (demands.lists v a) }
+demands = record { opens = open-start; lists = λ v a xs. meets xs (next starts v) (lists v a) }
 
 -- and so does a list of calls on the code
 delivers : {xs : List Act} {w u : World} {rs : List Received} → AllDefined xs w rs u → ((fs : List Event) → OfEvents fs w) → Delivered xs w rs u
@@ -148,20 +148,20 @@ module _ {v w : World} {a : Received} (s : Did (one starts) v a w) where
 
   after-start : a .answer .number ≡ 0 → (es : List Event) → OfEvents es w
   unfolding next
-  after-start h es = rw (did s .world) (demands.lists v (eq-eqb (outcome starts v .answer .number) 0 (sym number-is ∙ h)) es)
+  after-start h es = rw (did s .world) (lists v (eq-eqb (outcome starts v .answer .number) 0 (sym number-is ∙ h)) es)
 
   zero-if : accepted starts v ≡ true → a .answer .number ≡ 0
   zero-if h = number-is ∙ eqb-true (outcome starts v .answer .number) 0 h
 
   store-stays : w .store ≡ v .store
   unfolding next
-  store-stays = ap (λ (x : World). x .store) (did s .world) ∙ demands.open-start v .store
+  store-stays = ap (λ (x : World). x .store) (did s .world) ∙ open-start v .store
 
 pub claim : Claim
 claim = record {
   lists = λ s h m. delivers (made m) (after-start s h);
   as-steps = λ {k} {w} b. rw (did b .world, did b .got) (is-steps k w);
   alike = λ {w} {xs = xs} m n. made n .world ∙ ap (λ (es : List Event). run es w) (singles-ones (singles xs w) w) ∙ sym (made m .world);
-  opens = λ {v = v} s r i m. zero-if s (demands.open-start v .accepts r i m);
+  opens = λ {v = v} s r i m. zero-if s (open-start v .accepts r i m);
   store = λ s. store-stays s;
 }

@@ -58,7 +58,7 @@ heard (x ∷ xs) (a ∷ rs) = let cs = heard xs rs in onAct x (λ c. pick (refus
 unfoldable pub replies : List Act → List Received → List Received
 replies [] rs = []
 replies (x ∷ xs) [] = []
-replies (x ∷ xs) (a ∷ rs) = let as = replies xs rs in onAct x (λ c. pick (refusedWith (refusalNumber Busy) a) as (a ∷ as)) as as as (λ k. as)
+replies (x ∷ xs) (a ∷ rs) = let qs = replies xs rs in onAct x (λ c. pick (refusedWith (refusalNumber Busy) a) qs (a ∷ qs)) qs qs qs (λ k. qs)
 
 -- ---- the steps that a list asks for
 abbrev pub stepsAsked : List Act → ℕ
