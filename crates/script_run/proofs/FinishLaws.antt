@@ -29,7 +29,7 @@ use Rattle.checkpoint.specs.Fit.{isRunning, imageBlocks}
 use Rattle.checkpoint.specs.Live.{World, Outcome, refuse, threeGuards, start, step}
 use Rattle.checkpoint.specs.List.{Ready, Event, call, advances, asks, starts, outcome, next, accepted, completes}
 use Rattle.checkpoint.proofs.RefusedLaws.{start-refused}
-use Rattle.checkpoint.proofs.Run.Going.{Running, incomplete}
+use Rattle.checkpoint.proofs.Run.Going.{Running, incomplete, next-is}
 use Rattle.checkpoint.proofs.Run.Turned.{Stepped, on, ends, halts, stepped}
 use Rattle.checkpoint.proofs.Run.Calls.{call-goes, asks-goes, starts-goes, asks-same}
 use Rattle.checkpoint.proofs.Run.Starts.{opens, opened-runs}
