@@ -3,16 +3,16 @@ use mathlib.Core.Path.{_≡_, sym, _∙_}
 use native.Mathlib.Omega.{arith}
 use borrow.Author.Needs.{needs}
 use borrow.Author.Tests.{eq-eqb}
-use Rattle.calendar.specs.Gregorian.{firstYear, months, monthStart}
+use Rattle.calendar.specs.Gregorian.{firstYear, monthStart}
 use Rattle.calendar.proofs.MonthLaws.{length-most, start-most, start-first, start-next}
-use Rattle.monthstarts.proofs.main.Statement.{statement}
-use Rattle.monthstarts.proofs.main.Tie as tie
+use Rattle.monthstarts.proofs.print_starts.Statement.{statement}
+use Rattle.monthstarts.proofs.print_starts.Tie as tie
 
 abbrev Inv-loop : tie.InvT-loop
-Inv-loop day₀ k₀ day k = (k ≤ months) × (day ≡ monthStart k)
+Inv-loop count day₀ k₀ day k = (k ≤ count) × (day ≡ monthStart k)
 
 abbrev μ-loop : tie.MeasureT-loop
-μ-loop day₀ k₀ day k = months - k
+μ-loop count day₀ k₀ day k = count - k
 
 loop-holds : tie.Need-loop-holds Inv-loop μ-loop
 loop-holds c = (omega arith, start-first)
@@ -22,7 +22,7 @@ month-start-requires c κs = search needs
 
 -- the day by the rule is the table's
 expect-requires : tie.Need-expect-requires Inv-loop μ-loop
-expect-requires c κs = eq-eqb _ _ (c .before .before .loop .inv .1 ∙ sym (c .month-start .ensures))
+expect-requires c κs = eq-eqb _ _ (c .before .before .before .loop .inv .1 ∙ sym (c .month-start .ensures))
 
 print-line-requires : tie.Need-print-line-requires Inv-loop μ-loop
 print-line-requires c κs = search needs
@@ -38,8 +38,8 @@ month-length-requires c κs = search needs
 
 add-day : tie.Need-add-day Inv-loop μ-loop
 add-day c =
-    let k = c .before .before .before .before .before .loop .k in
-    let e = c .before .before .before .before .before .loop .inv .1 in
+    let k = c .before .before .before .before .loop .k in
+    let e = c .before .before .before .before .loop .inv .1 in
     let f = c .month-length .ensures in
     let l = length-most (firstYear + k / 12) (k % 12 + 1) in
     let s = start-most k in
@@ -53,8 +53,8 @@ loop-less c = search needs
 
 loop-again : tie.Need-loop-again Inv-loop μ-loop
 loop-again c =
-    let k = c .before .before .before .before .before .loop .k in
-    let e = c .before .before .before .before .before .loop .inv .1 in
+    let k = c .before .before .before .before .loop .k in
+    let e = c .before .before .before .before .loop .inv .1 in
     let f = c .month-length .ensures in
     let n = start-next k in
     (omega arith, omega arith)
@@ -62,8 +62,8 @@ loop-again c =
 returns : tie.Need-returns Inv-loop μ-loop
 returns c = search needs
 
-pub main-spec : {M : Type 1} → statement M
-main-spec =
+pub print-starts-spec : {M : Type 1} → statement M
+print-starts-spec =
     tie.close
     (tie.spec
     Inv-loop
