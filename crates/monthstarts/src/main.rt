@@ -12,7 +12,7 @@ fn print_line(day: usize) {
     io::write_all(STDOUT_FILENO, b"\n");
 }
 
-// Each month begins so many days after the one before it as that one has; where the table has the month,
+// Each month begins as many days after the one before it as that one has; where the table has the month,
 // it has that day. A thousand years at most.
 fn print_starts(count: usize)
     requires { ⌜ count ≤ 12000 ⌝ }
