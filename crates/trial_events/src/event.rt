@@ -191,7 +191,7 @@ fn draw_inode(b: u64, wide: bool, n: usize) -> usize
 }
 
 fn names(wide: bool) -> usize
-    ensures { λ r. ⌜ 1 ≤ r ⌝ }
+    ensures { λ r. ⌜ (1 ≤ r) × (r ≤ 64) ⌝ }
 {
     if wide { NAMES } else { FEW_NAMES }
 }
@@ -289,8 +289,7 @@ pub fn spell(k: usize, out: &mut [u8]) -> usize
         return 1;
     }
     let j = k % NAMES;
-    let a = if k < NAMES { b'a' } else { b'A' };
-    octets::put_8(&mut *out, 0, a + (j / 8) as u8);
-    octets::put_8(&mut *out, 1, b'a' + (j % 8) as u8);
+    octets::put_8(&mut *out, 0, (97 + j / 8 - 32 * (k / NAMES)) as u8);
+    octets::put_8(&mut *out, 1, (97 + j % 8) as u8);
     if j % 8 == 0 { 1 } else { 2 }
 }
