@@ -30,7 +30,7 @@ use Rattle.preservation.proofs.StoreLaws.{sound-store, kind-size}
 use Rattle.preservation.proofs.SlotPlaceLaws.{found-here}
 use Rattle.answers.specs.declared.Answer.the-variants.{Done, Refused}
 use Rattle.answers.specs.declared.Refusal.the-variants.{BadTurn}
-use Rattle.answers.specs.Told.{Told, told}
+use Rattle.answers.specs.Told.{Told}
 use Rattle.answers.specs.Order.{Row}
 use Rattle.format.specs.Format.{LaidOut, layOutStore, layOutDesk}
 use Rattle.files.specs.Effect.{Call, lookUp, read, create, write, shorten, link, unlink, rename}

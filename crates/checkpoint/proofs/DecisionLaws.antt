@@ -13,7 +13,6 @@ use Rattle.desk.proofs.LockLaws.{locks-none}
 use Rattle.sound.specs.Sound.{inodesIn, blocksIn}
 use Rattle.sound.specs.declared.Form.the-variants.{Store}
 use Rattle.sound.specs.Test.{framedB, isSound}
-use Rattle.answers.specs.declared.Answer.the-variants.{Done, Refused}
 use Rattle.answers.specs.declared.Refusal.{Refusal}
 use Rattle.answers.specs.declared.Refusal.the-variants.{BadBuffer, UnsoundStore, BadDesk, Busy}
 use Rattle.answers.proofs.RefusalLaws.{not-none}
@@ -25,7 +24,7 @@ use Rattle.files.proofs.Lawful.{Apart, Each}
 use Rattle.checkpoint.specs.declared.Status.the-variants.{Is, NoStatus}
 use Rattle.checkpoint.specs.Fit.{deskFramed, isRunning, notesFit, bothFramed, allFramed}
 use Rattle.checkpoint.specs.Busy.{anyLocked, unlessBusy}
-use Rattle.checkpoint.specs.Live.{World, Outcome, tells, left, refuse, threeGuards, storeAlone, decision, leavesIn, live, guarded, toldStatus, status, guardRows, startGuards, started, start}
+use Rattle.checkpoint.specs.Live.{World, Outcome, tells, refuse, threeGuards, storeAlone, decision, leavesIn, live, guarded, toldStatus, status, guardRows, startGuards, started, start}
 use Rattle.checkpoint.specs.List.{Ready, call, outcome, accepted}
 
 -- ---- the guards as a chain of tests; a says whether lengths and counts are those allowed

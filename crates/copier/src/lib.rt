@@ -54,7 +54,7 @@ fn start_desk(d: &mut [u8], h: Desk, n: usize, b: usize)
     h.start(b as u16).write(&mut *d);
 }
 
-// 15, or the start itself, beside whatever store of n inodes.
+// Refuses with 15, or starts the copy: of the store only its count of inodes, n, plays a part.
 fn begin(h: Desk, n: usize, m: &mut [u8], d: &mut [u8]) -> Answer
     requires { ⌜ (h ≡ deskOf (now d)) × (n ≤ mostInodes) × (imageAllowed n (length (now m)) ≡ true) × (deskLength n ≤ length (now d)) ⌝ }
     ensures { λ r. ⌜ ((s : List ℕ) → n ≡ inodesIn s → left r s (now (m .exit)) (now (d .exit)) ≡ started s (now (m .entry)) (now (d .entry))) ⌝ }

@@ -1,6 +1,6 @@
 -- How a call over the three buffers returns: the guards stop it, or let it through to what follows. s is the store, m the image, d the desk.
 use Prim.Native.Nat.{ℕ}
-use mathlib.Core.Path.{_≡_, refl, ap}
+use mathlib.Core.Path.{_≡_, refl}
 use mathlib.Core.Bool.{false}
 use mathlib.Core.List.{List}
 use Rattle.desk.specs.declared.Desk.{Desk}

@@ -30,19 +30,20 @@ pub const STEP: usize = 11;
 
 pub const BURST: usize = 12;
 
-// Names by number: so many, then each with a capital letter, and after them one that no entry may have.
+// Names by number: the first 64 in small letters, the next 64 the same with a capital letter, and then one that no entry may have.
 const NAMES: usize = 64;
 
 const SPELLINGS: usize = 2 * NAMES;
 
 const FEW_NAMES: usize = 4;
 
-// At most so many are written, less one: a few more than a file may have. A read's out-buffer.
+// A write has fewer bytes than this, which is a few more than a file may have.
 const MOST_BYTES: usize = 2760;
 
+// The length of a read's out-buffer.
 pub const OUT_BYTES: usize = 64;
 
-// A burst makes 1 to so many steps.
+// The most steps of a burst.
 pub const MOST_BURST: usize = 64;
 
 // Counts of inodes, blocks and image blocks; whether the list fills a directory; how many directories it makes before all else.

@@ -1,6 +1,6 @@
 -- What a refused call leaves, on any world: everything as it was, save that 16, which comes to a step, or to a burst by its first step, stops the copy.
 use Prim.Native.Nat.{ℕ, _≤_}
-use mathlib.Core.Path.{_≡_, refl, ap, _∙_}
+use mathlib.Core.Path.{_≡_, refl, ap}
 use mathlib.Core.Bool.{Bool, true, not, _&&_}
 use mathlib.Core.List.{List, [], _∷_, _++_}
 use mathlib.Core.Logic.{_⊎_, inl, inr}
@@ -20,7 +20,7 @@ use Rattle.answers.specs.Told.{Told}
 use Rattle.answers.specs.Order.{Row}
 use Rattle.files.specs.Effect.{lookUp, read, create, write, shorten, link, unlink, rename}
 use Rattle.checkpoint.specs.Fit.{deskFramed}
-use Rattle.checkpoint.specs.Live.{World, Outcome, live, start, step, world}
+use Rattle.checkpoint.specs.Live.{World, Outcome, step, world}
 use Rattle.checkpoint.specs.Table.{liveRows, lookUpTable, readTable, createTable, writeTable, shortenTable, linkTable, unlinkTable, renameTable, startTable, stepTable}
 use Rattle.checkpoint.specs.List.{call, advances, asks, starts, outcome, next, refusalOf}
 use Rattle.checkpoint.specs.Burst.{burst, Act, one, bursts}

@@ -31,7 +31,7 @@ use Rattle.checkpoint.proofs.Run.Calls.{asks-same, start-busy}
 use Rattle.checkpoint.proofs.Run.Rests.{idle, step-idle}
 use Rattle.checkpoint.proofs.Run.Ends.{finals, halted, completed}
 use Rattle.checkpoint.proofs.Run.Results.{asked}
-use Rattle.checkpoint.proofs.Run.Lists.{Going, runs, rests, fit, counted, start-anew, start-taken, going-next, going-run}
+use Rattle.checkpoint.proofs.Run.Lists.{Going, runs, rests, counted, start-anew, start-taken, going-next, going-run}
 
 -- ---- a call writes marks alone
 module _ (d : List ℕ) (n : ℕ) where

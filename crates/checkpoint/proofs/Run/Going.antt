@@ -17,7 +17,7 @@ use Rattle.sound.specs.declared.Form.the-variants.{Store}
 use Rattle.copy_theory.specs.View.{View}
 use Rattle.copy_theory.specs.Holds.{Holds}
 use Rattle.checkpoint.specs.Fit.{isRunning, imageAllowed}
-use Rattle.checkpoint.specs.Copier.{Step, lock, stepOf}
+use Rattle.checkpoint.specs.Copier.{Step, stepOf}
 use Rattle.checkpoint.specs.Live.{World, Outcome, guarded, doStep, step, threeGuards, start, started}
 use Rattle.checkpoint.specs.List.{Ready, Event, advances, outcome, next}
 use Rattle.checkpoint.proofs.DecisionLaws.{three-is, start-is}

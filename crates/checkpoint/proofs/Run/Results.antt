@@ -1,12 +1,11 @@
 -- What an event answers at any moment of a list: a result, a refusal that changes nothing, or 16. n and b are the counts of inodes and image blocks.
 use Prim.Native.Nat.{ℕ}
-use mathlib.Core.Path.{_≡_, refl, sym, ap, _∙_, subst}
+use mathlib.Core.Path.{_≡_, sym, ap, _∙_, subst}
 use mathlib.Core.Logic.{_≢_}
 use mathlib.Core.Bool.{true}
 use native.Mathlib.Omega.{arith}
 use native.Mathlib.Decide.{ℕ-discrete}
 use Rattle.desk.specs.Desk.{deskOf}
-use Rattle.answers.specs.declared.Refusal.{Refusal}
 use Rattle.answers.specs.declared.Refusal.the-variants.{BadBuffer, UnsoundStore, BadDesk, Busy, WrongState, ImageFull}
 use Rattle.answers.specs.Refusal.{refusalNumber}
 use Rattle.answers.specs.declared.Answer.the-variants.{Done, Refused}
