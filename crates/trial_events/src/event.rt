@@ -37,8 +37,23 @@ const SPELLINGS: usize = 2 * NAMES;
 
 const FEW_NAMES: usize = 4;
 
+// The largest store of a list has 8 inodes and 59 blocks, and the largest image 352 blocks: their slots, and lengths in bytes.
+const MOST_INODES: usize = 8;
+
+const MOST_BLOCKS: usize = 59;
+
+const MOST_IMAGE_BLOCKS: usize = 352;
+
+pub const SLOTS: usize = 48 * MOST_INODES;
+
+pub const STORE_BYTES: usize = 16 + 32 * MOST_INODES + 64 * MOST_BLOCKS;
+
+pub const IMAGE_BYTES: usize = 16 + 32 * MOST_INODES + 64 * MOST_IMAGE_BLOCKS;
+
+pub const DESK_BYTES: usize = 16 + 9 * MOST_INODES;
+
 // A write has fewer bytes than this, which is a few more than a file may have.
-const MOST_BYTES: usize = 2760;
+pub const MOST_BYTES: usize = 2760;
 
 // The length of a read's out-buffer.
 pub const OUT_BYTES: usize = 64;
