@@ -70,7 +70,8 @@ typedef char honecerise_size_has_64_bits[sizeof(honecerise_size) == 8 ? 1 : -1];
 #define HONECERISE_MAX_INODES     256u /* a store, its image and its desk: 1 to 256             */
 #define HONECERISE_MAX_BLOCKS    1024u /* of a store: 1 to 1,024                                */
 #define HONECERISE_MAX_IMAGE     4096u /* blocks of an image: 1 to 4,096                        */
-#define HONECERISE_MAX_NAME        14u /* bytes of a name: 1 to 14, none 0 or '/', not . or ..; A to Z and a to z are alike  */
+#define HONECERISE_MAX_NAME        14u /* bytes of a name: 1 to 14, none 0 or '/', not . or ..;
+                                          A to Z and a to z are alike                           */
 #define HONECERISE_MAX_FILE      2752u /* bytes of a file                                       */
 #define HONECERISE_MAX_SLOTS       48u /* entries of a directory                                */
 #define HONECERISE_MOST_BURST      64u /* steps of a burst: 1 to 64                             */
@@ -131,7 +132,8 @@ enum honecerise_refusal {
                                       that a report goes to is shorter than the list its times come
                                       from; or a list of copies or terms is too long, a term has no
                                       last day, or there is no room for a byte a copy                 */
-    HONECERISE_UNSOUND_STORE =  2, /* the store is not sound: something else wrote to it              */
+    HONECERISE_UNSOUND_STORE =  2, /* the store is not sound: something else wrote to it, or it is from
+                                      before and has two spellings of a name in a directory           */
     HONECERISE_BAD_DESK      =  3, /* the desk breaks its layout or is of another inode count; or,
                                       while a copy runs, the image's length or counts are not the
                                       desk's, its root is not 1, its byte 8 is not 0, an address is
@@ -350,10 +352,10 @@ int32_t honecerise_match_laps(const uint32_t *watch, honecerise_size watch_count
  * Takes no store, and deletes nothing: it says which of a case's finished images are kept on the day
  * asked, so it can be asked before anything goes, and before new terms are applied.
  *
- * A date is one number, HONECERISE_DATE(2024, 2, 29) or 20240229; from 2050 on every date is refused.
- * The copies are dated in any order. Terms are their first and last days, both included, one after the
- * other: term_days is twice their number. Terms rise and share no day; one may begin the day after
- * another ends.
+ * A date is one number, HONECERISE_DATE(2024, 2, 29) or 20240229; every date after 2049 is refused
+ * with 23, a term's too. The copies are dated in any order. Terms are their first and last days, both
+ * included, one after the other: term_days is twice their number. Terms rise and share no day; one may
+ * begin the day after another ends.
  *
  * A copy aged 0 to 13 days on the day asked is kept. An older one that lies in a term is kept until 56
  * days after the term's last day, that day included, if it is the last of its Monday-to-Sunday week

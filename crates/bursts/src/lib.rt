@@ -7,8 +7,7 @@ ghost use Prim.Native.Nat.{_≤_};
 ghost use Rattle.desk.specs.Desk.{deskOf};
 ghost use Rattle.sound.specs.Sound.{inodesIn};
 ghost use Rattle.checkpoint.specs.Fit.{isRunning};
-ghost use Rattle.checkpoint.specs.Live.{left};
-ghost use Rattle.checkpoint.specs.Shown.{world, shown};
+ghost use Rattle.checkpoint.specs.Live.{left, world};
 ghost use Rattle.checkpoint.specs.List.{Ready};
 ghost use Rattle.checkpoint.specs.Burst.{mostBurst, countAllowed, burstFrom, burst};
 ghost use Rattle.bursts.specs.Turn.{stoppedAt, Kept, Took};
@@ -106,7 +105,7 @@ fn count_allowed(count: usize) -> bool
 }
 
 pub fn burst(store: &[u8], image: &mut [u8], desk: &mut [u8], count: usize) -> Answer
-    ensures { λ r. ⌜ shown (left r (now (store .entry)) (now (image .exit)) (now (desk .exit))) ≡ shown (burst count (world (now (store .entry)) (now (image .entry)) (now (desk .entry)))) ⌝ }
+    ensures { λ r. ⌜ left r (now (store .entry)) (now (image .exit)) (now (desk .exit)) ≡ burst count (world (now (store .entry)) (now (image .entry)) (now (desk .entry))) ⌝ }
 {
     if !both_framed(store, &*desk) {
         return Answer::Refused(Refusal::BadBuffer);

@@ -8,7 +8,7 @@ ghost use Rattle.content.specs.Plan.{readPlan, writePlan, shortenPlan};
 ghost use Rattle.entries.specs.Plan.{lookUpPlan, createPlan, linkPlan, unlinkPlan, renamePlan};
 ghost use Rattle.files.specs.Guard.{guardOf};
 ghost use Rattle.files.specs.Effect.{lookUp, read, create, write, shorten, link, unlink, rename, doLookUp, doRead, doCreate, doWrite, doShorten, doLink, doUnlink, doRename};
-ghost use Rattle.files.specs.Plain.{plainLeft, plainShown, leaves, plain};
+ghost use Rattle.files.specs.Plain.{plainLeft, leaves, plain};
 use crate::Guard;
 use answers::Answer;
 use answers::Refusal;
@@ -49,7 +49,7 @@ fn do_look_up(s: &[u8], n: usize, d: usize, name: &[u8]) -> Answer
 }
 
 pub fn look_up(store: &[u8], dir: usize, name: &[u8]) -> Answer
-    ensures { λ r. ⌜ plainShown (plainLeft r (now (store .entry)) []) ≡ plainShown (plain (lookUp dir (now (name .entry))) (now (store .entry))) ⌝ }
+    ensures { λ r. ⌜ plainLeft r (now (store .entry)) [] ≡ plain (lookUp dir (now (name .entry))) (now (store .entry)) ⌝ }
 {
     match guard(store) {
         Guard::Pass(n, _) => do_look_up(store, n, dir, name),
@@ -72,7 +72,7 @@ fn do_read(s: &[u8], n: usize, i: usize, o: usize, out: &mut [u8]) -> Answer
 }
 
 pub fn read(store: &[u8], inode: usize, offset: usize, out: &mut [u8]) -> Answer
-    ensures { λ r. ⌜ plainShown (plainLeft r (now (store .entry)) (now (out .exit))) ≡ plainShown (plain (read inode offset (now (out .entry))) (now (store .entry))) ⌝ }
+    ensures { λ r. ⌜ plainLeft r (now (store .entry)) (now (out .exit)) ≡ plain (read inode offset (now (out .entry))) (now (store .entry)) ⌝ }
 {
     match guard(store) {
         Guard::Pass(n, _) => do_read(store, n, inode, offset, &mut *out),
@@ -95,7 +95,7 @@ fn do_create(s: &mut [u8], n: usize, b: usize, d: usize, name: &[u8], kind: Kind
 }
 
 pub fn create(store: &mut [u8], dir: usize, name: &[u8], kind: Kind) -> Answer
-    ensures { λ r. ⌜ plainShown (plainLeft r (now (store .exit)) []) ≡ plainShown (plain (create dir (now (name .entry)) kind) (now (store .entry))) ⌝ }
+    ensures { λ r. ⌜ plainLeft r (now (store .exit)) [] ≡ plain (create dir (now (name .entry)) kind) (now (store .entry)) ⌝ }
 {
     match guard(store) {
         Guard::Pass(n, b) => do_create(&mut *store, n, b, dir, name, kind),
@@ -118,7 +118,7 @@ fn do_write(s: &mut [u8], n: usize, b: usize, i: usize, o: usize, xs: &[u8]) -> 
 }
 
 pub fn write(store: &mut [u8], inode: usize, offset: usize, bytes: &[u8]) -> Answer
-    ensures { λ r. ⌜ plainShown (plainLeft r (now (store .exit)) []) ≡ plainShown (plain (write inode offset (now (bytes .entry))) (now (store .entry))) ⌝ }
+    ensures { λ r. ⌜ plainLeft r (now (store .exit)) [] ≡ plain (write inode offset (now (bytes .entry))) (now (store .entry)) ⌝ }
 {
     match guard(store) {
         Guard::Pass(n, b) => do_write(&mut *store, n, b, inode, offset, bytes),
@@ -141,7 +141,7 @@ fn do_shorten(s: &mut [u8], n: usize, i: usize, z: usize) -> Answer
 }
 
 pub fn shorten(store: &mut [u8], inode: usize, size: usize) -> Answer
-    ensures { λ r. ⌜ plainShown (plainLeft r (now (store .exit)) []) ≡ plainShown (plain (shorten inode size) (now (store .entry))) ⌝ }
+    ensures { λ r. ⌜ plainLeft r (now (store .exit)) [] ≡ plain (shorten inode size) (now (store .entry)) ⌝ }
 {
     match guard(store) {
         Guard::Pass(n, _) => do_shorten(&mut *store, n, inode, size),
@@ -164,7 +164,7 @@ fn do_link(s: &mut [u8], n: usize, b: usize, d: usize, name: &[u8], i: usize) ->
 }
 
 pub fn link(store: &mut [u8], dir: usize, name: &[u8], inode: usize) -> Answer
-    ensures { λ r. ⌜ plainShown (plainLeft r (now (store .exit)) []) ≡ plainShown (plain (link dir (now (name .entry)) inode) (now (store .entry))) ⌝ }
+    ensures { λ r. ⌜ plainLeft r (now (store .exit)) [] ≡ plain (link dir (now (name .entry)) inode) (now (store .entry)) ⌝ }
 {
     match guard(store) {
         Guard::Pass(n, b) => do_link(&mut *store, n, b, dir, name, inode),
@@ -187,7 +187,7 @@ fn do_unlink(s: &mut [u8], n: usize, d: usize, name: &[u8]) -> Answer
 }
 
 pub fn unlink(store: &mut [u8], dir: usize, name: &[u8]) -> Answer
-    ensures { λ r. ⌜ plainShown (plainLeft r (now (store .exit)) []) ≡ plainShown (plain (unlink dir (now (name .entry))) (now (store .entry))) ⌝ }
+    ensures { λ r. ⌜ plainLeft r (now (store .exit)) [] ≡ plain (unlink dir (now (name .entry))) (now (store .entry)) ⌝ }
 {
     match guard(store) {
         Guard::Pass(n, _) => do_unlink(&mut *store, n, dir, name),
@@ -226,7 +226,7 @@ fn do_rename(
 }
 
 pub fn rename(store: &mut [u8], dir: usize, name: &[u8], to_dir: usize, to_name: &[u8]) -> Answer
-    ensures { λ r. ⌜ plainShown (plainLeft r (now (store .exit)) []) ≡ plainShown (plain (rename dir (now (name .entry)) «to_dir» (now («to_name» .entry))) (now (store .entry))) ⌝ }
+    ensures { λ r. ⌜ plainLeft r (now (store .exit)) [] ≡ plain (rename dir (now (name .entry)) «to_dir» (now («to_name» .entry))) (now (store .entry)) ⌝ }
 {
     match guard(store) {
         Guard::Pass(n, b) => do_rename(&mut *store, n, b, dir, name, to_dir, to_name),

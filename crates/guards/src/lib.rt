@@ -6,8 +6,7 @@ ghost use mathlib.Core.Bool.{true};
 ghost use Rattle.desk.specs.Desk.{deskOf};
 ghost use Rattle.files.specs.Guard.{guardBy};
 ghost use Rattle.checkpoint.specs.Fit.{bothFramed};
-ghost use Rattle.checkpoint.specs.Live.{guardRows, threeGuards, startGuards, status};
-ghost use Rattle.checkpoint.specs.Shown.{toldStatus};
+ghost use Rattle.checkpoint.specs.Live.{guardRows, threeGuards, startGuards, status, toldStatus};
 ghost use Rattle.guards.specs.Handed.{handed};
 use answers::Refusal;
 use checkpoint::Status;
@@ -74,7 +73,7 @@ pub fn start_guards(store: &[u8], image: &[u8], desk: &[u8]) -> Watched
 
 // The state question.
 pub fn state(store: &[u8], image: &[u8], desk: &[u8]) -> Status
-    ensures { λ r. ⌜ toldStatus r ≡ toldStatus (status (now (store .entry)) (now (image .entry)) (now (desk .entry))) ⌝ }
+    ensures { λ r. ⌜ toldStatus r ≡ status (now (store .entry)) (now (image .entry)) (now (desk .entry)) ⌝ }
 {
     match three_guards(store, image, desk) {
         Watched::Open(_, _, h) => Status::Is(h.state, h.locked, h.steps),

@@ -5,7 +5,7 @@ ghost use lib.ListN.{length};
 ghost use Rattle.layout.specs.Sizes.{headerBytes};
 ghost use Rattle.desk.specs.Sizes.{deskHeaderBytes};
 ghost use Rattle.text.specs.Put.{Put};
-ghost use Rattle.checkpoint.specs.Shown.{world};
+ghost use Rattle.checkpoint.specs.Live.{world};
 ghost use Rattle.script_listing.specs.Listing.{mostPrinted};
 ghost use Rattle.script_run.specs.Reply.{worldAfter};
 ghost use Rattle.script_run.specs.Script.{printed, FinishesSound, scriptInodes};

@@ -9,7 +9,7 @@ ghost use Rattle.layout.specs.Sizes.{headerBytes, isComplete};
 ghost use Rattle.layout.specs.Header.{headerOf};
 ghost use Rattle.desk.specs.Sizes.{deskHeaderBytes};
 ghost use Rattle.desk.specs.Desk.{deskOf};
-ghost use Rattle.checkpoint.specs.Shown.{world};
+ghost use Rattle.checkpoint.specs.Live.{world};
 ghost use Rattle.script_run.specs.Reply.{ran, replyTo, stepped, lineRuns, Turned};
 use crate::Reply;
 use crate::Turn;

@@ -27,7 +27,8 @@ use Rattle.octets.specs.Octets.{splice}
 use Rattle.calendar.specs.Date.{dateOf, dayNumber}
 use Rattle.keeping.specs.Call as keeping
 use Rattle.keeping.specs.Call.{inDays, keptCount, flags, keepTable, keepCall}
-use Rattle.watch.specs.Made.{Received, Did}
+use Rattle.files.specs.Plain.{Received}
+use Rattle.watch.specs.Made.{Did}
 use Rattle.watch.specs.Answered.{ByTable, Answers, result, holds, passes, LayAnswers, LapsAnswers, KeepAnswers, FirstDemand}
 use Rattle.watch.proofs.AnswerLaws.{answered, known-by}
 use Rattle.watch.proofs.KeepLaws.{keeps, out-keeps, stops}

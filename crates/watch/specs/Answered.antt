@@ -23,8 +23,9 @@ use Rattle.answers.specs.Told.{Told, told}
 use Rattle.answers.specs.Order.{Row, row, order, lookedAt, numbers, among, inOrder}
 use Rattle.format.specs.Format.{laidOut, layOutStore, layOutDesk}
 use Rattle.files.specs.Effect.{lookUp, read, create, write, shorten, link, unlink, rename, given}
+use Rattle.files.specs.Plain.{Received}
 use Rattle.checkpoint.specs.Live.{World}
-use Rattle.checkpoint.specs.Table.{orZero, inodeFor, lookUpTable, readTable, createTable, writeTable, shortenTable, linkTable, unlinkTable, renameTable, startTable, stepTable, askTable, burstTable}
+use Rattle.checkpoint.specs.Table.{orZero, inodeFor, lookUpTable, readTable, createTable, writeTable, shortenTable, linkTable, unlinkTable, renameTable, startTable, stepTable, liveRows, burstTable}
 use Rattle.checkpoint.specs.List.{call, advances, asks, starts, refusalOf, acceptedSteps}
 use Rattle.checkpoint.specs.Burst.{triesOf, Act, one, bursts}
 use Rattle.checkpoint.specs.Progress.{Stopped}
@@ -34,7 +35,8 @@ use Rattle.laps.specs.Call.{lapsTable, left, matchLaps}
 use Rattle.calendar.specs.Date.{dateOf, dayNumber}
 use Rattle.keeping.specs.Call as keeping
 use Rattle.keeping.specs.Call.{inDays, keptCount, keepTable, keepCall}
-use Rattle.watch.specs.Made.{Received, Did}
+use Rattle.watch.specs.Received.{onAct}
+use Rattle.watch.specs.Made.{Did}
 
 -- ---- "Given by number, looked at lowest first, when and only when the condition holds for that call"
 -- the answer by a table of conditions, where the result has the values vs: the refusal of the first that holds, or the result if none does
@@ -62,7 +64,7 @@ tableOf (one (call (unlink d name))) w = unlinkTable (w .store) (w .image) (w .d
 tableOf (one (call (rename d name e other))) w = renameTable (w .store) (w .image) (w .desk) d name e other
 tableOf (one starts) w = startTable (w .store) (w .image) (w .desk)
 tableOf (one advances) w = stepTable (w .store) (w .image) (w .desk)
-tableOf (one asks) w = askTable (w .store) (w .image) (w .desk)
+tableOf (one asks) w = liveRows (w .store) (w .image) (w .desk)
 tableOf (bursts k) w = burstTable k (w .store) (w .image) (w .desk)
 
 -- "Create and look up answer the inode, read its count, write and shorten the new size, step the steps so far"; state "gives state, locked inode and steps"; a burst "reports how many were accepted"; the others 0
@@ -82,11 +84,7 @@ resultOf (bursts k) w = acceptedSteps (triesOf k w) w 0 ∷ []
 
 -- the out-buffer that came in, [] for a call that has none
 abbrev pub lentTo : Act → List ℕ
-lentTo (one (call c)) = given c
-lentTo (one starts) = []
-lentTo (one advances) = []
-lentTo (one asks) = []
-lentTo (bursts k) = []
+lentTo x = onAct x given [] [] [] (λ k. [])
 
 -- the calls that 16 may answer: a step, or a burst whose first step gets it
 pub data GetsFull (w : World) : Act → Type 0 where
