@@ -67,7 +67,7 @@ fn number(b: bool) -> u8
 #[no_mangle]
 pub extern "C" fn honecerise_look_up(store: &[u8], directory: usize, name: &[u8]) -> i32
     ensures { λ r. ⌜ sends r (now (store .entry) ∷ [] ∷ [])
-        ≡ sentAlone ((alone.plain (lookUp directory (now (name .entry))) (now (store .entry)))) ⌝ }
+        ≡ sentAlone (alone.plain (lookUp directory (now (name .entry))) (now (store .entry))) ⌝ }
 {
     code(watch::look_up(store, directory, name))
 }
@@ -75,7 +75,7 @@ pub extern "C" fn honecerise_look_up(store: &[u8], directory: usize, name: &[u8]
 #[no_mangle]
 pub extern "C" fn honecerise_read(store: &[u8], inode: usize, offset: usize, out: &mut [u8]) -> i32
     ensures { λ r. ⌜ sends r (now (store .entry) ∷ now (out .exit) ∷ [])
-        ≡ sentAlone ((alone.plain (read inode offset (now (out .entry))) (now (store .entry)))) ⌝ }
+        ≡ sentAlone (alone.plain (read inode offset (now (out .entry))) (now (store .entry))) ⌝ }
 {
     code(watch::read(store, inode, offset, out))
 }
