@@ -1,4 +1,4 @@
--- The demands are met: for every accepted start on any bytes, and every list of events after it.
+-- `OfEvents` holds: for every accepted start on any bytes, and every list of events after it.
 use Prim.Native.Nat.{ℕ, _+_, _*_, _<_}
 use mathlib.Core.Path.{_≡_, refl, sym, ap, _∙_, subst}
 use mathlib.Core.Bool.{true}

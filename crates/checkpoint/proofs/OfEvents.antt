@@ -1,4 +1,4 @@
--- What holds of a list of events after an accepted start, by the definitions of each event: the demands, of which bursts are left out, stand on it.
+-- What holds of a list of single events after an accepted start; watch's `Demand`, which adds bursts, is proved from it.
 use Prim.Native.Nat.{ℕ, suc, _+_, _*_, _≤_, _<_}
 use mathlib.Core.Path.{_≡_}
 use mathlib.Core.Bool.{Bool, true}
@@ -19,7 +19,7 @@ use Rattle.files.specs.Effect.{Call}
 use Rattle.files.specs.Plain.{Received, got}
 use Rattle.checkpoint.specs.declared.Status.the-variants.{Is}
 use Rattle.checkpoint.specs.Live.{World, live, outOf, toldStatus}
-use Rattle.checkpoint.specs.List.{Event, call, asks, advances, onEvent, outcome, next, refusalOf, accepted, run, Finish, acceptedSteps, stateAfter, plainRun, plainReplies}
+use Rattle.checkpoint.specs.List.{Event, asks, advances, onEvent, outcome, next, refusalOf, accepted, run, Finish, acceptedSteps, stateAfter, plainRun, plainReplies}
 use Rattle.checkpoint.specs.Finished.{countOf, Finished}
 use Rattle.checkpoint.specs.Progress.{Refusals, Takes, Progress, noRestart, Roomy, Timing, Calls, Stays}
 

@@ -33,7 +33,7 @@ pub data Event : Type 0 where
   asks : Event
   starts : Event
 
--- what is said of each kind of event
+-- one value for each kind of event: file call, step, question, start
 abbrev pub onEvent : {A : Type 0} → Event → (Call → A) → A → A → A → A
 onEvent (call c) file step question start = file c
 onEvent advances file step question start = step

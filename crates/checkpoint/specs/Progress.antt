@@ -1,4 +1,4 @@
--- The copy gets done, is out of the way, and stays. w is the world at any moment of a list.
+-- The copy gets done, is out of the way, and stays; and what the next event does. w is the world at any moment of a list.
 use Prim.Native.Nat.{ℕ, _*_, _≤_, _<_}
 use mathlib.Core.Path.{_≡_}
 use mathlib.Core.Bool.{Bool, true, false, not, _&&_}

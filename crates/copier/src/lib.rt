@@ -69,7 +69,8 @@ fn begin(h: Desk, n: usize, m: &mut [u8], d: &mut [u8]) -> Answer
 }
 
 pub fn start(store: &[u8], image: &mut [u8], desk: &mut [u8]) -> Answer
-    ensures { λ r. ⌜ left r (now (store .entry)) (now (image .exit)) (now (desk .exit)) ≡ start (now (store .entry)) (now (image .entry)) (now (desk .entry)) ⌝ }
+    ensures { λ r. ⌜ left r (now (store .entry)) (now (image .exit)) (now (desk .exit))
+        ≡ start (now (store .entry)) (now (image .entry)) (now (desk .entry)) ⌝ }
 {
     match guards::start_guards(store, &*image, &*desk) {
         Watched::Open(n, _, h) => begin(h, n, &mut *image, &mut *desk),
@@ -81,7 +82,8 @@ pub fn start(store: &[u8], image: &mut [u8], desk: &mut [u8]) -> Answer
 // 15, or the step itself.
 fn go_on(s: &[u8], m: &mut [u8], d: &mut [u8], h: Desk, n: usize) -> Answer
     requires { ⌜ (h ≡ deskOf (now d)) × Ready (world (now s) (now m) (now d)) × (n ≡ inodesIn (now s)) ⌝ }
-    ensures { λ r. ⌜ left r (now (s .entry)) (now (m .exit)) (now (d .exit)) ≡ pick (isRunning (now (d .entry))) (doStep (now (s .entry)) (now (m .entry)) (now (d .entry)) n (stepOf (now (s .entry)) (now (m .entry)) (now (d .entry)) n)) (refuse WrongState (now (s .entry)) (now (m .entry)) (now (d .entry))) ⌝ }
+    ensures { λ r. ⌜ left r (now (s .entry)) (now (m .exit)) (now (d .exit))
+        ≡ pick (isRunning (now (d .entry))) (doStep (now (s .entry)) (now (m .entry)) (now (d .entry)) n (stepOf (now (s .entry)) (now (m .entry)) (now (d .entry)) n)) (refuse WrongState (now (s .entry)) (now (m .entry)) (now (d .entry))) ⌝ }
 {
     if !h.runs() {
         return Answer::Refused(Refusal::WrongState);
@@ -90,7 +92,8 @@ fn go_on(s: &[u8], m: &mut [u8], d: &mut [u8], h: Desk, n: usize) -> Answer
 }
 
 pub fn step(store: &[u8], image: &mut [u8], desk: &mut [u8]) -> Answer
-    ensures { λ r. ⌜ left r (now (store .entry)) (now (image .exit)) (now (desk .exit)) ≡ step (now (store .entry)) (now (image .entry)) (now (desk .entry)) ⌝ }
+    ensures { λ r. ⌜ left r (now (store .entry)) (now (image .exit)) (now (desk .exit))
+        ≡ step (now (store .entry)) (now (image .entry)) (now (desk .entry)) ⌝ }
 {
     match guards::three_guards(store, &*image, &*desk) {
         Watched::Open(n, _, h) => go_on(store, &mut *image, &mut *desk, h, n),

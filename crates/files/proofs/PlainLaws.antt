@@ -3,20 +3,14 @@ use Prim.Native.Nat.{ℕ}
 use mathlib.Core.Path.{_≡_, refl}
 use mathlib.Core.Bool.{Bool, true, false, not}
 use mathlib.Core.List.{List}
-use native.Mathlib.Omega.{arith}
 use Rattle.bounded.specs.Search.{pick}
 use Rattle.sound.specs.Sound.{inodesIn, blocksIn}
 use Rattle.sound.specs.declared.Form.the-variants.{Store}
 use Rattle.sound.specs.Test.{framedB, isSound}
 use Rattle.answers.specs.declared.Refusal.{Refusal}
 use Rattle.answers.specs.declared.Refusal.the-variants.{BadBuffer, UnsoundStore}
-use Rattle.answers.specs.declared.Answer.the-variants.{Done, Refused}
 use Rattle.files.specs.declared.Guard.the-variants.{Pass, Stop}
 use Rattle.files.specs.Guard.{guardOf, onGuard}
-
--- no call is both done and refused
-pub never : {A : Type 0} (x : ℕ) (e : Refusal) → Done x ≡ Refused e → A
-never x e h = let z : _≡_ {A = ℕ} 0 1 = cc in absurd (omega arith)
 
 -- refusals 1 and 2, one after the other
 pub on-guard : {A : Type 0} (s : List ℕ) (f : ℕ → ℕ → A) (g : Refusal → A)

@@ -34,7 +34,8 @@ pub fn both_framed(store: &[u8], desk: &[u8]) -> bool
 // 2 and 3, where 1 does not come: one check of the store, then the desk and the image of a running copy, beside the store that is sound by then.
 pub fn after_lengths(store: &[u8], image: &[u8], desk: &[u8]) -> Watched
     requires { ⌜ bothFramed (now store) (now desk) ≡ true ⌝ }
-    ensures { λ r. ⌜ r ≡ handed (guardBy (now (store .entry)) (guardRows true (now (store .entry)) (now (image .entry)) (now (desk .entry)))) (deskOf (now (desk .entry))) ⌝ }
+    ensures { λ r. ⌜ r
+        ≡ handed (guardBy (now (store .entry)) (guardRows true (now (store .entry)) (now (image .entry)) (now (desk .entry)))) (deskOf (now (desk .entry))) ⌝ }
 {
     let h = Header::read(store);
     let n = h.inodes as usize;

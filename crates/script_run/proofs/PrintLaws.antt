@@ -2,9 +2,12 @@
 use Prim.Native.Nat.{ℕ, _≤_, _<_}
 use mathlib.Core.Path.{_≡_, refl}
 use mathlib.Core.List.{List, [], _++_}
-use lib.ListN.{length, drop}
+use native.Mathlib.Omega.{arith}
+use lib.ListN.{length, take, drop, length-append}
 use lib.Seq.{take-all}
-use Rattle.script_listing.specs.Listing.{mostPrinted}
+use Rattle.bounded.specs.Search.{pick}
+use Rattle.text.specs.Letters.{letters}
+use Rattle.script_listing.specs.Listing.{mostPrinted, wordText, replyText, printedText, listing}
 use Rattle.script_listing.proofs.LengthLaws.{printed-most}
 use Rattle.checkpoint.specs.Live.{World}
 use Rattle.script_lines.specs.Lines.{linesIn, lineAt, nextAt, mostScriptBytes, scriptLines}
@@ -17,6 +20,15 @@ unfolding printed linesRun
 printed-short l w h =
     let r = lineRuns l w in
     printed-most (r .reply .ok) (r .reply .number) (r .reply .finished) (r .image) (r .desk) scriptInodes (λ e. h [] l e .1)
+
+-- its answer ends a line, so no line prints nothing
+pub printed-some : (l : List ℕ) (w : World) → 0 < length (printed l w)
+unfolding printed printedText replyText
+printed-some l w =
+    let r = lineRuns l w in
+    let answer = length-append (wordText (r .reply .ok) (r .reply .number)) (letters "\n") in
+    let all = length-append (replyText (r .reply .ok) (r .reply .number)) (pick (r .reply .finished) (listing (r .image) (r .desk)) []) in
+    omega (arith, answer, all)
 
 -- ---- all that the lines from a place on print: at the start of a script that was read, the whole script's; then the line's text, and what is left behind it; at the end, nothing
 pub prints-all : (s : List ℕ) → length s ≤ mostScriptBytes → scriptPrints s ≡ linesPrint (linesIn (drop 0 s)) fresh

@@ -92,7 +92,7 @@ meets xs w ds =
     let calls = heard-told xs w in
     record {
       finished = λ fs gs e f h. stays-finished es fs gs w (ds fs) e f h;
-      reported = record { reports = rw count (d .reported .reports); bound = rw count (d .reported .bound); byte = d .reported .byte; count = d .reported .count };
+      reported = record { reports = rw count (d .reported .reports); steps = count; bound = rw count (d .reported .bound); byte = d .reported .byte; count = d .reported .count };
       as-plain = record { store = rw calls (d .as-plain .store); answers = rw calls (replies-told xs w ∙ d .as-plain .answers) };
       done = record { ended = asked-ended xs w (ds (wholes xs) .done); complete = asked-complete xs w (ds (wholes xs) .done) };
       refusals = d .refusals;
@@ -164,4 +164,5 @@ claim = record {
   alike = λ {w} {xs = xs} m n. made n .world ∙ ap (λ (es : List Event). run es w) (singles-ones (singles xs w) w) ∙ sym (made m .world);
   opens = λ {v = v} s r i m. zero-if s (open-start v .accepts r i m);
   store = λ s. store-stays s;
+  defined = did;
 }

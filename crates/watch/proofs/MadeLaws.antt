@@ -10,15 +10,11 @@ use Rattle.checkpoint.specs.Live.{World, Outcome, tells, worldIn, storeAlone, l
 use Rattle.checkpoint.specs.List.{call, advances, starts, outcome, run}
 use Rattle.checkpoint.specs.Burst.{Act, one, bursts, singles}
 use Rattle.checkpoint.proofs.TableLaws.{look-up-alone, read-alone}
-use Rattle.watch.specs.Received.{outcomeOf, nextOf, outAfter, received}
+use Rattle.watch.specs.Received.{outcomeOf, outAfter, received}
+use Rattle.watch.specs.Claim.{AsDefined}
 use Rattle.watch.specs.Made.{Did, on-store, on-three, started, stepped, asked, stepped-many, Made, none, then}
 use Rattle.watch.proofs.OutLaws.{no-out, look-up-out, read-out}
 use Rattle.watch.proofs.SinglesLaws.{singles-next}
-
--- the world that is left, and what the caller gets, are the definition's
-pub record AsDefined (x : Act) (w : World) (a : Received) (v : World) : Type 0 where
-  pub world : v ≡ nextOf x w
-  pub got : a ≡ got (outcomeOf x w .answer) (outAfter x w)
 
 module _ (w : World) where
   -- what is left and told is the definition's

@@ -6,13 +6,13 @@ use mathlib.Core.List.{List, [], _∷_}
 use lib.ListN.{length}
 use Rattle.answers.specs.declared.Answer.the-variants.{Done}
 use Rattle.answers.specs.Told.{told}
-use Rattle.files.specs.Plain.{Received}
+use Rattle.files.specs.Plain.{Received, got}
 use Rattle.checkpoint.specs.Fit.{isRunning, imageAllowed, bothFramed}
 use Rattle.checkpoint.specs.Live.{World}
 use Rattle.checkpoint.specs.List.{Ready, Event, advances, starts, outcome, accepted, run, acceptedSteps}
 use Rattle.checkpoint.specs.Burst.{countAllowed, triesOf, Act, one, bursts, singles}
 use Rattle.checkpoint.specs.Finished.{countOf}
-use Rattle.watch.specs.Received.{received}
+use Rattle.watch.specs.Received.{outcomeOf, nextOf, outAfter, received}
 use Rattle.watch.specs.Demand.{Demand}
 use Rattle.watch.specs.Made.{Did, Made}
 
@@ -44,6 +44,11 @@ pub record Delivered (xs : List Act) (w : World) (rs : List Received) (u : World
   pub got : rs ≡ received xs w
   pub demand : Demand xs w rs u
 
+-- ---- one call made on the code: the world that is left, and what the caller gets, are the definition's
+pub record AsDefined (x : Act) (w : World) (a : Received) (v : World) : Type 0 where
+  pub world : v ≡ nextOf x w
+  pub got : a ≡ got (outcomeOf x w .answer) (outAfter x w)
+
 -- ---- the claim
 pub record Claim : Type 0 where
   -- "every list of file calls, steps, state questions and further starts, refused ones included, after an accepted start", and of bursts
@@ -54,3 +59,5 @@ pub record Claim : Type 0 where
   -- such a start is accepted wherever the buffers fit and no copy runs, and leaves the store as it was
   pub opens : {v w : World} {a : Received} → Did (one starts) v a w → Ready v → isRunning (v .desk) ≡ false → imageAllowed (countOf v) (length (v .image)) ≡ true → a .answer .number ≡ 0
   pub store : {v w : World} {a : Received} → Did (one starts) v a w → w .store ≡ v .store
+  -- every call, on any bytes, is as it is defined: so what is said of the next call after a list holds of the next call that is made
+  pub defined : {x : Act} {w v : World} {a : Received} → Did x w a v → AsDefined x w a v

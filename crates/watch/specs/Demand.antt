@@ -21,7 +21,7 @@ use Rattle.files.specs.Plain.{Received}
 use Rattle.checkpoint.specs.declared.Status.the-variants.{Is}
 use Rattle.checkpoint.specs.Fit.{isRunning}
 use Rattle.checkpoint.specs.Live.{World, worldIn, toldStatus}
-use Rattle.checkpoint.specs.List.{Event, asks, starts, advances, outcome, next, refusalOf, accepted, run, Finish, stateAfter, plainRun, plainReplies}
+use Rattle.checkpoint.specs.List.{Event, asks, starts, advances, outcome, next, refusalOf, accepted, run, Finish, acceptedSteps, stateAfter, plainRun, plainReplies}
 use Rattle.checkpoint.specs.Burst.{countAllowed, burst, Act, singles}
 use Rattle.checkpoint.specs.Finished.{countOf, Finished}
 use Rattle.checkpoint.specs.Progress.{Refusals, Takes, Progress, noRestart, Roomy, Timing, Calls, Stays, Opens}
@@ -30,6 +30,8 @@ use Rattle.watch.specs.Received.{received, stepsTold, heard, replies, st
 -- "the copy's accepted steps are the number that the state question reports, and at most 14 times the inode count, plus 1" (F-1: 46 times); the state that it reports is the one that the answers tell, and so is byte 8
 pub record Reported (xs : List Act) (w : World) (rs : List Received) (u : World) : Type 0 where
   pub reports : outcome asks u .answer ≡ toldStatus (Is (stateAfter (singles xs w) w running) (deskOf (u .desk) .locked) (stepsTold xs rs 0))
+  -- these are the accepted ones among the single steps that the list stands for
+  pub steps : stepsTold xs rs 0 ≡ acceptedSteps (singles xs w) w 0
   pub bound : stepsTold xs rs 0 ≤ stepsAnInode * countOf w + 1
   pub byte : headerOf (u .image) .complete ≡ pick (eqb (stateAfter (singles xs w) w running) finished) isComplete notComplete
   -- no call changes the inode count
@@ -61,10 +63,11 @@ pub record NextBurst (k : ℕ) (w u : World) (a : Told) (v : World) : Type 0 whe
   -- "With 12 × N image blocks or more, 16 never comes in a run." (F-1: 44 × N)
   pub never-full : Roomy w → a .number ≡ refusalNumber ImageFull → ⊥
 
--- ---- the whole claim
+-- ---- all demands, of one list
 pub record Demand (xs : List Act) (w : World) (rs : List Received) (u : World) : Type 0 where
   -- "If the copy finishes": the list may go on after the finish. fs are its events up to the finish, and until a start is accepted the copy stays.
   pub finished : (fs gs : List Event) → singles xs w ≡ fs ++ gs → Finish fs w → noRestart gs (run fs w) ≡ true → Finished fs w (u .image) (u .desk)
+  pub stays : Stays (singles xs w) w
   -- "Finished or not"
   pub reported : Reported xs w rs u
   pub as-plain : AsPlain xs w rs u
@@ -80,7 +83,6 @@ pub record Demand (xs : List Act) (w : World) (rs : List Received) (u : World) :
   pub step-answer : accepted advances u ≡ true → outcome advances u .answer ≡ told (Done (stepsTold xs rs 0 + 1))
   -- "With 12 × N image blocks or more, 16 never comes in a run." (F-1: 44 × N)
   pub never-full : Roomy w → refusalOf advances u ≡ refusalNumber ImageFull → ⊥
-  pub stays : Stays (singles xs w) w
 
 -- A later accepted start opens a list of its own.
 pub record Demands : Type 0 where

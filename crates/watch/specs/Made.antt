@@ -1,5 +1,5 @@
 -- Public calls made on the code, "each done by the library on the buffers as the last one left them, while nobody else writes to them".
--- Of the code this knows the contracts of the public functions, and nothing else: each way to have made a call has the call's promise as its hypothesis (proofs/Contracts.antt holds them to the code's). t is what the caller was told.
+-- Of the code this knows the contracts of the public functions, and nothing else: each way to have made a call has the call's promise as its hypothesis (proofs/Contracts.antt holds them to the code's) and, for a file call, which buffers it takes. t is what the caller was told.
 use Prim.Native.Nat.{ℕ}
 use mathlib.Core.Path.{_≡_}
 use mathlib.Core.Bool.{true, false}

@@ -1,4 +1,4 @@
--- What the callers of a list get, from the world w on; and what that tells, by itself. xs are the calls of the list, rs what their callers got.
+-- What the callers of a list get (the record is in files/specs/Plain.antt), from the world w on; and what that tells, by itself. xs are the calls of the list, rs what their callers got.
 use Prim.Native.Nat.{ℕ, suc, _+_}
 use mathlib.Core.Bool.{Bool}
 use mathlib.Core.List.{List, [], _∷_}
@@ -13,7 +13,7 @@ use Rattle.checkpoint.specs.Live.{World, Outcome, worldIn, outOf}
 use Rattle.checkpoint.specs.List.{onEvent, outcome}
 use Rattle.checkpoint.specs.Burst.{countAllowed, burst, Act, one, bursts}
 
--- what is said of each kind of call
+-- one value for each kind of call: file call, step, question, start, burst
 abbrev pub onAct : {A : Type 0} → Act → (Call → A) → A → A → A → (ℕ → A) → A
 onAct (one e) file step question start many = onEvent e file step question start
 onAct (bursts k) file step question start many = many k
