@@ -56,7 +56,8 @@ extern "C" {
 #define HONECERISE_MAX_INODES     256u /* a store, its image and its desk: 1 to 256             */
 #define HONECERISE_MAX_BLOCKS    1024u /* of a store: 1 to 1,024                                */
 #define HONECERISE_MAX_IMAGE     4096u /* blocks of an image: 1 to 4,096                        */
-#define HONECERISE_MAX_NAME        14u /* bytes of a name: 1 to 14, none 0 or '/', not . or ..  */
+#define HONECERISE_MAX_NAME        14u /* bytes of a name: 1 to 14, none 0 or '/', not . or ..;
+                                          A to Z and a to z are alike                           */
 #define HONECERISE_MAX_FILE      2752u /* bytes of a file                                       */
 #define HONECERISE_MAX_SLOTS       48u /* entries of a directory                                */
 #define HONECERISE_MOST_BURST      64u /* steps of a burst: 1 to 64                             */
@@ -102,7 +103,8 @@ enum honecerise_refusal {
                                       that a report goes to is shorter than the list its times come
                                       from; or a list of copies or terms is too long, a term has no
                                       last day, or there is no room for a byte a copy                 */
-    HONECERISE_UNSOUND_STORE =  2, /* the store is not sound: something else wrote to it              */
+    HONECERISE_UNSOUND_STORE =  2, /* the store is not sound: something else wrote to it, or it is from
+                                      before and has two spellings of a name in a directory           */
     HONECERISE_BAD_DESK      =  3, /* the desk breaks its layout or is of another inode count; or,
                                       while a copy runs, the image's length or counts are not the
                                       desk's, its root is not 1, its byte 8 is not 0, an address is
@@ -113,7 +115,7 @@ enum honecerise_refusal {
     HONECERISE_ILLEGAL_NAME  =  4, /* not 1 to 14 bytes, a byte that is 0 or '/', or . or ..          */
     HONECERISE_WRONG_INODE   =  5, /* a number that is not the file or directory needed               */
     HONECERISE_NAME_ABSENT   =  6, /* no entry of that name                                           */
-    HONECERISE_NAME_TAKEN    =  7, /* the new name is another entry's                                 */
+    HONECERISE_NAME_TAKEN    =  7, /* the new name is another entry's, in whatever spelling           */
     HONECERISE_NOT_EMPTY     =  8, /* a directory to be unlinked has entries                          */
     HONECERISE_PAST_END      =  9, /* offset or new length past the size, or a write ending past 2752 */
     HONECERISE_INTO_ITSELF   = 10, /* a directory moved into itself or below                          */
@@ -210,7 +212,7 @@ int32_t honecerise_unlink(uint8_t *store, size_t store_length,
                           size_t directory, const uint8_t *name, size_t name_length);
 
 /* Another name, another directory, or both. It replaces nothing: a taken name refuses.
- * 4 to 7, 10, 12, 13, 14. */
+ * To another spelling of its own name the entry gets that spelling. 4 to 7, 10, 12, 13, 14. */
 int32_t honecerise_rename(uint8_t *store, size_t store_length,
                           uint8_t *image, size_t image_length,
                           uint8_t *desk, size_t desk_length,

@@ -11,6 +11,13 @@ fn has_zero_byte(w: u128) -> bool {
     w.wrapping_sub(ONES) & !w & HIGHS != 0
 }
 
+/// The word with small letters for capital ones: names are compared so.
+pub fn folded(w: u128) -> u128 {
+    let low = w & !HIGHS;
+    let capitals = (low + ONES * 63) & !(low + ONES * 37) & !w & HIGHS;
+    w | capitals >> 2
+}
+
 /// A name of k bytes, 1 to 14.
 fn legal_bytes(w: u128, k: usize) -> bool {
     !has_zero_byte(w | u128::MAX << (8 * k)) && !has_zero_byte(w ^ SLASHES) && w != DOT && w != DOTS

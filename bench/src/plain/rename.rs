@@ -3,7 +3,7 @@ use super::desk::Desk;
 use super::entries::note_made;
 use super::guards;
 use super::image::taken;
-use super::names::word;
+use super::names::{folded, word};
 use super::refusal::{BUSY, INTO_ITSELF, NAME_ABSENT, NAME_TAKEN, WRONG_INODE};
 use super::slots::{clear_entry, enter, put_entry, room, search};
 use super::view::{Inode, Shape, View, DIRECTORY};
@@ -32,15 +32,13 @@ pub fn rename(store: &mut [u8], image: &mut [u8], desk: &mut [u8], directory: us
 
 fn within(store: &mut [u8], shape: Shape, notes: Desk, old: Entry, dir: Inode, name: u128, to_name: u128) -> Answer {
     let d = old.directory;
-    if name != to_name && search(&View::of(store, shape), d, dir, to_name).named.is_some() {
+    if folded(name) != folded(to_name) && search(&View::of(store, shape), d, dir, to_name).named.is_some() {
         return Err(NAME_TAKEN);
     }
     if notes.locked == d {
         return Err(BUSY);
     }
-    if name != to_name {
-        put_entry(store, shape, d, old.slot, old.inode, to_name);
-    }
+    put_entry(store, shape, d, old.slot, old.inode, to_name);
     Ok(0)
 }
 

@@ -1,6 +1,6 @@
 //! The slots of a directory: searched in one pass, filled and emptied.
 use super::content::take_block;
-use super::names::{entry, split};
+use super::names::{entry, folded, split};
 use super::refusal::{NO_BLOCKS, NO_SLOT};
 use super::view::{free_blocks, free_inodes, get16, put_free, Inode, Shape, View, BLOCK, MOST_DIRECT_BYTES};
 
@@ -10,13 +10,13 @@ pub struct Found {
     pub empty: Option<usize>,
 }
 
-/// The slots of directory d up to the one that has the name.
+/// The slots of directory d up to the one that has the name, without regard to case.
 pub fn search(v: &View, d: usize, dir: Inode, name: u128) -> Found {
-    let mut empty = None;
+    let (name, mut empty) = (folded(name), None);
     for (k, block) in v.blocks_of(d, dir.blocks()).enumerate() {
         for (j, e) in block.as_chunks().0.iter().enumerate() {
             let (i, word) = split(e);
-            if word == name {
+            if folded(word) == name {
                 return Found { named: Some((4 * k + j, i)), empty };
             }
             if i == 0 && empty.is_none() {

@@ -1,5 +1,5 @@
 //! Document 01's "A sound store": one pass over inodes and addresses, one over entries, then links, parents and free counts.
-use super::names::{legal_word, split};
+use super::names::{folded, legal_word, split};
 use super::view::{free_blocks, free_inodes, get16, Inode, Map, Shape, View, ADDRESS_PLACE, BLOCK, DIRECT, DIRECTORY, FILE, FREE, MOST_BYTES, MOST_DIRECT_BYTES, MOST_IMAGE_BLOCKS, MOST_INODES, MOST_STORE_BLOCKS};
 
 /// How many entries name each inode.
@@ -114,10 +114,11 @@ fn directory_right(v: &View, d: usize, blocks: usize, counts: &mut Counts) -> bo
             if i == 0 && name == 0 {
                 continue;
             }
-            if !legal_word(name) || !nameable(v, d, i) || names[..filled].contains(&name) {
+            let same = folded(name);
+            if !legal_word(name) || !nameable(v, d, i) || names[..filled].contains(&same) {
                 return false;
             }
-            names[filled] = name;
+            names[filled] = same;
             filled += 1;
             counts[i] += 1;
         }

@@ -147,9 +147,9 @@ impl<'a> Files<'a> {
         All::new(*self)
     }
 
-    /// The entry of a name, if the directory is one and has it.
+    /// The entry of a name, if the directory is one and has it; `Run1` and `run1` are one name.
     pub fn find(&self, directory: Inode, name: impl AsRef<[u8]>) -> Option<Entry<'a>> {
-        self.entries(directory).ok()?.find(|entry| entry.name == name.as_ref())
+        self.entries(directory).ok()?.find(|entry| entry.name.eq_ignore_ascii_case(name.as_ref()))
     }
 
     /// A file's bytes in pieces: all but the last have 64.

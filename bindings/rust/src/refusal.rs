@@ -19,7 +19,8 @@ pub enum Refusal {
     /// Wiring: a buffer has no length or count that is allowed, a list that a report goes to is
     /// shorter than the list its times come from, or there are too many copies or terms.
     BadBuffer = 1,
-    /// Wiring: the store is not sound; something else wrote to it.
+    /// Wiring: the store is not sound; something else wrote to it, or it is from before and has two spellings of a
+    /// name in a directory.
     UnsoundStore = 2,
     /// Wiring: the desk breaks its layout or is of another inode count; or, while a copy runs, the image's length or counts are not
     /// the desk's, its root is not 1, its byte 8 is not 0, an address is above its block count, or the locked file lacks its
@@ -31,7 +32,7 @@ pub enum Refusal {
     WrongInode = 5,
     /// Naming: no entry of that name.
     NameAbsent = 6,
-    /// Naming: the new name is taken by another entry.
+    /// Naming: the new name is taken by another entry, in whatever spelling.
     NameTaken = 7,
     /// Naming: a directory to be unlinked has entries.
     NotEmpty = 8,

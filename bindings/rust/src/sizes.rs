@@ -6,7 +6,7 @@ pub const MAX_INODES: usize = 256;
 pub const MAX_BLOCKS: usize = 1024;
 /// The most blocks of an image.
 pub const MAX_IMAGE: usize = 4096;
-/// The most bytes of a name. None is 0 or `/`, and the name is not `.` or `..`.
+/// The most bytes of a name. None is 0 or `/`, and the name is not `.` or `..`; A to Z and a to z are alike.
 pub const MAX_NAME: usize = 14;
 /// The most bytes of a file.
 pub const MAX_FILE: usize = 2752;

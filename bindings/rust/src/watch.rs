@@ -30,9 +30,9 @@ pub struct Status {
 
 /// A store, the image that copies of it go to, and the copier's desk: three buffers lent for as long as the watch is in hand.
 ///
-/// Names are any bytes: `"laps"`, `b"laps"` and `[0xff, 0x20]` are all names. Every call examines its buffers first, and
+/// Names are any bytes: `"laps"`, `b"laps"` and `[0xff, 0x20]` are all names; `Run1` and `run1` are one. Every call examines its buffers first, and
 /// refuses with [`BadBuffer`](Refusal::BadBuffer), [`UnsoundStore`](Refusal::UnsoundStore) or [`BadDesk`](Refusal::BadDesk) if
-/// they are not what they must be: with buffers that [`lay_out`](Watch::lay_out) made and nobody else wrote to, that never
+/// they are not what they must be: with buffers that [`lay_out`](Watch::lay_out) of this release made and nobody else wrote to, that never
 /// happens. What else a call refuses stands with it.
 ///
 /// ```
@@ -172,7 +172,8 @@ impl<'a> Watch<'a> {
         ffi::unlink(&mut self.lent, directory.0, name.as_ref()).map(drop)
     }
 
-    /// Another name, another directory, or both. It replaces nothing: a taken name refuses.
+    /// Another name, another directory, or both. It replaces nothing: a taken name refuses. Another spelling of the entry's own
+    /// name is written.
     ///
     /// Refuses with `IllegalName`, `WrongInode`, `NameAbsent`, `NameTaken`, `IntoItself`, `NoBlocks`, `NoSlot`, `Busy`.
     pub fn rename(

@@ -78,6 +78,29 @@ fn naming() {
 }
 
 #[test]
+fn spellings() {
+    let mut buffers = Buffers::new(8, 16, 96);
+    let mut w = buffers.lay_out(8, 16);
+    let root = Inode::ROOT;
+    let run = w.create_file(root, "Run1").unwrap();
+    assert_eq!(w.create_file(root, "run1"), Err(Refusal::NameTaken));
+    assert_eq!(w.look_up(root, "RUN1"), Ok(run));
+    assert_eq!(w.rename(root, "run1", root, "rUN1"), Ok(()));
+    for name in ["RUN1", "run1"] {
+        assert_eq!(w.files().unwrap().find(root, name).unwrap().name, b"rUN1");
+    }
+    // no letters: what stands beside them, above 127, and the zeros behind a name
+    for (one, other) in [(b"@".as_slice(), b"`".as_slice()), (b"[", b"{"), (b"\xc1", b"\xe1"), (b"a", b"a ")] {
+        w.create_file(root, one).unwrap();
+        w.create_file(root, other).unwrap();
+        w.unlink(root, one).unwrap();
+        w.unlink(root, other).unwrap();
+    }
+    w.unlink(root, "RUN1").unwrap();
+    assert_eq!(w.files().unwrap().all().count(), 0);
+}
+
+#[test]
 fn bytes() {
     let mut buffers = Buffers::new(4, 16, 48);
     let mut w = buffers.lay_out(4, 16);

@@ -24,11 +24,12 @@ use Rattle.octets.proofs.PartLaws.{cut, getD-part, octets-part}
 use Rattle.layout.specs.Sizes.{rootInode, mostInodes}
 use Rattle.layout.specs.Inode.{kindOf, parentOf, freeKind, directoryKind}
 use Rattle.blocks.specs.Block.{blockAt, kthBlock}
-use Rattle.names.specs.Name.{nameBytes}
+use Rattle.names.specs.Name.{nameBytes, folded}
 use Rattle.names.specs.declared.Name.{Name}
 use Rattle.names.specs.Entry.{entryInode, isEmpty, nameAt, sameName, entryName, legalEntry}
 use Rattle.names.proofs.NameLaws.{legal-bounds, legal-nonzero}
-use Rattle.names.proofs.EntryLaws.{named, same-words-two, empty-all, empty-inode, entry-legal}
+use Rattle.names.proofs.EntryLaws.{named, spelled-is, same-words-two, empty-all, empty-inode, entry-legal}
+use Rattle.names.proofs.FoldLaws.{folded-zero}
 use Rattle.names.specs.Words.{wordsAt, sameWords}
 use Rattle.directory.specs.Slot.{mostSlots, slots, slotAt, entryOf}
 use Rattle.directory.proofs.SlotLaws.{few-slots, slot-fits}
@@ -178,14 +179,14 @@ empty-differs a b z g =
     r-fails (named a (part b nameAt nameBytes))
     (λ at.
     legal-nonzero (entryName b) (w .0) 0 (omega arith)
-    (sym (named b (entryName b) .to (w .1) 0 (omega arith)) ∙ sym (getD-part b nameAt nameBytes 0 (omega arith)) ∙ sym (at 0 (omega arith))
-    ∙ empty-all a z (nameAt + 0) (omega arith)))
+    (sym (spelled-is b (entryName b) .to (w .1) 0 (omega arith)) ∙ sym (getD-part b nameAt nameBytes 0 (omega arith))
+    ∙ folded-zero (getD (part b nameAt nameBytes) 0 0) (sym (at 0 (omega arith)) ∙ ap folded (empty-all a z (nameAt + 0) (omega arith)))))
 
 -- two names are the same as words and as bytes
 same-parts : (a b : List ℕ) → Octets a → Octets b → sameWords (wordsAt a nameAt) (wordsAt b nameAt) ≡ sameName a (part b nameAt nameBytes)
 same-parts a b ha hb =
     reflects-ext (same-words-two a b ha hb)
-    (r-says (λ f k l. f k l ∙ getD-part b nameAt nameBytes k l) (λ f k l. f k l ∙ sym (getD-part b nameAt nameBytes k l)) (named a (part b nameAt nameBytes)))
+    (r-says (λ f k l. f k l ∙ ap folded (getD-part b nameAt nameBytes k l)) (λ f k l. f k l ∙ ap folded (sym (getD-part b nameAt nameBytes k l))) (named a (part b nameAt nameBytes)))
 
 octets-entry : (s : List ℕ) (n d t : ℕ) → Octets s → Octets (entryOf s n d t)
 unfolding entryOf

@@ -28,7 +28,7 @@ use Rattle.entries.specs.declared.CreatePlan.{CreatePlan}
 use Rattle.entries.specs.declared.LinkPlan.{LinkPlan}
 use Rattle.entries.specs.declared.UnlinkPlan.{UnlinkPlan}
 use Rattle.entries.specs.declared.RenamePlan.{RenamePlan}
-use Rattle.entries.specs.declared.RenamePlan.the-variants.{Same, Rename, Move, NoRename}
+use Rattle.entries.specs.declared.RenamePlan.the-variants.{Rename, Move, NoRename}
 use Rattle.entries.specs.Room.{roomIn, onRoom}
 use Rattle.entries.specs.Plan.{holdsNone, isBelow, lookUpPlan, createPlan, linkPlan, unlinkPlan, renameTo, renamePlan}
 use Rattle.files.specs.declared.Guard.{Guard}
@@ -110,13 +110,13 @@ module _ (w : World) (e f : ℕ) (other : List ℕ) (t i : ℕ) where
   unfolding renameTo
   by-rename = go (eqb e f) (findSlot (w .store) (inodesIn (w .store)) f other)
     where
-      at : (b : Bool) → Gives (renameAnswer w e f other (pick b Same (NoRename NameTaken))) (row (not b) NameTaken ∷ row (anyLocked (w .desk) (e ∷ [])) Busy ∷ []) (Done 0)
+      at : (b : Bool) → Gives (renameAnswer w e f other (pick b (Rename t i) (NoRename NameTaken))) (row (not b) NameTaken ∷ row (anyLocked (w .desk) (e ∷ [])) Busy ∷ []) (Done 0)
       at true = record { first = by-busy (anyLocked (w .desk) (e ∷ [])) w _ .first }
       at false = record { first = refl }
 
       go : (same : Bool) (u : Found)
           → Gives (renameAnswer w e f other (pick same
-          (onFound u (λ j. pick (eqb j t) Same (NoRename NameTaken)) (Rename t i))
+          (onFound u (λ j. pick (eqb j t) (Rename t i) (NoRename NameTaken)) (Rename t i))
           (onFound u (λ j. NoRename NameTaken)
           (pick (isBelow (w .store) (inodesIn (w .store)) i f) (NoRename IntoItself) (onRoom (roomIn (w .store) (inodesIn (w .store)) (blocksIn (w .store)) f) (λ r. Move t i r) NoRename)))))
           (renameRows same u) (Done 0)

@@ -2,11 +2,13 @@
 use Prim.Native.Nat.{ℕ}
 use mathlib.Core.Path.{_≡_, refl, sym, ap, _∙_, subst}
 use mathlib.Core.Bool.{Bool, true, false, not, _&&_}
+use mathlib.Core.Logic.{_⊎_, inl, inr}
 use mathlib.Core.List.{List}
 use native.Mathlib.Omega.{arith}
 use borrow.Author.Tests.{eq-eqb, eqb-true, eqb-false}
 use lib.Dec.{eqb}
-use Rattle.bounded.specs.Search.{pick}
+use Rattle.bounded.specs.Search.{pick, onFound}
+use Rattle.bounded.specs.declared.Found.{Found}
 use Rattle.bounded.specs.declared.Found.the-variants.{At, Absent}
 use Rattle.bounded.proofs.BoolLaws.{and-left, and-right, clash}
 use Rattle.bounded.proofs.SearchLaws.{pick-else, pick-not, found-none, found-at}
@@ -22,7 +24,7 @@ use Rattle.entries.specs.declared.CreatePlan.the-variants.{Make, NoCreat
 use Rattle.entries.specs.declared.LinkPlan.the-variants.{Add, NoLink}
 use Rattle.entries.specs.declared.UnlinkPlan.the-variants.{Take, NoUnlink}
 use Rattle.entries.specs.declared.RenamePlan.{RenamePlan}
-use Rattle.entries.specs.declared.RenamePlan.the-variants.{Same, Rename, Move, NoRename}
+use Rattle.entries.specs.declared.RenamePlan.the-variants.{Rename, Move, NoRename}
 use Rattle.entries.specs.Room.{roomIn, onRoom}
 use Rattle.entries.specs.Plan.{createPlan, linkPlan, holdsNone, unlinkPlan, isBelow, renameWithin, moveTo, renameTo, renamePlan}
 
@@ -38,6 +40,10 @@ pub record NewIn (s : List ℕ) (n d : ℕ) (name : List ℕ) : Type 0 where
   pub legal : legalName name ≡ true
   pub directory : isDirectory s n d ≡ true
   pub absent : findSlot s n d name ≡ Absent
+
+-- no entry of the directory d has the name, but perhaps that in slot t
+abbrev pub FreeFor : List ℕ → ℕ → ℕ → List ℕ → ℕ → Type 0
+FreeFor s n d name t = (findSlot s n d name ≡ Absent) ⊎ (findSlot s n d name ≡ At t)
 
 -- the name in slot t of the directory d, which names i
 pub record FoundIn (s : List ℕ) (n d : ℕ) (name : List ℕ) (t i : ℕ) : Type 0 where
@@ -124,12 +130,18 @@ unlinks s n d name t i e =
     }
 
 -- ---- rename
--- the entry that is there, and its new name
-pub record Renames (s : List ℕ) (n d : ℕ) (name : List ℕ) (e : ℕ) (other : List ℕ) (t i : ℕ) : Type 0 where
+-- the entry in slot t of d, and its new name there, which no other entry has
+pub record Renames (s : List ℕ) (n d : ℕ) (name other : List ℕ) (t i : ℕ) : Type 0 where
+  pub entry : FoundIn s n d name t i
+  pub legal : legalName other ≡ true
+  pub free : FreeFor s n d other t
+
+-- the entry that goes, and its new name in another directory e
+pub record Leaves (s : List ℕ) (n d : ℕ) (name : List ℕ) (e : ℕ) (other : List ℕ) (t i : ℕ) : Type 0 where
   pub entry : FoundIn s n d name t i
   pub new : NewIn s n e other
 
--- to another directory, with room r there
+-- with room r there
 pub record Moves (s : List ℕ) (n b d e i : ℕ) (r : Room) : Type 0 where
   pub other : d ≡ e → ⊥
   pub outside : isBelow s n i e ≡ false
@@ -147,13 +159,9 @@ move-not-rename u j t i r h = let z : _≡_ {A = ℕ} 0 1 = cc in absurd (omega 
 rename-not-move : (u j t i : ℕ) (r : Room) → Rename u j ≡ Move t i r → ⊥
 rename-not-move u j t i r h = let z : _≡_ {A = ℕ} 0 1 = cc in absurd (omega arith)
 
-same-or-no-rename : (c : Bool) (w : Refusal) (t i : ℕ) → pick c Same (NoRename w) ≡ Rename t i → ⊥
-same-or-no-rename true w t i h = let z : _≡_ {A = ℕ} 0 1 = cc in absurd (omega arith)
-same-or-no-rename false w t i h = no-rename w t i h
-
-same-or-no-move : (c : Bool) (w : Refusal) (t i : ℕ) (r : Room) → pick c Same (NoRename w) ≡ Move t i r → ⊥
-same-or-no-move true w t i r h = let z : _≡_ {A = ℕ} 0 1 = cc in absurd (omega arith)
-same-or-no-move false w t i r h = no-move w t i r h
+own-or-no-move : (c : Bool) (w : Refusal) (u j t i : ℕ) (r : Room) → pick c (Rename u j) (NoRename w) ≡ Move t i r → ⊥
+own-or-no-move true w u j t i r h = rename-not-move u j t i r h
+own-or-no-move false w u j t i r h = no-move w t i r h
 
 -- within a directory, and to another
 module _ (s : List ℕ) (n b d t i e : ℕ) (other : List ℕ) where
@@ -165,14 +173,20 @@ module _ (s : List ℕ) (n b d t i e : ℕ) (other : List ℕ) where
       let f = room-had (roomIn s n b e) _ _ z (c .1) (λ w. no-rename w u j) in
       move-not-rename t i u j (f .0) (f .2)
 
-  to-renames : (u j : ℕ) → renameTo s n b d t i e other ≡ Rename u j → (d ≡ e) × (findSlot s n e other ≡ Absent) × (t ≡ u) × (i ≡ j)
+  to-renames : (u j : ℕ) → renameTo s n b d t i e other ≡ Rename u j → (d ≡ e) × FreeFor s n e other t × (t ≡ u) × (i ≡ j)
   unfolding renameTo
   to-renames u j h = go (eqb d e) refl h
     where
-      go : (c : Bool) → eqb d e ≡ c → pick c (renameWithin s n t i e other) (moveTo s n b t i e other) ≡ Rename u j → (d ≡ e) × (findSlot s n e other ≡ Absent) × (t ≡ u) × (i ≡ j)
-      go true q g =
-          let a = found-none (findSlot s n e other) (λ v. pick (eqb v t) Same (NoRename NameTaken)) (Rename t i) (Rename u j) g (λ v. same-or-no-rename (eqb v t) NameTaken u j) in
-          (eqb-true d e q, a .0, cc (a .1), cc (a .1))
+      within : (f : Found) → findSlot s n e other ≡ f → onFound f (λ v. pick (eqb v t) (Rename t i) (NoRename NameTaken)) (Rename t i) ≡ Rename u j → FreeFor s n e other t × (t ≡ u) × (i ≡ j)
+      within Absent q g = (inl q, cc g, cc g)
+      within (At v) q g = own (eqb v t) refl g
+        where
+          own : (c : Bool) → eqb v t ≡ c → pick c (Rename t i) (NoRename NameTaken) ≡ Rename u j → FreeFor s n e other t × (t ≡ u) × (i ≡ j)
+          own true z k = (inr (q ∙ ap At (eqb-true v t z)), cc k, cc k)
+          own false z k = absurd (no-rename NameTaken u j k)
+
+      go : (c : Bool) → eqb d e ≡ c → pick c (renameWithin s n t i e other) (moveTo s n b t i e other) ≡ Rename u j → (d ≡ e) × FreeFor s n e other t × (t ≡ u) × (i ≡ j)
+      go true q g = let a = within (findSlot s n e other) refl g in (eqb-true d e q, a .0, a .1, a .2)
       go false q g = absurd (away-no-rename u j g)
 
   to-moves : (u j : ℕ) (r : Room) → renameTo s n b d t i e other ≡ Move u j r → Moves s n b d e i r × (findSlot s n e other ≡ Absent) × (t ≡ u) × (i ≡ j)
@@ -181,7 +195,7 @@ module _ (s : List ℕ) (n b d t i e : ℕ) (other : List ℕ) where
     where
       go : (c : Bool) → eqb d e ≡ c → pick c (renameWithin s n t i e other) (moveTo s n b t i e other) ≡ Move u j r → Moves s n b d e i r × (findSlot s n e other ≡ Absent) × (t ≡ u) × (i ≡ j)
       go true q g =
-          let a = found-none (findSlot s n e other) (λ v. pick (eqb v t) Same (NoRename NameTaken)) (Rename t i) (Move u j r) g (λ v. same-or-no-move (eqb v t) NameTaken u j r) in
+          let a = found-none (findSlot s n e other) (λ v. pick (eqb v t) (Rename t i) (NoRename NameTaken)) (Rename t i) (Move u j r) g (λ v. own-or-no-move (eqb v t) NameTaken t i u j r) in
           absurd (rename-not-move t i u j r (a .1))
       go false q g =
           let z = Move u j r in
@@ -192,35 +206,49 @@ module _ (s : List ℕ) (n b d t i e : ℕ) (other : List ℕ) where
           (record { other = eqb-false d e q; outside = c .0; room = f .1 ∙ ap Has o }, a .0, cc (f .2), cc (f .2))
 
 module _ (s : List ℕ) (n b d : ℕ) (name : List ℕ) (e : ℕ) (other : List ℕ) where
-  -- a plan z that is no refusal, with what comes after the directories are compared
-  renames-there : (z : RenamePlan) → ((w : Refusal) → NoRename w ≡ z → ⊥) → renamePlan s n b d name e other ≡ z
-      → (u : ℕ) × (renameTo s n b d u (inodeAt s n d u) e other ≡ z) × ((t i : ℕ) → findSlot s n e other ≡ Absent → u ≡ t → inodeAt s n d u ≡ i → Renames s n d name e other t i)
+  -- a plan z that is no refusal: the entry is there, both directories are, and the names are legal
+  record There (z : RenamePlan) : Type 0 where
+    at : ℕ
+    to : renameTo s n b d at (inodeAt s n d at) e other ≡ z
+    found : findSlot s n d name ≡ At at
+    legal : legalName name && legalName other ≡ true
+    directories : isDirectory s n d && isDirectory s n e ≡ true
+
+  renames-there : (z : RenamePlan) → ((w : Refusal) → NoRename w ≡ z → ⊥) → renamePlan s n b d name e other ≡ z → There z
   unfolding renamePlan
   renames-there z never h =
       let a = pick-not (legalName name && legalName other) (NoRename _) _ z h (never _) in
       let c = pick-not (isDirectory s n d && isDirectory s n e) (NoRename _) _ z (a .1) (never _) in
-      let f = found-at (findSlot s n d name) _ _ z (c .1) (never _) in (
-        f .0,
-        f .2,
-        λ t i g p q. record {
-          entry = record {
-            legal = and-left (legalName name) (legalName other) (a .0);
-            directory = and-left (isDirectory s n d) (isDirectory s n e) (c .0);
-            found = f .1 ∙ ap At p;
-            inode = sym q ∙ ap (inodeAt s n d) p;
-          };
-          new = record { legal = and-right (legalName name) (legalName other) (a .0); directory = and-right (isDirectory s n d) (isDirectory s n e) (c .0); absent = g };
-        },
-      )
+      let f = found-at (findSlot s n d name) _ _ z (c .1) (never _) in
+      record { at = f .0; to = f .2; found = f .1; legal = a .0; directories = c .0 }
 
-  pub renames : (t i : ℕ) → renamePlan s n b d name e other ≡ Rename t i → Renames s n d name e other t i × (d ≡ e)
+  there-found : {z : RenamePlan} (a : There z) (t i : ℕ) → a .at ≡ t → inodeAt s n d (a .at) ≡ i → FoundIn s n d name t i
+  there-found a t i p q = record {
+    legal = and-left (legalName name) (legalName other) (a .legal);
+    directory = and-left (isDirectory s n d) (isDirectory s n e) (a .directories);
+    found = a .found ∙ ap At p;
+    inode = sym q ∙ ap (inodeAt s n d) p;
+  }
+
+  pub renames : (t i : ℕ) → renamePlan s n b d name e other ≡ Rename t i → Renames s n d name other t i × (d ≡ e)
   renames t i h =
       let a = renames-there (Rename t i) (λ w. no-rename w t i) h in
-      let c = to-renames s n b d (a .0) (inodeAt s n d (a .0)) e other t i (a .1) in
-      (a .2 t i (c .1) (c .2) (c .3), c .0)
+      let c = to-renames s n b d (a .at) (inodeAt s n d (a .at)) e other t i (a .to) in (
+        record {
+          entry = there-found a t i (c .2) (c .3);
+          legal = and-right (legalName name) (legalName other) (a .legal);
+          free = subst (λ (z : ℕ). FreeFor s n z other t) (sym (c .0)) (subst (FreeFor s n e other) (c .2) (c .1));
+        },
+        c .0,
+      )
 
-  pub moves : (t i : ℕ) (r : Room) → renamePlan s n b d name e other ≡ Move t i r → Renames s n d name e other t i × Moves s n b d e i r
+  pub moves : (t i : ℕ) (r : Room) → renamePlan s n b d name e other ≡ Move t i r → Leaves s n d name e other t i × Moves s n b d e i r
   moves t i r h =
       let a = renames-there (Move t i r) (λ w. no-move w t i r) h in
-      let c = to-moves s n b d (a .0) (inodeAt s n d (a .0)) e other t i r (a .1) in
-      (a .2 t i (c .1) (c .2) (c .3), subst (λ (j : ℕ). Moves s n b d e j r) (c .3) (c .0))
+      let c = to-moves s n b d (a .at) (inodeAt s n d (a .at)) e other t i r (a .to) in (
+        record {
+          entry = there-found a t i (c .2) (c .3);
+          new = record { legal = and-right (legalName name) (legalName other) (a .legal); directory = and-right (isDirectory s n d) (isDirectory s n e) (a .directories); absent = c .1 };
+        },
+        subst (λ (j : ℕ). Moves s n b d e j r) (c .3) (c .0),
+      )

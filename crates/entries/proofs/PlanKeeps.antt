@@ -79,9 +79,8 @@ module _ (s : List ℕ) (n b : ℕ) (h : SoundStore s n b) where
   renamed-sound d name e other t i q =
       let c = renames s n b d name e other t i q in
       let w = c .0 .entry in
-      let o = c .0 .new in
       rename-sound s n d t i other h (w .directory) (find-below s n d name t (w .found)) (found-full s n d name t (w .legal) (w .found)) (w .inode)
-      (o .legal) (subst (λ (z : ℕ). findSlot s n z other ≡ Absent) (sym (c .1)) (o .absent))
+      (c .0 .legal) (c .0 .free)
 
   pub moved-sound : (d : ℕ) (name : List ℕ) (e : ℕ) (other : List ℕ) (t i : ℕ) (r : Room) → renamePlan s n b d name e other ≡ Move t i r → Sound Store (moved s n d e other t i r)
   unfolding moved slotEmpty

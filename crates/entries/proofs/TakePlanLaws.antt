@@ -24,7 +24,7 @@ use Rattle.entries.specs.declared.RoomPlan.the-variants.{Has, NoRoom}
 use Rattle.entries.specs.declared.UnlinkPlan.{UnlinkPlan}
 use Rattle.entries.specs.declared.UnlinkPlan.the-variants.{Take, NoUnlink}
 use Rattle.entries.specs.declared.RenamePlan.{RenamePlan}
-use Rattle.entries.specs.declared.RenamePlan.the-variants.{Same, Rename, Move, NoRename}
+use Rattle.entries.specs.declared.RenamePlan.the-variants.{Rename, Move, NoRename}
 use Rattle.entries.specs.Room.{roomIn}
 use Rattle.entries.specs.Plan.{holdsNone, unlinkPlan, isBelow, renameWithin, moveTo, renameTo, renamePlan}
 
@@ -105,8 +105,8 @@ module _ (s : List ℕ) (n t i e : ℕ) (other : List ℕ) where
   pub within-new : findSlot s n e other ≡ Absent → Rename t i ≡ renameWithin s n t i e other
   within-new f = rw f
 
-  pub within-same : (u : ℕ) → findSlot s n e other ≡ At u → u ≡ t → Same ≡ renameWithin s n t i e other
-  within-same u f r = rw (f, eq-eqb u t r)
+  pub within-own : (u : ℕ) → findSlot s n e other ≡ At u → u ≡ t → Rename t i ≡ renameWithin s n t i e other
+  within-own u f r = rw (f, eq-eqb u t r)
 
   pub within-taken : (u : ℕ) → findSlot s n e other ≡ At u → (u ≡ t → ⊥) → NoRename NameTaken ≡ renameWithin s n t i e other
   within-taken u f r = rw (f, ne-eqb u t r)

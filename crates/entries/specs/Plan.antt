@@ -19,7 +19,7 @@ use Rattle.entries.specs.declared.RenamePlan.{RenamePlan}
 use Rattle.entries.specs.declared.CreatePlan.the-variants.{Make, NoCreate}
 use Rattle.entries.specs.declared.LinkPlan.the-variants.{Add, NoLink}
 use Rattle.entries.specs.declared.UnlinkPlan.the-variants.{Take, NoUnlink}
-use Rattle.entries.specs.declared.RenamePlan.the-variants.{Same, Rename, Move, NoRename}
+use Rattle.entries.specs.declared.RenamePlan.the-variants.{Rename, Move, NoRename}
 use Rattle.entries.specs.Room.{roomIn, onRoom}
 
 -- look up: 4, 5, 6
@@ -64,9 +64,10 @@ unfoldable pub isBelow : List ℕ → ℕ → ℕ → ℕ → Bool
 isBelow s n i e = eqb (kindOf s i) directoryKind && leadsB (parentOf s) i n e
 
 -- the entry in slot t, which names i, is to have another name in its directory e: 7.
--- "A rename within a directory keeps its slot and its mark; to the same name it changes nothing."
+-- "A rename within a directory keeps its slot and its mark"; F-5: "Renaming an entry to another spelling of its own name writes
+-- the new spelling." "To the same name it changes nothing" follows: its bytes are written again (`same-name` in proofs/RenameKeeps).
 abbrev pub renameWithin : List ℕ → ℕ → ℕ → ℕ → ℕ → List ℕ → RenamePlan
-renameWithin s n t i e other = onFound (findSlot s n e other) (λ u. pick (eqb u t) Same (NoRename NameTaken)) (Rename t i)
+renameWithin s n t i e other = onFound (findSlot s n e other) (λ u. pick (eqb u t) (Rename t i) (NoRename NameTaken)) (Rename t i)
 
 -- it is to go to another directory e: 7, 10, 12, 13; "A new name that is taken refuses."
 abbrev pub moveTo : List ℕ → ℕ → ℕ → ℕ → ℕ → ℕ → List ℕ → RenamePlan

@@ -33,9 +33,8 @@ pub enum UnlinkPlan {
     NoUnlink(Refusal),
 }
 
-// Rename: nothing; the slot and its inode under another name; or these and where the entry goes in another directory.
+// Rename: the slot and its inode under another name; or these and where the entry goes in another directory.
 pub enum RenamePlan {
-    Same,
     Rename {
         slot: usize,
         inode: usize,

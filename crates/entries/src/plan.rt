@@ -182,7 +182,7 @@ fn rename_within(s: &[u8], n: usize, t: usize, i: usize, e: usize, other: &[u8])
         return RenamePlan::Rename { slot: t, inode: i };
     };
     if u == t {
-        return RenamePlan::Same;
+        return RenamePlan::Rename { slot: t, inode: i };
     }
     RenamePlan::NoRename(Refusal::NameTaken)
 }

@@ -30,8 +30,8 @@ use Rattle.entries.specs.Room.{makeRoom}
 use Rattle.entries.specs.Plan.{renamePlan}
 use Rattle.entries.specs.Apply.{renamed, setParent, moved}
 use Rattle.entries.specs.declared.RenamePlan.{RenamePlan}
-use Rattle.entries.specs.declared.RenamePlan.the-variants.{Same, Rename, Move, NoRename}
-use Rattle.entries.proofs.PlanFacts.{renames, moves}
+use Rattle.entries.specs.declared.RenamePlan.the-variants.{Rename, Move, NoRename}
+use Rattle.entries.proofs.PlanFacts.{FreeFor, renames, moves}
 use Rattle.entries.proofs.RoomLaws.{slot, same-kind}
 use Rattle.entries.proofs.PlanKeeps.{moved-sound}
 use Rattle.entries.proofs.MoveKeeps.{not-below, below-kept, move-emptied, move-filled}
@@ -45,15 +45,15 @@ use Rattle.files.proofs.LawfulStays.{same-store}
 -- ---- rename within a directory
 module _ (s : List ℕ) (n d t i : ℕ) (other : List ℕ) {b : ℕ} (h : SoundStore s n b)
     (dir : isDirectory s n d ≡ true) (inside : t < slots s d) (full : slotEmpty s n d t ≡ false) (is : i ≡ inodeAt s n d t)
-    (legal : legalName other ≡ true) (absent : findSlot s n d other ≡ Absent) where
+    (legal : legalName other ≡ true) (free : FreeFor s n d other t) where
   rename-lawful : Lawful s n (changes 0 (renamed s n d other t i) (d ∷ []) [] [])
   rename-lawful =
-      let o = rename-filled s n d t i other h dir inside full is legal absent in
+      let o = rename-filled s n d t i other h dir inside full is legal free in
       let y = entry-here h d t i dir inside full is in
       let a = put-steady s n d t i other (store-blocks h) (y .slot) in
       let f = place-filled s n d t (y .slot) full in
       record {
-        sound = rename-sound s n d t i other h dir inside full is legal absent;
+        sound = rename-sound s n d t i other h dir inside full is legal free;
         frame = a .frame;
         stood = tt;
         gone = tt;
@@ -162,11 +162,9 @@ lawful-rename s n b d name e other h = go (renamePlan s n b d name e other) refl
   where
     go : (p : RenamePlan) → renamePlan s n b d name e other ≡ p → Each (Lawful s n) (doRename s n d e other p)
     go (NoRename w) q = tt
-    go Same q = same-store s n 0 [] (d ∷ []) (h .sound)
     go (Rename t i) q =
         let c = renames s n b d name e other t i q in
         let w = c .0 .entry in
-        let o = c .0 .new in
         rename-lawful s n d t i other h (w .directory) (find-below s n d name t (w .found)) (found-full s n d name t (w .legal) (w .found)) (w .inode)
-        (o .legal) (subst (λ (z : ℕ). findSlot s n z other ≡ Absent) (sym (c .1)) (o .absent))
+        (c .0 .legal) (c .0 .free)
     go (Move t i r) q = move-lawful s n b d name e other t i r h q

@@ -18,7 +18,7 @@ use Rattle.entries.specs.declared.RenamePlan.{RenamePlan}
 use Rattle.entries.specs.declared.CreatePlan.the-variants.{Make, NoCreate}
 use Rattle.entries.specs.declared.LinkPlan.the-variants.{Add, NoLink}
 use Rattle.entries.specs.declared.UnlinkPlan.the-variants.{Take, NoUnlink}
-use Rattle.entries.specs.declared.RenamePlan.the-variants.{Same, Rename, Move, NoRename}
+use Rattle.entries.specs.declared.RenamePlan.the-variants.{Rename, Move, NoRename}
 use Rattle.entries.specs.Plan.{lookUpPlan, createPlan, linkPlan, unlinkPlan, renamePlan}
 use Rattle.entries.specs.Apply.{created, linked, unlinked, renamed, moved}
 use Rattle.files.specs.Guard.{guardOf, onGuard}
@@ -106,9 +106,8 @@ abbrev pub doUnlink : List ℕ → ℕ → ℕ → UnlinkPlan → Planned
 doUnlink s n d (Take t i) = does (changes 0 (unlinked s n d t i) (d ∷ i ∷ []) (entry d t i ∷ []) [])
 doUnlink s n d (NoUnlink e) = refused e
 
--- "A rename within a directory keeps its slot and its mark; to the same name it changes nothing." A move takes the old entry and makes the new one.
+-- "A rename within a directory keeps its slot and its mark". A move takes the old entry and makes the new one.
 abbrev pub doRename : List ℕ → ℕ → ℕ → ℕ → List ℕ → RenamePlan → Planned
-doRename s n d e other Same = does (changes 0 s (d ∷ []) [] [])
 doRename s n d e other (Rename t i) = does (changes 0 (renamed s n d other t i) (d ∷ []) [] [])
 doRename s n d e other (Move t i r) = does (changes 0 (moved s n d e other t i r) (d ∷ e ∷ i ∷ []) (entry d t i ∷ []) (entry e (r .slot) i ∷ []))
 doRename s n d e other (NoRename f) = refused f

@@ -209,7 +209,6 @@ fn do_rename(
     ensures { λ r. ⌜ plainLeft r (now (s .exit)) [] ≡ leaves (now (s .entry)) [] (doRename (now (s .entry)) n d e (now (other .entry)) (renamePlan (now (s .entry)) n b d (now (name .entry)) e (now (other .entry)))) ⌝ }
 {
     match entries::plan::rename_plan(s, n, b, d, name, e, other) {
-        RenamePlan::Same => Answer::Done(0),
         RenamePlan::Rename { slot: t, inode: i } => {
             entries::apply::rename(&mut *s, n, d, other, t, i);
             Answer::Done(0)

@@ -162,13 +162,6 @@ pub fn rename(
     ensures { λ r. ⌜ left r (now (s .exit)) (now (m .exit)) (now (d .exit)) ≡ leavesIn (world (now (s .entry)) (now (m .entry)) (now (d .entry))) (unlessBusy (now (d .entry)) (doRename (now (s .entry)) n from to (now (other .entry)) (renamePlan (now (s .entry)) n b from (now (name .entry)) to (now (other .entry))))) ⌝ }
 {
     match entries::plan::rename_plan(s, n, b, from, name, to, other) {
-        RenamePlan::Same => {
-            let touched = [from];
-            if h.locks_any(&touched) {
-                return Answer::Refused(Refusal::Busy);
-            }
-            Answer::Done(0)
-        }
         RenamePlan::Rename { slot: t, inode: i } => {
             let touched = [from];
             if h.locks_any(&touched) {

@@ -18,60 +18,70 @@ use Rattle.bounded.proofs.TableLaws.{length-table, getD-table}
 use Rattle.bounded.proofs.ReflectLaws.{r-eq, r-and, r-all, r-says, r-fails, reflects-ext}
 use Rattle.octets.specs.Octets.{Octets, part, splice, numAt, toBytes, putNum, zeroed, pasted}
 use Rattle.octets.proofs.PartLaws.{length-inside, part-all, getD-part, length-zeroed, length-copied, splice-in, splice-out}
-use Rattle.octets.proofs.NumLaws.{num-ext, num-inj, num-zero, zero-num, length-toBytes, length-num}
-use Rattle.names.specs.Name.{nameBytes, legalName}
-use Rattle.names.specs.Entry.{entryBytes, nameAt, entryInode, isEmpty, sameByte, sameName, nameLength, entryName, legalEntry, entryFor}
+use Rattle.octets.proofs.NumLaws.{num-ext, num-zero, zero-num, length-toBytes, length-num}
+use Rattle.names.specs.Name.{nameBytes, folded, legalName}
+use Rattle.names.specs.Entry.{entryBytes, nameAt, entryInode, isEmpty, sameByte, sameName, spelled, nameLength, entryName, legalEntry, entryFor}
 use Rattle.names.proofs.NameLaws.{legal-bounds, legal-nonzero}
-use Rattle.names.specs.Words.{wordsAt, sameWords}
+use Rattle.names.specs.Words.{folds, wordsAt, sameWords}
+use Rattle.names.proofs.FoldLaws.{folds-8, folds-6, same-8, same-6, folded-zero}
 
 -- ---- names compared
--- the 14 bytes from o on in s are those from p on in t
-abbrev pub Bytes : List ℕ → ℕ → List ℕ → ℕ → Type 0
-Bytes s o t p = (k : ℕ) → k < nameBytes → getD s (o + k) 0 ≡ getD t (p + k) 0
+-- the 14 bytes from o on in s are those from p on in t, without regard to case
+abbrev pub Alike : List ℕ → ℕ → List ℕ → ℕ → Type 0
+Alike s o t p = (k : ℕ) → k < nameBytes → folded (getD s (o + k) 0) ≡ folded (getD t (p + k) 0)
 
--- their numbers of 8 and of 6 bytes are equal
+-- their numbers of 8 and of 6 folded bytes are equal
 abbrev Words : List ℕ → ℕ → List ℕ → ℕ → Type 0
-Words s o t p = (numAt 8 s o ≡ numAt 8 t p) × (numAt 6 s (o + 8) ≡ numAt 6 t (p + 8))
+Words s o t p = (folds 8 (numAt 8 s o) ≡ folds 8 (numAt 8 t p)) × (folds 8 (numAt 6 s (o + 8)) ≡ folds 8 (numAt 6 t (p + 8)))
 
-bytes-words : (s : List ℕ) (o : ℕ) (t : List ℕ) (p : ℕ) → Bytes s o t p → Words s o t p
-bytes-words s o t p h = (
-  num-ext 8 s o t p (λ k l. h k (omega arith)),
-  num-ext 6 s (o + 8) t (p + 8)
+alike-words : (s : List ℕ) (o : ℕ) (t : List ℕ) (p : ℕ) → Octets s → Octets t → Alike s o t p → Words s o t p
+alike-words s o t p hs ht h = (
+  folds-8 s t hs ht o p (λ k l. h k (omega arith)),
+  folds-6 s t hs ht (o + 8) (p + 8)
       (λ k l.
       let x : o + 8 + k ≡ o + (8 + k) = omega arith in
       let y : p + 8 + k ≡ p + (8 + k) = omega arith in
       rw (x, y) (h (8 + k) (omega arith))),
 )
 
-words-bytes : (s : List ℕ) (o : ℕ) (t : List ℕ) (p : ℕ) → Octets s → Octets t → Words s o t p → Bytes s o t p
-words-bytes s o t p hs ht w k l = go (decLt k 8)
+words-alike : (s : List ℕ) (o : ℕ) (t : List ℕ) (p : ℕ) → Octets s → Octets t → Words s o t p → Alike s o t p
+words-alike s o t p hs ht w k l = go (decLt k 8)
   where
-    go : Dec (k < 8) → getD s (o + k) 0 ≡ getD t (p + k) 0
-    go (yes h) = num-inj 8 s o t p hs ht (w .0) k h
+    go : Dec (k < 8) → folded (getD s (o + k) 0) ≡ folded (getD t (p + k) 0)
+    go (yes h) = same-8 s t hs ht o p (w .0) k h
     go (no h) =
         let x : o + k ≡ o + 8 + (k - 8) = omega arith in
         let y : p + k ≡ p + 8 + (k - 8) = omega arith in
-        rw (x, y) (num-inj 6 s (o + 8) t (p + 8) hs ht (w .1) (k - 8) (omega arith))
+        rw (x, y) (same-6 s t hs ht (o + 8) (p + 8) (w .1) (k - 8) (omega arith))
 
-pub words-agree : (s : List ℕ) (o : ℕ) (t : List ℕ) (p : ℕ) → Octets s → Octets t → Reflects (sameWords (wordsAt s o) (wordsAt t p)) (Bytes s o t p)
+pub words-agree : (s : List ℕ) (o : ℕ) (t : List ℕ) (p : ℕ) → Octets s → Octets t → Reflects (sameWords (wordsAt s o) (wordsAt t p)) (Alike s o t p)
 unfolding sameWords wordsAt
 words-agree s o t p hs ht =
-    r-says (words-bytes s o t p hs ht) (bytes-words s o t p)
-    (r-and (r-eq (numAt 8 s o) (numAt 8 t p)) (r-eq (numAt 6 s (o + 8)) (numAt 6 t (p + 8))))
+    r-says (words-alike s o t p hs ht) (alike-words s o t p hs ht)
+    (r-and (r-eq (folds 8 (numAt 8 s o)) (folds 8 (numAt 8 t p))) (r-eq (folds 8 (numAt 6 s (o + 8))) (folds 8 (numAt 6 t (p + 8)))))
 
-pub named : (e name : List ℕ) → Reflects (sameName e name) ((k : ℕ) → k < nameBytes → getD e (nameAt + k) 0 ≡ getD name k 0)
+pub named : (e name : List ℕ) → Reflects (sameName e name) ((k : ℕ) → k < nameBytes → folded (getD e (nameAt + k) 0) ≡ folded (getD name k 0))
 unfolding sameName sameByte
-named e name = r-all nameBytes (λ k. r-eq (getD e (nameAt + k) 0) (getD name k 0))
+named e name = r-all nameBytes (λ k. r-eq (folded (getD e (nameAt + k) 0)) (folded (getD name k 0)))
 
 pub same-words : (e name : List ℕ) → Octets e → Octets name → sameWords (wordsAt e 2) (wordsAt name 0) ≡ sameName e name
 same-words e name he hn =
     reflects-ext
-    (r-says (λ h k l. h k l ∙ ap (λ (j : ℕ). getD name j 0) (zero-add k)) (λ h k l. h k l ∙ ap (λ (j : ℕ). getD name j 0) (sym (zero-add k)))
+    (r-says (λ h k l. h k l ∙ ap (λ (j : ℕ). folded (getD name j 0)) (zero-add k)) (λ h k l. h k l ∙ ap (λ (j : ℕ). folded (getD name j 0)) (sym (zero-add k)))
     (words-agree e 2 name 0 he hn))
     (named e name)
 
-pub same-words-two : (a b : List ℕ) → Octets a → Octets b → Reflects (sameWords (wordsAt a 2) (wordsAt b 2)) ((k : ℕ) → k < nameBytes → getD a (nameAt + k) 0 ≡ getD b (nameAt + k) 0)
+pub same-words-two : (a b : List ℕ) → Octets a → Octets b → Reflects (sameWords (wordsAt a 2) (wordsAt b 2)) ((k : ℕ) → k < nameBytes → folded (getD a (nameAt + k) 0) ≡ folded (getD b (nameAt + k) 0))
 same-words-two a b ha hb = words-agree a 2 b 2 ha hb
+
+-- ---- byte for byte
+pub spelled-is : (e name : List ℕ) → Reflects (spelled e name) ((k : ℕ) → k < nameBytes → getD e (nameAt + k) 0 ≡ getD name k 0)
+unfolding spelled
+spelled-is e name = r-all nameBytes (λ k. r-eq (getD e (nameAt + k) 0) (getD name k 0))
+
+-- an entry that is spelled so has the name
+pub spelled-named : (e name : List ℕ) → spelled e name ≡ true → sameName e name ≡ true
+spelled-named e name h = named e name .from (λ k l. ap folded (spelled-is e name .to h k l))
 
 -- ---- the entry that names an inode
 pub length-entry : (i : ℕ) (name : List ℕ) → length (entryFor i name) ≡ entryBytes
@@ -87,8 +97,8 @@ unfolding entryFor toBytes
 entry-byte i name k l =
     getD-append-add (toBytes 2 i) (table (λ j. getD name j 0) nameBytes) k 0 ∙ getD-table (λ j. getD name j 0) nameBytes k l
 
-pub entry-named : (i : ℕ) (name : List ℕ) → sameName (entryFor i name) name ≡ true
-entry-named i name = named (entryFor i name) name .from (entry-byte i name)
+pub entry-spelled : (i : ℕ) (name : List ℕ) → spelled (entryFor i name) name ≡ true
+entry-spelled i name = spelled-is (entryFor i name) name .from (entry-byte i name)
 
 -- ---- an empty entry
 pub empty : (e : List ℕ) → Reflects (isEmpty e) ((k : ℕ) → k < entryBytes → getD e k 0 ≡ 0)
@@ -134,11 +144,11 @@ length-of e n m f z =
     first-of (λ k. eqb (getD e (nameAt + k) 0) 0) nameBytes n m (λ k l. ne-eqb (getD e (nameAt + k) 0) 0 (f k l))
     (λ l. eq-eqb (getD e (nameAt + n) 0) 0 (z l))
 
-pub name-of : (e name : List ℕ) → sameName e name ≡ true → legalName name ≡ true → entryBytes ≤ length e → entryName e ≡ name
+pub name-of : (e name : List ℕ) → spelled e name ≡ true → legalName name ≡ true → entryBytes ≤ length e → entryName e ≡ name
 unfolding entryName
 name-of e name h g l =
     let b = legal-bounds name g in
-    let at = named e name .to h in
+    let at = spelled-is e name .to h in
     let n : nameLength e ≡ length name = length-of e (length name) (b .1)
     (λ k m z. legal-nonzero name g k m (sym (at k (omega arith)) ∙ z))
     (λ m. at (length name) m ∙ List·getD-eq-default name 0 (omega arith)) in
@@ -148,21 +158,21 @@ name-of e name h g l =
     (λ i m. getD-part e nameAt (length name) i (omega arith) ∙ at i (omega arith)))
 
 pub entry-name : (i : ℕ) (name : List ℕ) → legalName name ≡ true → entryName (entryFor i name) ≡ name
-entry-name i name h = let n = length-entry i name in name-of (entryFor i name) name (entry-named i name) h (omega arith)
+entry-name i name h = let n = length-entry i name in name-of (entryFor i name) name (entry-spelled i name) h (omega arith)
 
 pub legal-entry : (i : ℕ) (name : List ℕ) → legalName name ≡ true → legalEntry (entryFor i name) ≡ true
 unfolding legalEntry
-legal-entry i name h = rw (entry-name i name h) (and-true (legalName name) (sameName (entryFor i name) name) h (entry-named i name))
+legal-entry i name h = rw (entry-name i name h) (and-true (legalName name) (spelled (entryFor i name) name) h (entry-spelled i name))
 
 pub empty-not-named : (e name : List ℕ) → isEmpty e ≡ true → legalName name ≡ true → sameName e name ≡ false
 empty-not-named e name z h =
     let b = legal-bounds name h in
-    r-fails (named e name) (λ at. legal-nonzero name h 0 (omega arith) (sym (at 0 (omega arith)) ∙ empty-all e z (nameAt + 0) (omega arith)))
+    r-fails (named e name) (λ at. legal-nonzero name h 0 (omega arith) (folded-zero (getD name 0 0) (sym (at 0 (omega arith)) ∙ ap folded (empty-all e z (nameAt + 0) (omega arith)))))
 
 -- the name of a legal entry is legal, and the entry has it
-pub entry-legal : (e : List ℕ) → legalEntry e ≡ true → (legalName (entryName e) ≡ true) × (sameName e (entryName e) ≡ true)
+pub entry-legal : (e : List ℕ) → legalEntry e ≡ true → (legalName (entryName e) ≡ true) × (spelled e (entryName e) ≡ true)
 unfolding legalEntry
-entry-legal e h = (and-left (legalName (entryName e)) (sameName e (entryName e)) h, and-right (legalName (entryName e)) (sameName e (entryName e)) h)
+entry-legal e h = (and-left (legalName (entryName e)) (spelled e (entryName e)) h, and-right (legalName (entryName e)) (spelled e (entryName e)) h)
 
 -- ---- what the code makes of a name
 -- zero bytes from o on, and a name copied there
@@ -178,11 +188,15 @@ name-filled d o name l f z k m = rw (part-all name (length name) refl) (go (decL
 pub words-filled : (name : List ℕ) → length name ≤ nameBytes → wordsAt (pasted (replicate nameBytes 0) 0 name 0 (length name)) 0 ≡ wordsAt name 0
 unfolding wordsAt
 words-filled name l =
-    let w = bytes-words (pasted (replicate nameBytes 0) 0 name 0 (length name)) 0 name 0
-    (λ k m.
+    let filled = pasted (replicate nameBytes 0) 0 name 0 (length name) in
+    let at : (k : ℕ) → k < nameBytes → getD filled (0 + k) 0 ≡ getD name (0 + k) 0 = λ k m.
     name-filled (replicate nameBytes 0) 0 name l (omega arith) (λ j n. getD-replicate nameBytes (0 + j) 0 0 (omega arith)) k m
-    ∙ ap (λ (j : ℕ). getD name j 0) (sym (zero-add k))) in
-    cc (w .0, w .1)
+    ∙ ap (λ (j : ℕ). getD name j 0) (sym (zero-add k)) in
+    let a : numAt 8 filled 0 ≡ numAt 8 name 0 = num-ext 8 filled 0 name 0 (λ k m. at k (omega arith)) in
+    let b : numAt 6 filled 8 ≡ numAt 6 name 8 = num-ext 6 filled 8 name 8 (λ k m.
+    let x : 8 + k ≡ 0 + (8 + k) = omega arith in
+    rw x (at (8 + k) (omega arith))) in
+    cc (a, b)
 
 -- the bytes of the entry that is zeroed, and then has the inode's number and the name
 module _ (e : List ℕ) (i : ℕ) (name : List ℕ) (f : length e ≡ entryBytes) (l : length name ≤ nameBytes) where

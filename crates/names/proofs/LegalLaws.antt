@@ -19,9 +19,9 @@ use Rattle.bounded.proofs.SearchLaws.{found-lowest, none-below}
 use Rattle.bounded.proofs.ReflectLaws.{r-eq, r-and, r-or, r-not, r-imp, r-all, r-says, r-fails, reflects-ext}
 use Rattle.octets.proofs.PartLaws.{length-inside, getD-part}
 use Rattle.names.specs.Name.{nameBytes, slash, dot, legalName, Legal}
-use Rattle.names.specs.Entry.{entryBytes, nameAt, sameName, nameLength, entryName, legalEntry}
+use Rattle.names.specs.Entry.{entryBytes, nameAt, spelled, nameLength, entryName, legalEntry}
 use Rattle.names.proofs.NameLaws.{legal}
-use Rattle.names.proofs.EntryLaws.{named, entry-legal}
+use Rattle.names.proofs.EntryLaws.{spelled-is, entry-legal}
 use Rattle.names.specs.Words.{hasDots}
 
 -- one dot or two, then a zero byte
@@ -124,8 +124,8 @@ module _ (e : List ℕ) (f : entryBytes ≤ length e) where
       next : (k : ℕ) → nameLength e ≡ k → k < nameBytes → getD e (nameAt + k) 0 ≡ 0
       next k q l = rw q at (ends e .end (omega arith))
 
-  proper-same : Proper e → sameName e (entryName e) ≡ true
-  proper-same p = named e (entryName e) .from (λ k l. go k l (decLt k (nameLength e)))
+  proper-spelled : Proper e → spelled e (entryName e) ≡ true
+  proper-spelled p = spelled-is e (entryName e) .from (λ k l. go k l (decLt k (nameLength e)))
     where
       go : (k : ℕ) → k < nameBytes → Dec (k < nameLength e) → getD e (nameAt + k) 0 ≡ getD (entryName e) k 0
       go k l (yes h) = sym (name-byte k h)
@@ -180,8 +180,8 @@ pub legal-is : (e : List ℕ) → entryBytes ≤ length e → Reflects (legalEnt
 unfolding legalEntry
 legal-is e f =
     record {
-      to = λ h. let a = entry-legal e h in proper-of e (entryName e) (legal (entryName e) .to (a .0)) (named e (entryName e) .to (a .1));
-      from = λ p. and-true (legalName (entryName e)) (sameName e (entryName e)) (proper-legal e f p) (proper-same e f p);
+      to = λ h. let a = entry-legal e h in proper-of e (entryName e) (legal (entryName e) .to (a .0)) (spelled-is e (entryName e) .to (a .1));
+      from = λ p. and-true (legalName (entryName e)) (spelled e (entryName e)) (proper-legal e f p) (proper-spelled e f p);
     }
 
 -- ---- eight bytes at once

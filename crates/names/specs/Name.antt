@@ -1,11 +1,12 @@
 -- "A name is 1 to 14 bytes, none 0 or `/`, and is not `.` or `..`."
-use Prim.Native.Nat.{ℕ, _≤_, _<_}
+use Prim.Native.Nat.{ℕ, _+_, _≤_, _<_}
 use mathlib.Core.Path.{_≡_}
 use mathlib.Core.Bool.{Bool, not, _&&_}
 use mathlib.Core.List.{List}
 use lib.Dec.{eqb, leb}
 use lib.ListN.{length, getD}
 use Rattle.bounded.specs.Below.{allBelow}
+use Rattle.bounded.specs.Search.{pick}
 
 -- "1 to 14 bytes"
 abbrev pub nameBytes : ℕ
@@ -17,6 +18,20 @@ slash = 47
 
 abbrev pub dot : ℕ
 dot = 46
+
+-- F-5: "Comparing names treats the letters A to Z and a to z alike": a capital letter as the small one, any other byte as it is
+abbrev pub capitalA : ℕ
+capitalA = 65
+
+abbrev pub capitalZ : ℕ
+capitalZ = 90
+
+-- how far a small letter is from its capital
+abbrev pub toSmall : ℕ
+toSmall = 32
+
+unfoldable pub folded : ℕ → ℕ
+folded x = pick (leb capitalA x && leb x capitalZ) (x + toSmall) x
 
 -- "none 0 or `/`": byte k is neither
 unfoldable pub plainByte : List ℕ → ℕ → Bool

@@ -1,11 +1,11 @@
 -- A name as the code reads and compares it.
-use Prim.Native.Nat.{ℕ, _+_}
+use Prim.Native.Nat.{ℕ, zero, suc, _+_, _*_, _/_, _%_}
 use mathlib.Core.Bool.{Bool, _&&_, _||_}
 use mathlib.Core.List.{List}
 use lib.Dec.{eqb}
 use lib.ListN.{getD}
 use Rattle.octets.specs.Octets.{numAt}
-use Rattle.names.specs.Name.{dot}
+use Rattle.names.specs.Name.{dot, folded}
 use Rattle.names.specs.Entry.{nameAt}
 use Rattle.names.specs.declared.Name.{Name}
 
@@ -13,9 +13,14 @@ use Rattle.names.specs.declared.Name.{Name}
 unfoldable pub hasDots : List ℕ → Bool
 hasDots e = eqb (getD e nameAt 0) dot && (eqb (getD e (nameAt + 1) 0) 0 || (eqb (getD e (nameAt + 1) 0) dot && eqb (getD e (nameAt + 2) 0) 0))
 
--- The 14 bytes of a name from o on as two numbers, of 8 bytes and of 6: what the code compares.
+-- the k lowest bytes of a number, each folded
+unfoldable pub folds : ℕ → ℕ → ℕ
+folds zero w = 0
+folds (suc k) w = folded (w % 256) + 256 * folds k (w / 256)
+
+-- The 14 bytes of a name from o on, folded, as two numbers, of 8 bytes and of 6: what the code compares.
 unfoldable pub wordsAt : List ℕ → ℕ → Name
-wordsAt s o = record { low = numAt 8 s o; high = numAt 6 s (o + 8) }
+wordsAt s o = record { low = folds 8 (numAt 8 s o); high = folds 8 (numAt 6 s (o + 8)) }
 
 unfoldable pub sameWords : Name → Name → Bool
 sameWords a b = eqb (a .low) (b .low) && eqb (a .high) (b .high)

@@ -5,7 +5,9 @@ ghost use lib.ListN.{length};
 ghost use Rattle.names.specs.Name.{nameBytes, plainByte, isDots, legalName};
 ghost use Rattle.bounded.specs.Below.{allBelow};
 ghost use Rattle.names.specs.Entry.{entryBytes, nameAt, entryInode, isEmpty, legalEntry, entryFor};
-ghost use Rattle.names.specs.Words.{hasDots, wordsAt, sameWords};
+ghost use Rattle.names.specs.Words.{hasDots, folds, wordsAt, sameWords};
+use octets::HIGHS;
+use octets::LOWS;
 
 pub const ENTRY_BYTES: usize = 16;
 
@@ -14,7 +16,22 @@ pub const NAME_BYTES: usize = 14;
 // Where the name starts in an entry.
 pub const NAME_AT: usize = 2;
 
-// A name in 14 bytes, zero-filled, as two words: names are compared word by word.
+// Eight bytes each. A byte's low bits and the first reach 128 from `A` on, those and the second from behind `Z` on.
+const FROM_A: u64 = 0x3f3f_3f3f_3f3f_3f3f;
+
+const PAST_Z: u64 = 0x2525_2525_2525_2525;
+
+// The bytes of w with small letters for capital ones, eight at once. No sum reaches the next byte; the highest bit of a byte of
+// `capitals` says that it is one.
+fn folded(w: u64) -> u64
+    ensures { λ r. ⌜ r ≡ folds 8 w ⌝ }
+{
+    let low = w & LOWS;
+    let capitals = ((low + FROM_A) ^ (low + PAST_Z)) & (w ^ HIGHS) & HIGHS;
+    w + capitals / 4
+}
+
+// A name in 14 bytes, zero-filled and folded, as two words: names are compared word by word.
 pub struct Name {
     pub low: u64,
     pub high: u64,
@@ -27,8 +44,8 @@ impl Name {
         ensures { λ r. ⌜ r ≡ wordsAt (now (s .entry)) o ⌝ }
     {
         Name {
-            low: octets::get_64(s, o),
-            high: octets::get_48(s, o + 8),
+            low: folded(octets::get_64(s, o)),
+            high: folded(octets::get_48(s, o + 8)),
         }
     }
 
@@ -58,7 +75,7 @@ impl Name {
     }
 }
 
-// The entry's name is this one.
+// The entry's name is this one, without regard to case.
 pub fn same_name(entry: &[u8], name: Name) -> bool
     requires { ⌜ entryBytes ≤ length (now entry) ⌝ }
     ensures { λ r. ⌜ r ≡ sameWords (wordsAt (now (entry .entry)) nameAt) name ⌝ }

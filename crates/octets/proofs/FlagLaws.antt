@@ -31,7 +31,7 @@ sum-fits a h = omega arith
 
 -- ---- the low byte and the rest
 -- two numbers with equal low bytes and equal rests
-same-split : (a b c d : ℕ) → a < 256 → c < 256 → a + 256 * b ≡ c + 256 * d → (a ≡ c) × (b ≡ d)
+pub same-split : (a b c d : ℕ) → a < 256 → c < 256 → a + 256 * b ≡ c + 256 * d → (a ≡ c) × (b ≡ d)
 same-split a b c d h g e = (omega arith, omega arith)
 
 turn : (a b : ℕ) → a + 256 * b ≡ b * 2 ^ 8 + a
@@ -40,13 +40,13 @@ turn a b = omega arith
 back : (a b : ℕ) → b * 2 ^ 8 + a ≡ a + 256 * b
 back a b = omega arith
 
-and-split : (a b c d : ℕ) → a < 256 → c < 256 → bitAnd (a + 256 * b) (c + 256 * d) ≡ bitAnd a c + 256 * bitAnd b d
+pub and-split : (a b c d : ℕ) → a < 256 → c < 256 → bitAnd (a + 256 * b) (c + 256 * d) ≡ bitAnd a c + 256 * bitAnd b d
 and-split a b c d h g = ap₂ bitAnd (turn a b) (turn c d) ∙ and-block 8 b d a c h g ∙ back (bitAnd a c) (bitAnd b d)
 
-or-split : (a b c d : ℕ) → a < 256 → c < 256 → bitOr (a + 256 * b) (c + 256 * d) ≡ bitOr a c + 256 * bitOr b d
+pub or-split : (a b c d : ℕ) → a < 256 → c < 256 → bitOr (a + 256 * b) (c + 256 * d) ≡ bitOr a c + 256 * bitOr b d
 or-split a b c d h g = ap₂ bitOr (turn a b) (turn c d) ∙ or-block 8 b d a c h g ∙ back (bitOr a c) (bitOr b d)
 
-xor-split : (a b c d : ℕ) → a < 256 → c < 256 → bitXor (a + 256 * b) (c + 256 * d) ≡ bitXor a c + 256 * bitXor b d
+pub xor-split : (a b c d : ℕ) → a < 256 → c < 256 → bitXor (a + 256 * b) (c + 256 * d) ≡ bitXor a c + 256 * bitXor b d
 xor-split a b c d h g = ap₂ bitXor (turn a b) (turn c d) ∙ xor-block 8 b d a c h g ∙ back (bitXor a c) (bitXor b d)
 
 -- ---- what the code computes: w's low bits and m, then w's bits, then those of h
@@ -78,10 +78,10 @@ marked-split m h b w l =
     ∙ ap (λ (x : ℕ). bitAnd x (128 + 256 * h)) (or-split (c + 127) (bitAnd w m + m) b w k l)
     ∙ and-split (bitOr (c + 127) b) (bitOr (bitAnd w m + m) w) 128 h (or-lt 8 (c + 127) b k l) (omega arith)
 
-low-byte : (w : ℕ) → w % 256 < 256
+pub low-byte : (w : ℕ) → w % 256 < 256
 low-byte w = omega arith
 
-parts : (w : ℕ) → w ≡ w % 256 + 256 * (w / 256)
+pub parts : (w : ℕ) → w ≡ w % 256 + 256 * (w / 256)
 parts w = omega arith
 
 pub flags-are : (k w : ℕ) → marked (every 127 k) (every 128 k) w ≡ flags k w
@@ -97,10 +97,10 @@ flag-small : (b : ℕ) → flag b < 256
 flag-small zero = omega arith
 flag-small (suc b) = omega arith
 
-mod-of : (b w : ℕ) → b < 256 → (b + 256 * w) % 256 ≡ b
+pub mod-of : (b w : ℕ) → b < 256 → (b + 256 * w) % 256 ≡ b
 mod-of b w h = omega arith
 
-div-of : (b w : ℕ) → b < 256 → (b + 256 * w) / 256 ≡ w
+pub div-of : (b w : ℕ) → b < 256 → (b + 256 * w) / 256 ≡ w
 div-of b w h = omega arith
 
 flags-split : (k b w : ℕ) → b < 256 → flags (suc k) (b + 256 * w) ≡ flag b + 256 * flags k w

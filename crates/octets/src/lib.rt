@@ -11,9 +11,9 @@ ghost use Rattle.octets.specs.Flags.{flags};
 // Eight bytes, each 1, 127 or 128.
 const ONES: u64 = 0x0101_0101_0101_0101;
 
-const LOWS: u64 = 0x7f7f_7f7f_7f7f_7f7f;
+pub const LOWS: u64 = 0x7f7f_7f7f_7f7f_7f7f;
 
-const HIGHS: u64 = 0x8080_8080_8080_8080;
+pub const HIGHS: u64 = 0x8080_8080_8080_8080;
 
 fn wide_8(x: u8) -> u16
     ensures { λ r. ⌜ (r ≡ x) × (r < 256) ⌝ }

@@ -4,15 +4,15 @@ use mathlib.Core.Path.{_≡_, sym, ap, _∙_, subst}
 use mathlib.Core.Logic.{_≢_}
 use mathlib.Core.Bool.{true, false}
 use mathlib.Core.List.{List}
-use native.Mathlib.Decide.{ℕ-discrete}
+use native.Mathlib.Decide.{ℕ-discrete, decLt}
 use native.Mathlib.Omega.{arith}
 use lib.ListN.{getD}
 use Rattle.bounded.specs.Reflect.{Reflects}
-use Rattle.bounded.proofs.BoolLaws.{clash}
+use Rattle.bounded.proofs.BoolLaws.{clash, fails}
 use Rattle.bounded.proofs.ReflectLaws.{r-says, r-no, r-fails}
 use Rattle.octets.specs.Octets.{part}
 use Rattle.octets.proofs.PartLaws.{getD-part}
-use Rattle.names.specs.Name.{nameBytes, legalName}
+use Rattle.names.specs.Name.{nameBytes, folded, legalName}
 use Rattle.names.specs.Entry.{nameAt, sameName, legalEntry, entryFor}
 use Rattle.names.proofs.EntryLaws.{named, entry-byte, legal-entry}
 use Rattle.directory.specs.Slot.{mostSlots}
@@ -63,11 +63,11 @@ module _ {s t u : List ℕ} {n p : ℕ} (l : p < mostSlots * n) (h : (q : ℕ) �
   }
 
 -- ---- the names of a directory
-pub same-names-is : (s : List ℕ) (n p q : ℕ) → Reflects (sameNames s n p q) ((k : ℕ) → k < nameBytes → getD (entryAt s n p) (nameAt + k) 0 ≡ getD (entryAt s n q) (nameAt + k) 0)
+pub same-names-is : (s : List ℕ) (n p q : ℕ) → Reflects (sameNames s n p q) ((k : ℕ) → k < nameBytes → folded (getD (entryAt s n p) (nameAt + k) 0) ≡ folded (getD (entryAt s n q) (nameAt + k) 0))
 unfolding sameNames
 same-names-is s n p q =
     let e = entryAt s n q in
-    r-says (λ f k l. f k l ∙ getD-part e nameAt nameBytes k l) (λ f k l. f k l ∙ sym (getD-part e nameAt nameBytes k l))
+    r-says (λ f k l. f k l ∙ ap folded (getD-part e nameAt nameBytes k l)) (λ f k l. f k l ∙ ap folded (sym (getD-part e nameAt nameBytes k l)))
     (named (entryAt s n p) (part e nameAt nameBytes))
 
 -- "Names in a directory differ, and are legal"; an entry names an inode
@@ -79,6 +79,18 @@ pub record NamesSound (s : List ℕ) (n : ℕ) : Type 0 where
 -- the entry at p is to have a name that no other of its directory has
 abbrev pub NewName : List ℕ → ℕ → ℕ → List ℕ → Type 0
 NewName s n p name = (q : ℕ) → q < mostSlots * n → q ≢ p → dirOf q ≡ dirOf p → filled s n q ≡ true → sameName (entryAt s n q) name ≡ false
+
+-- one that the entry at p has already is new there: no two of its directory have it
+pub own-new : (s : List ℕ) (n p : ℕ) (name : List ℕ) → NamesSound s n → p < mostSlots * n → filled s n p ≡ true → sameName (entryAt s n p) name ≡ true → NewName s n p name
+own-new s n p name h m g own q l z d f = fails (sameName (entryAt s n q) name) (λ same. go same (decLt q p))
+  where
+    -- the names of both are this one
+    both : sameName (entryAt s n q) name ≡ true → (k : ℕ) → k < nameBytes → folded (getD (entryAt s n q) (nameAt + k) 0) ≡ folded (getD (entryAt s n p) (nameAt + k) 0)
+    both same k b = named (entryAt s n q) name .to same k b ∙ sym (named (entryAt s n p) name .to own k b)
+
+    go : sameName (entryAt s n q) name ≡ true → Dec (q < p) → ⊥
+    go same (yes b) = r-no (same-names-is s n q p) (h .differ q p l m d b f g) (both same)
+    go same (no b) = r-no (same-names-is s n p q) (h .differ p q m l (sym d) (omega (arith, z)) g f) (λ k c. sym (both same k c))
 
 -- it still is new where another place is emptied
 pub new-emptied : (s t : List ℕ) (n p q : ℕ) (name : List ℕ) → Emptied s t n p → NewName s n q name → NewName t n q name
@@ -117,12 +129,12 @@ module _ (s t : List ℕ) (n : ℕ) (h : NamesSound s n) where
   module _ (p i : ℕ) (name : List ℕ) (e : Filled s t n p i name) (o : 1 ≤ i) (g : legalName name ≡ true) (new : NewName s n p name) where
     -- the new name, and that of another entry of its directory
     apart : (q : ℕ) → q < mostSlots * n → q ≢ p → dirOf q ≡ dirOf p → filled t n q ≡ true
-        → ((k : ℕ) → k < nameBytes → getD (entryAt t n q) (nameAt + k) 0 ≡ getD (entryAt t n p) (nameAt + k) 0) → ⊥
+        → ((k : ℕ) → k < nameBytes → folded (getD (entryAt t n q) (nameAt + k) 0) ≡ folded (getD (entryAt t n p) (nameAt + k) 0)) → ⊥
     apart q l z d f same =
         let x = e .others q l z in
         let f′ = sym (x .stands) ∙ f in
         r-no (named (entryAt s n q) name) (new q l z d f′)
-        (λ k m. ap (λ (y : List ℕ). getD y (nameAt + k) 0) (sym (x .entry f′)) ∙ same k m ∙ ap (λ (y : List ℕ). getD y (nameAt + k) 0) (e .entry) ∙ entry-byte i name k m)
+        (λ k m. ap (λ (y : List ℕ). folded (getD y (nameAt + k) 0)) (sym (x .entry f′)) ∙ same k m ∙ ap (λ (y : List ℕ). folded (getD y (nameAt + k) 0)) (e .entry) ∙ ap folded (entry-byte i name k m))
 
     pub names-filled : NamesSound t n
     names-filled = record {
@@ -140,7 +152,7 @@ module _ (s t : List ℕ) (n : ℕ) (h : NamesSound s n) where
         two : (a b : ℕ) → a < mostSlots * n → b < mostSlots * n → dirOf a ≡ dirOf b → a < b → filled t n a ≡ true → filled t n b ≡ true → Dec (a ≡ p) → Dec (b ≡ p) → sameNames t n a b ≡ false
         two a b l m d k f r (no x) (no y) = differ-else a b l m d k (e .others a l x) (e .others b m y) f r
         two a b l m d k f r (no x) (yes y) =
-            r-fails (same-names-is t n a b) (λ same. apart a l x (d ∙ ap dirOf y) f (λ j w. same j w ∙ ap (λ (c : ℕ). getD (entryAt t n c) (nameAt + j) 0) y))
+            r-fails (same-names-is t n a b) (λ same. apart a l x (d ∙ ap dirOf y) f (λ j w. same j w ∙ ap (λ (c : ℕ). folded (getD (entryAt t n c) (nameAt + j) 0)) y))
         two a b l m d k f r (yes x) y =
             r-fails (same-names-is t n a b)
-            (λ same. apart b m (λ z. omega arith) (sym d ∙ ap dirOf x) r (λ j w. sym (same j w) ∙ ap (λ (c : ℕ). getD (entryAt t n c) (nameAt + j) 0) x))
+            (λ same. apart b m (λ z. omega arith) (sym d ∙ ap dirOf x) r (λ j w. sym (same j w) ∙ ap (λ (c : ℕ). folded (getD (entryAt t n c) (nameAt + j) 0)) x))

@@ -30,8 +30,10 @@ pub const STEP: usize = 11;
 
 pub const BURST: usize = 12;
 
-// Names by number: so many, and after them one that no entry may have.
+// Names by number: so many, then each with a capital letter, and after them one that no entry may have.
 const NAMES: usize = 64;
+
+const SPELLINGS: usize = 2 * NAMES;
 
 const FEW_NAMES: usize = 4;
 
@@ -189,7 +191,7 @@ fn draw_inode(b: u64, wide: bool, n: usize) -> usize
 }
 
 fn names(wide: bool) -> usize
-    ensures { λ r. ⌜ 1 ≤ r ⌝ }
+    ensures { λ r. ⌜ (1 ≤ r) × (r ≤ 64) ⌝ }
 {
     if wide { NAMES } else { FEW_NAMES }
 }
@@ -198,9 +200,10 @@ fn draw_name(b: u64, field: u64, wide: bool) -> usize
     requires { ⌜ field ≤ 90 ⌝ }
 {
     if draw(b, field, 50) == 0 {
-        return NAMES;
+        return SPELLINGS;
     }
-    draw(b, field + 1, names(wide))
+    let k = draw(b, field + 1, 4 * names(wide));
+    if k % 4 == 0 { NAMES + k / 4 } else { k / 4 }
 }
 
 // Where a write starts and what a file is cut to: nothing, a few bytes, around the edge of 768, or anywhere.
@@ -276,15 +279,17 @@ pub fn nth_event(seed: u64, list: u64, k: u64, shape: Shape) -> Event
     later_event(b, shape.wide, shape.inodes)
 }
 
-// Puts name k at the front of a buffer, and answers its length: a letter, or two; a dot for the one that no entry may have.
+// Puts name k at the front of a buffer, and answers its length: a letter, or two, the first of which may be a capital; a dot for
+// the one that no entry may have.
 pub fn spell(k: usize, out: &mut [u8]) -> usize
     requires { ⌜ 2 ≤ length (now out) ⌝ }
 {
-    if NAMES <= k {
+    if SPELLINGS <= k {
         octets::put_8(&mut *out, 0, b'.');
         return 1;
     }
-    octets::put_8(&mut *out, 0, (97 + k / 8) as u8);
-    octets::put_8(&mut *out, 1, (97 + k % 8) as u8);
-    if k % 8 == 0 { 1 } else { 2 }
+    let j = k % NAMES;
+    octets::put_8(&mut *out, 0, (97 + j / 8 - 32 * (k / NAMES)) as u8);
+    octets::put_8(&mut *out, 1, (97 + j % 8) as u8);
+    if j % 8 == 0 { 1 } else { 2 }
 }

@@ -17,7 +17,7 @@ use Rattle.entries.specs.declared.LinkPlan.the-variants.{Add, NoLink}
 use Rattle.entries.specs.declared.UnlinkPlan.{UnlinkPlan}
 use Rattle.entries.specs.declared.UnlinkPlan.the-variants.{Take, NoUnlink}
 use Rattle.entries.specs.declared.RenamePlan.{RenamePlan}
-use Rattle.entries.specs.declared.RenamePlan.the-variants.{Same, Rename, Move, NoRename}
+use Rattle.entries.specs.declared.RenamePlan.the-variants.{Rename, Move, NoRename}
 use Rattle.entries.specs.Plan.{lookUpPlan, createPlan, linkPlan, unlinkPlan, renamePlan}
 use Rattle.files.specs.declared.Guard.{Guard}
 use Rattle.files.specs.declared.Guard.the-variants.{Pass, Stop}
@@ -75,7 +75,6 @@ module _ (w : World) where
   by-plan (rename d name e other) h n b = go (renamePlan (w .store) n b d name e other)
     where
       go : (p : RenamePlan) → Outless (doRename (w .store) n d e other p)
-      go Same = refl
       go (Rename t i) = refl
       go (Move t i r) = refl
       go (NoRename f) = refl

@@ -51,19 +51,24 @@ pub fn prelude(random: &mut Random, aim: &Aim) -> Vec<Call> {
         return vec![];
     }
     let first = Call::Create(1, b"first".to_vec(), Kind::File);
-    let links = (0..random.between(30, 50)).map(|k| Call::Link(1, short(k), 2));
+    let links: Vec<Call> = (0..random.between(30, 50)).map(|k| Call::Link(1, short(random, k), 2)).collect();
     std::iter::once(first).chain(links).collect()
 }
 
-fn short(k: usize) -> Name {
-    format!("n{k}").into_bytes()
+/// Name k, at times in another spelling.
+fn short(random: &mut Random, k: usize) -> Name {
+    let letter = if random.percent(25) { 'N' } else { 'n' };
+    format!("{letter}{k}").into_bytes()
 }
 
 fn name(random: &mut Random, aim: &Aim) -> Name {
     match random.below(60) {
         0 => [&b""[..], b".", b"..", b"a/b", b"a\0b", b"fifteen bytes !"][random.below(6)].to_vec(),
         1 => b"fourteen bytes".to_vec(),
-        _ => short(random.below(aim.names)),
+        _ => {
+            let k = random.below(aim.names);
+            short(random, k)
+        }
     }
 }
 

@@ -145,7 +145,7 @@ impl Store {
 
     fn find(&self, directory: usize, name: &[u8]) -> Option<(usize, usize)> {
         let slots = self.slots(directory).ok()?;
-        let slot = slots.iter().position(|entry| entry.as_ref().is_some_and(|e| e.name == name))?;
+        let slot = slots.iter().position(|entry| entry.as_ref().is_some_and(|e| e.name.eq_ignore_ascii_case(name)))?;
         Some((slot, slots[slot].as_ref()?.inode))
     }
 

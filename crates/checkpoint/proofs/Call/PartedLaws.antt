@@ -11,7 +11,7 @@ use Rattle.content.specs.declared.NumberPlan.{NumberPlan}
 use Rattle.content.specs.declared.NumberPlan.the-variants.{To, NoNumber}
 use Rattle.content.specs.Plan.{readPlan, writePlan, shortenPlan}
 use Rattle.entries.specs.declared.RenamePlan.{RenamePlan}
-use Rattle.entries.specs.declared.RenamePlan.the-variants.{Same, Rename, Move, NoRename}
+use Rattle.entries.specs.declared.RenamePlan.the-variants.{Rename, Move, NoRename}
 use Rattle.entries.specs.declared.CreatePlan.{CreatePlan}
 use Rattle.entries.specs.declared.CreatePlan.the-variants.{Make, NoCreate}
 use Rattle.entries.specs.declared.LinkPlan.{LinkPlan}
@@ -69,7 +69,6 @@ elsewhere (unlink d name) s n b = go (unlinkPlan s n d name)
 elsewhere (rename d name e other) s n b = go (renamePlan s n b d name e other) refl
   where
     go : (p : RenamePlan) → renamePlan s n b d name e other ≡ p → Each Elsewhere (doRename s n d e other p)
-    go Same q = tt
     go (Rename t i) q = tt
     go (Move t i r) q = ((moves s n b d name e other t i r q .1 .other, tt), tt)
     go (NoRename f) q = tt

@@ -32,7 +32,7 @@ use Rattle.entries.specs.declared.LinkPlan.the-variants.{Add, NoLink}
 use Rattle.entries.specs.declared.UnlinkPlan.{UnlinkPlan}
 use Rattle.entries.specs.declared.UnlinkPlan.the-variants.{Take, NoUnlink}
 use Rattle.entries.specs.declared.RenamePlan.{RenamePlan}
-use Rattle.entries.specs.declared.RenamePlan.the-variants.{Same, Rename, Move, NoRename}
+use Rattle.entries.specs.declared.RenamePlan.the-variants.{Rename, Move, NoRename}
 use Rattle.entries.specs.Plan.{lookUpPlan, createPlan, linkPlan, unlinkPlan, renamePlan}
 use Rattle.content.proofs.PlanFacts.{shortens, writes}
 use Rattle.entries.proofs.PlanFacts.{FoundIn, creates, links, unlinks, renames, moves}
@@ -56,17 +56,6 @@ locked-one d (i ∷ is) e = elim (or-cases (locks (deskOf d) i) (anyLocked d is)
 looks-up : (s : List ℕ) (n d : ℕ) (name : List ℕ) (t i : ℕ) → FoundIn s n d name t i → lookUpPlan s n d name ≡ To i
 unfolding lookUpPlan
 looks-up s n d name t i f = rw (f .legal, f .directory, f .found) (ap To (sym (f .inode)))
-
--- a rename to the same name: its directory is one
-same-directory : (s : List ℕ) (n b d : ℕ) (name : List ℕ) (e : ℕ) (other : List ℕ) → renamePlan s n b d name e other ≡ Same → isDirectory s n d ≡ true
-unfolding renamePlan
-same-directory s n b d name e other h =
-    let a = pick-not (legalName name && legalName other) (NoRename IllegalName) _ Same h (never IllegalName) in
-    let c = pick-not (isDirectory s n d && isDirectory s n e) (NoRename WrongInode) _ Same (a .1) (never WrongInode) in
-    and-left (isDirectory s n d) (isDirectory s n e) (c .0)
-  where
-    never : (f : Refusal) → NoRename f ≡ Same → ⊥
-    never f q = let z : _≡_ {A = ℕ} 0 1 = cc in omega arith
 
 module _ (s : List ℕ) (b : ℕ) (h : Sound Store s) where
   abbrev n : ℕ
@@ -133,7 +122,6 @@ module _ (s : List ℕ) (b : ℕ) (h : Sound Store s) where
 
   moved : (d : ℕ) (name : List ℕ) (e : ℕ) (other : List ℕ) (p : RenamePlan) → renamePlan s n b d name e other ≡ p → Each (Touches (rename d name e other)) (doRename s n d e other p)
   moved d name e other (NoRename f) q = tt
-  moved d name e other Same q = within d name e other (same-directory s n b d name e other q)
   moved d name e other (Rename t i) q = within d name e other (renames s n b d name e other t i q .0 .entry .directory)
   moved d name e other (Move t i r) q = go
     where

@@ -1,4 +1,4 @@
-use Rattle.entries.proofs.TakePlanLaws.{within-new, within-same, within-taken}
+use Rattle.entries.proofs.TakePlanLaws.{within-new, within-own, within-taken}
 use mathlib.Core.Path.{sym, _∙_}
 use borrow.Author.Needs.{needs}
 use Rattle.entries.proofs.plan.rename_within.Statement.{statement}
@@ -17,7 +17,7 @@ returns : tie.Need-returns
 returns c = within-new _ _ _ _ _ _ (sym (c .before .before .find-slot .ensures) ∙ c .enum-told .given .1)
 
 returns-2 : tie.Need-returns-2
-returns-2 c = within-same _ _ _ _ _ _ _ (sym (c .before .before .before .before .find-slot .ensures) ∙ c .before .before .u .given .1) (c .if1 .taken)
+returns-2 c = within-own _ _ _ _ _ _ _ (sym (c .before .before .before .before .find-slot .ensures) ∙ c .before .before .u .given .1) (c .if1 .taken)
 
 returns-3 : tie.Need-returns-3
 returns-3 c = within-taken _ _ _ _ _ _ _ (sym (c .before .before .before .before .find-slot .ensures) ∙ c .before .before .u .given .1) (c .if1 .left)

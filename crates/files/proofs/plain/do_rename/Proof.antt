@@ -18,9 +18,6 @@ use Rattle.files.proofs.plain.do_rename.Tie as tie
 rename-plan-requires : tie.Need-rename-plan-requires
 rename-plan-requires c κs = search needs
 
-enum-told : tie.Need-enum-told
-enum-told c = search needs
-
 enum-known-t : tie.Need-enum-known-t
 enum-known-t c = search needs
 
@@ -31,7 +28,7 @@ rename-requires c κs =
     let f = g .entry in
     let e = f .inode in
     let m = found-here p _ _ _ (f .directory) (f .legal) (f .found) .high in
-    (uncounted p, f .directory, find-below _ _ _ _ _ (f .found), omega arith, legal-bounds _ (g .new .legal) .1)
+    (uncounted p, f .directory, find-below _ _ _ _ _ (f .found), omega arith, legal-bounds _ (g .legal) .1)
 
 enum-known-t-2 : tie.Need-enum-known-t-2
 enum-known-t-2 c = search needs
@@ -53,7 +50,10 @@ same-length : tie.Need-same-length
 same-length c = search needs
 
 returns : tie.Need-returns
-returns c = let a = c .before .before .before .before .before .before .before .args in ap (λ p. leaves (now (a .s)) [] (doRename (now (a .s)) (a .n) (a .d) (a .e) (now (a .other)) p)) (sym (c .enum-told .given .1) ∙ c .before .before .rename-plan .ensures)
+returns c =
+    let a = c .before .before .before .before .before .before .before .before .before .before .before .before .args in
+    ap (λ (t : List ℕ). plainLeft (Done 0) t []) (c .before .before .rename .ensures)
+    ∙ ap (λ p. leaves (now (a .s)) [] (doRename (now (a .s)) (a .n) (a .d) (a .e) (now (a .other)) p)) (sym (c .before .before .before .before .before .t .given .1) ∙ c .before .before .before .before .before .before .before .rename-plan .ensures)
 
 same-length-2 : tie.Need-same-length-2
 same-length-2 c = search needs
@@ -61,30 +61,20 @@ same-length-2 c = search needs
 returns-2 : tie.Need-returns-2
 returns-2 c =
     let a = c .before .before .before .before .before .before .before .before .before .before .before .before .args in
-    ap (λ (t : List ℕ). plainLeft (Done 0) t []) (c .before .before .rename .ensures)
-    ∙ ap (λ p. leaves (now (a .s)) [] (doRename (now (a .s)) (a .n) (a .d) (a .e) (now (a .other)) p)) (sym (c .before .before .before .before .before .t .given .1) ∙ c .before .before .before .before .before .before .before .rename-plan .ensures)
+    ap (λ (t : List ℕ). plainLeft (Done 0) t []) (c .before .before .move-entry .ensures)
+    ∙ ap (λ p. leaves (now (a .s)) [] (doRename (now (a .s)) (a .n) (a .d) (a .e) (now (a .other)) p)) (sym (c .before .before .before .before .before .t2 .given .1) ∙ c .before .before .before .before .before .before .before .rename-plan .ensures)
 
 same-length-3 : tie.Need-same-length-3
 same-length-3 c = search needs
 
 returns-3 : tie.Need-returns-3
-returns-3 c =
-    let a = c .before .before .before .before .before .before .before .before .before .before .before .before .args in
-    ap (λ (t : List ℕ). plainLeft (Done 0) t []) (c .before .before .move-entry .ensures)
-    ∙ ap (λ p. leaves (now (a .s)) [] (doRename (now (a .s)) (a .n) (a .d) (a .e) (now (a .other)) p)) (sym (c .before .before .before .before .before .t2 .given .1) ∙ c .before .before .before .before .before .before .before .rename-plan .ensures)
-
-same-length-4 : tie.Need-same-length-4
-same-length-4 c = search needs
-
-returns-4 : tie.Need-returns-4
-returns-4 c = let a = c .before .before .before .before .before .before .before .before .args in ap (λ p. leaves (now (a .s)) [] (doRename (now (a .s)) (a .n) (a .d) (a .e) (now (a .other)) p)) (sym (c .before .why .given .1) ∙ c .before .before .before .rename-plan .ensures)
+returns-3 c = let a = c .before .before .before .before .before .before .before .before .args in ap (λ p. leaves (now (a .s)) [] (doRename (now (a .s)) (a .n) (a .d) (a .e) (now (a .other)) p)) (sym (c .before .why .given .1) ∙ c .before .before .before .rename-plan .ensures)
 
 pub do-rename-spec : {M : Type 1} → statement M
 do-rename-spec =
     tie.close
     (tie.spec
     rename-plan-requires
-    enum-told
     enum-known-t
     rename-requires
     enum-known-t-2
@@ -95,6 +85,4 @@ do-rename-spec =
     same-length-2
     returns-2
     same-length-3
-    returns-3
-    same-length-4
-    returns-4)
+    returns-3)

@@ -17,8 +17,8 @@ use Rattle.live.proofs.work.rename.Tie as tie
 rename-plan-requires : tie.Need-rename-plan-requires
 rename-plan-requires c κs = search needs
 
-enum-told : tie.Need-enum-told
-enum-told c = search needs
+enum-known-t : tie.Need-enum-known-t
+enum-known-t c = search needs
 
 slice-aggregate-locks-any : tie.Need-slice-aggregate-locks-any
 slice-aggregate-locks-any c = search needs
@@ -31,13 +31,23 @@ same-length c = search needs
 
 returns : tie.Need-returns
 returns c =
-    let x = c .before .before .before in
+    let x = c .before .before .before .before in
     let o = x .before .before .before .before .before .before .before .before .before in
     let a = o .args in
-    ends-busy _ _ _ (ap (doRename (now (a .s)) (a .n) (a .from) (a .to) (now (a .other))) (sym (x .enum-told .given .1) ∙ x .before .before .rename-plan .ensures)) _ (o .pre .0 .read) _ (c .before .locks-any .ensures) (c .if1 .taken)
+    ends-busy _ _ _ (ap (doRename (now (a .s)) (a .n) (a .from) (a .to) (now (a .other))) (sym (x .t .given .1) ∙ x .before .before .rename-plan .ensures)) _ (o .pre .0 .read) _ (c .before .locks-any .ensures) (c .if1 .taken)
 
-enum-known-t : tie.Need-enum-known-t
-enum-known-t c = search needs
+rename-requires : tie.Need-rename-requires
+rename-requires c κs =
+    let x = c .before .before .before .before .before in
+    let p = x .before .before .before .before .before .before .before .before .before .pre .0 in
+    let g = renames _ _ _ _ _ _ _ _ _ (sym (x .before .before .rename-plan .ensures) ∙ x .t .given .1) .0 in
+    let f = g .entry in
+    let e = f .inode in
+    let m = found-here (p .sound) _ _ _ (f .directory) (f .legal) (f .found) .high in
+    (uncounted (p .sound), f .directory, find-below _ _ _ _ _ (f .found), omega arith, legal-bounds _ (g .legal) .1)
+
+enum-known-t-2 : tie.Need-enum-known-t-2
+enum-known-t-2 c = search needs
 
 slice-aggregate-locks-any-2 : tie.Need-slice-aggregate-locks-any-2
 slice-aggregate-locks-any-2 c = search needs
@@ -53,36 +63,7 @@ returns-2 c =
     let x = c .before .before .before .before in
     let o = x .before .before .before .before .before .before .before .before .before in
     let a = o .args in
-    ends-busy _ _ _ (ap (doRename (now (a .s)) (a .n) (a .from) (a .to) (now (a .other))) (sym (x .t .given .1) ∙ x .before .before .rename-plan .ensures)) _ (o .pre .0 .read) _ (c .before .locks-any2 .ensures) (c .if2 .taken)
-
-rename-requires : tie.Need-rename-requires
-rename-requires c κs =
-    let x = c .before .before .before .before .before in
-    let p = x .before .before .before .before .before .before .before .before .before .pre .0 in
-    let g = renames _ _ _ _ _ _ _ _ _ (sym (x .before .before .rename-plan .ensures) ∙ x .t .given .1) .0 in
-    let f = g .entry in
-    let e = f .inode in
-    let m = found-here (p .sound) _ _ _ (f .directory) (f .legal) (f .found) .high in
-    (uncounted (p .sound), f .directory, find-below _ _ _ _ _ (f .found), omega arith, legal-bounds _ (g .new .legal) .1)
-
-enum-known-t-2 : tie.Need-enum-known-t-2
-enum-known-t-2 c = search needs
-
-slice-aggregate-locks-any-3 : tie.Need-slice-aggregate-locks-any-3
-slice-aggregate-locks-any-3 c = search needs
-
-locks-any-requires-3 : tie.Need-locks-any-requires-3
-locks-any-requires-3 c κs = search needs
-
-same-length-3 : tie.Need-same-length-3
-same-length-3 c = search needs
-
-returns-3 : tie.Need-returns-3
-returns-3 c =
-    let x = c .before .before .before .before in
-    let o = x .before .before .before .before .before .before .before .before .before in
-    let a = o .args in
-    ends-busy _ _ _ (ap (doRename (now (a .s)) (a .n) (a .from) (a .to) (now (a .other))) (sym (x .t2 .given .1) ∙ x .before .before .rename-plan .ensures)) _ (o .pre .0 .read) _ (c .before .locks-any3 .ensures) (c .if3 .taken)
+    ends-busy _ _ _ (ap (doRename (now (a .s)) (a .n) (a .from) (a .to) (now (a .other))) (sym (x .t2 .given .1) ∙ x .before .before .rename-plan .ensures)) _ (o .pre .0 .read) _ (c .before .locks-any2 .ensures) (c .if2 .taken)
 
 move-entry-requires : tie.Need-move-entry-requires
 move-entry-requires c κs =
@@ -128,50 +109,39 @@ note-made-requires c κs =
 enum-known-why : tie.Need-enum-known-why
 enum-known-why c = search needs
 
+same-length-3 : tie.Need-same-length-3
+same-length-3 c = search needs
+
+returns-3 : tie.Need-returns-3
+unfolding cutEntries clearMarks setMarks
+returns-3 c =
+    let x = c .before .before .before .before .before in
+    let o = x .before .before .before .before .before .before .before .before .before .before .before .before in
+    let a = o .args in
+    ends-done _ _ _ (ap (doRename (now (a .s)) (a .n) (a .from) (a .to) (now (a .other))) (sym (x .before .before .before .t .given .1) ∙ x .before .before .before .before .before .rename-plan .ensures)) _ (o .pre .0 .read) _ (x .locks-any .ensures) (c .before .before .before .before .if1 .left) _ (o .pre .0 .sound .inodes) _ _ _ (c .before .before .rename .ensures) refl refl
+
 same-length-4 : tie.Need-same-length-4
 same-length-4 c = search needs
-
-returns-4 : tie.Need-returns-4
-unfolding cutEntries clearMarks setMarks
-returns-4 c =
-    let x = c .before in
-    let o = x .before .before .before .before .before .before .before .before .before .before .before in
-    let a = o .args in
-    ends-done _ _ _ (ap (doRename (now (a .s)) (a .n) (a .from) (a .to) (now (a .other))) (sym (x .before .before .enum-told .given .1) ∙ x .before .before .before .before .rename-plan .ensures)) _ (o .pre .0 .read) _ (x .locks-any .ensures) (c .if1 .left) _ (o .pre .0 .sound .inodes) _ _ _ refl refl refl
 
 same-length-5 : tie.Need-same-length-5
 same-length-5 c = search needs
 
-returns-5 : tie.Need-returns-5
-unfolding cutEntries clearMarks setMarks
-returns-5 c =
-    let x = c .before .before .before .before .before in
-    let o = x .before .before .before .before .before .before .before .before .before .before .before .before in
-    let a = o .args in
-    ends-done _ _ _ (ap (doRename (now (a .s)) (a .n) (a .from) (a .to) (now (a .other))) (sym (x .before .before .before .t .given .1) ∙ x .before .before .before .before .before .rename-plan .ensures)) _ (o .pre .0 .read) _ (x .locks-any2 .ensures) (c .before .before .before .before .if2 .left) _ (o .pre .0 .sound .inodes) _ _ _ (c .before .before .rename .ensures) refl refl
-
 same-length-6 : tie.Need-same-length-6
 same-length-6 c = search needs
+
+returns-4 : tie.Need-returns-4
+unfolding cutEntries clearMarks setMarks
+returns-4 c =
+    let x = c .before .before .before .before .before .before .before .before .before .before .before .before .before .before .before .before .before .before in
+    let o = x .before .before .before .before .before .before .before .before .before .before .before .before in
+    let a = o .args in
+    ends-done _ _ _ (ap (doRename (now (a .s)) (a .n) (a .from) (a .to) (now (a .other))) (sym (x .before .before .before .t2 .given .1) ∙ x .before .before .before .before .before .rename-plan .ensures)) _ (o .pre .0 .read) _ (x .locks-any2 .ensures) (c .before .before .before .before .before .before .before .before .before .before .before .before .before .before .before .before .before .if2 .left) _ (o .pre .0 .sound .inodes) _ _ _ (c .before .before .before .before .before .before .before .before .before .before .before .before .before .before .before .move-entry .ensures) (c .before .before .before .before .before .before .before .before .before .before .cut-image .ensures) (c .before .before .note-made .ensures ∙ ap (λ y. noteMade y (a .n) (a .to) (x .before .before .before .t2 .given .0 .1 .1 .0 .slot)) (c .before .before .before .before .before .before .note-taken .ensures))
 
 same-length-7 : tie.Need-same-length-7
 same-length-7 c = search needs
 
-same-length-8 : tie.Need-same-length-8
-same-length-8 c = search needs
-
-returns-6 : tie.Need-returns-6
-unfolding cutEntries clearMarks setMarks
-returns-6 c =
-    let x = c .before .before .before .before .before .before .before .before .before .before .before .before .before .before .before .before .before .before in
-    let o = x .before .before .before .before .before .before .before .before .before .before .before .before in
-    let a = o .args in
-    ends-done _ _ _ (ap (doRename (now (a .s)) (a .n) (a .from) (a .to) (now (a .other))) (sym (x .before .before .before .t2 .given .1) ∙ x .before .before .before .before .before .rename-plan .ensures)) _ (o .pre .0 .read) _ (x .locks-any3 .ensures) (c .before .before .before .before .before .before .before .before .before .before .before .before .before .before .before .before .before .if3 .left) _ (o .pre .0 .sound .inodes) _ _ _ (c .before .before .before .before .before .before .before .before .before .before .before .before .before .before .before .move-entry .ensures) (c .before .before .before .before .before .before .before .before .before .before .cut-image .ensures) (c .before .before .note-made .ensures ∙ ap (λ y. noteMade y (a .n) (a .to) (x .before .before .before .t2 .given .0 .1 .1 .0 .slot)) (c .before .before .before .before .before .before .note-taken .ensures))
-
-same-length-9 : tie.Need-same-length-9
-same-length-9 c = search needs
-
-returns-7 : tie.Need-returns-7
-returns-7 c =
+returns-5 : tie.Need-returns-5
+returns-5 c =
     let a = c .before .before .before .before .before .before .before .before .before .before .args in
     ends-refused _ _ _ (ap (doRename (now (a .s)) (a .n) (a .from) (a .to) (now (a .other))) (sym (c .before .why .given .1) ∙ c .before .before .before .rename-plan .ensures))
 
@@ -180,34 +150,27 @@ rename-spec =
     tie.close
     (tie.spec
     rename-plan-requires
-    enum-told
+    enum-known-t
     slice-aggregate-locks-any
     locks-any-requires
     same-length
     returns
-    enum-known-t
+    rename-requires
+    enum-known-t-2
     slice-aggregate-locks-any-2
     locks-any-requires-2
     same-length-2
     returns-2
-    rename-requires
-    enum-known-t-2
-    slice-aggregate-locks-any-3
-    locks-any-requires-3
-    same-length-3
-    returns-3
     move-entry-requires
     cut-image-requires
     note-taken-requires
     note-made-requires
     enum-known-why
+    same-length-3
+    returns-3
     same-length-4
-    returns-4
     same-length-5
-    returns-5
     same-length-6
+    returns-4
     same-length-7
-    same-length-8
-    returns-6
-    same-length-9
-    returns-7)
+    returns-5)
