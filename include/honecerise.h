@@ -315,10 +315,10 @@ int32_t honecerise_match_laps(const uint32_t *watch, size_t watch_count,
  * Takes no store, and deletes nothing: it says which of a case's finished images are kept on the day
  * asked, so it can be asked before anything goes, and before new terms are applied.
  *
- * A date is one number, HONECERISE_DATE(2024, 2, 29) or 20240229; from 2050 on every date is refused.
- * The copies are dated in any order. Terms are their first and last days, both included, one after the
- * other: term_days is twice their number. Terms rise and share no day; one may begin the day after
- * another ends.
+ * A date is one number, HONECERISE_DATE(2024, 2, 29) or 20240229; every date after 2049 is refused
+ * with 23, a term's too. The copies are dated in any order. Terms are their first and last days, both
+ * included, one after the other: term_days is twice their number. Terms rise and share no day; one may
+ * begin the day after another ends.
  *
  * A copy aged 0 to 13 days on the day asked is kept. An older one that lies in a term is kept until 56
  * days after the term's last day, that day included, if it is the last of its Monday-to-Sunday week

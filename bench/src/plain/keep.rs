@@ -8,7 +8,7 @@ const YOUNG_DAYS: usize = 13;
 const TERM_DAYS: usize = 56;
 const DAY_WORDS: usize = 286;
 
-fn month_length(year: usize, month: usize) -> usize {
+const fn month_length(year: usize, month: usize) -> usize {
     match month {
         2 if year % 4 == 0 && (year % 100 != 0 || year % 400 == 0) => 29,
         2 => 28,
@@ -17,10 +17,16 @@ fn month_length(year: usize, month: usize) -> usize {
     }
 }
 
-/// The first day of a month, counted from January 2000.
-fn month_start(month: usize) -> usize {
-    (0..month).map(|k| month_length(2000 + k / 12, k % 12 + 1)).sum()
-}
+/// The first day of each month from January 2000 on.
+const MONTH_STARTS: [u16; 600] = {
+    let mut starts = [0; 600];
+    let mut k = 1;
+    while k < 600 {
+        starts[k] = starts[k - 1] + month_length(2000 + (k - 1) / 12, (k - 1) % 12 + 1) as u16;
+        k += 1;
+    }
+    starts
+};
 
 fn reckon(date: u32) -> Option<u16> {
     let n = date as usize;
@@ -28,7 +34,7 @@ fn reckon(date: u32) -> Option<u16> {
     if !(2000..=2049).contains(&year) || !(1..=12).contains(&month) || !(1..=month_length(year, month)).contains(&day) {
         return None;
     }
-    Some((month_start((year - 2000) * 12 + month - 1) + day - 1) as u16)
+    Some(MONTH_STARTS[(year - 2000) * 12 + month - 1] + (day - 1) as u16)
 }
 
 fn read_days(dates: &[u32], days: &mut [u16]) -> Option<()> {

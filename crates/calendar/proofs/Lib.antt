@@ -1,2 +1,3 @@
 pub mod MonthLaws
+pub mod StartLaws
 pub mod DayLaws

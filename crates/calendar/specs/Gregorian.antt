@@ -1,9 +1,11 @@
 -- The Gregorian rule, and the months from January 2000 on.
 use Prim.Native.Nat.{ℕ, _+_, _/_, _%_}
 use mathlib.Core.Bool.{Bool, not, _&&_, _||_}
+use mathlib.Core.List.{List}
 use lib.Dec.{eqb}
 use Rattle.bounded.specs.Search.{pick}
 use Rattle.bounded.specs.Sum.{sum}
+use Rattle.bounded.specs.Table.{Tabulated}
 
 -- every fourth year is a leap year, but of the centuries only every fourth
 abbrev pub isLeap : ℕ → Bool
@@ -35,3 +37,7 @@ lengthOf k = monthLength (firstYear + k / 12) (k % 12 + 1)
 -- the first day of month k, counted from 2000-01-01 as day 0: the months before it have so many days
 abbrev pub monthStart : ℕ → ℕ
 monthStart k = sum lengthOf k
+
+-- "a constant table of 600 day numbers, one for each month": the rule at every entry
+abbrev pub MonthStarts : List ℕ → Type 0
+MonthStarts t = Tabulated monthStart months months t

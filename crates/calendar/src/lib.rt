@@ -1,10 +1,14 @@
 // Dates by the Gregorian rule, their day numbers, and weeks.
+mod starts;
+
 ghost use mathlib.Core.Path.{_≡_};
 ghost use Prim.Native.Nat.{_<_, _≤_};
-ghost use Rattle.calendar.specs.Gregorian.{isLeap, hasThirty, monthLength, monthStart, months};
+ghost use Rattle.calendar.specs.Gregorian.{isLeap, hasThirty, monthLength, monthStart, months, MonthStarts};
 ghost use Rattle.calendar.specs.Date.{within, reckoned, lastDay, sunday};
+use crate::starts::MONTH_STARTS;
+pub use crate::starts::MONTHS;
 
-const FIRST_YEAR: usize = 2000;
+pub const FIRST_YEAR: usize = 2000;
 
 const LAST_YEAR: usize = 2049;
 
@@ -53,16 +57,28 @@ pub fn month_length(year: usize, month: usize) -> usize
     31
 }
 
+// The first days of all months. Compiled code lays the table on the stack, so whoever looks up many
+// days holds it once and hands it on.
+pub fn month_starts() -> [u16; MONTHS]
+    ensures { λ r. ⌜ MonthStarts r ⌝ }
+{
+    MONTH_STARTS
+}
+
+fn start_in(starts: &[u16; MONTHS], month: usize) -> usize
+    requires { ⌜ MonthStarts (now starts) × (month < months) ⌝ }
+    ensures { λ r. ⌜ r ≡ monthStart month ⌝ }
+{
+    starts[month] as usize
+}
+
 // The first day of a month; months are counted from January 2000.
 pub fn month_start(month: usize) -> usize
     requires { ⌜ month < months ⌝ }
     ensures { λ r. ⌜ r ≡ monthStart month ⌝ }
 {
-    let mut day: usize = 0;
-    for k in 0..month {
-        day += month_length(FIRST_YEAR + k / 12, k % 12 + 1);
-    }
-    day
+    let starts = month_starts();
+    start_in(&starts, month)
 }
 
 fn within(from: usize, x: usize, to: usize) -> bool
@@ -72,7 +88,8 @@ fn within(from: usize, x: usize, to: usize) -> bool
 }
 
 // A date is tested and its day reckoned in one go.
-pub fn reckon(date: u32) -> Reckoned
+pub fn reckon(starts: &[u16; MONTHS], date: u32) -> Reckoned
+    requires { ⌜ MonthStarts (now starts) ⌝ }
     ensures { λ r. ⌜ r ≡ reckoned date ⌝ }
 {
     let n = date as usize;
@@ -88,7 +105,7 @@ pub fn reckon(date: u32) -> Reckoned
     if !within(1, day, month_length(year, month)) {
         return Reckoned::NoDate;
     }
-    let first = month_start((year - FIRST_YEAR) * 12 + (month - 1));
+    let first = start_in(starts, (year - FIRST_YEAR) * 12 + (month - 1));
     Reckoned::Day((first + (day - 1)) as u16)
 }
 

@@ -1,6 +1,6 @@
 -- What the call answers and leaves, by what was found before.
 use Prim.Native.Nat.{ℕ, _*_, _%_, _≤_, _<_}
-use mathlib.Core.Path.{_≡_, sym, ap, subst, _∙_}
+use mathlib.Core.Path.{_≡_, refl, sym, ap, subst, _∙_}
 use mathlib.Core.Bool.{Bool, true, false, not, _&&_}
 use mathlib.Core.List.{List}
 use native.Mathlib.Omega.{arith}
@@ -8,19 +8,21 @@ use borrow.Author.Tests.{ltb-false}
 use lib.Dec.{ltb, eqb}
 use lib.ListN.{length, getD, take}
 use lib.Seq.{ext-getD, getD-take, length-take-le}
+use Rattle.bounded.specs.Search.{pick}
 use Rattle.bounded.specs.Table.{table, Tabulated}
 use Rattle.bounded.proofs.BelowLaws.{all-at}
-use Rattle.bounded.proofs.BoolLaws.{and-false-l, and-false-r, or-false-l, or-false-r}
+use Rattle.bounded.proofs.BoolLaws.{and-left, and-right, or-false-l, or-false-r}
 use Rattle.bounded.proofs.TableLaws.{length-table, getD-table}
 use Rattle.octets.specs.Octets.{splice}
 use Rattle.calendar.specs.Date as date
-use Rattle.calendar.specs.Date.{dateOf, isDate, dayNumber}
+use Rattle.calendar.specs.Date.{dateOf, isDate, dayNumber, reckoned}
+use Rattle.calendar.specs.declared.Reckoned.the-variants as found
 use Rattle.calendar.proofs.DayLaws.{days-end}
 use Rattle.answers.specs.declared.Refusal.the-variants.{BadBuffer, NoDate, BadTerms, AfterAsked}
 use Rattle.answers.specs.declared.Answer.{Answer}
 use Rattle.answers.specs.declared.Answer.the-variants.{Done, Refused}
 use Rattle.keeping.specs.Call.{mostCopies, mostTerms, wrongLengths, allDates, dayAt, inDays, wrongTerms, afterAsked, keptCount, flags, left, keepCall}
-use Rattle.keeping.specs.Days.{InYears, Ready, daysCall}
+use Rattle.keeping.specs.Days.{InYears, Ready, askedDay, daysCall}
 
 -- ---- from 24 on
 module _ (cs ts : List ℕ) (today : ℕ) (out : List ℕ) where
@@ -50,15 +52,6 @@ module _ (copies terms : List ℕ) (asked : ℕ) (out : List ℕ) where
   unfolding keepCall
   dates-refused h k = rw (h, k)
 
-  pub copies-refused : wrong ≡ false → allDates copies ≡ false → left (Refused NoDate) out ≡ keepCall copies terms asked out
-  copies-refused h k = dates-refused h (and-false-l _ _ k)
-
-  pub days-refused : wrong ≡ false → allDates terms ≡ false → left (Refused NoDate) out ≡ keepCall copies terms asked out
-  days-refused h k = dates-refused h (and-false-r (allDates copies) _ (and-false-l (allDates terms) _ k))
-
-  pub day-refused : wrong ≡ false → isDate (dateOf asked) ≡ false → left (Refused NoDate) out ≡ keepCall copies terms asked out
-  day-refused h k = dates-refused h (and-false-r (allDates copies) _ (and-false-r (allDates terms) _ k))
-
   pub accepted : wrong ≡ false → allDates copies ≡ true → allDates terms ≡ true → isDate (dateOf asked) ≡ true
       → daysCall (inDays copies) (inDays terms) (dayNumber (dateOf asked)) out ≡ keepCall copies terms asked out
   unfolding keepCall daysCall
@@ -80,6 +73,44 @@ module _ (copies terms : List ℕ) (asked : ℕ) (out : List ℕ) where
       let s = or-false-r (ltb (2 * mostTerms) (length terms)) _ r in
       let d = or-false-r (not (eqb (length terms % 2) 0)) _ s in
       (ltb-false _ _ a, ltb-false _ _ b, ltb-false _ _ d)
+
+-- ---- all dates, as they are read
+module _ (copies terms : List ℕ) (asked : ℕ) where
+  pub no-copies : allDates copies ≡ false → found.NoDate ≡ askedDay copies terms asked
+  unfolding askedDay
+  no-copies h = rw h
+
+  pub no-terms : allDates copies ≡ true → allDates terms ≡ false → found.NoDate ≡ askedDay copies terms asked
+  unfolding askedDay
+  no-terms h k = rw (h, k)
+
+  pub lists-read : allDates copies ≡ true → allDates terms ≡ true → reckoned asked ≡ askedDay copies terms asked
+  unfolding askedDay reckoned
+  lists-read h k = rw (h, k) (go (isDate (dateOf asked)))
+    where
+      go : (b : Bool) → pick b (found.Day (dayNumber (dateOf asked))) found.NoDate ≡ pick (not b) found.NoDate (found.Day (dayNumber (dateOf asked)))
+      go true = refl
+      go false = refl
+
+  -- what an answer says
+  pub asked-none : askedDay copies terms asked ≡ found.NoDate → allDates copies && (allDates terms && isDate (dateOf asked)) ≡ false
+  unfolding askedDay
+  asked-none e = go (allDates copies && (allDates terms && isDate (dateOf asked))) e
+    where
+      go : (b : Bool) → pick (not b) found.NoDate (found.Day (dayNumber (dateOf asked))) ≡ found.NoDate → b ≡ false
+      go true r = let z : _≡_ {A = ℕ} 0 1 = cc in absurd (omega arith)
+      go false r = refl
+
+  pub asked-day : (d : ℕ) → askedDay copies terms asked ≡ found.Day d → (allDates copies ≡ true) × (allDates terms ≡ true) × (isDate (dateOf asked) ≡ true) × (d ≡ dayNumber (dateOf asked))
+  unfolding askedDay
+  asked-day d e =
+      let h = go (allDates copies && (allDates terms && isDate (dateOf asked))) e in
+      let r = and-right (allDates copies) _ (h .0) in
+      (and-left (allDates copies) _ (h .0), and-left (allDates terms) _ r, and-right (allDates terms) _ r, h .1)
+    where
+      go : (b : Bool) → pick (not b) found.NoDate (found.Day (dayNumber (dateOf asked))) ≡ found.Day d → (b ≡ true) × (d ≡ dayNumber (dateOf asked))
+      go true r = (refl, cc)
+      go false r = let z : _≡_ {A = ℕ} 0 1 = cc in absurd (omega arith)
 
 -- ---- the days that were read
 -- the front of the list that they went to

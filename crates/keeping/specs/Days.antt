@@ -16,10 +16,12 @@ use Rattle.answers.specs.declared.Refusal.the-variants.{BadTerms, AfterAsked}
 use Rattle.answers.specs.declared.Answer.the-variants.{Done, Refused}
 use Rattle.answers.specs.Order.{row, firstBy}
 use Rattle.marks.specs.Mark.{marked, withMark}
-use Rattle.calendar.specs.Date.{within, sunday}
+use Rattle.calendar.specs.declared.Reckoned.{Reckoned}
+use Rattle.calendar.specs.declared.Reckoned.the-variants.{Day, NoDate}
+use Rattle.calendar.specs.Date.{dateOf, dayNumber, within, sunday}
 use Rattle.calendar.specs.Date as date
 use Rattle.keeping.specs.Keeping.{copyCount, dayOf, lookedAt, termCount, firstDay, lastDay, youngDays, termDays}
-use Rattle.keeping.specs.Call.{mostTerms, allDates, dayAt, wrongTerms, afterAsked, flags, keptCount, Left, left}
+use Rattle.keeping.specs.Call.{mostTerms, allDates, wrongDate, dayAt, wrongTerms, afterAsked, flags, keptCount, Left, left}
 
 -- ---- the map: 286 words of 64 bits have a bit for each day
 abbrev pub dayWords : ℕ
@@ -70,6 +72,16 @@ pub record DaysRead (dates before after : List ℕ) (answer : Bool) : Type 0 whe
   pub long : length after ≡ length before
   pub told : answer ≡ allDates dates
   pub days : answer ≡ true → Tabulated (dayAt dates) (length before) (length dates) after
+
+-- the day asked, if every date is one
+unfoldable pub askedDay : List ℕ → List ℕ → ℕ → Reckoned
+askedDay copies terms asked = pick (wrongDate copies terms asked) NoDate (Day (dayNumber (dateOf asked)))
+
+-- what reading all dates answers, and where the days of the lists go
+pub record AllRead (copies terms : List ℕ) (asked : ℕ) (cs ts cs' ts' : List ℕ) (answer : Reckoned) : Type 0 where
+  pub told : answer ≡ askedDay copies terms asked
+  pub days : allDates copies ≡ true → allDates terms ≡ true
+      → Tabulated (dayAt copies) (length cs) (length copies) cs' × Tabulated (dayAt terms) (length ts) (length terms) ts'
 
 -- ---- the last day up to b on which a copy is dated, 0 if there is none
 abbrev pub upTo : List ℕ → ℕ → ℕ → ℕ

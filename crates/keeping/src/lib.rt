@@ -70,14 +70,9 @@ pub fn keep(copies: &[u32], terms: &[u32], asked: u32, out: &mut [u8]) -> Answer
         return Answer::Refused(Refusal::BadBuffer);
     }
     let mut copy_days = [0u16; MOST_COPIES];
-    if !dates::read_days(copies, &mut copy_days) {
-        return Answer::Refused(Refusal::NoDate);
-    }
     let mut term_days = [0u16; MOST_TERM_DAYS];
-    if !dates::read_days(terms, &mut term_days) {
-        return Answer::Refused(Refusal::NoDate);
-    }
-    let Reckoned::Day(day) = calendar::reckon(asked) else {
+    let Reckoned::Day(day) = dates::read_all(copies, terms, asked, &mut copy_days, &mut term_days)
+    else {
         return Answer::Refused(Refusal::NoDate);
     };
     answer(&copy_days[..n], &term_days[..m], days::wide(day), out)

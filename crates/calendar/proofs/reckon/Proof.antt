@@ -18,10 +18,10 @@ dated c =
 is-date : (c : tie.Else3) → IsDate (dateOf (c .before .before .before .before .before .before .before .args .date))
 is-date c = date-decides _ .to (dated c)
 
-in-years : (c : tie.After-month-start) → c .month-start .result + (c .before .before .before .before .before .before .before .before .args .date % 100 - 1) ≤ lastDay
+in-years : (c : tie.After-start-in) → c .start-in .result + (c .before .before .before .before .before .before .before .before .args .date % 100 - 1) ≤ lastDay
 in-years c =
     let n = c .before .before .before .before .before .before .before .before .args .date in
-    subst (λ (x : ℕ). x + (n % 100 - 1) ≤ lastDay) (sym (c .month-start .ensures)) (days-end n (dated (c .before)))
+    subst (λ (x : ℕ). x + (n % 100 - 1) ≤ lastDay) (sym (c .start-in .ensures)) (days-end n (dated (c .before)))
 
 within-requires : tie.Need-within-requires
 within-requires c κs = search needs
@@ -44,32 +44,32 @@ within-requires-3 c κs = search needs
 returns-3 : tie.Need-returns-3
 returns-3 c = no-day _ _ _ (c .before .before .month-length .ensures) (c .before .within3 .ensures) (c .if3 .taken)
 
-sub-month-start : tie.Need-sub-month-start
-sub-month-start c = is-date c .0 .0
+sub-start-in : tie.Need-sub-start-in
+sub-start-in c = is-date c .0 .0
 
-mul-month-start : tie.Need-mul-month-start
-mul-month-start c = search needs
+mul-start-in : tie.Need-mul-start-in
+mul-start-in c = search needs
 
-sub-month-start-2 : tie.Need-sub-month-start-2
-sub-month-start-2 c = is-date c .1 .0 .0
+sub-start-in-2 : tie.Need-sub-start-in-2
+sub-start-in-2 c = is-date c .1 .0 .0
 
-add-month-start : tie.Need-add-month-start
-add-month-start c = search needs
+add-start-in : tie.Need-add-start-in
+add-start-in c = search needs
 
-month-start-requires : tie.Need-month-start-requires
-month-start-requires c κs = month-below _ (is-date c)
+start-in-requires : tie.Need-start-in-requires
+start-in-requires c κs = (c .before .before .before .before .before .before .before .pre, month-below _ (is-date c))
 
-sub-t7 : tie.Need-sub-t7
-sub-t7 c = is-date (c .before) .1 .1 .0
+sub-t8 : tie.Need-sub-t8
+sub-t8 c = is-date (c .before) .1 .1 .0
 
-add-t12 : tie.Need-add-t12
-add-t12 c = let h = in-years c in omega arith
+add-t13 : tie.Need-add-t13
+add-t13 c = let h = in-years c in omega arith
 
-cast-t13 : tie.Need-cast-t13
-cast-t13 c = let h = in-years c in omega arith
+cast-t14 : tie.Need-cast-t14
+cast-t14 c = let h = in-years c in omega arith
 
 returns-4 : tie.Need-returns-4
-returns-4 c = let f = c .month-start .ensures in a-day _ _ (dated (c .before)) (omega arith)
+returns-4 c = let f = c .start-in .ensures in a-day _ _ (dated (c .before)) (omega arith)
 
 pub reckon-spec : {M : Type 1} → statement M
 reckon-spec =
@@ -82,12 +82,12 @@ reckon-spec =
     month-length-requires
     within-requires-3
     returns-3
-    sub-month-start
-    mul-month-start
-    sub-month-start-2
-    add-month-start
-    month-start-requires
-    sub-t7
-    add-t12
-    cast-t13
+    sub-start-in
+    mul-start-in
+    sub-start-in-2
+    add-start-in
+    start-in-requires
+    sub-t8
+    add-t13
+    cast-t14
     returns-4)

@@ -21,10 +21,10 @@ abbrev dated : List ℕ → ℕ → Bool
 dated l j = isDate (dateOf (getD l j 0))
 
 abbrev Inv-loop : tie.InvT-loop
-Inv-loop dates days₀ i₀ i-end days i = (i ≤ length dates) × (allBelow (dated dates) i ≡ true) × Tabulated (dayAt dates) (length days₀) i days
+Inv-loop starts dates days₀ i₀ i-end days i = (i ≤ length dates) × (allBelow (dated dates) i ≡ true) × Tabulated (dayAt dates) (length days₀) i days
 
 abbrev μ-loop : tie.MeasureT-loop
-μ-loop dates days₀ i₀ i-end days i = length dates - i
+μ-loop starts dates days₀ i₀ i-end days i = length dates - i
 
 loop-holds : tie.Need-loop-holds Inv-loop μ-loop
 loop-holds c = (omega arith, all-none _, filled-none _ _ _ refl)
