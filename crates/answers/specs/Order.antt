@@ -6,8 +6,6 @@ use lib.Dec.{eqb, ltb}
 use Rattle.bounded.specs.Search.{pick}
 use Rattle.answers.specs.declared.Refusal.{Refusal}
 use Rattle.answers.specs.declared.Refusal.the-variants.{BadBuffer, UnsoundStore, BadDesk, IllegalName, WrongInode, NameAbsent, NameTaken, NotEmpty, PastEnd, IntoItself, NoInode, NoBlocks, NoSlot, Busy, WrongState, ImageFull, BadCount, BadTurn, NoDate, BadTerms, AfterAsked, BadTimes}
-use Rattle.answers.specs.declared.Answer.{Answer}
-use Rattle.answers.specs.declared.Answer.the-variants.{Refused}
 use Rattle.answers.specs.Refusal.{refusalNumber}
 
 -- a condition, and its refusal
@@ -22,9 +20,6 @@ row b e = record { holds = b; refusal = e }
 abbrev pub firstBy : {A : Type 0} → (Refusal → A) → List Row → A → A
 firstBy f [] a = a
 firstBy f (r ∷ rs) a = pick (r .holds) (f (r .refusal)) (firstBy f rs a)
-
-abbrev pub firstOf : List Row → Answer → Answer
-firstOf rs a = firstBy Refused rs a
 
 -- ---- the order: a list of its own, since it does not follow from the numbers; its numbers are `lookedAt`, by the law `looked-at`
 abbrev pub order : List Refusal

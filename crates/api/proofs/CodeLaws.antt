@@ -19,8 +19,7 @@ use Rattle.format.specs.Format as laid
 use Rattle.files.specs.Plain as alone
 use Rattle.checkpoint.specs.declared.Status.{Status}
 use Rattle.checkpoint.specs.declared.Status.the-variants.{Is, NoStatus}
-use Rattle.checkpoint.specs.Live.{left}
-use Rattle.checkpoint.specs.Shown.{Shown, shown, toldStatus}
+use Rattle.checkpoint.specs.Live.{left, Outcome, toldStatus}
 use Rattle.dealer.specs.Deal.{Dealt, turn}
 use Rattle.laps.specs.Walk.{Lists}
 use Rattle.laps.specs.Call as laps
@@ -78,16 +77,16 @@ module _ (a : Answer) where
     pub sent-laid : (z : ℤ) → z ≡ codeOf (told a) → sends (toZ w32 (ofZ w32 z)) (b ∷ []) ≡ sentLaid o
     sent-laid z f = sent-as z _ _ laid-fits f (ap sentLaid e)
 
-  module _ (s out : List ℕ) (o : alone.PlainShown) (e : alone.plainShown (alone.plainLeft a s out) ≡ o) (l : Fits (o .answer)) where
+  module _ (s out : List ℕ) (o : alone.PlainOutcome) (e : alone.plainLeft a s out ≡ o) (l : Fits (o .answer)) where
     pub alone-fits : Fits (told a)
-    alone-fits = subst Fits (sym (ap (λ (x : alone.PlainShown). x .answer) e)) l
+    alone-fits = subst Fits (sym (ap (λ (x : alone.PlainOutcome). x .answer) e)) l
 
     pub sent-alone : (z : ℤ) → z ≡ codeOf (told a) → sends (toZ w32 (ofZ w32 z)) (s ∷ out ∷ []) ≡ sentAlone o
     sent-alone z f = sent-as z _ _ alone-fits f (ap sentAlone e)
 
-  module _ (s m d : List ℕ) (o : Shown) (e : shown (left a s m d) ≡ o) (l : Fits (o .answer)) where
+  module _ (s m d : List ℕ) (o : Outcome) (e : left a s m d ≡ o) (l : Fits (o .answer)) where
     pub three-fits : Fits (told a)
-    three-fits = subst Fits (sym (ap (λ (x : Shown). x .answer) e)) l
+    three-fits = subst Fits (sym (ap (λ (x : Outcome). x .answer) e)) l
 
     pub sent-three : (z : ℤ) → z ≡ codeOf (told a) → sends (toZ w32 (ofZ w32 z)) (s ∷ m ∷ d ∷ []) ≡ sent o
     sent-three z f = sent-as z _ _ three-fits f (ap sent e)

@@ -24,11 +24,11 @@ use Rattle.answers.specs.Told.{Told, told}
 use Rattle.format.specs.Format.{laidOut, freshStore, freshDesk, layOutStore, layOutDesk}
 use Rattle.files.specs.Effect.{lookUp, read, create, write, shorten, link, unlink, rename}
 use Rattle.files.specs.Plain as alone
-use Rattle.checkpoint.specs.Live.{World, Outcome, left, live, start, step, status}
-use Rattle.checkpoint.specs.Shown.{world, shown, toldStatus}
+use Rattle.files.specs.Plain.{got}
+use Rattle.checkpoint.specs.Live.{World, Outcome, tells, live, start, step, status, world}
 use Rattle.checkpoint.specs.List.{call, advances, starts}
 use Rattle.checkpoint.specs.Burst.{burst, one, bursts}
-use Rattle.watch.specs.Made.{got, looked-up, has-read, created, written, shortened, linked, unlinked, renamed, started, stepped, asked, stepped-many}
+use Rattle.watch.specs.Made.{on-store, on-three, started, stepped, asked, stepped-many}
 use Rattle.watch.proofs.Contracts.{Gives}
 use Rattle.dealer.specs.Deal.{bays, served, gets, turn, turnAllowed, dealt}
 use Rattle.laps.specs.Times as times
@@ -93,25 +93,25 @@ abbrev after : List (List ℕ) → List (List ℕ)
 after [] = []
 after (b ∷ bs) = bs
 
-module _ (v : World) (z : ℤ) (o : Outcome) (h : sends z (v .store ∷ v .image ∷ v .desk ∷ []) ≡ sent (shown o)) where
-  same-buffers : shown (left (o .answer) (v .store) (v .image) (v .desk)) ≡ shown o
+module _ (v : World) (z : ℤ) (o : Outcome) (h : sends z (v .store ∷ v .image ∷ v .desk ∷ []) ≡ sent o) where
+  same-buffers : tells (o .answer) (v .store) (v .image) (v .desk) ≡ o
   same-buffers =
       let s = ap (λ (x : Sent). first (x .buffers)) h in
       let m = ap (λ (x : Sent). first (after (x .buffers))) h in
       let d = ap (λ (x : Sent). first (after (after (x .buffers)))) h in
       rw (s, m, d) refl
 
-  same-code : z ≡ codeOf (told (o .answer))
+  same-code : z ≡ codeOf (o .answer)
   same-code = ap (λ (x : Sent). x .code) h
 
-module _ (s out : List ℕ) (z : ℤ) (o : alone.PlainOutcome) (h : sends z (s ∷ out ∷ []) ≡ sentAlone (alone.plainShown o)) where
-  alone-buffers : alone.plainShown (alone.plainLeft (o .answer) s out) ≡ alone.plainShown o
+module _ (s out : List ℕ) (z : ℤ) (o : alone.PlainOutcome) (h : sends z (s ∷ out ∷ []) ≡ sentAlone o) where
+  alone-buffers : record { answer = o .answer; store = s; out = out } ≡ o
   alone-buffers =
       let a = ap (λ (x : Sent). first (x .buffers)) h in
       let b = ap (λ (x : Sent). first (after (x .buffers))) h in
       rw (a, b) refl
 
-  alone-code : z ≡ codeOf (told (o .answer))
+  alone-code : z ≡ codeOf (o .answer)
   alone-code = ap (λ (x : Sent). x .code) h
 
 -- ---- the layout calls: b says whether count and length are allowed, fresh is what is laid out
@@ -137,13 +137,13 @@ pub look-up-exported : (m d : List ℕ) → Gives 2 look-up-kinds.ps look-up-kin
     Exported (one (call (lookUp (a .1 .0) (now (a .1 .1 .0))))) (world (now (a .0)) m d) z [] (world (now (a .0)) m d))
 look-up-exported m d κs a z e h =
     let o = alone.plain (lookUp (a .1 .0) (now (a .1 .1 .0))) (now (a .0)) in
-    record { received = got (told (o .answer)) []; made = looked-up (o .answer) (alone-buffers (now (a .0)) [] z o h); code = alone-code (now (a .0)) [] z o h; shown = refl }
+    record { received = got (o .answer) []; made = on-store (o .answer) refl (alone-buffers (now (a .0)) [] z o h); code = alone-code (now (a .0)) [] z o h; shown = refl }
 
 pub read-exported : (m d : List ℕ) → Gives 2 read-kinds.ps read-kinds.r read-reads.Learnt (λ κs a z e.
     Exported (one (call (read (a .1 .0) (a .1 .1 .0) (now (a .1 .1 .1 .0))))) (world (now (a .0)) m d) z (now (e .1 .1 .1 .0)) (world (now (a .0)) m d))
 read-exported m d κs a z e h =
     let o = alone.plain (read (a .1 .0) (a .1 .1 .0) (now (a .1 .1 .1 .0))) (now (a .0)) in
-    record { received = got (told (o .answer)) (now (e .1 .1 .1 .0)); made = has-read (o .answer) (alone-buffers (now (a .0)) (now (e .1 .1 .1 .0)) z o h); code = alone-code (now (a .0)) (now (e .1 .1 .1 .0)) z o h; shown = refl }
+    record { received = got (o .answer) (now (e .1 .1 .1 .0)); made = on-store (o .answer) refl (alone-buffers (now (a .0)) (now (e .1 .1 .1 .0)) z o h); code = alone-code (now (a .0)) (now (e .1 .1 .1 .0)) z o h; shown = refl }
 
 -- ---- the file calls over the three buffers
 pub create-file-exported : Gives 4 create-file-kinds.ps create-file-kinds.r create-file-reads.Learnt (λ κs a z e.
@@ -151,49 +151,49 @@ pub create-file-exported : Gives 4 create-file-kinds.ps create-file-kinds.r crea
 create-file-exported κs a z e h =
     let v = (world (now (e .0)) (now (e .1 .0)) (now (e .1 .1 .0))) in
     let o = live (create (a .1 .1 .1 .0) (now (a .1 .1 .1 .1 .0)) File) (world (now (a .0)) (now (a .1 .0)) (now (a .1 .1 .0))) in
-    record { received = got (told (o .answer)) []; made = created (o .answer) (same-buffers v z o h); code = same-code v z o h; shown = refl }
+    record { received = got (o .answer) []; made = on-three (o .answer) refl (same-buffers v z o h); code = same-code v z o h; shown = refl }
 
 pub create-directory-exported : Gives 4 create-directory-kinds.ps create-directory-kinds.r create-directory-reads.Learnt (λ κs a z e.
     Exported (one (call (create (a .1 .1 .1 .0) (now (a .1 .1 .1 .1 .0)) Directory))) (world (now (a .0)) (now (a .1 .0)) (now (a .1 .1 .0))) z [] (world (now (e .0)) (now (e .1 .0)) (now (e .1 .1 .0))))
 create-directory-exported κs a z e h =
     let v = (world (now (e .0)) (now (e .1 .0)) (now (e .1 .1 .0))) in
     let o = live (create (a .1 .1 .1 .0) (now (a .1 .1 .1 .1 .0)) Directory) (world (now (a .0)) (now (a .1 .0)) (now (a .1 .1 .0))) in
-    record { received = got (told (o .answer)) []; made = created (o .answer) (same-buffers v z o h); code = same-code v z o h; shown = refl }
+    record { received = got (o .answer) []; made = on-three (o .answer) refl (same-buffers v z o h); code = same-code v z o h; shown = refl }
 
 pub write-exported : Gives 4 write-kinds.ps write-kinds.r write-reads.Learnt (λ κs a z e.
     Exported (one (call (write (a .1 .1 .1 .0) (a .1 .1 .1 .1 .0) (now (a .1 .1 .1 .1 .1 .0))))) (world (now (a .0)) (now (a .1 .0)) (now (a .1 .1 .0))) z [] (world (now (e .0)) (now (e .1 .0)) (now (e .1 .1 .0))))
 write-exported κs a z e h =
     let v = (world (now (e .0)) (now (e .1 .0)) (now (e .1 .1 .0))) in
     let o = live (write (a .1 .1 .1 .0) (a .1 .1 .1 .1 .0) (now (a .1 .1 .1 .1 .1 .0))) (world (now (a .0)) (now (a .1 .0)) (now (a .1 .1 .0))) in
-    record { received = got (told (o .answer)) []; made = written (o .answer) (same-buffers v z o h); code = same-code v z o h; shown = refl }
+    record { received = got (o .answer) []; made = on-three (o .answer) refl (same-buffers v z o h); code = same-code v z o h; shown = refl }
 
 pub shorten-exported : Gives 3 shorten-kinds.ps shorten-kinds.r shorten-reads.Learnt (λ κs a z e.
     Exported (one (call (shorten (a .1 .1 .1 .0) (a .1 .1 .1 .1 .0)))) (world (now (a .0)) (now (a .1 .0)) (now (a .1 .1 .0))) z [] (world (now (e .0)) (now (e .1 .0)) (now (e .1 .1 .0))))
 shorten-exported κs a z e h =
     let v = (world (now (e .0)) (now (e .1 .0)) (now (e .1 .1 .0))) in
     let o = live (shorten (a .1 .1 .1 .0) (a .1 .1 .1 .1 .0)) (world (now (a .0)) (now (a .1 .0)) (now (a .1 .1 .0))) in
-    record { received = got (told (o .answer)) []; made = shortened (o .answer) (same-buffers v z o h); code = same-code v z o h; shown = refl }
+    record { received = got (o .answer) []; made = on-three (o .answer) refl (same-buffers v z o h); code = same-code v z o h; shown = refl }
 
 pub link-exported : Gives 4 link-kinds.ps link-kinds.r link-reads.Learnt (λ κs a z e.
     Exported (one (call (link (a .1 .1 .1 .0) (now (a .1 .1 .1 .1 .0)) (a .1 .1 .1 .1 .1 .0)))) (world (now (a .0)) (now (a .1 .0)) (now (a .1 .1 .0))) z [] (world (now (e .0)) (now (e .1 .0)) (now (e .1 .1 .0))))
 link-exported κs a z e h =
     let v = (world (now (e .0)) (now (e .1 .0)) (now (e .1 .1 .0))) in
     let o = live (link (a .1 .1 .1 .0) (now (a .1 .1 .1 .1 .0)) (a .1 .1 .1 .1 .1 .0)) (world (now (a .0)) (now (a .1 .0)) (now (a .1 .1 .0))) in
-    record { received = got (told (o .answer)) []; made = linked (o .answer) (same-buffers v z o h); code = same-code v z o h; shown = refl }
+    record { received = got (o .answer) []; made = on-three (o .answer) refl (same-buffers v z o h); code = same-code v z o h; shown = refl }
 
 pub unlink-exported : Gives 4 unlink-kinds.ps unlink-kinds.r unlink-reads.Learnt (λ κs a z e.
     Exported (one (call (unlink (a .1 .1 .1 .0) (now (a .1 .1 .1 .1 .0))))) (world (now (a .0)) (now (a .1 .0)) (now (a .1 .1 .0))) z [] (world (now (e .0)) (now (e .1 .0)) (now (e .1 .1 .0))))
 unlink-exported κs a z e h =
     let v = (world (now (e .0)) (now (e .1 .0)) (now (e .1 .1 .0))) in
     let o = live (unlink (a .1 .1 .1 .0) (now (a .1 .1 .1 .1 .0))) (world (now (a .0)) (now (a .1 .0)) (now (a .1 .1 .0))) in
-    record { received = got (told (o .answer)) []; made = unlinked (o .answer) (same-buffers v z o h); code = same-code v z o h; shown = refl }
+    record { received = got (o .answer) []; made = on-three (o .answer) refl (same-buffers v z o h); code = same-code v z o h; shown = refl }
 
 pub rename-exported : Gives 5 rename-kinds.ps rename-kinds.r rename-reads.Learnt (λ κs a z e.
     Exported (one (call (rename (a .1 .1 .1 .0) (now (a .1 .1 .1 .1 .0)) (a .1 .1 .1 .1 .1 .0) (now (a .1 .1 .1 .1 .1 .1 .0))))) (world (now (a .0)) (now (a .1 .0)) (now (a .1 .1 .0))) z [] (world (now (e .0)) (now (e .1 .0)) (now (e .1 .1 .0))))
 rename-exported κs a z e h =
     let v = (world (now (e .0)) (now (e .1 .0)) (now (e .1 .1 .0))) in
     let o = live (rename (a .1 .1 .1 .0) (now (a .1 .1 .1 .1 .0)) (a .1 .1 .1 .1 .1 .0) (now (a .1 .1 .1 .1 .1 .1 .0))) (world (now (a .0)) (now (a .1 .0)) (now (a .1 .1 .0))) in
-    record { received = got (told (o .answer)) []; made = renamed (o .answer) (same-buffers v z o h); code = same-code v z o h; shown = refl }
+    record { received = got (o .answer) []; made = on-three (o .answer) refl (same-buffers v z o h); code = same-code v z o h; shown = refl }
 
 -- ---- start, step, burst and state
 pub start-exported : Gives 3 start-kinds.ps start-kinds.r start-reads.Learnt (λ κs a z e.
@@ -201,21 +201,21 @@ pub start-exported : Gives 3 start-kinds.ps start-kinds.r start-reads.Learnt (λ
 start-exported κs a z e h =
     let v = (world (now (a .0)) (now (e .1 .0)) (now (e .1 .1 .0))) in
     let o = start (now (a .0)) (now (a .1 .0)) (now (a .1 .1 .0)) in
-    record { received = got (told (o .answer)) []; made = started (o .answer) (same-buffers v z o h); code = same-code v z o h; shown = refl }
+    record { received = got (o .answer) []; made = started (o .answer) (same-buffers v z o h); code = same-code v z o h; shown = refl }
 
 pub step-exported : Gives 3 step-kinds.ps step-kinds.r step-reads.Learnt (λ κs a z e.
     Exported (one advances) (world (now (a .0)) (now (a .1 .0)) (now (a .1 .1 .0))) z [] (world (now (a .0)) (now (e .1 .0)) (now (e .1 .1 .0))))
 step-exported κs a z e h =
     let v = (world (now (a .0)) (now (e .1 .0)) (now (e .1 .1 .0))) in
     let o = step (now (a .0)) (now (a .1 .0)) (now (a .1 .1 .0)) in
-    record { received = got (told (o .answer)) []; made = stepped (o .answer) (same-buffers v z o h); code = same-code v z o h; shown = refl }
+    record { received = got (o .answer) []; made = stepped (o .answer) (same-buffers v z o h); code = same-code v z o h; shown = refl }
 
 pub burst-exported : Gives 3 burst-kinds.ps burst-kinds.r burst-reads.Learnt (λ κs a z e.
     Exported (bursts (a .1 .1 .1 .0)) (world (now (a .0)) (now (a .1 .0)) (now (a .1 .1 .0))) z [] (world (now (a .0)) (now (e .1 .0)) (now (e .1 .1 .0))))
 burst-exported κs a z e h =
     let v = (world (now (a .0)) (now (e .1 .0)) (now (e .1 .1 .0))) in
     let o = burst (a .1 .1 .1 .0) (world (now (a .0)) (now (a .1 .0)) (now (a .1 .1 .0))) in
-    record { received = got (told (o .answer)) []; made = stepped-many (o .answer) (same-buffers v z o h); code = same-code v z o h; shown = refl }
+    record { received = got (o .answer) []; made = stepped-many (o .answer) (same-buffers v z o h); code = same-code v z o h; shown = refl }
 
 state-numbers : (t : Told) (ns ms : List ℕ) → t .number ≡ 0 → ns ≡ sentState t ms .numbers → ns ≡ t .values
 state-numbers t ns ms e h = rw e at h
@@ -230,11 +230,11 @@ state-exported κs a z e h =
     let r = status (now (a .0)) (now (a .1 .0)) (now (a .1 .1 .0)) in
     let q = ap (λ (x : SentState). x .numbers) h in
     record {
-      received = got (toldStatus r) [];
+      received = got r [];
       made = asked r refl;
       code = ap (λ (x : SentState). x .code) h;
-      numbers = λ n. state-numbers (toldStatus r) _ _ n q;
-      kept = λ n. state-kept (toldStatus r) _ _ n q;
+      numbers = λ n. state-numbers r _ _ n q;
+      kept = λ n. state-kept r _ _ n q;
     }
 
 -- ---- the dealer

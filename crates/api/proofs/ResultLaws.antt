@@ -30,14 +30,13 @@ use Rattle.preservation.proofs.StoreLaws.{sound-store, kind-size}
 use Rattle.preservation.proofs.SlotPlaceLaws.{found-here}
 use Rattle.answers.specs.declared.Answer.the-variants.{Done, Refused}
 use Rattle.answers.specs.declared.Refusal.the-variants.{BadTurn}
-use Rattle.answers.specs.Told.{Told, told}
+use Rattle.answers.specs.Told.{Told}
 use Rattle.answers.specs.Order.{Row}
 use Rattle.format.specs.Format.{LaidOut, layOutStore, layOutDesk}
 use Rattle.files.specs.Effect.{Call, lookUp, read, create, write, shorten, link, unlink, rename}
 use Rattle.files.specs.Plain.{plain}
 use Rattle.checkpoint.specs.Fit.{bothFramed, deskFramed, deskFits, isRunning, notesFit}
-use Rattle.checkpoint.specs.Live.{World, Outcome, live, start, step}
-use Rattle.checkpoint.specs.Shown.{world}
+use Rattle.checkpoint.specs.Live.{World, Outcome, live, start, step, world}
 use Rattle.checkpoint.specs.Table.{found, orZero, lookUpTable, readTable, createTable, writeTable, shortenTable, stepTable, burstTable}
 use Rattle.checkpoint.specs.List.{call, advances, asks, starts, Event, outcome, next, accepted, completes, acceptedSteps}
 use Rattle.checkpoint.specs.Burst.{mostBurst, countAllowed, burst, tries, triesOf, Act, one, bursts}
@@ -59,7 +58,7 @@ use Rattle.keeping.specs.Claims as kept
 use Rattle.keeping.proofs.CallLaws as keeping-laws
 use Rattle.keeping.proofs.Claims as keeping-claims
 use Rattle.watch.specs.Answered.{ByTable, result, holds, passes, tableOf, resultOf}
-use Rattle.watch.specs.Claim.{outcomeOf}
+use Rattle.watch.specs.Received.{outcomeOf}
 use Rattle.watch.proofs.AnswerLaws.{by-table}
 use Rattle.api.specs.Api.{mostResult, Fits}
 
@@ -155,25 +154,25 @@ module _ (w : World) where
   result-fits x = by-rows (by-table w x) (result-most x)
 
 -- ---- the same, as the contracts have it
-pub live-fits : (c : Call) (w : World) → Fits (told (live c w .answer))
+pub live-fits : (c : Call) (w : World) → Fits (live c w .answer)
 unfolding outcome
 live-fits c w = result-fits w (one (call c))
 
-pub look-up-fits : (s : List ℕ) (d : ℕ) (name : List ℕ) → Fits (told (plain (lookUp d name) s .answer))
-look-up-fits s d name = subst (λ (o : Outcome). Fits (told (o .answer))) (look-up-alone (world s [] []) d name) (live-fits (lookUp d name) (world s [] []))
+pub look-up-fits : (s : List ℕ) (d : ℕ) (name : List ℕ) → Fits (plain (lookUp d name) s .answer)
+look-up-fits s d name = subst (λ (o : Outcome). Fits (o .answer)) (look-up-alone (world s [] []) d name) (live-fits (lookUp d name) (world s [] []))
 
-pub read-fits : (s : List ℕ) (i o : ℕ) (out : List ℕ) → Fits (told (plain (read i o out) s .answer))
-read-fits s i o out = subst (λ (o : Outcome). Fits (told (o .answer))) (read-alone (world s [] []) i o out) (live-fits (read i o out) (world s [] []))
+pub read-fits : (s : List ℕ) (i o : ℕ) (out : List ℕ) → Fits (plain (read i o out) s .answer)
+read-fits s i o out = subst (λ (o : Outcome). Fits (o .answer)) (read-alone (world s [] []) i o out) (live-fits (read i o out) (world s [] []))
 
-pub start-fits : (s m d : List ℕ) → Fits (told (start s m d .answer))
+pub start-fits : (s m d : List ℕ) → Fits (start s m d .answer)
 unfolding outcome
 start-fits s m d = result-fits (world s m d) (one starts)
 
-pub step-fits : (s m d : List ℕ) → Fits (told (step s m d .answer))
+pub step-fits : (s m d : List ℕ) → Fits (step s m d .answer)
 unfolding outcome
 step-fits s m d = result-fits (world s m d) (one advances)
 
-pub burst-fits : (k : ℕ) (w : World) → Fits (told (burst k w .answer))
+pub burst-fits : (k : ℕ) (w : World) → Fits (burst k w .answer)
 burst-fits k w = result-fits w (bursts k)
 
 -- the layout calls answer 0

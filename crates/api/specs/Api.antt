@@ -12,8 +12,8 @@ use Rattle.sound.specs.declared.Form.the-variants.{Store, Image}
 use Rattle.sound.specs.Test.{isSound}
 use Rattle.answers.specs.Told.{Told}
 use Rattle.format.specs.Format.{LaidOut}
-use Rattle.files.specs.Plain.{PlainShown}
-use Rattle.checkpoint.specs.Shown.{Shown}
+use Rattle.files.specs.Plain.{PlainOutcome}
+use Rattle.checkpoint.specs.Live.{Outcome}
 use Rattle.marks.specs.Mark.{marked}
 use Rattle.dealer.specs.Deal.{bays, Dealt}
 use Rattle.laps.specs.Call.{Left}
@@ -47,11 +47,11 @@ abbrev pub sentLaid : LaidOut → Sent
 sentLaid o = sends (codeOf (o .answer)) (o .buffer ∷ [])
 
 -- "Look up and read take the store alone": the store, and a read's out-buffer
-abbrev pub sentAlone : PlainShown → Sent
+abbrev pub sentAlone : PlainOutcome → Sent
 sentAlone o = sends (codeOf (o .answer)) (o .store ∷ o .out ∷ [])
 
 -- the calls over store, image and desk
-abbrev pub sent : Shown → Sent
+abbrev pub sent : Outcome → Sent
 sent o = sends (codeOf (o .answer)) (o .store ∷ o .image ∷ o .desk ∷ [])
 
 -- "state takes all three buffers and gives state, locked inode and steps": 0 and the three, or minus the refusal's number and the numbers as they were

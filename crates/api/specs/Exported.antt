@@ -13,7 +13,8 @@ use Rattle.format.specs.Format.{LaidOut, laidOut}
 use Rattle.checkpoint.specs.Live.{World}
 use Rattle.checkpoint.specs.List.{asks}
 use Rattle.checkpoint.specs.Burst.{Act, one}
-use Rattle.watch.specs.Made.{Received, Did}
+use Rattle.files.specs.Plain.{Received}
+use Rattle.watch.specs.Made.{Did}
 use Rattle.dealer.specs.Deal.{turn, dealt}
 use Rattle.laps.specs.Walk.{Lists}
 use Rattle.laps.specs.Call.{left, matchLaps}

@@ -12,8 +12,7 @@ ghost use Rattle.entries.specs.declared.Kind.the-variants.{File, Directory};
 ghost use Rattle.format.specs.Format.{layOutStore, layOutDesk};
 ghost use Rattle.files.specs.Effect.{lookUp, read, create, write, shorten, link, unlink, rename};
 ghost use Rattle.files.specs.Plain as alone;
-ghost use Rattle.checkpoint.specs.Live.{live, start, step, status};
-ghost use Rattle.checkpoint.specs.Shown.{world, shown, toldStatus};
+ghost use Rattle.checkpoint.specs.Live.{live, start, step, status, world, toldStatus};
 ghost use Rattle.checkpoint.specs.Burst.{burst};
 ghost use Rattle.dealer.specs.Deal.{dealt};
 ghost use Rattle.laps.specs.Walk.{lists};
@@ -67,14 +66,16 @@ fn number(b: bool) -> u8
 // ---- the calls on the store alone
 #[no_mangle]
 pub extern "C" fn honecerise_look_up(store: &[u8], directory: usize, name: &[u8]) -> i32
-    ensures { λ r. ⌜ sends r (now (store .entry) ∷ [] ∷ []) ≡ sentAlone (alone.plainShown (alone.plain (lookUp directory (now (name .entry))) (now (store .entry)))) ⌝ }
+    ensures { λ r. ⌜ sends r (now (store .entry) ∷ [] ∷ [])
+        ≡ sentAlone (alone.plain (lookUp directory (now (name .entry))) (now (store .entry))) ⌝ }
 {
     code(watch::look_up(store, directory, name))
 }
 
 #[no_mangle]
 pub extern "C" fn honecerise_read(store: &[u8], inode: usize, offset: usize, out: &mut [u8]) -> i32
-    ensures { λ r. ⌜ sends r (now (store .entry) ∷ now (out .exit) ∷ []) ≡ sentAlone (alone.plainShown (alone.plain (read inode offset (now (out .entry))) (now (store .entry)))) ⌝ }
+    ensures { λ r. ⌜ sends r (now (store .entry) ∷ now (out .exit) ∷ [])
+        ≡ sentAlone (alone.plain (read inode offset (now (out .entry))) (now (store .entry))) ⌝ }
 {
     code(watch::read(store, inode, offset, out))
 }
@@ -88,7 +89,8 @@ pub extern "C" fn honecerise_create_file(
     directory: usize,
     name: &[u8],
 ) -> i32
-    ensures { λ r. ⌜ sends r (now (store .exit) ∷ now (image .exit) ∷ now (desk .exit) ∷ []) ≡ sent (shown (live (create directory (now (name .entry)) File) (world (now (store .entry)) (now (image .entry)) (now (desk .entry))))) ⌝ }
+    ensures { λ r. ⌜ sends r (now (store .exit) ∷ now (image .exit) ∷ now (desk .exit) ∷ [])
+        ≡ sent (live (create directory (now (name .entry)) File) (world (now (store .entry)) (now (image .entry)) (now (desk .entry)))) ⌝ }
 {
     code(watch::create(store, image, desk, directory, name, Kind::File))
 }
@@ -101,7 +103,8 @@ pub extern "C" fn honecerise_create_directory(
     directory: usize,
     name: &[u8],
 ) -> i32
-    ensures { λ r. ⌜ sends r (now (store .exit) ∷ now (image .exit) ∷ now (desk .exit) ∷ []) ≡ sent (shown (live (create directory (now (name .entry)) Directory) (world (now (store .entry)) (now (image .entry)) (now (desk .entry))))) ⌝ }
+    ensures { λ r. ⌜ sends r (now (store .exit) ∷ now (image .exit) ∷ now (desk .exit) ∷ [])
+        ≡ sent (live (create directory (now (name .entry)) Directory) (world (now (store .entry)) (now (image .entry)) (now (desk .entry)))) ⌝ }
 {
     code(watch::create(store, image, desk, directory, name, Kind::Directory))
 }
@@ -115,7 +118,8 @@ pub extern "C" fn honecerise_write(
     offset: usize,
     bytes: &[u8],
 ) -> i32
-    ensures { λ r. ⌜ sends r (now (store .exit) ∷ now (image .exit) ∷ now (desk .exit) ∷ []) ≡ sent (shown (live (write inode offset (now (bytes .entry))) (world (now (store .entry)) (now (image .entry)) (now (desk .entry))))) ⌝ }
+    ensures { λ r. ⌜ sends r (now (store .exit) ∷ now (image .exit) ∷ now (desk .exit) ∷ [])
+        ≡ sent (live (write inode offset (now (bytes .entry))) (world (now (store .entry)) (now (image .entry)) (now (desk .entry)))) ⌝ }
 {
     code(watch::write(store, image, desk, inode, offset, bytes))
 }
@@ -128,7 +132,8 @@ pub extern "C" fn honecerise_shorten(
     inode: usize,
     size: usize,
 ) -> i32
-    ensures { λ r. ⌜ sends r (now (store .exit) ∷ now (image .exit) ∷ now (desk .exit) ∷ []) ≡ sent (shown (live (shorten inode size) (world (now (store .entry)) (now (image .entry)) (now (desk .entry))))) ⌝ }
+    ensures { λ r. ⌜ sends r (now (store .exit) ∷ now (image .exit) ∷ now (desk .exit) ∷ [])
+        ≡ sent (live (shorten inode size) (world (now (store .entry)) (now (image .entry)) (now (desk .entry)))) ⌝ }
 {
     code(watch::shorten(store, image, desk, inode, size))
 }
@@ -142,7 +147,8 @@ pub extern "C" fn honecerise_link(
     name: &[u8],
     inode: usize,
 ) -> i32
-    ensures { λ r. ⌜ sends r (now (store .exit) ∷ now (image .exit) ∷ now (desk .exit) ∷ []) ≡ sent (shown (live (link directory (now (name .entry)) inode) (world (now (store .entry)) (now (image .entry)) (now (desk .entry))))) ⌝ }
+    ensures { λ r. ⌜ sends r (now (store .exit) ∷ now (image .exit) ∷ now (desk .exit) ∷ [])
+        ≡ sent (live (link directory (now (name .entry)) inode) (world (now (store .entry)) (now (image .entry)) (now (desk .entry)))) ⌝ }
 {
     code(watch::link(store, image, desk, directory, name, inode))
 }
@@ -155,7 +161,8 @@ pub extern "C" fn honecerise_unlink(
     directory: usize,
     name: &[u8],
 ) -> i32
-    ensures { λ r. ⌜ sends r (now (store .exit) ∷ now (image .exit) ∷ now (desk .exit) ∷ []) ≡ sent (shown (live (unlink directory (now (name .entry))) (world (now (store .entry)) (now (image .entry)) (now (desk .entry))))) ⌝ }
+    ensures { λ r. ⌜ sends r (now (store .exit) ∷ now (image .exit) ∷ now (desk .exit) ∷ [])
+        ≡ sent (live (unlink directory (now (name .entry))) (world (now (store .entry)) (now (image .entry)) (now (desk .entry)))) ⌝ }
 {
     code(watch::unlink(store, image, desk, directory, name))
 }
@@ -170,7 +177,8 @@ pub extern "C" fn honecerise_rename(
     to_directory: usize,
     to_name: &[u8],
 ) -> i32
-    ensures { λ r. ⌜ sends r (now (store .exit) ∷ now (image .exit) ∷ now (desk .exit) ∷ []) ≡ sent (shown (live (rename directory (now (name .entry)) «to_directory» (now («to_name» .entry))) (world (now (store .entry)) (now (image .entry)) (now (desk .entry))))) ⌝ }
+    ensures { λ r. ⌜ sends r (now (store .exit) ∷ now (image .exit) ∷ now (desk .exit) ∷ [])
+        ≡ sent (live (rename directory (now (name .entry)) «to_directory» (now («to_name» .entry))) (world (now (store .entry)) (now (image .entry)) (now (desk .entry)))) ⌝ }
 {
     code(watch::rename(store, image, desk, directory, name, to_directory, to_name))
 }
@@ -178,14 +186,16 @@ pub extern "C" fn honecerise_rename(
 // ---- the copier
 #[no_mangle]
 pub extern "C" fn honecerise_start(store: &[u8], image: &mut [u8], desk: &mut [u8]) -> i32
-    ensures { λ r. ⌜ sends r (now (store .entry) ∷ now (image .exit) ∷ now (desk .exit) ∷ []) ≡ sent (shown (start (now (store .entry)) (now (image .entry)) (now (desk .entry)))) ⌝ }
+    ensures { λ r. ⌜ sends r (now (store .entry) ∷ now (image .exit) ∷ now (desk .exit) ∷ [])
+        ≡ sent (start (now (store .entry)) (now (image .entry)) (now (desk .entry))) ⌝ }
 {
     code(watch::start(store, image, desk))
 }
 
 #[no_mangle]
 pub extern "C" fn honecerise_step(store: &[u8], image: &mut [u8], desk: &mut [u8]) -> i32
-    ensures { λ r. ⌜ sends r (now (store .entry) ∷ now (image .exit) ∷ now (desk .exit) ∷ []) ≡ sent (shown (step (now (store .entry)) (now (image .entry)) (now (desk .entry)))) ⌝ }
+    ensures { λ r. ⌜ sends r (now (store .entry) ∷ now (image .exit) ∷ now (desk .exit) ∷ [])
+        ≡ sent (step (now (store .entry)) (now (image .entry)) (now (desk .entry))) ⌝ }
 {
     code(watch::step(store, image, desk))
 }
@@ -197,7 +207,8 @@ pub extern "C" fn honecerise_burst(
     desk: &mut [u8],
     count: usize,
 ) -> i32
-    ensures { λ r. ⌜ sends r (now (store .entry) ∷ now (image .exit) ∷ now (desk .exit) ∷ []) ≡ sent (shown (burst count (world (now (store .entry)) (now (image .entry)) (now (desk .entry))))) ⌝ }
+    ensures { λ r. ⌜ sends r (now (store .entry) ∷ now (image .exit) ∷ now (desk .exit) ∷ [])
+        ≡ sent (burst count (world (now (store .entry)) (now (image .entry)) (now (desk .entry)))) ⌝ }
 {
     code(watch::burst(store, image, desk, count))
 }
@@ -211,7 +222,8 @@ pub extern "C" fn honecerise_state(
     locked: &mut usize,
     steps: &mut usize,
 ) -> i32
-    ensures { λ r. ⌜ sendsState r (now (state .exit) ∷ now (locked .exit) ∷ now (steps .exit) ∷ []) ≡ sentState (toldStatus (status (now (store .entry)) (now (image .entry)) (now (desk .entry)))) (now (state .entry) ∷ now (locked .entry) ∷ now (steps .entry) ∷ []) ⌝ }
+    ensures { λ r. ⌜ sendsState r (now (state .exit) ∷ now (locked .exit) ∷ now (steps .exit) ∷ [])
+        ≡ sentState (status (now (store .entry)) (now (image .entry)) (now (desk .entry))) (now (state .entry) ∷ now (locked .entry) ∷ now (steps .entry) ∷ []) ⌝ }
 {
     match watch::state(store, image, desk) {
         Status::Is(a, l, k) => {
@@ -252,7 +264,8 @@ pub extern "C" fn honecerise_match_laps(
     alone_watch: &mut [u32],
     alone_mat: &mut [u32],
 ) -> i32
-    ensures { λ r. ⌜ sends r (now («paired_watch» .exit) ∷ now («paired_mat» .exit) ∷ now («alone_watch» .exit) ∷ now («alone_mat» .exit) ∷ []) ≡ sentLaps (matchLaps (now (watch .entry)) (now (mat .entry)) (lists (now («paired_watch» .entry)) (now («paired_mat» .entry)) (now («alone_watch» .entry)) (now («alone_mat» .entry)))) ⌝ }
+    ensures { λ r. ⌜ sends r (now («paired_watch» .exit) ∷ now («paired_mat» .exit) ∷ now («alone_watch» .exit) ∷ now («alone_mat» .exit) ∷ [])
+        ≡ sentLaps (matchLaps (now (watch .entry)) (now (mat .entry)) (lists (now («paired_watch» .entry)) (now («paired_mat» .entry)) (now («alone_watch» .entry)) (now («alone_mat» .entry)))) ⌝ }
 {
     code(match_laps(watch, mat, paired_watch, paired_mat, alone_watch, alone_mat))
 }
@@ -260,7 +273,8 @@ pub extern "C" fn honecerise_match_laps(
 // ---- which copies to keep
 #[no_mangle]
 pub extern "C" fn honecerise_keep(copies: &[u32], terms: &[u32], asked: u32, out: &mut [u8]) -> i32
-    ensures { λ r. ⌜ sends r (now (out .exit) ∷ []) ≡ sentKept (keepCall (now (copies .entry)) (now (terms .entry)) asked (now (out .entry))) ⌝ }
+    ensures { λ r. ⌜ sends r (now (out .exit) ∷ [])
+        ≡ sentKept (keepCall (now (copies .entry)) (now (terms .entry)) asked (now (out .entry))) ⌝ }
 {
     code(keep(copies, terms, asked, out))
 }

@@ -4,11 +4,10 @@ use mathlib.Core.Path.{_≡_, refl, sym, ap, ap₂, _∙_, fun-ext}
 use mathlib.Core.Logic.{_≢_}
 use mathlib.Core.List.{List}
 use native.Mathlib.Omega.{arith}
-use lib.ListN.{length, getD, replicate}
-use Rattle.bounded.specs.Update.{upd}
+use lib.ListN.{length, getD}
 use Rattle.bounded.proofs.CaseLaws.{is-below}
-use Rattle.bounded.proofs.RangeLaws.{within, below, within-ext, within-upd, below-in, below-out, below-ext, below-upd}
-use Rattle.octets.specs.Octets.{splice, Apart, numAt, toBytes, putNum, wordBytes, zeroed}
+use Rattle.bounded.proofs.RangeLaws.{within, below, within-ext, within-upd, below-in, below-out, below-ext}
+use Rattle.octets.specs.Octets.{splice, Apart, numAt, toBytes, putNum, wordBytes}
 use Rattle.octets.proofs.PartLaws.{splice-in, splice-out}
 use Rattle.octets.proofs.NumLaws.{num-apart, num-in, num-same, num-other, length-num, length-toBytes}
 use Rattle.octets.proofs.WordLaws.{length-words, word-at}
@@ -17,7 +16,7 @@ use Rattle.layout.specs.declared.header.Header.{Header}
 use Rattle.layout.specs.declared.inode.Inode.{Inode}
 use Rattle.layout.specs.Header.{headerOf, putHeader, putFree, putComplete}
 use Rattle.layout.specs.Inode.{attributesAt, addressAt, addressIndex, kindOf, spareOf, linksOf, sizeOf, parentOf, addressOf, attributeEntry, putAttributes, putAddresses, putInode, putLinks, putAddress}
-use Rattle.blocks.specs.Block.{blockAt, putInBlock, zeroBlock}
+use Rattle.blocks.specs.Block.{blockAt, putInBlock}
 use Rattle.blocks.proofs.View.{View, viewOf, contentOf, withHeader, withLinks, withAttributes, withAddress, withContent, freeCounts, completion}
 use Rattle.blocks.proofs.FrameLaws.{length-entry, length-attributes, header-past, kind-apart, spare-apart, links-apart, size-apart, parent-apart, address-apart, kind-put, spare-put, links-put, size-put, parent-put}
 use Rattle.layout.specs.Fits.{InodeFits}
@@ -236,20 +235,6 @@ address-same : (n : ℕ) (s : List ℕ) (x b : ℕ) → x < 12 * n → 16 + 32 *
 unfolding addressOf putAddress
 address-same n s x b l f = num-same 2 s (addressAt n x) b (omega arith) (omega arith)
 
-row-upd : (n : ℕ) (s : List ℕ) (x b : ℕ) → x < 12 * n → 16 + 32 * n ≤ length s → below (12 * n) (addressOf (putAddress s n x b) n) ≡ upd (below (12 * n) (addressOf s n)) x b
-row-upd n s x b l f =
-    below-upd (12 * n) (addressOf s n) (addressOf (putAddress s n x b) n) x b l (address-same n s x b l f)
-    (λ y m q. unfold putAddress putNum in
-    (let e : length (toBytes 2 b) ≡ 2 = length-toBytes 2 b in address-apart s (addressAt n x) (toBytes 2 b) n y (omega arith)))
-
-pub view-address : (n : ℕ) (s : List ℕ) (x b : ℕ) → x < 12 * n → 16 + 32 * n ≤ length s → viewOf n (putAddress s n x b) ≡ withAddress (viewOf n s) (upd (viewOf n s .address) x b)
-unfolding putAddress putNum viewOf
-view-address n s x b l f =
-    let p = addressAt n x in
-    let xs = toBytes 2 b in
-    let e : length xs ≡ 2 = length-toBytes 2 b in
-    view-row n s p xs (omega arith) (omega arith) ∙ ap (withAddress (viewOf n s)) (row-upd n s x b l f)
-
 -- the twelve of an inode
 module _ (n : ℕ) (s : List ℕ) (i : ℕ) (vs : List ℕ) (f : InodeFits s n i) (e : length vs ≡ 12) where
   start : ℕ
@@ -307,9 +292,3 @@ unfolding putInBlock
 view-in-block n s b o xs f =
     let q : blockAt n b + o ≡ 16 + 32 * n + (64 * (b - 1) + o) = omega arith in
     ap (λ (p : ℕ). viewOf n (splice s p xs)) q ∙ view-bytes n s (64 * (b - 1) + o) xs (omega arith) ∙ (unfold viewOf in refl)
-
-pub view-zero-block : (n : ℕ) (s : List ℕ) (b : ℕ) → blockAt n b + 64 ≤ length s →
-    viewOf n (zeroBlock s n b) ≡ withContent (viewOf n s) (overlay (viewOf n s .content) (64 * (b - 1)) (replicate 64 0))
-unfolding zeroBlock zeroed
-view-zero-block n s b f =
-    view-bytes n s (64 * (b - 1)) (replicate 64 0) f ∙ (unfold viewOf in refl)

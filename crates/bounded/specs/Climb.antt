@@ -18,7 +18,7 @@ unfoldable pub leadsB : (ℕ → ℕ) → ℕ → ℕ → ℕ → Bool
 leadsB up a zero d = eqb d a
 leadsB up a (suc k) d = eqb d a || leadsB up a k (up d)
 
--- D holds only of numbers from 1 to n, and but for a of the parent of each number it holds of
+-- D holds of numbers from 1 to n alone; and if it holds of a number other than a, it holds of that number's parent
 pub record Closed (D : ℕ → Type 0) (up : ℕ → ℕ) (a n : ℕ) : Type 0 where
   pub within : (x : ℕ) → D x → (0 < x) × (x ≤ n)
   pub parent : (x : ℕ) → D x → (x ≡ a → ⊥) → D (up x)

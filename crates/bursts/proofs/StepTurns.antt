@@ -32,14 +32,14 @@ use Rattle.sound.specs.declared.Form.the-variants.{Store}
 use Rattle.sound.proofs.SoundLaws.{is-sound}
 use Rattle.preservation.proofs.StoreLaws.{sound-store, sized-at}
 use Rattle.answers.specs.declared.Answer.{Answer}
+use Rattle.answers.specs.Told.{Told, told}
 use Rattle.answers.specs.declared.Answer.the-variants.{Done, Refused}
 use Rattle.answers.specs.declared.Refusal.the-variants.{BadDesk, ImageFull}
 use Rattle.checkpoint.specs.Fit.{imageLong, imageFits}
 use Rattle.checkpoint.specs.Image.{imageNaming}
 use Rattle.checkpoint.specs.Copier.{Step, lock, copy, close, finish, full, targetBlock, freeStep, stepOf, stepImage, stepDesk}
-use Rattle.checkpoint.specs.Live.{World, Outcome, left, refuse, doStep, step}
-use Rattle.checkpoint.specs.Shown.{world}
-use Rattle.checkpoint.specs.Burst.{burstFrom, worldIn, Steady}
+use Rattle.checkpoint.specs.Live.{World, Outcome, left, tells, refuse, doStep, step, world, worldIn}
+use Rattle.checkpoint.specs.Burst.{burstFrom, Steady}
 use Rattle.checkpoint.proofs.Copy.FitLaws.{image-fits-is}
 use Rattle.checkpoint.proofs.Copy.ChosenLaws.{Chosen, chosen, will-lock, will-copy, will-close, will-finish, no-room}
 use Rattle.checkpoint.proofs.Step.BlockLaws.{SameAttributes}
@@ -142,7 +142,7 @@ module _ (s m d : List ℕ) (n : ℕ) (h : Desk) (g : Going (world s m d) n h) w
       block-stops w a p x y counts =
           went-stops s m d n h g full
           (step-locked s m d n h (g .read) on ∙ locked-full s m n (h .blocks) (h .locked) (h .transferred) (blocksUsed (sizeOf s (h .locked))) refl more (isLong s (h .locked)) refl own o f found w)
-          a m p (does-full s m d n full refl a p x y) ImageFull refl
+          (told a) m p (does-full s m d n full refl a p x y) ImageFull refl
 
       module _ (c : ℕ) (w : f ≡ At c) where
         pub block-target : Target m n h c
@@ -231,8 +231,8 @@ module _ (s m d : List ℕ) (n : ℕ) (h : Desk) (g : Going (world s m d) n h) w
                 (kth-direct (imageLong s m d (x / 12 + 1)) m n (x / 12 + 1) (x % 12) (omega arith) ∙ ap (addressOf m n) e ∙ y)
 
         -- the step answered a, and left t and p
-        module _ (a : Answer) (t p : List ℕ) (did : left a s t p ≡ doStep s m d n (copy (h .locked) (h .transferred) c)) where
-          did-desk : left a s t p ≡ doStep s m d n (copy l q c)
+        module _ (a : Told) (t p : List ℕ) (did : tells a s t p ≡ doStep s m d n (copy (h .locked) (h .transferred) c)) where
+          did-desk : tells a s t p ≡ doStep s m d n (copy l q c)
           did-desk = did ∙ ap (λ (v : Desk). doStep s m d n (copy (v .locked) (v .transferred) c)) (g .read)
 
           copy-left : world s t p ≡ world s after notes
@@ -263,11 +263,11 @@ module _ (s m d : List ℕ) (n : ℕ) (h : Desk) (g : Going (world s m d) n h) w
             )
 
     -- 4: the step answered a, and left t and p
-    module _ (all : blocksUsed (sizeOf s (h .locked)) ≤ h .transferred) (a : Answer) (t p : List ℕ) (did : left a s t p ≡ doStep s m d n (close (h .locked))) where
+    module _ (all : blocksUsed (sizeOf s (h .locked)) ≤ h .transferred) (a : Told) (t p : List ℕ) (did : tells a s t p ≡ doStep s m d n (close (h .locked))) where
       is-close : stepOf s m d n ≡ close (deskOf d .locked)
       is-close = step-locked s m d n h (g .read) on ∙ locked-close s m n (h .blocks) (h .locked) (h .transferred) (blocksUsed (sizeOf s (h .locked))) refl all ∙ ap close locked-same
 
-      closed-desk : left a s t p ≡ doStep s m d n (close (deskOf d .locked))
+      closed-desk : tells a s t p ≡ doStep s m d n (close (deskOf d .locked))
       closed-desk = did ∙ ap (λ (x : ℕ). doStep s m d n (close x)) locked-same
 
       close-left : world s t p ≡ world s (stepImage s m d n (close (deskOf d .locked))) (stepDesk d (close (deskOf d .locked)))
@@ -322,7 +322,7 @@ module _ (s m d : List ℕ) (n : ℕ) (h : Desk) (g : Going (world s m d) n h) w
       is-next x w = step-free s m d n h (g .read) none ∙ next m free-names ∙ ap (λ (y : Found). onFound y lock finish) w
 
       -- 5
-      pub finish-ends : f ≡ Absent → (a : Answer) (t p : List ℕ) → ((s : List ℕ) → left a s t p ≡ doStep s m d n finish) → (k c : ℕ) → burstFrom (suc k) c (world s m d) ≡ left (Done (suc c)) s t p
+      pub finish-ends : f ≡ Absent → (a : Told) (t p : List ℕ) → ((s : List ℕ) → tells a s t p ≡ doStep s m d n finish) → (k c : ℕ) → burstFrom (suc k) c (world s m d) ≡ left (Done (suc c)) s t p
       finish-ends w a t p did k c =
           went-last s m d n h g finish (is-next Absent w) a t p (did s) (deskOf d .steps + 1) refl k c
           (ap (λ (o : Outcome). headerOf (o .image) .complete) (did s) ∙ finished m n (deskOf d .blocks) (going-addressed .few) (going-addressed .area) .complete)
@@ -361,12 +361,12 @@ module _ (s m d : List ℕ) (n : ℕ) (h : Desk) (g : Going (world s m d) n h) w
           -- the next step would get 3
           pub lock-ends : r ≡ false → (k c : ℕ) → burstFrom (suc k) c (world s m d) ≡ left (Done (suc c)) s m p
           lock-ends e k c =
-              went-final s m d n h g (lock i) (is-next (At i) w) a m p locked (deskOf d .steps + 1) refl k c incomplete BadDesk
+              went-final s m d n h g (lock i) (is-next (At i) w) (told a) m p locked (deskOf d .steps + 1) refl k c incomplete BadDesk
               (subst (λ (q : List ℕ). step s m q ≡ refuse BadDesk s m q) (sym y) (lock-unfit s m d steady n (g .inodes) none-desk i (range .0) (range .1) (fits-is ∙ sym v ∙ e)))
 
           pub lock-goes : r ≡ true → (new : List ℕ) → Maps (longBut m i (isLong s i)) m n (mostBlocks * n) new → Took Goes (world s m d) n m p new counts
           lock-goes e new k = (
-            (λ j c. went-on s m d n h g (lock i) (is-next (At i) w) a m p locked (deskOf d .steps + 1) refl j c incomplete),
+            (λ j c. went-on s m d n h g (lock i) (is-next (At i) w) (told a) m p locked (deskOf d .steps + 1) refl j c incomplete),
             subst (λ (q : List ℕ). Kept (world s m q) n new counts) (sym y) (record {
               inodes = g .inodes;
               steady = lock-stays s m d steady n (g .inodes) none-desk i (range .0) (range .1) (fits-is ∙ sym v ∙ e);

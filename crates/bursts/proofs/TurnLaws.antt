@@ -20,15 +20,14 @@ use Rattle.answers.specs.declared.Answer.{Answer}
 use Rattle.answers.specs.declared.Answer.the-variants.{Done, Refused}
 use Rattle.answers.specs.declared.Refusal.{Refusal}
 use Rattle.answers.specs.declared.Refusal.the-variants.{BadBuffer, BadCount, BadDesk, WrongState}
-use Rattle.answers.specs.Told.{told}
+use Rattle.answers.specs.Told.{Told, told}
 use Rattle.answers.proofs.RefusalLaws.{not-none}
 use Rattle.files.specs.Guard.{guardBy}
 use Rattle.checkpoint.specs.Fit.{bothFramed, isRunning}
 use Rattle.checkpoint.specs.Copier.{Step, stepOf}
-use Rattle.checkpoint.specs.Live.{World, Outcome, left, refuse, guardRows, threeGuards, doStep, step}
-use Rattle.checkpoint.specs.Shown.{world, shown}
+use Rattle.checkpoint.specs.Live.{World, Outcome, left, tells, refuse, guardRows, threeGuards, doStep, step, world, worldIn}
 use Rattle.checkpoint.specs.List.{Ready, advances, outcome, next, accepted, completes}
-use Rattle.checkpoint.specs.Burst.{mostBurst, countAllowed, burstFrom, burst, worldIn}
+use Rattle.checkpoint.specs.Burst.{mostBurst, countAllowed, burstFrom, burst}
 use Rattle.checkpoint.proofs.Copy.FitLaws.{desk-framed-is}
 use Rattle.checkpoint.proofs.DecisionLaws.{three-is}
 use Rattle.checkpoint.proofs.SteadyLaws.{ready-of, late, ready-step}
@@ -59,28 +58,28 @@ module _ (s m d : List ℕ) (o : Outcome) (h : step s m d ≡ o) where
   abbrev w : World
   w = world s m d
 
-  taken : accepted advances w ≡ eqb (told (o .answer) .number) 0
+  taken : accepted advances w ≡ eqb (o .answer .number) 0
   unfolding outcome
-  taken = ap (λ (x : Outcome). eqb (told (x .answer) .number) 0) h
+  taken = ap (λ (x : Outcome). eqb (x .answer .number) 0) h
 
   left-in : next advances w ≡ worldIn o
   unfolding next outcome
   left-in = ap worldIn h
 
   module _ (k c : ℕ) where
-    from-refused : (e : Refusal) → o .answer ≡ Refused e → burstFrom (suc k) c w ≡ left (stoppedAt c e) (o .store) (o .image) (o .desk)
+    from-refused : (e : Refusal) → o .answer ≡ told (Refused e) → burstFrom (suc k) c w ≡ left (stoppedAt c e) (o .store) (o .image) (o .desk)
     unfolding burstFrom
     from-refused e q =
-        let a : accepted advances w ≡ false = taken ∙ ap (λ (x : Answer). eqb (told x .number) 0) q ∙ not-none e in
+        let a : accepted advances w ≡ false = taken ∙ ap (λ (x : Told). eqb (x .number) 0) q ∙ not-none e in
         rw (a, h) (go (eqb c 0))
       where
         go : (b : Bool) → pick b o (left (Done c) (o .store) (o .image) (o .desk)) ≡ left (pick b (Refused e) (Done c)) (o .store) (o .image) (o .desk)
-        go true = ap (λ (x : Answer). left x (o .store) (o .image) (o .desk)) q
+        go true = ap (λ (x : Told). tells x (o .store) (o .image) (o .desk)) q
         go false = refl
 
-    module _ (x : ℕ) (q : o .answer ≡ Done x) where
+    module _ (x : ℕ) (q : o .answer ≡ told (Done x)) where
       on : accepted advances w ≡ true
-      on = taken ∙ ap (λ (x : Answer). eqb (told x .number) 0) q
+      on = taken ∙ ap (λ (x : Told). eqb (x .number) 0) q
 
       ended : (b : Bool) → eqb (headerOf (o .image) .complete) isComplete ≡ b → completes advances w ≡ b
       ended b p = rw on (ap (λ (v : World). eqb (headerOf (v .image) .complete) isComplete) left-in ∙ p)
@@ -112,23 +111,23 @@ module _ (s m d : List ℕ) (n : ℕ) (map counts : List ℕ) (z : Kept (world s
         record { ready = ready-of (world s m d) (z .steady) (omega arith); running = z .steady .running; inodes = z .inodes; read = r }
 
 -- ---- the step is x: it answered a, and left t and p
-module _ (s m d : List ℕ) (n : ℕ) (h : Desk) (g : Going (world s m d) n h) (x : Step) (is : stepOf s m d n ≡ x) (a : Answer) (t p : List ℕ) (f : left a s t p ≡ doStep s m d n x) where
-  stepped : step s m d ≡ left a s t p
+module _ (s m d : List ℕ) (n : ℕ) (h : Desk) (g : Going (world s m d) n h) (x : Step) (is : stepOf s m d n ≡ x) (a : Told) (t p : List ℕ) (f : tells a s t p ≡ doStep s m d n x) where
+  stepped : step s m d ≡ tells a s t p
   stepped = ready-step s m d (g .ready) (g .running) ∙ ap (λ (y : ℕ). doStep s m d y (stepOf s m d y)) (sym (g .inodes)) ∙ ap (doStep s m d n) is ∙ sym f
 
   answered : a ≡ doStep s m d n x .answer
   answered = ap (λ (o : Outcome). o .answer) f
 
-  pub went-stops : (e : Refusal) → doStep s m d n x .answer ≡ Refused e → (k c : ℕ) → burstFrom (suc k) c (world s m d) ≡ left (stoppedAt c e) s t p
-  went-stops e q k c = from-refused s m d (left a s t p) stepped k c e (answered ∙ q)
+  pub went-stops : (e : Refusal) → doStep s m d n x .answer ≡ told (Refused e) → (k c : ℕ) → burstFrom (suc k) c (world s m d) ≡ left (stoppedAt c e) s t p
+  went-stops e q k c = from-refused s m d (tells a s t p) stepped k c e (answered ∙ q)
 
-  module _ (y : ℕ) (q : doStep s m d n x .answer ≡ Done y) (k c : ℕ) where
+  module _ (y : ℕ) (q : doStep s m d n x .answer ≡ told (Done y)) (k c : ℕ) where
     pub went-last : headerOf t .complete ≡ isComplete → burstFrom (suc k) c (world s m d) ≡ left (Done (suc c)) s t p
-    went-last w = from-last s m d (left a s t p) stepped k c y (answered ∙ q) (eq-eqb (headerOf t .complete) isComplete w)
+    went-last w = from-last s m d (tells a s t p) stepped k c y (answered ∙ q) (eq-eqb (headerOf t .complete) isComplete w)
 
     module _ (w : headerOf t .complete ≡ notComplete) where
       pub went-on : burstFrom (suc k) c (world s m d) ≡ burstFrom k (suc c) (world s t p)
-      went-on = from-on s m d (left a s t p) stepped k c y (answered ∙ q) (ne-eqb (headerOf t .complete) isComplete (λ v. omega arith))
+      went-on = from-on s m d (tells a s t p) stepped k c y (answered ∙ q) (ne-eqb (headerOf t .complete) isComplete (λ v. omega arith))
 
       -- a step that is accepted, with none after it
       pub went-final : (e : Refusal) → step s t p ≡ refuse e s t p → burstFrom (suc k) c (world s m d) ≡ left (Done (suc c)) s t p
@@ -195,7 +194,7 @@ count-high k l = chain-end _ (leb 1 k) (leb k mostBurst) (le-leb 1 k l) refl
 
 -- ---- the whole: a and b are what the code has found of lengths and count
 module _ (s m d : List ℕ) (count : ℕ) (a : Bool) (f : a ≡ bothFramed s d) where
-  pub burst-unframed : not a ≡ true → shown (refuse BadBuffer s m d) ≡ shown (burst count (world s m d))
+  pub burst-unframed : not a ≡ true → refuse BadBuffer s m d ≡ burst count (world s m d)
   unfolding burst
   burst-unframed q = let g = sym f ∙ not-true a q in rw g
 
@@ -204,7 +203,7 @@ module _ (s m d : List ℕ) (count : ℕ) (a : Bool) (f : a ≡ bothFramed s d) 
     burst-framed = sym f ∙ not-false a q
 
     module _ (b : Bool) (h : b ≡ countAllowed count) where
-      pub burst-count : not b ≡ true → shown (refuse BadCount s m d) ≡ shown (burst count (world s m d))
+      pub burst-count : not b ≡ true → refuse BadCount s m d ≡ burst count (world s m d)
       unfolding burst
       burst-count x = let g = burst-framed in let k = sym h ∙ not-true b x in rw (g, k)
 
@@ -218,9 +217,9 @@ module _ (s m d : List ℕ) (count : ℕ) (a : Bool) (f : a ≡ bothFramed s d) 
         few-steps : count ≤ mostBurst
         few-steps = r-le count mostBurst .to (and-right (leb 1 count) (leb count mostBurst) counted)
 
-        pub burst-through : (o : Outcome) → o ≡ burstFrom count 0 (world s m d) → shown o ≡ shown (burst count (world s m d))
+        pub burst-through : (o : Outcome) → o ≡ burstFrom count 0 (world s m d) → o ≡ burst count (world s m d)
         unfolding burst
-        burst-through o e = let g = burst-framed in let k = counted in rw (g, k) (ap shown e)
+        burst-through o e = let g = burst-framed in let k = counted in rw (g, k) (e)
 
         -- w is what the guards have answered
         module _ (w : Watched) (e : w ≡ handed (guardBy s (guardRows true s m d)) (deskOf d)) where
@@ -233,5 +232,5 @@ module _ (s m d : List ℕ) (count : ℕ) (a : Bool) (f : a ≡ bothFramed s d) 
           unfolding step
           stops r y = let g = shut (threeGuards s m d) (deskOf d) w (three-framed s m d burst-framed w e) y in rw g
 
-          pub burst-stopped : (r : Refusal) → w ≡ Shut r → shown (refuse r s m d) ≡ shown (burst count (world s m d))
+          pub burst-stopped : (r : Refusal) → w ≡ Shut r → refuse r s m d ≡ burst count (world s m d)
           burst-stopped r y = burst-through (refuse r s m d) (first-stops s m d r (stops r y) count some-steps)

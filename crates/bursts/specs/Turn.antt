@@ -20,8 +20,7 @@ use Rattle.answers.specs.declared.Answer.the-variants.{Done, Refused}
 use Rattle.answers.specs.declared.Refusal.{Refusal}
 use Rattle.checkpoint.specs.Fit.{isRunning, imageLong}
 use Rattle.checkpoint.specs.Image.{imageNaming}
-use Rattle.checkpoint.specs.Live.{World, left}
-use Rattle.checkpoint.specs.Shown.{world}
+use Rattle.checkpoint.specs.Live.{World, left, world}
 use Rattle.checkpoint.specs.List.{Ready}
 use Rattle.checkpoint.specs.Burst.{burstFrom, Steady}
 use Rattle.bursts.specs.declared.Turn.{Turn}

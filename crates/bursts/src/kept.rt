@@ -21,7 +21,7 @@ ghost use Rattle.directory.specs.Slot.{mostSlots};
 ghost use Rattle.desk.specs.Sizes.{deskLength};
 ghost use Rattle.checkpoint.specs.Image.{imageNaming};
 ghost use Rattle.checkpoint.specs.Copier.{lock, finish, targetBlock, freeStep};
-ghost use Rattle.checkpoint.specs.Shown.{world};
+ghost use Rattle.checkpoint.specs.Live.{world};
 ghost use Rattle.image.specs.Fit.{furtherRightOf};
 ghost use Rattle.bursts.specs.Turn.{namesStayB, Mapped, Counted, Going, Kept, Took};
 use crate::Turn;

@@ -7,8 +7,7 @@ ghost use Prim.Native.Nat.{_≤_};
 ghost use Rattle.desk.specs.Desk.{deskOf};
 ghost use Rattle.sound.specs.Sound.{inodesIn};
 ghost use Rattle.checkpoint.specs.Fit.{isRunning};
-ghost use Rattle.checkpoint.specs.Live.{left};
-ghost use Rattle.checkpoint.specs.Shown.{world, shown};
+ghost use Rattle.checkpoint.specs.Live.{left, world};
 ghost use Rattle.checkpoint.specs.List.{Ready};
 ghost use Rattle.checkpoint.specs.Burst.{mostBurst, countAllowed, burstFrom, burst};
 ghost use Rattle.bursts.specs.Turn.{stoppedAt, Kept, Took};
@@ -67,7 +66,8 @@ fn stopped_at(done: usize, why: Refusal) -> Answer
 // The steps themselves, over one map of the image's named blocks and one count of its names.
 fn turns(s: &[u8], m: &mut [u8], d: &mut [u8], h: Desk, n: usize, count: usize) -> Answer
     requires { ⌜ (h ≡ deskOf (now d)) × Ready (world (now s) (now m) (now d)) × (n ≡ inodesIn (now s)) × (isRunning (now d) ≡ true) × (count ≤ mostBurst) ⌝ }
-    ensures { λ r. ⌜ left r (now (s .entry)) (now (m .exit)) (now (d .exit)) ≡ burstFrom count 0 (world (now (s .entry)) (now (m .entry)) (now (d .entry))) ⌝ }
+    ensures { λ r. ⌜ left r (now (s .entry)) (now (m .exit)) (now (d .exit))
+        ≡ burstFrom count 0 (world (now (s .entry)) (now (m .entry)) (now (d .entry))) ⌝ }
 {
     let mut map = kept::map_of(s, &*m, n, h.locked as usize);
     let mut counts = naming::count_names(&*m, n);
@@ -88,7 +88,8 @@ fn turns(s: &[u8], m: &mut [u8], d: &mut [u8], h: Desk, n: usize, count: usize) 
 // 15, or the steps.
 fn go_on(s: &[u8], m: &mut [u8], d: &mut [u8], h: Desk, n: usize, count: usize) -> Answer
     requires { ⌜ (h ≡ deskOf (now d)) × Ready (world (now s) (now m) (now d)) × (n ≡ inodesIn (now s)) × (1 ≤ count) × (count ≤ mostBurst) ⌝ }
-    ensures { λ r. ⌜ left r (now (s .entry)) (now (m .exit)) (now (d .exit)) ≡ burstFrom count 0 (world (now (s .entry)) (now (m .entry)) (now (d .entry))) ⌝ }
+    ensures { λ r. ⌜ left r (now (s .entry)) (now (m .exit)) (now (d .exit))
+        ≡ burstFrom count 0 (world (now (s .entry)) (now (m .entry)) (now (d .entry))) ⌝ }
 {
     if !h.runs() {
         return Answer::Refused(Refusal::WrongState);
@@ -106,7 +107,8 @@ fn count_allowed(count: usize) -> bool
 }
 
 pub fn burst(store: &[u8], image: &mut [u8], desk: &mut [u8], count: usize) -> Answer
-    ensures { λ r. ⌜ shown (left r (now (store .entry)) (now (image .exit)) (now (desk .exit))) ≡ shown (burst count (world (now (store .entry)) (now (image .entry)) (now (desk .entry)))) ⌝ }
+    ensures { λ r. ⌜ left r (now (store .entry)) (now (image .exit)) (now (desk .exit))
+        ≡ burst count (world (now (store .entry)) (now (image .entry)) (now (desk .entry))) ⌝ }
 {
     if !both_framed(store, &*desk) {
         return Answer::Refused(Refusal::BadBuffer);

@@ -55,7 +55,7 @@ three-steps = (refl, refl)
 -- the same three steps end in a finish
 pub finish : Finish (advances ∷ advances ∷ advances ∷ []) (next starts (fresh 1 1))
 unfolding fresh desk.deskRestZero allBelow someBelow leadsB count firstFrom first table part splice numAt toBytes putNum wordBytes digit marked withMark withoutMark entryInode isEmpty folded sameByte sameName spelled nameLength entryName legalEntry entryFor plainByte isDots legalName blockOf putInBlock zeroBlock blocksUsed bytesPlace isLong furtherOf kthBy rowBy putKth putRow freeInode namedBy lowestBy longBut across added grown kept lowestFrom nthFree zeroBlocks putBlocks taken extended cutBlocks headerOf putFree putComplete putHeader headerRestZero kindOf spareOf linksOf sizeOf parentOf putLinks attributeEntry putAttributes addressOf putAddress addressesOf putAddresses inodeOf putInode slots slotAt entryOf slotHasName findSlot slotEmpty emptySlot putEntry clearEntry deskOf putDesk copiedOf putCopied marksOf putMarks markOf setMark clearMark clearNotes sameNames namingB newNameB entryB attributesB addressesB zeroTailB inodeB countedB leadB isSlot entryAt filled naming allowed deskAllowed framedB headerB freeCountsB blankBlockB blanksB bodyB isSound enter created written dropLink unlinked setParent moved putFile addBlock putSize zeroRest cutTo isKind zeroInode lessFree moreFree createPlan writePlan shortenPlan holdsNone unlinkPlan isBelow renameTo renamePlan roomIn makeRoom freshHeader emptyRoot freshStore freshDesk startImage startDesk nextInode targetBlock lockedStep freeStep stepOf copiedEntry copiedEntries copiedBlock putCounts finishImage deskFramed imageBlocks imageAllowed isRunning blocksFit deskFits lacksAddresses imageFits notesFit hasSlot slotNames inodeNamed outcome next run started start step isCopied noteMade noteTaken cutsImage cutImage zeroed guardOf locksAny threeGuards startGuards decision live cutEntries clearMarks setMarks
-finish = more refl refl (more refl refl (last refl))
+finish = more {e = advances} refl refl (more {e = advances} refl refl (last refl))
 
 -- what is asked of the desk and the image when the list has run: one record, so that the list is run once
 record Reused : Type 0 where

@@ -41,7 +41,7 @@ use Rattle.checkpoint.proofs.Run.Calls.{image-allowed}
 
 -- a create of a legal name in an empty slot
 created : (w : World) (d : ℕ) (name : List ℕ) (k : Kind) (c : Creates w d name) (t : ℕ) → legalName name ≡ true → emptySlot (w .store) (inodes w) d ≡ At t
-    → live (create d name k) w .answer ≡ Done (c .inode)
+    → live (create d name k) w .answer ≡ told (Done (c .inode))
 unfolding createTable locksAny
 created w d name k c t l u =
     let r = c .ready in
@@ -62,7 +62,7 @@ fourteen-legal name e h =
 fifteen-illegal : (name : List ℕ) → length name ≡ 15 → legalName name ≡ false
 fifteen-illegal name e = fails (legalName name) (λ t. let b = legal-bounds name t in let c = b .1 in omega arith)
 
-fifteen : (w : World) (d : ℕ) (name : List ℕ) (k : Kind) → Ready w → length name ≡ 15 → live (create d name k) w .answer ≡ Refused IllegalName
+fifteen : (w : World) (d : ℕ) (name : List ℕ) (k : Kind) → Ready w → length name ≡ 15 → live (create d name k) w .answer ≡ told (Refused IllegalName)
 unfolding createTable locksAny
 fifteen w d name k r e =
     create-table w d name k
@@ -70,7 +70,7 @@ fifteen w d name k r e =
 
 fourteen : (w : World) (d t : ℕ) (name : List ℕ) (k : Kind) (c : Creates w d name) → length name ≡ 14
     → ((j : ℕ) → j < 14 → (getD name j 0 ≡ 0 → ⊥) × (getD name j 0 ≡ slash → ⊥)) → emptySlot (w .store) (inodes w) d ≡ At t
-    → live (create d name k) w .answer ≡ Done (c .inode)
+    → live (create d name k) w .answer ≡ told (Done (c .inode))
 fourteen w d t name k c e h u = created w d name k c t (fourteen-legal name e h) u
 
 -- ---- writes
@@ -85,7 +85,7 @@ file-size w i r f =
     size-most (is-sound Store s .to (r .sound) .inodes i (leb-true 1 i a) (leb-true i n b))
 
 module _ (w : World) (i o : ℕ) (xs : List ℕ) (h : Writes w i o xs) where
-  write-done : o ≤ sizeOf (w .store) i → o + length xs ≤ mostFileBytes → live (write i o xs) w .answer ≡ Done (max (sizeOf (w .store) i) (o + length xs))
+  write-done : o ≤ sizeOf (w .store) i → o + length xs ≤ mostFileBytes → live (write i o xs) w .answer ≡ told (Done (max (sizeOf (w .store) i) (o + length xs)))
   unfolding writeTable locksAny
   write-done a b =
       let r = h .ready in
@@ -104,25 +104,25 @@ module _ (w : World) (i o : ℕ) (xs : List ℕ) (h : Writes w i o xs) where
         h .idle,
       )
 
-  write-refused : ltb (sizeOf (w .store) i) o || ltb mostFileBytes (o + length xs) ≡ true → live (write i o xs) w .answer ≡ Refused PastEnd
+  write-refused : ltb (sizeOf (w .store) i) o || ltb mostFileBytes (o + length xs) ≡ true → live (write i o xs) w .answer ≡ told (Refused PastEnd)
   unfolding writeTable locksAny
   write-refused q =
       let r = h .ready in
       write-table w i o xs
       ∙ rw (r .framed, r .desk, r .sound, r .notes, h .file, q)
 
-  to-2752 : o ≤ sizeOf (w .store) i → o + length xs ≡ mostFileBytes → live (write i o xs) w .answer ≡ Done mostFileBytes
+  to-2752 : o ≤ sizeOf (w .store) i → o + length xs ≡ mostFileBytes → live (write i o xs) w .answer ≡ told (Done mostFileBytes)
   to-2752 a b =
       let z : sizeOf (w .store) i ≤ mostFileBytes = file-size w i (h .ready) (h .file) in
-      write-done a (omega arith) ∙ ap Done (omega arith)
+      write-done a (omega arith) ∙ ap (λ (x : ℕ). told (Done x)) (omega arith)
 
-  to-2753 : o + length xs ≡ mostFileBytes + 1 → live (write i o xs) w .answer ≡ Refused PastEnd
+  to-2753 : o + length xs ≡ mostFileBytes + 1 → live (write i o xs) w .answer ≡ told (Refused PastEnd)
   to-2753 b = write-refused (or-r (ltb (sizeOf (w .store) i) o) (ltb mostFileBytes (o + length xs)) (lt-ltb mostFileBytes (o + length xs) (omega arith)))
 
-  at-size : o ≡ sizeOf (w .store) i → o + length xs ≤ mostFileBytes → live (write i o xs) w .answer ≡ Done (o + length xs)
-  at-size a b = write-done (omega arith) b ∙ ap Done (omega arith)
+  at-size : o ≡ sizeOf (w .store) i → o + length xs ≤ mostFileBytes → live (write i o xs) w .answer ≡ told (Done (o + length xs))
+  at-size a b = write-done (omega arith) b ∙ ap (λ (x : ℕ). told (Done x)) (omega arith)
 
-  past-size : o ≡ sizeOf (w .store) i + 1 → live (write i o xs) w .answer ≡ Refused PastEnd
+  past-size : o ≡ sizeOf (w .store) i + 1 → live (write i o xs) w .answer ≡ told (Refused PastEnd)
   past-size a = write-refused (or-l (ltb (sizeOf (w .store) i) o) (ltb mostFileBytes (o + length xs)) (lt-ltb (sizeOf (w .store) i) o (omega arith)))
 
 -- ---- slots
@@ -137,14 +137,14 @@ module _ (w : World) (d : ℕ) (name : List ℕ) (k : Kind) (c : Creates w d nam
   unfolding emptySlot first
   none h = absent-of (slotEmpty (w .store) (inodes w) d) 0 (slots (w .store) d) (λ j a b. h j (omega arith))
 
-  last-slot : (t : ℕ) → t < 48 → slotEmpty (w .store) (inodes w) d t ≡ true → live (create d name k) w .answer ≡ Done (c .inode)
+  last-slot : (t : ℕ) → t < 48 → slotEmpty (w .store) (inodes w) d t ≡ true → live (create d name k) w .answer ≡ told (Done (c .inode))
   last-slot t l e = let u = some-slot t l e in created w d name k c (u .0) legal-name (u .1)
 
   twelve : blocksUsed (sizeOf (w .store) d) ≡ 12
   unfolding slots
   twelve = omega arith
 
-  no-slot : ((t : ℕ) → t < 48 → slotEmpty (w .store) (inodes w) d t ≡ false) → live (create d name k) w .answer ≡ Refused NoSlot
+  no-slot : ((t : ℕ) → t < 48 → slotEmpty (w .store) (inodes w) d t ≡ false) → live (create d name k) w .answer ≡ told (Refused NoSlot)
   unfolding createTable locksAny
   no-slot h =
       let r = c .ready in
@@ -175,7 +175,7 @@ allowed w r h =
     let z = framed Store (w .store) .to (r .framed) in
     image-allowed (inodes w) (deskOf d .blocks) (length (w .image)) (record { some-inodes = z .some-inodes; most-inodes = z .most-inodes; some-blocks = k .0; most-blocks = k .1; long = omega arith })
 
-second-start : (w : World) → Ready w → isRunning (w .desk) ≡ true → start (w .store) (w .image) (w .desk) .answer ≡ Refused WrongState
+second-start : (w : World) → Ready w → isRunning (w .desk) ≡ true → start (w .store) (w .image) (w .desk) .answer ≡ told (Refused WrongState)
 unfolding startTable
 second-start w r h = start-table (w .store) (w .image) (w .desk) ∙ rw (r .framed, r .desk, allowed w r h, r .sound, r .notes, h)
 
@@ -185,14 +185,14 @@ unfolding outcome
 track-cases = record {
   three-steps = three-steps;
   finish = finish;
-  fourteen = λ w d t name k c l h u. ap told (fourteen w d t name k c l h u);
-  fifteen = λ w d name k r e. ap told (fifteen w d name k r e);
-  to-2752 = λ w i o xs h l e. ap told (to-2752 w i o xs h l e);
-  to-2753 = λ w i o xs h e. ap told (to-2753 w i o xs h e);
-  at-size = λ w i o xs h e l. ap told (at-size w i o xs h e l);
-  past-size = λ w i o xs h e. ap told (past-size w i o xs h e);
-  last-slot = λ w d t name k c l a b e. ap told (last-slot w d name k c l a t b e);
-  no-slot = λ w d name k c l a h. ap told (no-slot w d name k c l a h);
+  fourteen = λ w d t name k c l h u. fourteen w d t name k c l h u;
+  fifteen = fifteen;
+  to-2752 = to-2752;
+  to-2753 = to-2753;
+  at-size = at-size;
+  past-size = past-size;
+  last-slot = λ w d t name k c l a b e. last-slot w d name k c l a t b e;
+  no-slot = λ w d name k c l a h. no-slot w d name k c l a h;
   fourteen-shown = fourteen-shown;
   fifteen-shown = fifteen-shown;
   end-shown = end-shown;
@@ -210,6 +210,6 @@ track-cases = record {
   moved-directory-done = moved-directory .0;
   unlinked-file = unlinked-file .1;
   unlinked-file-done = unlinked-file .0;
-  second-start = λ w r h. ap told (second-start w r h);
+  second-start = second-start;
   into-child = into-child;
 }

@@ -55,7 +55,8 @@ fn entry_named(s: &[u8], n: usize, d: usize, t: usize, o: usize) -> bool
 // No slot before t has the name of slot t.
 fn name_new(low: &[u64], high: &[u64], t: usize) -> bool
     requires { ⌜ (t < mostSlots) × (length (now low) ≡ mostSlots) × (length (now high) ≡ mostSlots) ⌝ }
-    ensures { λ r. ⌜ r ≡ allBelow (λ u. not (eqb (getD (now (low .entry)) u 0) (getD (now (low .entry)) t 0) && eqb (getD (now (high .entry)) u 0) (getD (now (high .entry)) t 0))) t ⌝ }
+    ensures { λ r. ⌜ r
+        ≡ allBelow (λ u. not (eqb (getD (now (low .entry)) u 0) (getD (now (low .entry)) t 0) && eqb (getD (now (high .entry)) u 0) (getD (now (high .entry)) t 0))) t ⌝ }
 {
     for u in 0..t {
         if low[u] == low[t] && high[u] == high[t] {

@@ -12,9 +12,9 @@ use Rattle.answers.specs.declared.Answer.the-variants.{Done}
 use Rattle.answers.specs.declared.Refusal.the-variants.{BadBuffer, BadCount}
 use Rattle.answers.specs.Told.{Told, told}
 use Rattle.checkpoint.specs.Fit.{bothFramed}
-use Rattle.checkpoint.specs.Live.{World, refuse, step}
+use Rattle.checkpoint.specs.Live.{World, refuse, step, worldIn}
 use Rattle.checkpoint.specs.List.{Event, advances, outcome, next, accepted, completes, run, acceptedSteps}
-use Rattle.checkpoint.specs.Burst.{countAllowed, burstFrom, burst, tries, triesOf, worldIn}
+use Rattle.checkpoint.specs.Burst.{countAllowed, burstFrom, burst, tries, triesOf}
 
 -- ---- the bytes
 pub burst-tries : (k c : ℕ) (w : World) → worldIn (burstFrom k c w) ≡ run (tries k w) w
@@ -59,24 +59,24 @@ module _ (a f : Bool) (ts : List Event) (v : World) (c : ℕ) where
   counts-on : a ≡ true → f ≡ false → counted ≡ acceptedSteps ts v (suc c)
   counts-on e g = rw (e, g)
 
-steps-from : (k c : ℕ) (w : World) (x : ℕ) → told (burstFrom k c w .answer) ≡ told (Done x) → acceptedSteps (tries k w) w c ≡ x
+steps-from : (k c : ℕ) (w : World) (x : ℕ) → burstFrom k c w .answer ≡ told (Done x) → acceptedSteps (tries k w) w c ≡ x
 unfolding burstFrom tries acceptedSteps outcome
 steps-from zero c w x h = same-told c x h
 steps-from (suc k) c w x h = go (accepted advances w) refl (completes advances w) refl (eqb c 0) refl (steps-from k (suc c) (next advances w) x) h
   where
     go : (a : Bool) → accepted advances w ≡ a → (f : Bool) → completes advances w ≡ f → (y : Bool) → eqb c 0 ≡ y
-        → (told (burstFrom k (suc c) (next advances w) .answer) ≡ told (Done x) → acceptedSteps (tries k (next advances w)) (next advances w) (suc c) ≡ x)
-        → told (burstFrom (suc k) c w .answer) ≡ told (Done x) → acceptedSteps (tries (suc k) w) w c ≡ x
+        → (burstFrom k (suc c) (next advances w) .answer ≡ told (Done x) → acceptedSteps (tries k (next advances w)) (next advances w) (suc c) ≡ x)
+        → burstFrom (suc k) c w .answer ≡ told (Done x) → acceptedSteps (tries (suc k) w) w c ≡ x
     go true e true f y g r h = counts-last (accepted advances w) (completes advances w) (tries k (next advances w)) (next advances w) c e f ∙ same-told (suc c) x (rw (f, e) at h)
     go true e false f y g r h = counts-on (accepted advances w) (completes advances w) (tries k (next advances w)) (next advances w) c e f ∙ r (rw (f, e) at h)
     go false e f z true g r h = absurd (clash (accepted advances w) (ap (λ (t : Told). eqb (t .number) 0) (rw (e, g) at h)) e)
     go false e f z false g r h = counts-none (accepted advances w) (completes advances w) (tries k (next advances w)) (next advances w) c e ∙ same-told c x (rw (e, g) at h)
 
-pub burst-count : (k : ℕ) (w : World) (x : ℕ) → told (burst k w .answer) ≡ told (Done x) → acceptedSteps (triesOf k w) w 0 ≡ x
+pub burst-count : (k : ℕ) (w : World) (x : ℕ) → burst k w .answer ≡ told (Done x) → acceptedSteps (triesOf k w) w 0 ≡ x
 unfolding burst triesOf acceptedSteps
 burst-count k w x h = go (bothFramed (w .store) (w .desk)) (countAllowed k) h
   where
-    go : (a b : Bool) → told (pick (not a) (refuse BadBuffer (w .store) (w .image) (w .desk)) (pick (not b) (refuse BadCount (w .store) (w .image) (w .desk)) (burstFrom k 0 w)) .answer) ≡ told (Done x)
+    go : (a b : Bool) → pick (not a) (refuse BadBuffer (w .store) (w .image) (w .desk)) (pick (not b) (refuse BadCount (w .store) (w .image) (w .desk)) (burstFrom k 0 w)) .answer ≡ told (Done x)
         → acceptedSteps (pick (a && b) (tries k w) []) w 0 ≡ x
     go true true h = steps-from k 0 w x h
     go true false h = let z : _≡_ {A = ℕ} 17 0 = ap (λ (t : Told). t .number) h in absurd (omega arith)

@@ -17,9 +17,9 @@ use Rattle.sound.specs.declared.Form.the-variants.{Store}
 use Rattle.sound.specs.Test.{framedB, isSound}
 use Rattle.answers.specs.declared.Refusal.{Refusal}
 use Rattle.answers.specs.declared.Refusal.the-variants.{BadBuffer, UnsoundStore, BadDesk, NoBlocks, NoSlot, Busy}
-use Rattle.answers.specs.declared.Answer.{Answer}
 use Rattle.answers.specs.declared.Answer.the-variants.{Done, Refused}
-use Rattle.answers.specs.Order.{Row, row, firstOf}
+use Rattle.answers.specs.Told.{Told, told}
+use Rattle.answers.specs.Order.{Row, row, firstBy}
 use Rattle.entries.specs.declared.Room.{Room}
 use Rattle.entries.specs.declared.RoomPlan.the-variants.{Has, NoRoom}
 use Rattle.entries.specs.Room.{room, roomIn, onRoom}
@@ -34,31 +34,35 @@ use Rattle.checkpoint.specs.Live.{World, Outcome, threeGuards, storeAlon
 use Rattle.checkpoint.proofs.DecisionLaws.{chained, three-is}
 use Rattle.checkpoint.specs.Table.{found, orZero, liveRows, noBlock, noSlot}
 
--- the answer x is the first of rs that holds, else a
-pub record Gives (x : Answer) (rs : List Row) (a : Answer) : Type 0 where
+-- the refusal of the first of rs that holds, else a
+abbrev pub firstOf : List Row → Told → Told
+firstOf rs a = firstBy (λ e. told (Refused e)) rs a
+
+-- the answer x is that
+pub record Gives (x : Told) (rs : List Row) (a : Told) : Type 0 where
   pub first : x ≡ firstOf rs a
 
 -- ---- one condition more at the head of a table; h is the answer of what was decided
-module _ {A : Type 0} (h : A → Answer) where
-  pub by-pick : (b : Bool) (x y : A) {e : Refusal} {rs : List Row} {a : Answer} → h x ≡ Refused e → Gives (h y) rs a → Gives (h (pick b x y)) (row b e ∷ rs) a
+module _ {A : Type 0} (h : A → Told) where
+  pub by-pick : (b : Bool) (x y : A) {e : Refusal} {rs : List Row} {a : Told} → h x ≡ told (Refused e) → Gives (h y) rs a → Gives (h (pick b x y)) (row b e ∷ rs) a
   by-pick true x y p q = record { first = p }
   by-pick false x y p q = record { first = q .first }
 
   -- what is found refuses
-  pub by-found : (f : Found) (g : ℕ → A) (y : A) {e : Refusal} {rs : List Row} {a : Answer}
-      → ((t : ℕ) → h (g t) ≡ Refused e) → Gives (h y) rs a → Gives (h (onFound f g y)) (row (found f) e ∷ rs) a
+  pub by-found : (f : Found) (g : ℕ → A) (y : A) {e : Refusal} {rs : List Row} {a : Told}
+      → ((t : ℕ) → h (g t) ≡ told (Refused e)) → Gives (h y) rs a → Gives (h (onFound f g y)) (row (found f) e ∷ rs) a
   by-found (At t) g y p q = record { first = p t }
   by-found Absent g y p q = record { first = q .first }
 
   -- what is not found refuses
-  pub by-absent : (f : Found) (g : ℕ → A) (y : A) {e : Refusal} {rs : List Row} {a : Answer}
-      → h y ≡ Refused e → Gives (h (g (orZero f))) rs a → Gives (h (onFound f g y)) (row (not (found f)) e ∷ rs) a
+  pub by-absent : (f : Found) (g : ℕ → A) (y : A) {e : Refusal} {rs : List Row} {a : Told}
+      → h y ≡ told (Refused e) → Gives (h (g (orZero f))) rs a → Gives (h (onFound f g y)) (row (not (found f)) e ∷ rs) a
   by-absent (At t) g y p q = record { first = q .first }
   by-absent Absent g y p q = record { first = p }
 
   -- room for an entry more in the directory e
-  pub by-room : (s : List ℕ) (e : ℕ) (f : Room → A) (g : Refusal → A) {rs : List Row} {a : Answer}
-      → ((x : Refusal) → h (g x) ≡ Refused x)
+  pub by-room : (s : List ℕ) (e : ℕ) (f : Room → A) (g : Refusal → A) {rs : List Row} {a : Told}
+      → ((x : Refusal) → h (g x) ≡ told (Refused x))
       → ((r : Room) → Gives (h (f r)) rs a)
       → Gives (h (onRoom (roomIn s (inodesIn s) (blocksIn s) e) f g)) (row (noBlock s e) NoBlocks ∷ row (noSlot s e) NoSlot ∷ rs) a
   unfolding roomIn
@@ -73,23 +77,23 @@ module _ {A : Type 0} (h : A → Answer) where
       go Absent false c = record { first = p NoSlot }
 
 -- the last condition, and what is done where it does not hold
-pub by-busy : (b : Bool) (w : World) (x : Effect) → Gives (leavesIn w (pick b (refused Busy) (does x)) .answer) (row b Busy ∷ []) (Done (x .answer))
+pub by-busy : (b : Bool) (w : World) (x : Effect) → Gives (leavesIn w (pick b (refused Busy) (does x)) .answer) (row b Busy ∷ []) (told (Done (x .answer)))
 by-busy true w x = record { first = refl }
 by-busy false w x = record { first = refl }
 
 -- 1, 2 and 3
-pub by-chain : (framed : Bool) (s m d : List ℕ) (o : Outcome) {rs : List Row} {a : Answer} → Gives (o .answer) rs a → Gives (chained framed s m d o .answer) (guardRows framed s m d ++ rs) a
+pub by-chain : (framed : Bool) (s m d : List ℕ) (o : Outcome) {rs : List Row} {a : Told} → Gives (o .answer) rs a → Gives (chained framed s m d o .answer) (guardRows framed s m d ++ rs) a
 by-chain framed s m d o q =
-    let h : Outcome → Answer = λ z. z .answer in
+    let h : Outcome → Told = λ z. z .answer in
     by-pick h (not framed) _ _ refl
     (by-pick h (not (isSound Store s)) _ _ refl
     (by-pick h (not (notesFit s m d)) _ _ refl q))
 
-pub by-guards : (s m d : List ℕ) (o : Outcome) {rs : List Row} {a : Answer} → Gives (o .answer) rs a → Gives (guarded (threeGuards s m d) s m d o .answer) (liveRows s m d ++ rs) a
+pub by-guards : (s m d : List ℕ) (o : Outcome) {rs : List Row} {a : Told} → Gives (o .answer) rs a → Gives (guarded (threeGuards s m d) s m d o .answer) (liveRows s m d ++ rs) a
 by-guards s m d o q = rw (three-is s m d o) (by-chain (bothFramed s d) s m d o q)
 
 -- of a file call that takes all three buffers
-pub by-three : (c : Call) (w : World) {rs : List Row} {a : Answer} → storeAlone c ≡ false
+pub by-three : (c : Call) (w : World) {rs : List Row} {a : Told} → storeAlone c ≡ false
     → Gives (leavesIn w (unlessBusy (w .desk) (planned c (w .store) (inodesIn (w .store)) (blocksIn (w .store)))) .answer) rs a → Gives (live c w .answer) (liveRows (w .store) (w .image) (w .desk) ++ rs) a
 unfolding live decision threeGuards
 by-three c w {rs} {a} z q = rw z (go (framedB Store (w .store) && deskFramed (w .desk)) (isSound Store (w .store)) (notesFit (w .store) (w .image) (w .desk)))
@@ -102,15 +106,15 @@ by-three c w {rs} {a} z q = rw z (go (framedB Store (w .store) && deskFramed (w 
     go false y z = record { first = refl }
 
 -- 1 and 2 of a call on the store alone
-pub by-store : (c : Call) (s : List ℕ) {rs : List Row} {a : Answer} → Gives (leaves s (given c) (planned c s (inodesIn s) (blocksIn s)) .answer) rs a → Gives (plain c s .answer) (storeRows s ++ rs) a
+pub by-store : (c : Call) (s : List ℕ) {rs : List Row} {a : Told} → Gives (leaves s (given c) (planned c s (inodesIn s) (blocksIn s)) .answer) rs a → Gives (plain c s .answer) (storeRows s ++ rs) a
 unfolding plain plainDecision
 by-store c s q =
-    let h : Planned → Answer = λ p. leaves s (given c) p .answer in
+    let h : Planned → Told = λ p. leaves s (given c) p .answer in
     rw (on-guard s (planned c s) refused) (by-pick h (not (framedB Store s)) _ _ refl (by-pick h (not (isSound Store s)) _ _ refl q))
 
 -- no condition is left
-pub by-none : {x : ℕ} → Gives (Done x) [] (Done x)
+pub by-none : {a : Told} → Gives a [] a
 by-none = record { first = refl }
 
-pub give : (x : Answer) (rs : List Row) (a : Answer) → Gives x rs a → x ≡ firstOf rs a
+pub give : (x : Told) (rs : List Row) (a : Told) → Gives x rs a → x ≡ firstOf rs a
 give x rs a q = q .first

@@ -20,15 +20,16 @@ use Rattle.blocks.specs.Free.{namedBy, lowestBy, longBut}
 use Rattle.desk.specs.Desk.{deskOf, isCopied}
 use Rattle.sound.specs.Sound.{inodesIn}
 use Rattle.answers.specs.declared.Refusal.the-variants.{WrongState, ImageFull}
-use Rattle.answers.specs.declared.Answer.{Answer}
 use Rattle.answers.specs.declared.Answer.the-variants.{Done}
-use Rattle.answers.specs.Order.{row, firstOf}
+use Rattle.answers.specs.Told.{Told, told}
+use Rattle.answers.specs.Order.{row}
 use Rattle.checkpoint.specs.Fit.{isRunning, allFramed}
 use Rattle.checkpoint.specs.Copier.{targetBlock, stepOf, lock, copy, close, finish, full, lockedStep, freeStep, nextInode}
-use Rattle.checkpoint.specs.Live.{Outcome, left, refuse, doStep, started, start, step, status}
-use Rattle.checkpoint.proofs.DecisionLaws.{asStatus, status-is, start-is}
+use Rattle.checkpoint.specs.declared.Status.the-variants.{Is}
+use Rattle.checkpoint.specs.Live.{Outcome, refuse, doStep, started, start, step, toldStatus, status}
+use Rattle.checkpoint.proofs.DecisionLaws.{stated, status-is, start-is}
 use Rattle.checkpoint.specs.Table.{found, liveRows, startTable, stepTable}
-use Rattle.checkpoint.proofs.ConditionLaws.{Gives, by-pick, by-guards, by-none, give, by-chain}
+use Rattle.checkpoint.proofs.ConditionLaws.{firstOf, Gives, by-pick, by-guards, by-none, give, by-chain}
 
 -- 16: a block finds no place, when and only when "every image block [is] named"
 no-place : (c : ℕ) (t : Bool) (f : Found) → not (found (pick t (At c) f)) ≡ true → f ≡ Absent
@@ -59,16 +60,16 @@ full-image long m n b c = same-test (not (found (targetBlock long m n b c))) (al
 
 -- ---- start, step and state
 module _ (s m d : List ℕ) where
-  pub start-table : start s m d .answer ≡ firstOf (startTable s m d) (Done 0)
+  pub start-table : start s m d .answer ≡ firstOf (startTable s m d) (told (Done 0))
   unfolding started startTable
   start-table =
-      let h : Outcome → Answer = λ z. z .answer in
+      let h : Outcome → Told = λ z. z .answer in
       ap h (start-is s m d)
       ∙ give _ (startTable s m d) _ (by-chain (allFramed s m d) s m d _ (by-pick h (isRunning d) _ _ refl by-none))
 
   by-step : (i k : ℕ) (runs none more : Bool) (t : Found) (root : Bool) (next : Found)
       → Gives (pick runs (doStep s m d (inodesIn s) (pick none (pick root (onFound next lock finish) (lock rootInode)) (pick more (onFound t (λ c. copy i k c) full) (close i)))) (refuse WrongState s m d) .answer)
-      (row (not runs) WrongState ∷ row (not none && (more && not (found t))) ImageFull ∷ []) (Done (deskOf d .steps + 1))
+      (row (not runs) WrongState ∷ row (not none && (more && not (found t))) ImageFull ∷ []) (told (Done (deskOf d .steps + 1)))
   by-step i k false none more t root next = record { first = refl }
   by-step i k true true more t true (At j) = record { first = refl }
   by-step i k true true more t true Absent = record { first = refl }
@@ -80,10 +81,10 @@ module _ (s m d : List ℕ) where
   -- 16 by the paper's words
   by-full : (i k : ℕ) (runs none more : Bool) (t : Found) (root : Bool) (next : Found) (all : Bool) → not (found t) ≡ all
       → Gives (pick runs (doStep s m d (inodesIn s) (pick none (pick root (onFound next lock finish) (lock rootInode)) (pick more (onFound t (λ c. copy i k c) full) (close i)))) (refuse WrongState s m d) .answer)
-      (row (not runs) WrongState ∷ row (not none && (more && all)) ImageFull ∷ []) (Done (deskOf d .steps + 1))
+      (row (not runs) WrongState ∷ row (not none && (more && all)) ImageFull ∷ []) (told (Done (deskOf d .steps + 1)))
   by-full i k runs none more t root next all e = rw (← e) (by-step i k runs none more t root next)
 
-  pub step-table : step s m d .answer ≡ firstOf (stepTable s m d) (Done (deskOf d .steps + 1))
+  pub step-table : step s m d .answer ≡ firstOf (stepTable s m d) (told (Done (deskOf d .steps + 1)))
   unfolding step stepOf freeStep lockedStep stepTable
   step-table =
       let i : ℕ = deskOf d .locked in
@@ -93,5 +94,5 @@ module _ (s m d : List ℕ) where
       (by-full i k (isRunning d) (eqb i 0) (ltb k (blocksUsed (sizeOf s i))) (targetBlock (longBut m i (isLong s i)) m (inodesIn s) (deskOf d .blocks) (kthBlock s (inodesIn s) i k))
       (isCopied d (inodesIn s) rootInode) (nextInode m d (inodesIn s)) _ (full-image (longBut m i (isLong s i)) m (inodesIn s) (deskOf d .blocks) (kthBlock s (inodesIn s) i k))))
 
-  pub status-table : status s m d ≡ asStatus (firstOf (liveRows s m d) (Done 0)) d
-  status-table = status-is s m d ∙ ap (λ (a : Answer). asStatus a d) (give _ (liveRows s m d) _ (by-guards s m d (left (Done 0) s m d) by-none))
+  pub status-table : status s m d ≡ firstOf (liveRows s m d) (toldStatus (Is (deskOf d .state) (deskOf d .locked) (deskOf d .steps)))
+  status-table = status-is s m d ∙ give _ (liveRows s m d) _ (by-guards s m d (stated s m d) by-none)

@@ -13,8 +13,6 @@ use Rattle.desk.proofs.LockLaws.{locks-none}
 use Rattle.sound.specs.Sound.{inodesIn, blocksIn}
 use Rattle.sound.specs.declared.Form.the-variants.{Store}
 use Rattle.sound.specs.Test.{framedB, isSound}
-use Rattle.answers.specs.declared.Answer.{Answer}
-use Rattle.answers.specs.declared.Answer.the-variants.{Done, Refused}
 use Rattle.answers.specs.declared.Refusal.{Refusal}
 use Rattle.answers.specs.declared.Refusal.the-variants.{BadBuffer, UnsoundStore, BadDesk, Busy}
 use Rattle.answers.proofs.RefusalLaws.{not-none}
@@ -23,12 +21,10 @@ use Rattle.files.specs.declared.Guard.the-variants.{Pass, Stop}
 use Rattle.files.specs.Guard.{guardOf, onGuard, guardBy}
 use Rattle.files.specs.Effect.{Call, Effect, Planned, refused, does, onPlanned, planned, plainDecision}
 use Rattle.files.proofs.Lawful.{Apart, Each}
-use Rattle.checkpoint.specs.declared.Status.{Status}
 use Rattle.checkpoint.specs.declared.Status.the-variants.{Is, NoStatus}
 use Rattle.checkpoint.specs.Fit.{deskFramed, isRunning, notesFit, bothFramed, allFramed}
 use Rattle.checkpoint.specs.Busy.{anyLocked, unlessBusy}
-use Rattle.checkpoint.specs.Live.{World, Outcome, left, refuse, threeGuards, storeAlone, decision, leavesIn, live, guarded, status, guardRows, startGuards, started, start}
-use Rattle.checkpoint.specs.Shown.{numberOf}
+use Rattle.checkpoint.specs.Live.{World, Outcome, tells, refuse, threeGuards, storeAlone, decision, leavesIn, live, guarded, toldStatus, status, guardRows, startGuards, started, start}
 use Rattle.checkpoint.specs.List.{Ready, call, outcome, accepted}
 
 -- ---- the guards as a chain of tests; a says whether lengths and counts are those allowed
@@ -146,7 +142,7 @@ apart-locked d (i ∷ is) r e = (
 
 -- ---- accepted
 -- it is accepted, when and only when it is decided to do something
-done-is : (w : World) (q : Planned) → eqb (numberOf (leavesIn w q .answer)) 0 ≡ onPlanned q (λ x. true) (λ e. false)
+done-is : (w : World) (q : Planned) → eqb (leavesIn w q .answer .number) 0 ≡ onPlanned q (λ x. true) (λ e. false)
 done-is w (does x) = refl
 done-is w (refused e) = not-none e
 
@@ -155,14 +151,13 @@ unfolding outcome live
 accepted-is c w = done-is w (decision c w)
 
 -- ---- the state question is answered as a call that does nothing would be
-abbrev pub asStatus : Answer → List ℕ → Status
-asStatus (Done x) d = Is (deskOf d .state) (deskOf d .locked) (deskOf d .steps)
-asStatus (Refused e) d = NoStatus e
+abbrev pub stated : List ℕ → List ℕ → List ℕ → Outcome
+stated s m d = tells (toldStatus (Is (deskOf d .state) (deskOf d .locked) (deskOf d .steps))) s m d
 
-pub status-is : (s m d : List ℕ) → status s m d ≡ asStatus (guarded (threeGuards s m d) s m d (left (Done 0) s m d) .answer) d
+pub status-is : (s m d : List ℕ) → status s m d ≡ guarded (threeGuards s m d) s m d (stated s m d) .answer
 unfolding status
 status-is s m d = go (threeGuards s m d)
   where
-    go : (g : Guard) → onGuard g (λ n b. Is (deskOf d .state) (deskOf d .locked) (deskOf d .steps)) NoStatus ≡ asStatus (onGuard g (λ n b. left (Done 0) s m d) (λ e. refuse e s m d) .answer) d
+    go : (g : Guard) → onGuard g (λ n b. stated s m d .answer) (λ e. toldStatus (NoStatus e)) ≡ onGuard g (λ n b. stated s m d) (λ e. refuse e s m d) .answer
     go (Pass n b) = refl
     go (Stop e) = refl

@@ -1,4 +1,4 @@
--- The demands are met: for every accepted start on any bytes, and every list of events after it.
+-- `OfEvents` holds: for every accepted start on any bytes, and every list of events after it.
 use Prim.Native.Nat.{ℕ, _+_, _*_, _<_}
 use mathlib.Core.Path.{_≡_, refl, sym, ap, _∙_, subst}
 use mathlib.Core.Bool.{true}
@@ -15,12 +15,11 @@ use Rattle.answers.specs.Refusal.{refusalNumber}
 use Rattle.answers.specs.Told.{Told, told}
 use Rattle.directory.specs.Slot.{mostSlots}
 use Rattle.checkpoint.specs.Fit.{imageBlocks}
-use Rattle.checkpoint.specs.Live.{World}
-use Rattle.checkpoint.specs.Shown.{Shown}
+use Rattle.checkpoint.specs.Live.{World, Outcome}
 use Rattle.checkpoint.specs.List.{Event, advances, starts, outcome, next, refusalOf, accepted, run, Finish}
 use Rattle.checkpoint.specs.Finished.{countOf, Finished}
-use Rattle.checkpoint.specs.Progress.{noRestart, Roomy, Opens}
-use Rattle.checkpoint.specs.Demand.{Takes, Demand, Demands}
+use Rattle.checkpoint.specs.Progress.{Takes, noRestart, Roomy, Opens}
+use Rattle.checkpoint.proofs.OfEvents.{OfEvents}
 use Rattle.checkpoint.proofs.PlainLaws.{starts-keep, run-plain}
 use Rattle.checkpoint.proofs.Copy.ChosenLaws.{never-full}
 use Rattle.checkpoint.proofs.Run.Going.{Running}
@@ -49,7 +48,7 @@ module _ (b : ℕ) (w : World) (s : Fresher (countOf w) b w) (es : List Event) w
   later : Going n b (run es w)
   later = going-run n b es w going
 
-  whole : Finish es w → Finished es w
+  whole : Finish es w → Finished es w (run es w .image) (run es w .desk)
   whole f = honesty.finished b es w (s .runs) (last-of n b es w (s .fresh) (finale n b es w (s .runs) f))
 
   -- ---- 16
@@ -63,7 +62,7 @@ module _ (b : ℕ) (w : World) (s : Fresher (countOf w) b w) (es : List Event) w
       go (on g c a) = never (ap (λ (x : Told). x .number) a)
       go (ends f) = never (ap (λ (x : Told). x .number) (finals n b v r f .answer))
       go (halts f) = (r, f)
-  stop-there v (rests r) h = let k : refusalOf advances v ≡ 15 = ap (λ (o : Shown). o .answer .number) (step-idle n b v r) in absurd (omega arith)
+  stop-there v (rests r) h = let k : refusalOf advances v ≡ 15 = ap (λ (o : Outcome). o .answer .number) (step-idle n b v r) in absurd (omega arith)
 
   full-never : Roomy w → refusalOf advances (run es w) ≡ refusalNumber ImageFull → ⊥
   full-never m h =
@@ -94,15 +93,15 @@ module _ (b : ℕ) (w : World) (s : Fresher (countOf w) b w) (es : List Event) w
       go (on g c h) = h
       go (ends f) = finals n b v r f .answer
       go (halts f) = absurd (clash (accepted advances v) a (ap (λ (x : Told). eqb (x .number) 0) (halted n b v r f .answer)))
-  answer-is v (rests r) a = absurd (clash (accepted advances v) a (ap (λ (o : Shown). eqb (o .answer .number) 0) (step-idle n b v r)))
+  answer-is v (rests r) a = absurd (clash (accepted advances v) a (ap (λ (o : Outcome). eqb (o .answer .number) 0) (step-idle n b v r)))
 
   taking-later : (e : Event) (p : ℕ) → p < mostSlots * n → Takes e (run es w) p
   taking-later e p l =
       let c = counted later in
       taking (run es w) p b (subst (λ (i : ℕ). Going i b (run es w)) c later) (subst (λ (i : ℕ). p < mostSlots * i) c l) e
 
-  demand : Demand es w
-  demand = record {
+  of-events : OfEvents es w
+  of-events = record {
     finished = whole;
     refusals = λ e. refusals n b (run es w) e later;
     takes = λ e p l. taking-later e p l;
@@ -118,19 +117,16 @@ module _ (b : ℕ) (w : World) (s : Fresher (countOf w) b w) (es : List Event) w
   }
 
 -- ---- the opening start
-open-start : (v : World) → Opens v
+pub open-start : (v : World) → Opens v
 unfolding next
 open-start v = record {
   accepts = λ r i a. ap (λ (x : Told). eqb (x .number) 0) (start-accepts v r i a);
   store = starts-keep v;
 }
 
-lists : (v : World) → accepted starts v ≡ true → (es : List Event) → Demand es (next starts v)
+pub lists : (v : World) → accepted starts v ≡ true → (es : List Event) → OfEvents es (next starts v)
 lists v a es =
     let o = opens v a in
     let n = countOf (next starts v) in
     let b = imageBlocks n (length (v .image)) in
-    demand b (next starts v) (opened-runs n b v o (ap countOf (o .is)) refl) es
-
-pub demands : Demands
-demands = record { opens = open-start; lists = lists }
+    of-events b (next starts v) (opened-runs n b v o (ap countOf (o .is)) refl) es

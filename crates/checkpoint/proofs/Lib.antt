@@ -1,6 +1,7 @@
 pub mod ConditionLaws
 pub mod DecisionLaws
 pub mod PlainAnswers
+pub mod OfEvents
 pub mod PlainLaws
 pub mod RefusedLaws
 pub mod RowLaws

@@ -22,7 +22,7 @@ use Rattle.sound.specs.Test.{framedB, isSound}
 use Rattle.answers.specs.declared.Refusal.the-variants.{BadBuffer, UnsoundStore, BadDesk, NoBlocks, NoSlot, Busy}
 use Rattle.answers.specs.Refusal.{refusalNumber}
 use Rattle.answers.specs.Order.{order, rankIn, rank}
-use Rattle.answers.specs.declared.Answer.{Answer}
+use Rattle.answers.specs.Told.{Told}
 use Rattle.content.specs.declared.NumberPlan.{NumberPlan}
 use Rattle.content.specs.Plan.{readPlan, writePlan, shortenPlan}
 use Rattle.entries.specs.declared.Kind.{Kind}
@@ -41,7 +41,6 @@ use Rattle.entries.specs.Plan.{holdsNone, isBelow, lookUpPlan, createPlan, link
 use Rattle.files.specs.Effect.{Call, lookUp, read, create, write, shorten, link, unlink, rename, Planned, refused, does, onPlanned, doLookUp, doRead, doCreate, doWrite, doShorten, doLink, doUnlink, doRename, planned, plainDecision, given}
 use Rattle.files.specs.Plain.{leaves, plain, PlainOutcome}
 use Rattle.files.proofs.PlainLaws.{on-guard}
-use Rattle.checkpoint.specs.Shown.{numberOf}
 
 -- ---- by cases
 by-room : (P : RoomPlan → Type 0) (s : List ℕ) (n b d : ℕ) → ((r : Room) → P (Has r)) → P (NoRoom NoBlocks) → P (NoRoom NoSlot) → P (roomIn s n b d)
@@ -148,11 +147,11 @@ ordinary-planned (rename d name e other) s n b = rename-ordinary s n b d name e 
 
 -- ---- the plain store's answers
 -- no answer of a desk or a copy
-pub record Deskless (a : Answer) : Type 0 where
-  pub third : numberOf a ≡ 3 → ⊥
-  pub fourteenth : numberOf a ≡ 14 → ⊥
-  pub fifteenth : numberOf a ≡ 15 → ⊥
-  pub sixteenth : numberOf a ≡ 16 → ⊥
+pub record Deskless (a : Told) : Type 0 where
+  pub third : a .number ≡ 3 → ⊥
+  pub fourteenth : a .number ≡ 14 → ⊥
+  pub fifteenth : a .number ≡ 15 → ⊥
+  pub sixteenth : a .number ≡ 16 → ⊥
 
 -- the plain store is framed and sound
 pub record StoreFits (s : List ℕ) : Type 0 where
@@ -162,10 +161,10 @@ pub record StoreFits (s : List ℕ) : Type 0 where
 -- what a plain call answers
 pub record Plainly (s : List ℕ) (o : PlainOutcome) : Type 0 where
   pub never : Deskless (o .answer)
-  pub first : StoreFits s → numberOf (o .answer) ≡ 1 → ⊥
-  pub second : StoreFits s → numberOf (o .answer) ≡ 2 → ⊥
+  pub first : StoreFits s → o .answer .number ≡ 1 → ⊥
+  pub second : StoreFits s → o .answer .number ≡ 2 → ⊥
 
-low : (a : Answer) → numberOf a ≤ 2 → Deskless a
+low : (a : Told) → a .number ≤ 2 → Deskless a
 low a h = record { third = λ e. omega arith; fourteenth = λ e. omega arith; fifteenth = λ e. omega arith; sixteenth = λ e. omega arith }
 
 planned-plainly : (s out : List ℕ) (p : Planned) → Ordinary p → Plainly s (leaves s out p)

@@ -11,7 +11,7 @@ use Rattle.sound.specs.Sound.{inodesIn}
 use Rattle.answers.specs.declared.Refusal.{Refusal}
 use Rattle.answers.specs.declared.Refusal.the-variants.{Busy}
 use Rattle.answers.specs.Refusal.{refusalNumber}
-use Rattle.answers.specs.declared.Answer.{Answer}
+use Rattle.answers.specs.Told.{Told}
 use Rattle.files.specs.Effect.{Call, Planned, refused, does, onPlanned, plainDecision, given}
 use Rattle.files.specs.Plain.{leaves, plain}
 use Rattle.files.specs.declared.Guard.{Guard}
@@ -19,9 +19,8 @@ use Rattle.files.specs.declared.Guard.the-variants.{Pass, Stop}
 use Rattle.checkpoint.specs.Fit.{isRunning}
 use Rattle.checkpoint.specs.Copier.{Step, lock, copy, close, finish, full, stepOf}
 use Rattle.checkpoint.specs.Live.{World, Outcome, refuse, leavesIn, live, outOf, guarded, doStep, started, start, step, threeGuards, startGuards}
-use Rattle.checkpoint.specs.Shown.{numberOf}
-use Rattle.checkpoint.specs.List.{Event, Ready, call, advances, asks, starts, outcome, next, run, Moment, here, after, isBusy, replies, heard, plainRun, plainReplies}
-use Rattle.checkpoint.specs.Demand.{AsPlain}
+use Rattle.checkpoint.specs.List.{Event, Ready, call, advances, asks, starts, outcome, next, run, Moment, here, after, plainRun, plainReplies}
+use Rattle.checkpoint.proofs.OfEvents.{isBusy, replies, heard, AsPlain}
 use Rattle.checkpoint.proofs.DecisionLaws.{OfGuards, lengths, soundness, notes, same, busy, unfit, beside}
 use Rattle.checkpoint.proofs.PlainAnswers.{StoreFits, plainly, plain-never}
 
@@ -35,7 +34,7 @@ record Alike (c : Call) (w : World) : Type 0 where
 data Between (c : Call) (w : World) : Type 0 where
   agree : Alike c w → Between c w
   locked : isRunning (w .desk) ≡ true → live c w ≡ refuse Busy (w .store) (w .image) (w .desk) → Between c w
-  stopped : {f : Refusal} → OfGuards f → numberOf (live c w .answer) ≡ refusalNumber f → (Ready w → ⊥) → Between c w
+  stopped : {f : Refusal} → OfGuards f → live c w .answer .number ≡ refusalNumber f → (Ready w → ⊥) → Between c w
 
 -- what is shown of one decision
 same-answer : (w : World) (out : List ℕ) (p : Planned) → leavesIn w p .answer ≡ leaves (w .store) out p .answer
@@ -59,18 +58,18 @@ between c w = elim (beside c w) [
     out = ap (λ p. onPlanned p (λ x. x .out) (λ e. given c)) e ∙ same-out (w .store) (given c) (plainDecision c (w .store));
   }
   | busy r e ↦ locked r (ap (leavesIn w) e)
-  | unfit g n e ↦ stopped g (ap (λ p. numberOf (leavesIn w p .answer)) e) n
+  | unfit g n e ↦ stopped g (ap (λ p. leavesIn w p .answer .number) e) n
 ]
 
 -- ---- the laws of one call
 -- no guard of the buffers refused, and the copy was not in the way
-pub record Passed (a : Answer) : Type 0 where
-  pub first : numberOf a ≡ 1 → ⊥
-  pub second : numberOf a ≡ 2 → ⊥
-  pub third : numberOf a ≡ 3 → ⊥
-  pub fourteenth : numberOf a ≡ 14 → ⊥
+pub record Passed (a : Told) : Type 0 where
+  pub first : a .number ≡ 1 → ⊥
+  pub second : a .number ≡ 2 → ⊥
+  pub third : a .number ≡ 3 → ⊥
+  pub fourteenth : a .number ≡ 14 → ⊥
 
-not-guards : (a : Answer) {f : Refusal} → Passed a → OfGuards f → numberOf a ≡ refusalNumber f → ⊥
+not-guards : (a : Told) {f : Refusal} → Passed a → OfGuards f → a .number ≡ refusalNumber f → ⊥
 not-guards a h lengths e = h .first e
 not-guards a h soundness e = h .second e
 not-guards a h notes e = h .third e
@@ -80,8 +79,8 @@ not-busy lengths e = omega arith
 not-busy soundness e = omega arith
 not-busy notes e = omega arith
 
-busy-number : (w : World) (o : Outcome) → o ≡ refuse Busy (w .store) (w .image) (w .desk) → numberOf (o .answer) ≡ 14
-busy-number w o e = ap (λ (x : Outcome). numberOf (x .answer)) e
+busy-number : (w : World) (o : Outcome) → o ≡ refuse Busy (w .store) (w .image) (w .desk) → o .answer .number ≡ 14
+busy-number w o e = ap (λ (x : Outcome). x .answer .number) e
 
 -- a live call that passed is the plain store's
 pub as-plain : (c : Call) (w : World) → Passed (live c w .answer)
@@ -97,11 +96,11 @@ pub record Agrees (c : Call) (w : World) : Type 0 where
   pub answer : live c w .answer ≡ plain c (w .store) .answer
   pub store : live c w .store ≡ plain c (w .store) .store
   pub out : outOf c w ≡ plain c (w .store) .out
-  pub first : numberOf (live c w .answer) ≡ 1 → ⊥
-  pub second : numberOf (live c w .answer) ≡ 2 → ⊥
-  pub third : numberOf (live c w .answer) ≡ 3 → ⊥
+  pub first : live c w .answer .number ≡ 1 → ⊥
+  pub second : live c w .answer .number ≡ 2 → ⊥
+  pub third : live c w .answer .number ≡ 3 → ⊥
 
-pub guards-pass : (c : Call) (w : World) → Ready w → (numberOf (live c w .answer) ≡ 14 → ⊥) → Agrees c w
+pub guards-pass : (c : Call) (w : World) → Ready w → (live c w .answer .number ≡ 14 → ⊥) → Agrees c w
 guards-pass c w f h =
     let g : StoreFits (w .store) = record { framed = f .framed; sound = f .sound } in
     let q = plainly c (w .store) in
@@ -110,9 +109,9 @@ guards-pass c w f h =
         answer = x .answer;
         store = x .store;
         out = x .out;
-        first = λ e. q .first g (ap numberOf (sym (x .answer)) ∙ e);
-        second = λ e. q .second g (ap numberOf (sym (x .answer)) ∙ e);
-        third = λ e. q .never .third (ap numberOf (sym (x .answer)) ∙ e);
+        first = λ e. q .first g (ap (λ (t : Told). t .number) (sym (x .answer)) ∙ e);
+        second = λ e. q .second g (ap (λ (t : Told). t .number) (sym (x .answer)) ∙ e);
+        third = λ e. q .never .third (ap (λ (t : Told). t .number) (sym (x .answer)) ∙ e);
       }
       | locked r e ↦ absurd (h (busy-number w (live c w) e))
       | stopped g e n ↦ absurd (n f)
@@ -124,9 +123,9 @@ pub record Keeps (c : Call) (w : World) : Type 0 where
   pub image : live c w .image ≡ w .image
   pub desk : live c w .desk ≡ w .desk
 
-pub busy-keeps : (c : Call) (w : World) → numberOf (live c w .answer) ≡ 14 → Keeps c w
+pub busy-keeps : (c : Call) (w : World) → live c w .answer .number ≡ 14 → Keeps c w
 busy-keeps c w h = elim (between c w) [
-  | agree x ↦ absurd (plain-never c (w .store) .fourteenth (ap numberOf (sym (x .answer)) ∙ h))
+  | agree x ↦ absurd (plain-never c (w .store) .fourteenth (ap (λ (t : Told). t .number) (sym (x .answer)) ∙ h))
   | locked r e ↦ record { store = ap (λ (o : Outcome). o .store) e; image = ap (λ (o : Outcome). o .image) e; desk = ap (λ (o : Outcome). o .desk) e }
   | stopped g e n ↦ absurd (not-busy g (sym e ∙ h))
 ]
@@ -175,14 +174,14 @@ from-same es w s h e = (h .store ∙ ap (plainRun (heard es w)) e, h .answers �
 busy-first : (c : Call) (es : List Event) (w : World) → isBusy c w ≡ true → AsPlain es (next (call c) w) → AsPlain (call c ∷ es) w
 unfolding run heard replies next outcome
 busy-first c es w b h =
-    let k : next (call c) w .store ≡ w .store = busy-keeps c w (eqb-true (numberOf (live c w .answer)) 14 b) .store in
+    let k : next (call c) w .store ≡ w .store = busy-keeps c w (eqb-true (live c w .answer .number) 14 b) .store in
     let r = from-same es (next (call c) w) (w .store) h k in
     record { store = rw b (r .0); answers = rw b (r .1) }
 
 heard-first : (c : Call) (es : List Event) (w : World) → isBusy c w ≡ false → Ready w → AsPlain es (next (call c) w) → AsPlain (call c ∷ es) w
 unfolding run heard replies next outcome plainRun plainReplies
 heard-first c es w b f h =
-    let g = guards-pass c w f (λ e. clash (isBusy c w) (eq-eqb (numberOf (live c w .answer)) 14 e) b) in
+    let g = guards-pass c w f (λ e. clash (isBusy c w) (eq-eqb (live c w .answer .number) 14 e) b) in
     let r = from-same es (next (call c) w) (plain c (w .store) .store) h (g .store) in
     record {
       store = rw b (r .0);

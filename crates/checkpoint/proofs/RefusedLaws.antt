@@ -1,8 +1,9 @@
--- A refusal "changes no lent buffer, save that 16 marks the copy stopped and unlocks what was being copied". s is the store, m the image, d the desk.
-use mathlib.Core.Path.{_≡_, refl, sym, ap, _∙_, subst}
-use mathlib.Core.Bool.{Bool, false, not, true≢false}
+-- A refusal "changes no lent buffer, save that 16 marks the copy stopped and unlocks what was being copied".
+use mathlib.Core.Path.{_≡_, refl, sym, ap, subst}
+use mathlib.Core.Bool.{Bool, false, not}
 use mathlib.Core.List.{List}
-use mathlib.Core.Logic.{_⊎_, inl, inr, ⊎-elim}
+use native.Mathlib.Omega.{arith}
+use borrow.Author.Tests.{eqb-false}
 use Prim.Native.Nat.{ℕ}
 use lib.Dec.{eqb}
 use Rattle.bounded.proofs.SearchLaws.{by-pick}
@@ -13,97 +14,80 @@ use Rattle.sound.specs.declared.Form.the-variants.{Store}
 use Rattle.sound.specs.Test.{isSound}
 use Rattle.answers.specs.declared.Refusal.{Refusal}
 use Rattle.answers.specs.declared.Refusal.the-variants.{BadBuffer, UnsoundStore, BadDesk, WrongState, ImageFull, BadCount}
-use Rattle.answers.specs.declared.Answer.{Answer}
-use Rattle.answers.specs.declared.Answer.the-variants.{Done, Refused}
+use Rattle.answers.specs.declared.Answer.the-variants.{Done}
+use Rattle.answers.specs.Told.{Told}
 use Rattle.answers.specs.Refusal.{refusalNumber}
 use Rattle.files.specs.Effect.{Call, Planned, refused, does}
-use Rattle.files.proofs.PlainLaws.{never}
 use Rattle.checkpoint.specs.Fit.{isRunning, notesFit, bothFramed, allFramed}
 use Rattle.checkpoint.specs.Copier.{stepOf, Step, lock, copy, close, finish, full}
-use Rattle.checkpoint.specs.Live.{World, Outcome, left, refuse, decision, leavesIn, live, doStep, started, start, step}
-use Rattle.checkpoint.specs.Shown.{world}
+use Rattle.checkpoint.specs.Live.{World, world, Outcome, left, worldIn, refuse, decision, leavesIn, live, doStep, started, start, step}
 use Rattle.checkpoint.specs.Burst.{burst}
 use Rattle.checkpoint.proofs.DecisionLaws.{chained, three-is, start-is}
 use Rattle.checkpoint.proofs.BurstTables.{Ends, lengths, number, first, counts, ends}
 
-abbrev pub Keeps : List ℕ → List ℕ → List ℕ → Outcome → Type 0
-Keeps s m d o = (e : Refusal) → o .answer ≡ Refused e → o ≡ refuse e s m d
+-- a refused call leaves the buffers as they were
+abbrev pub Keeps : World → Outcome → Type 0
+Keeps w o = (o .answer .number ≡ 0 → ⊥) → worldIn o ≡ w
 
-module _ (s m d : List ℕ) where
+-- 16 "sets state 3 and fields 6-9 to zero and changes nothing more"
+pub record KeepsBut16 (w : World) (o : Outcome) : Type 0 where
+  pub keeps : (o .answer .number ≡ 0 → ⊥) → (o .answer .number ≡ refusalNumber ImageFull → ⊥) → worldIn o ≡ w
+  pub stops : o .answer .number ≡ refusalNumber ImageFull → worldIn o ≡ world (w .store) (w .image) (putDesk (w .desk) (stopping (deskOf (w .desk))))
+
+module _ (w : World) where
   chained-has : (P : Outcome → Type 0) (a : Bool) (o : Outcome)
-      → P (refuse BadBuffer s m d)
-      → P (refuse UnsoundStore s m d)
-      → P (refuse BadDesk s m d)
+      → P (refuse BadBuffer (w .store) (w .image) (w .desk))
+      → P (refuse UnsoundStore (w .store) (w .image) (w .desk))
+      → P (refuse BadDesk (w .store) (w .image) (w .desk))
       → P o
-      → P (chained a s m d o)
+      → P (chained a (w .store) (w .image) (w .desk) o)
   chained-has P a o f g h k =
       by-pick P (not a) f
-      (by-pick P (not (isSound Store s)) g
-      (by-pick P (not (notesFit s m d)) h k))
+      (by-pick P (not (isSound Store (w .store))) g
+      (by-pick P (not (notesFit (w .store) (w .image) (w .desk))) h k))
 
-  keeps-refused : (f : Refusal) → Keeps s m d (refuse f s m d)
-  keeps-refused f e h = ap (λ (a : Answer). left a s m d) h
-
-  keeps-done : (x : ℕ) (t n k : List ℕ) → Keeps s m d (left (Done x) t n k)
-  keeps-done x t n k e h = never x e h
-
-  pub start-refused : Keeps s m d (start s m d)
+  pub start-refused : Keeps w (start (w .store) (w .image) (w .desk))
   unfolding started
   start-refused =
-      subst (Keeps s m d) (sym (start-is s m d))
-      (chained-has (Keeps s m d) (allFramed s m d) _ (keeps-refused BadBuffer) (keeps-refused UnsoundStore) (keeps-refused BadDesk)
-      (by-pick (Keeps s m d) (isRunning d) (keeps-refused WrongState) (keeps-done 0 _ _ _)))
+      subst (Keeps w) (sym (start-is (w .store) (w .image) (w .desk)))
+      (chained-has (Keeps w) (allFramed (w .store) (w .image) (w .desk)) _ (λ n. refl) (λ n. refl) (λ n. refl)
+      (by-pick (Keeps w) (isRunning (w .desk)) (λ n. refl) (λ n. absurd (n refl))))
 
-  -- 16 "sets state 3 and fields 6-9 to zero and changes nothing more"
-  abbrev KeepsBut16 : Outcome → Type 0
-  KeepsBut16 o =
-      (e : Refusal)
-      → o .answer ≡ Refused e
-      → ((e ≡ ImageFull → ⊥) × (o ≡ refuse e s m d)) ⊎ ((e ≡ ImageFull) × (o ≡ left (Refused e) s m (putDesk d (stopping (deskOf d)))))
+  not-16 : (f : Refusal) → eqb (refusalNumber f) (refusalNumber ImageFull) ≡ false → KeepsBut16 w (refuse f (w .store) (w .image) (w .desk))
+  not-16 f e = record { keeps = λ n g. refl; stops = λ h. absurd (eqb-false (refusalNumber f) (refusalNumber ImageFull) e h) }
 
-  not-16 : (f : Refusal) → eqb (refusalNumber f) 16 ≡ false → KeepsBut16 (refuse f s m d)
-  not-16 f n e h =
-      let z : f ≡ e = cc in
-      inl (λ w. true≢false (sym (ap (λ (r : Refusal). eqb (refusalNumber r) 16) (z ∙ w)) ∙ n), keeps-refused f e h)
+  done : (x : ℕ) (s m d : List ℕ) → KeepsBut16 w (left (Done x) s m d)
+  done x s m d = record { keeps = λ n g. absurd (n refl); stops = λ h. absurd (omega arith) }
 
-  keeps-step : (p : Step) → KeepsBut16 (doStep s m d (inodesIn s) p)
-  keeps-step (lock i) e h = never _ e h
-  keeps-step (copy i k c) e h = never _ e h
-  keeps-step (close i) e h = never _ e h
-  keeps-step finish e h = never _ e h
-  keeps-step full e h = let z : e ≡ ImageFull = cc in inr (z, ap (λ (a : Answer). left a s m (putDesk d (stopping (deskOf d)))) h)
+  step-does : (p : Step) → KeepsBut16 w (doStep (w .store) (w .image) (w .desk) (inodesIn (w .store)) p)
+  step-does (lock i) = done _ _ _ _
+  step-does (copy i k c) = done _ _ _ _
+  step-does (close i) = done _ _ _ _
+  step-does finish = done _ _ _ _
+  step-does full = record { keeps = λ n g. absurd (g refl); stops = λ h. refl }
 
-  step-keeps : KeepsBut16 (step s m d)
+  pub step-refused : KeepsBut16 w (step (w .store) (w .image) (w .desk))
   unfolding step
-  step-keeps =
-      subst KeepsBut16 (sym (three-is s m d _))
-      (chained-has KeepsBut16 (bothFramed s d) _ (not-16 BadBuffer refl) (not-16 UnsoundStore refl) (not-16 BadDesk refl)
-      (by-pick KeepsBut16 (isRunning d) (keeps-step (stepOf s m d (inodesIn s))) (not-16 WrongState refl)))
-
-  pub step-refused : (e : Refusal) → (e ≡ ImageFull → ⊥) → step s m d .answer ≡ Refused e → step s m d ≡ refuse e s m d
-  step-refused e n h = ⊎-elim (λ w. w .1) (λ w. absurd (n (w .0))) (step-keeps e h)
-
-  pub step-full : step s m d .answer ≡ Refused ImageFull → step s m d ≡ left (Refused ImageFull) s m (putDesk d (stopping (deskOf d)))
-  step-full h = ⊎-elim (λ w. absurd (w .0 refl)) (λ w. w .1) (step-keeps ImageFull h)
+  step-refused =
+      subst (KeepsBut16 w) (sym (three-is (w .store) (w .image) (w .desk) _))
+      (chained-has (KeepsBut16 w) (bothFramed (w .store) (w .desk)) _ (not-16 BadBuffer refl) (not-16 UnsoundStore refl) (not-16 BadDesk refl)
+      (by-pick (KeepsBut16 w) (isRunning (w .desk)) (step-does (stepOf (w .store) (w .image) (w .desk) (inodesIn (w .store)))) (not-16 WrongState refl)))
 
   -- a burst gets 1, 17, or the refusal of its first step
-  burst-keeps : (k : ℕ) → KeepsBut16 (burst k (world s m d))
-  burst-keeps k = go (ends k (world s m d))
+  pub burst-refused : (k : ℕ) → KeepsBut16 w (burst k w)
+  burst-refused k = go (ends k w)
     where
-      go : Ends k (world s m d) → KeepsBut16 (burst k (world s m d))
-      go (lengths f o t) = subst KeepsBut16 (sym o) (not-16 BadBuffer refl)
-      go (number f a o t) = subst KeepsBut16 (sym o) (not-16 BadCount refl)
-      go (first f a r o t) = subst KeepsBut16 (sym o) step-keeps
-      go (counts f a r o) = λ e h. never _ e (sym o ∙ h)
+      go : Ends k w → KeepsBut16 w (burst k w)
+      go (lengths f o t) = subst (KeepsBut16 w) (sym o) (not-16 BadBuffer refl)
+      go (number f a o t) = subst (KeepsBut16 w) (sym o) (not-16 BadCount refl)
+      go (first f a r o t) = subst (KeepsBut16 w) (sym o) step-refused
+      go (counts f a r o) = record { keeps = λ n g. absurd (n (ap (λ (t : Told). t .number) o)); stops = λ h. absurd (omega (arith, ap (λ (t : Told). t .number) o)) }
 
-  pub burst-refused : (k : ℕ) (e : Refusal) → (e ≡ ImageFull → ⊥) → burst k (world s m d) .answer ≡ Refused e → burst k (world s m d) ≡ refuse e s m d
-  burst-refused k e n h = ⊎-elim (λ w. w .1) (λ w. absurd (n (w .0))) (burst-keeps k e h)
+  -- a file call
+  leaves-keeps : (p : Planned) → Keeps w (leavesIn w p)
+  leaves-keeps (does x) n = absurd (n refl)
+  leaves-keeps (refused f) n = refl
 
--- a file call
-leaves-keeps : (w : World) (p : Planned) → Keeps (w .store) (w .image) (w .desk) (leavesIn w p)
-leaves-keeps w (does x) = keeps-done (w .store) (w .image) (w .desk) (x .answer) _ _ _
-leaves-keeps w (refused f) = keeps-refused (w .store) (w .image) (w .desk) f
-
-pub live-refused : (c : Call) (w : World) → Keeps (w .store) (w .image) (w .desk) (live c w)
-unfolding live
-live-refused c w = leaves-keeps w (decision c w)
+  pub live-refused : (c : Call) → Keeps w (live c w)
+  unfolding live
+  live-refused c = leaves-keeps (decision c w)

@@ -19,7 +19,7 @@ use Rattle.checkpoint.proofs.Run.Finales.{finale}
 use Rattle.checkpoint.proofs.Run.Lasts.{last-of}
 use Rattle.checkpoint.proofs.Run.Unwritten.{moment-file, kept-untouched}
 use Rattle.checkpoint.proofs.Run.Still.{store-copied}
-use Rattle.checkpoint.proofs.Demands.{demands}
+use Rattle.checkpoint.proofs.Demands.{lists}
 
 -- the image's blocks, by its length
 abbrev blocks : World → ℕ
@@ -56,7 +56,7 @@ pub unwritten-files : UnwrittenFiles
 unwritten-files v a es f p i kept e file u =
     let w = next starts v in
     subst (λ (j : ℕ). kindOf (w .store) j ≡ fileKind → Unwritten es w j → FileCopied (w .store) (run es w .image) (countOf w) p j) e
-    (file-copied (blocks v) es w (begins v a) p kept (demands .lists v a es .finished f .entries p kept)) file u
+    (file-copied (blocks v) es w (begins v a) p kept (lists v a es .finished f .entries p kept)) file u
 
 -- ---- a store that no call changed
 pub still-stores : StillStores

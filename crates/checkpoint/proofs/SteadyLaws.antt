@@ -36,8 +36,7 @@ use Rattle.preservation.proofs.StoreLaws.{sound-store, blocks-of}
 use Rattle.answers.specs.declared.Refusal.the-variants.{BadDesk}
 use Rattle.checkpoint.specs.Fit.{deskFramed, isRunning, mostSteps, blocksFit, imageLong, lacksAddresses, imageFits, notesFit}
 use Rattle.checkpoint.specs.Copier.{lock, copy, close, targetBlock, copiedBlock, stepOf, stepImage, stepDesk}
-use Rattle.checkpoint.specs.Live.{World, refuse, doStep, step}
-use Rattle.checkpoint.specs.Shown.{world}
+use Rattle.checkpoint.specs.Live.{World, refuse, doStep, step, world}
 use Rattle.checkpoint.specs.List.{Ready}
 use Rattle.checkpoint.specs.Burst.{Steady}
 use Rattle.checkpoint.proofs.DecisionLaws.{three-is}

@@ -17,9 +17,9 @@ use Rattle.names.specs.Name.{legalName}
 use Rattle.directory.specs.Slot.{findSlot}
 use Rattle.sound.specs.Sound.{inodesIn, blocksIn}
 use Rattle.answers.specs.declared.Refusal.the-variants.{NameTaken, IntoItself, NoBlocks, NoSlot, Busy}
-use Rattle.answers.specs.declared.Answer.{Answer}
 use Rattle.answers.specs.declared.Answer.the-variants.{Done}
-use Rattle.answers.specs.Order.{Row, row, firstOf}
+use Rattle.answers.specs.Told.{Told, told}
+use Rattle.answers.specs.Order.{Row, row}
 use Rattle.content.specs.declared.NumberPlan.{NumberPlan}
 use Rattle.content.specs.declared.NumberPlan.the-variants.{To, NoNumber}
 use Rattle.content.specs.Plan.{readPlan, writePlan, shortenPlan}
@@ -38,26 +38,26 @@ use Rattle.files.specs.Effect.{lookUp, read, create, write, shorten, link, unli
 use Rattle.files.specs.Plain.{leaves, plain, PlainOutcome}
 use Rattle.checkpoint.specs.Busy.{anyLocked, unlessBusy}
 use Rattle.checkpoint.specs.Notes.{cutEntries, clearMarks, setMarks}
-use Rattle.checkpoint.specs.Live.{World, Outcome, left, decision, leavesIn, live}
+use Rattle.checkpoint.specs.Live.{World, Outcome, tells, decision, leavesIn, live}
 use Rattle.checkpoint.specs.Table.{found, orZero, noBlock, noSlot, slotFor, inodeFor, lookUpTable, readTable, createTable, writeTable, shortenTable, linkTable, unlinkTable, renameTable}
-use Rattle.checkpoint.proofs.ConditionLaws.{Gives, by-pick, by-found, by-absent, by-room, by-busy, by-three, by-store, by-none, give}
+use Rattle.checkpoint.proofs.ConditionLaws.{firstOf, Gives, by-pick, by-found, by-absent, by-room, by-busy, by-three, by-store, by-none, give}
 
 -- ---- the calls on the store alone
 module _ (s : List ℕ) where
-  pub look-up-table : (e : ℕ) (name : List ℕ) → plain (lookUp e name) s .answer ≡ firstOf (lookUpTable s e name) (Done (inodeFor s e name))
+  pub look-up-table : (e : ℕ) (name : List ℕ) → plain (lookUp e name) s .answer ≡ firstOf (lookUpTable s e name) (told (Done (inodeFor s e name)))
   unfolding lookUpPlan lookUpTable
   look-up-table e name =
-      let h : NumberPlan → Answer = λ p. leaves s [] (doLookUp s p) .answer in
+      let h : NumberPlan → Told = λ p. leaves s [] (doLookUp s p) .answer in
       give _ (lookUpTable s e name) _
       (by-store (lookUp e name) s
       (by-pick h (not (legalName name)) _ _ refl
       (by-pick h (not (isDirectory s (inodesIn s) e)) _ _ refl
       (by-absent h (findSlot s (inodesIn s) e name) _ _ refl by-none))))
 
-  pub read-table : (i o : ℕ) (out : List ℕ) → plain (read i o out) s .answer ≡ firstOf (readTable s i o) (Done (min (length out) (sizeOf s i - o)))
+  pub read-table : (i o : ℕ) (out : List ℕ) → plain (read i o out) s .answer ≡ firstOf (readTable s i o) (told (Done (min (length out) (sizeOf s i - o))))
   unfolding readPlan readTable
   read-table i o out =
-      let h : NumberPlan → Answer = λ p. leaves s out (doRead s (inodesIn s) i o out p) .answer in
+      let h : NumberPlan → Told = λ p. leaves s out (doRead s (inodesIn s) i o out p) .answer in
       give _ (readTable s i o) _
       (by-store (read i o out) s
       (by-pick h (not (isFile s (inodesIn s) i)) _ _ refl
@@ -66,7 +66,7 @@ module _ (s : List ℕ) where
 -- "Look up and read take the store alone": their answer and store are the plain store's, and image and desk stay
 module _ (w : World) where
   abbrev alone : PlainOutcome → Outcome
-  alone o = left (o .answer) (o .store) (w .image) (w .desk)
+  alone o = tells (o .answer) (o .store) (w .image) (w .desk)
 
   pub look-up-alone : (e : ℕ) (name : List ℕ) → live (lookUp e name) w ≡ alone (plain (lookUp e name) (w .store))
   unfolding live decision plain plainDecision locksAny cutEntries clearMarks setMarks
@@ -93,7 +93,7 @@ module _ (w : World) where
       go (Stop f) = refl
 
 -- rename of the entry in slot t of e, which names i, to another in f: 7, 10, 12, 13, 14
-abbrev renameAnswer : World → ℕ → ℕ → List ℕ → RenamePlan → Answer
+abbrev renameAnswer : World → ℕ → ℕ → List ℕ → RenamePlan → Told
 renameAnswer w e f other p = leavesIn w (unlessBusy (w .desk) (doRename (w .store) (inodesIn (w .store)) e f other p)) .answer
 
 module _ (w : World) (e f : ℕ) (other : List ℕ) (t i : ℕ) where
@@ -106,11 +106,11 @@ module _ (w : World) (e f : ℕ) (other : List ℕ) (t i : ℕ) where
       ∷ row (anyLocked (w .desk) (pick (not same) (e ∷ f ∷ i ∷ []) (e ∷ []))) Busy
       ∷ []
 
-  by-rename : Gives (renameAnswer w e f other (renameTo (w .store) (inodesIn (w .store)) (blocksIn (w .store)) e t i f other)) (renameRows (eqb e f) (findSlot (w .store) (inodesIn (w .store)) f other)) (Done 0)
+  by-rename : Gives (renameAnswer w e f other (renameTo (w .store) (inodesIn (w .store)) (blocksIn (w .store)) e t i f other)) (renameRows (eqb e f) (findSlot (w .store) (inodesIn (w .store)) f other)) (told (Done 0))
   unfolding renameTo
   by-rename = go (eqb e f) (findSlot (w .store) (inodesIn (w .store)) f other)
     where
-      at : (b : Bool) → Gives (renameAnswer w e f other (pick b (Rename t i) (NoRename NameTaken))) (row (not b) NameTaken ∷ row (anyLocked (w .desk) (e ∷ [])) Busy ∷ []) (Done 0)
+      at : (b : Bool) → Gives (renameAnswer w e f other (pick b (Rename t i) (NoRename NameTaken))) (row (not b) NameTaken ∷ row (anyLocked (w .desk) (e ∷ [])) Busy ∷ []) (told (Done 0))
       at true = record { first = by-busy (anyLocked (w .desk) (e ∷ [])) w _ .first }
       at false = record { first = refl }
 
@@ -119,23 +119,23 @@ module _ (w : World) (e f : ℕ) (other : List ℕ) (t i : ℕ) where
           (onFound u (λ j. pick (eqb j t) (Rename t i) (NoRename NameTaken)) (Rename t i))
           (onFound u (λ j. NoRename NameTaken)
           (pick (isBelow (w .store) (inodesIn (w .store)) i f) (NoRename IntoItself) (onRoom (roomIn (w .store) (inodesIn (w .store)) (blocksIn (w .store)) f) (λ r. Move t i r) NoRename)))))
-          (renameRows same u) (Done 0)
+          (renameRows same u) (told (Done 0))
       go true (At u) = record { first = at (eqb u t) .first }
       go true Absent = record { first = by-busy (anyLocked (w .desk) (e ∷ [])) w _ .first }
       go false (At u) = record { first = refl }
       go false Absent =
           record {
             first =
-                by-pick (renameAnswer w e f other) (isBelow (w .store) (inodesIn (w .store)) i f) _ _ refl
+                by-pick (renameAnswer w e f other) (isBelow (w .store) (inodesIn (w .store)) i f) _ _ {e = IntoItself} refl
                 (by-room (renameAnswer w e f other) (w .store) f _ _ (λ x. refl) (λ r. by-busy (anyLocked (w .desk) (e ∷ f ∷ i ∷ [])) w _)) .first;
           }
 
 -- ---- the calls on all three buffers
 module _ (w : World) where
-  pub create-table : (e : ℕ) (name : List ℕ) (k : Kind) → live (create e name k) w .answer ≡ firstOf (createTable (w .store) (w .image) (w .desk) e name) (Done (orZero (freeInode (w .store) (inodesIn (w .store)))))
+  pub create-table : (e : ℕ) (name : List ℕ) (k : Kind) → live (create e name k) w .answer ≡ firstOf (createTable (w .store) (w .image) (w .desk) e name) (told (Done (orZero (freeInode (w .store) (inodesIn (w .store))))))
   unfolding createPlan createTable
   create-table e name k =
-      let h : CreatePlan → Answer = λ p. leavesIn w (unlessBusy (w .desk) (doCreate (w .store) (inodesIn (w .store)) e name k p)) .answer in
+      let h : CreatePlan → Told = λ p. leavesIn w (unlessBusy (w .desk) (doCreate (w .store) (inodesIn (w .store)) e name k p)) .answer in
       give _ (createTable (w .store) (w .image) (w .desk) e name) _
       (by-three (create e name k) w refl
       (by-pick h (not (legalName name)) _ _ refl
@@ -144,10 +144,10 @@ module _ (w : World) where
       (by-absent h (freeInode (w .store) (inodesIn (w .store))) _ _ refl
       (by-room h (w .store) e _ _ (λ x. refl) (λ r. by-busy (anyLocked (w .desk) (e ∷ [])) w _)))))))
 
-  pub write-table : (i o : ℕ) (xs : List ℕ) → live (write i o xs) w .answer ≡ firstOf (writeTable (w .store) (w .image) (w .desk) i o xs) (Done (max (sizeOf (w .store) i) (o + length xs)))
+  pub write-table : (i o : ℕ) (xs : List ℕ) → live (write i o xs) w .answer ≡ firstOf (writeTable (w .store) (w .image) (w .desk) i o xs) (told (Done (max (sizeOf (w .store) i) (o + length xs))))
   unfolding writePlan writeTable
   write-table i o xs =
-      let h : NumberPlan → Answer = λ p. leavesIn w (unlessBusy (w .desk) (doWrite (w .store) (inodesIn (w .store)) (blocksIn (w .store)) i o xs p)) .answer in
+      let h : NumberPlan → Told = λ p. leavesIn w (unlessBusy (w .desk) (doWrite (w .store) (inodesIn (w .store)) (blocksIn (w .store)) i o xs p)) .answer in
       give _ (writeTable (w .store) (w .image) (w .desk) i o xs) _
       (by-three (write i o xs) w refl
       (by-pick h (not (isFile (w .store) (inodesIn (w .store)) i)) _ _ refl
@@ -155,20 +155,20 @@ module _ (w : World) where
       (by-pick h (ltb (headerOf (w .store) .«free_blocks») (blocksUsed (max (sizeOf (w .store) i) (o + length xs)) - blocksUsed (sizeOf (w .store) i))) _ _ refl
       (by-busy (anyLocked (w .desk) (i ∷ [])) w _)))))
 
-  pub shorten-table : (i z : ℕ) → live (shorten i z) w .answer ≡ firstOf (shortenTable (w .store) (w .image) (w .desk) i z) (Done z)
+  pub shorten-table : (i z : ℕ) → live (shorten i z) w .answer ≡ firstOf (shortenTable (w .store) (w .image) (w .desk) i z) (told (Done z))
   unfolding shortenPlan shortenTable
   shorten-table i z =
-      let h : NumberPlan → Answer = λ p. leavesIn w (unlessBusy (w .desk) (doShorten (w .store) (inodesIn (w .store)) i p)) .answer in
+      let h : NumberPlan → Told = λ p. leavesIn w (unlessBusy (w .desk) (doShorten (w .store) (inodesIn (w .store)) i p)) .answer in
       give _ (shortenTable (w .store) (w .image) (w .desk) i z) _
       (by-three (shorten i z) w refl
       (by-pick h (not (isFile (w .store) (inodesIn (w .store)) i)) _ _ refl
       (by-pick h (ltb (sizeOf (w .store) i) z) _ _ refl
       (by-busy (anyLocked (w .desk) (i ∷ [])) w _))))
 
-  pub link-table : (e : ℕ) (name : List ℕ) (i : ℕ) → live (link e name i) w .answer ≡ firstOf (linkTable (w .store) (w .image) (w .desk) e name i) (Done 0)
+  pub link-table : (e : ℕ) (name : List ℕ) (i : ℕ) → live (link e name i) w .answer ≡ firstOf (linkTable (w .store) (w .image) (w .desk) e name i) (told (Done 0))
   unfolding linkPlan linkTable
   link-table e name i =
-      let h : LinkPlan → Answer = λ p. leavesIn w (unlessBusy (w .desk) (doLink (w .store) (inodesIn (w .store)) e name i p)) .answer in
+      let h : LinkPlan → Told = λ p. leavesIn w (unlessBusy (w .desk) (doLink (w .store) (inodesIn (w .store)) e name i p)) .answer in
       give _ (linkTable (w .store) (w .image) (w .desk) e name i) _
       (by-three (link e name i) w refl
       (by-pick h (not (legalName name)) _ _ refl
@@ -176,10 +176,10 @@ module _ (w : World) where
       (by-found h (findSlot (w .store) (inodesIn (w .store)) e name) _ _ (λ t. refl)
       (by-room h (w .store) e _ _ (λ x. refl) (λ r. by-busy (anyLocked (w .desk) (e ∷ i ∷ [])) w _))))))
 
-  pub unlink-table : (e : ℕ) (name : List ℕ) → live (unlink e name) w .answer ≡ firstOf (unlinkTable (w .store) (w .image) (w .desk) e name) (Done 0)
+  pub unlink-table : (e : ℕ) (name : List ℕ) → live (unlink e name) w .answer ≡ firstOf (unlinkTable (w .store) (w .image) (w .desk) e name) (told (Done 0))
   unfolding unlinkPlan unlinkTable
   unlink-table e name =
-      let h : UnlinkPlan → Answer = λ p. leavesIn w (unlessBusy (w .desk) (doUnlink (w .store) (inodesIn (w .store)) e p)) .answer in
+      let h : UnlinkPlan → Told = λ p. leavesIn w (unlessBusy (w .desk) (doUnlink (w .store) (inodesIn (w .store)) e p)) .answer in
       let i : ℕ = inodeFor (w .store) e name in
       give _ (unlinkTable (w .store) (w .image) (w .desk) e name) _
       (by-three (unlink e name) w refl
@@ -189,10 +189,10 @@ module _ (w : World) where
       (by-pick h (eqb (kindOf (w .store) i) directoryKind && not (holdsNone (w .store) (inodesIn (w .store)) i)) _ _ refl
       (by-busy (anyLocked (w .desk) (e ∷ i ∷ [])) w _))))))
 
-  pub rename-table : (e : ℕ) (name : List ℕ) (f : ℕ) (other : List ℕ) → live (rename e name f other) w .answer ≡ firstOf (renameTable (w .store) (w .image) (w .desk) e name f other) (Done 0)
+  pub rename-table : (e : ℕ) (name : List ℕ) (f : ℕ) (other : List ℕ) → live (rename e name f other) w .answer ≡ firstOf (renameTable (w .store) (w .image) (w .desk) e name f other) (told (Done 0))
   unfolding renamePlan renameTable
   rename-table e name f other =
-      let h : RenamePlan → Answer = renameAnswer w e f other in
+      let h : RenamePlan → Told = renameAnswer w e f other in
       give _ (renameTable (w .store) (w .image) (w .desk) e name f other) _
       (by-three (rename e name f other) w refl
       (by-pick h (not (legalName name && legalName other)) _ _ refl

@@ -57,10 +57,6 @@ singles [] w = []
 singles (one e ∷ xs) w = e ∷ singles xs (next e w)
 singles (bursts k ∷ xs) w = triesOf k w ++ singles xs (run (triesOf k w) w)
 
--- ---- the bytes of an outcome
-abbrev pub worldIn : Outcome → World
-worldIn o = record { store = o .store; image = o .image; desk = o .desk }
-
 -- ---- for the code: what 1, 2 and 3 ask of the buffers of a running copy, the steps' bound apart
 pub record Steady (w : World) : Type 0 where
   pub framed : framedB Store (w .store) ≡ true

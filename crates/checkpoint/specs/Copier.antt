@@ -14,7 +14,6 @@ use Rattle.layout.specs.Header.{putHeader, putFree, putComplete}
 use Rattle.layout.specs.Inode.{kindOf, sizeOf, inodeOf, putAttributes, putLinks, directoryKind, withLinks, inodeFree}
 use Rattle.blocks.specs.Block.{blockOf, putInBlock, blocksUsed, isLong, kthBlock, putKth}
 use Rattle.blocks.specs.Free.{namedBy, lowestBy, longBut, blockFree}
-use Rattle.layout.specs.declared.inode.Inode.{Inode}
 use Rattle.names.specs.Entry.{entryBytes, entryInode}
 use Rattle.directory.specs.Slot.{mostSlots, slotsInBlock}
 use Rattle.desk.specs.Desk.{deskOf, putDesk, putCopied, markOf, clearNotes, isCopied}
@@ -80,10 +79,6 @@ copiedBlock s desk n i k =
     let x = blockOf s n (kthBlock s n i k) in
     pick (isLong s i && eqb k addressPlace) (replicate blockBytes 0) (pick (eqb (kindOf s i) directoryKind) (copiedEntries desk n i k x slotsInBlock) x)
 
--- 4: "the image attributes, which are the store's with link count 0"
-abbrev pub unlinkedInode : Inode → Inode
-unlinkedInode v = withLinks v 0
-
 -- 5: "write link counts and free counts": those of the first k inodes
 unfoldable pub putCounts : List ℕ → List ℕ → ℕ → ℕ → List ℕ
 putCounts m t n zero = t
@@ -92,10 +87,11 @@ putCounts m t n (suc k) = putLinks (putCounts m t n k) (k + 1) (tally (imageNami
 unfoldable pub finishImage : List ℕ → ℕ → ℕ → List ℕ
 finishImage m n b = putComplete (putFree (putCounts m m n n) (countTo (inodeFree m) n) (countTo (blockFree m n) b)) isComplete
 
+-- 4: "the image attributes, which are the store's with link count 0"
 abbrev pub stepImage : List ℕ → List ℕ → List ℕ → ℕ → Step → List ℕ
 stepImage s m desk n (lock i) = m
 stepImage s m desk n (copy i k c) = putKth (putInBlock m n c 0 (copiedBlock s desk n i k)) n i k c
-stepImage s m desk n (close i) = putAttributes m i (unlinkedInode (inodeOf s n i))
+stepImage s m desk n (close i) = putAttributes m i (withLinks (inodeOf s n i) 0)
 stepImage s m desk n finish = finishImage m n (deskOf desk .blocks)
 stepImage s m desk n full = m
 

@@ -88,10 +88,10 @@ pub record OneMoment (es : List Event) (w : World) (f : List ℕ) (i : ℕ) : Ty
       → Names moment p (naming f (countOf w) p) × (entryAt f (countOf w) p ≡ entryAt (moment .store) (countOf moment) p)
 
 -- ---- "A copy finished as under 3 is sound", has every kept entry, and nothing false; the desk says that it is finished. w is the world just after the opening start, es the events up to the finish
-pub record Finished (es : List Event) (w : World) : Type 0 where
-  pub count : inodesIn (run es w .image) ≡ countOf w
-  pub sound : Sound Image (run es w .image)
-  pub entries : (p : ℕ) → Kept es w p → InCopy es w (run es w .image) p
-  pub honest : (p : ℕ) → p < mostSlots * countOf w → filled (run es w .image) (countOf w) p ≡ true → Honest es w (run es w .image) p
-  pub moments : (i : ℕ) → 1 ≤ i → i ≤ countOf w → (kindOf (run es w .image) i ≡ freeKind → ⊥) → OneMoment es w (run es w .image) i
-  pub state : deskOf (run es w .desk) .state ≡ finished
+pub record Finished (es : List Event) (w : World) (f desk : List ℕ) : Type 0 where
+  pub count : inodesIn f ≡ countOf w
+  pub sound : Sound Image f
+  pub entries : (p : ℕ) → Kept es w p → InCopy es w f p
+  pub honest : (p : ℕ) → p < mostSlots * countOf w → filled f (countOf w) p ≡ true → Honest es w f p
+  pub moments : (i : ℕ) → 1 ≤ i → i ≤ countOf w → (kindOf f i ≡ freeKind → ⊥) → OneMoment es w f i
+  pub state : deskOf desk .state ≡ finished

@@ -4,11 +4,9 @@ pub mod Busy
 pub mod Notes
 pub mod Copier
 pub mod Live
-pub mod Shown
 pub mod List
 pub mod Burst
 pub mod Table
 pub mod Finished
 pub mod Progress
-pub mod Demand
 pub mod School

@@ -8,18 +8,16 @@ use Rattle.bounded.specs.Search.{pick}
 use Rattle.layout.specs.Sizes.{rootInode, isComplete}
 use Rattle.layout.specs.Header.{headerOf}
 use Rattle.desk.specs.Sizes.{running, finished, stopped}
-use Rattle.answers.specs.declared.Answer.{Answer}
-use Rattle.answers.specs.declared.Refusal.the-variants.{Busy, ImageFull}
+use Rattle.answers.specs.declared.Refusal.the-variants.{ImageFull}
 use Rattle.answers.specs.Refusal.{refusalNumber}
 use Rattle.sound.specs.Sound.{inodesIn}
 use Rattle.sound.specs.declared.Form.the-variants.{Store}
 use Rattle.sound.specs.Place.{dirOf, filled, naming}
 use Rattle.sound.specs.Test.{framedB, isSound}
 use Rattle.files.specs.Effect.{Call, Entry, placeIn, onPlanned, plainDecision}
-use Rattle.files.specs.Plain.{plain}
+use Rattle.files.specs.Plain.{Received, got, plain}
 use Rattle.checkpoint.specs.Fit.{deskFramed, notesFit}
-use Rattle.checkpoint.specs.Live.{World, live, outOf, start, step, status}
-use Rattle.checkpoint.specs.Shown.{numberOf, Shown, shown, toldStatus}
+use Rattle.checkpoint.specs.Live.{World, Outcome, tells, worldIn, live, start, step, status}
 
 -- refusals 1, 2 and 3 do not come
 pub record Ready (w : World) : Type 0 where
@@ -35,15 +33,22 @@ pub data Event : Type 0 where
   asks : Event
   starts : Event
 
--- ---- one event: what its caller is told, by the paper's numbers, and the content of each buffer
-unfoldable pub outcome : Event → World → Shown
-outcome (call c) w = shown (live c w)
-outcome advances w = shown (step (w .store) (w .image) (w .desk))
-outcome asks w = record { answer = toldStatus (status (w .store) (w .image) (w .desk)); store = w .store; image = w .image; desk = w .desk }
-outcome starts w = shown (start (w .store) (w .image) (w .desk))
+-- one value for each kind of event: file call, step, question, start
+abbrev pub onEvent : {A : Type 0} → Event → (Call → A) → A → A → A → A
+onEvent (call c) file step question start = file c
+onEvent advances file step question start = step
+onEvent asks file step question start = question
+onEvent starts file step question start = start
+
+-- ---- one event
+unfoldable pub outcome : Event → World → Outcome
+outcome (call c) w = live c w
+outcome advances w = step (w .store) (w .image) (w .desk)
+outcome asks w = tells (status (w .store) (w .image) (w .desk)) (w .store) (w .image) (w .desk)
+outcome starts w = start (w .store) (w .image) (w .desk)
 
 unfoldable pub next : Event → World → World
-next e w = record { store = outcome e w .store; image = outcome e w .image; desk = outcome e w .desk }
+next e w = worldIn (outcome e w)
 
 -- the number of its refusal, 0 for none
 abbrev pub refusalOf : Event → World → ℕ
@@ -64,17 +69,11 @@ pub data Moment : List Event → World → World → Type 0 where
 
 -- a start is accepted at e
 abbrev pub restarts : Event → World → Bool
-restarts starts w = accepted starts w
-restarts (call c) w = false
-restarts advances w = false
-restarts asks w = false
+restarts e w = onEvent e (λ c. false) false false (accepted starts w)
 
 -- "The step that sets image byte 8": it is 1 after it
 abbrev pub completes : Event → World → Bool
-completes advances w = accepted advances w && eqb (headerOf (next advances w .image) .complete) isComplete
-completes (call c) w = false
-completes asks w = false
-completes starts w = false
+completes e w = onEvent e (λ c. false) (accepted advances w && eqb (headerOf (next advances w .image) .complete) isComplete) false false
 
 -- the events up to the finish: "The step that sets image byte 8, with no start accepted since the opening one, finishes the opening start's copy"
 pub data Finish : List Event → World → Type 0 where
@@ -93,10 +92,7 @@ anyAt (x ∷ xs) p = eqb (placeIn x) p || anyAt xs p
 
 -- an accepted call takes the entry out of place p
 abbrev pub takes : Event → World → ℕ → Bool
-takes (call c) w p = accepted (call c) w && anyAt (takenFrom c (w .store)) p
-takes advances w p = false
-takes asks w p = false
-takes starts w p = false
+takes e w p = onEvent e (λ c. accepted (call c) w && anyAt (takenFrom c (w .store)) p) false false false
 
 -- no event takes it
 unfoldable pub Untouched : List Event → World → ℕ → Type 0
@@ -111,51 +107,19 @@ pub data Kept (es : List Event) (w : World) : ℕ → Type 0 where
 -- ---- "the copy's accepted steps", counted from the latest start
 unfoldable pub acceptedSteps : List Event → World → ℕ → ℕ
 acceptedSteps [] w c = c
-acceptedSteps (starts ∷ es) w c = acceptedSteps es (next starts w) (pick (accepted starts w) 0 c)
-acceptedSteps (advances ∷ es) w c = acceptedSteps es (next advances w) (pick (accepted advances w) (suc c) c)
-acceptedSteps (call x ∷ es) w c = acceptedSteps es (next (call x) w) c
-acceptedSteps (asks ∷ es) w c = acceptedSteps es (next asks w) c
+acceptedSteps (e ∷ es) w c = acceptedSteps es (next e w) (onEvent e (λ x. c) (pick (accepted advances w) (suc c) c) c (pick (accepted starts w) 0 c))
 
 -- ---- the state that the answers tell: running from an accepted start on, finished by the step that sets image byte 8, stopped by 16. c is the state before
 unfoldable pub stateAfter : List Event → World → ℕ → ℕ
 stateAfter [] w c = c
-stateAfter (starts ∷ es) w c = stateAfter es (next starts w) (pick (accepted starts w) running c)
-stateAfter (advances ∷ es) w c = stateAfter es (next advances w) (pick (completes advances w) finished (pick (eqb (refusalOf advances w) (refusalNumber ImageFull)) stopped c))
-stateAfter (call x ∷ es) w c = stateAfter es (next (call x) w) c
-stateAfter (asks ∷ es) w c = stateAfter es (next asks w) c
+stateAfter (e ∷ es) w c = stateAfter es (next e w)
+    (onEvent e (λ x. c) (pick (completes advances w) finished (pick (eqb (refusalOf advances w) (refusalNumber ImageFull)) stopped c)) c (pick (accepted starts w) running c))
 
--- ---- the plain store: "fed the list's file calls and their arguments in order, less those answered 14"
-abbrev pub isBusy : Call → World → Bool
-isBusy c w = eqb (numberOf (live c w .answer)) (refusalNumber Busy)
-
--- what a file call answers: its answer, and a read's out-buffer
-pub record Reply : Type 0 where
-  pub answer : Answer
-  pub out : List ℕ
-
--- the library's replies to the calls that it did not answer 14
-unfoldable pub replies : List Event → World → List Reply
-replies [] w = []
-replies (call c ∷ es) w =
-    pick (isBusy c w) (replies es (next (call c) w))
-    (record { answer = live c w .answer; out = outOf c w } ∷ replies es (next (call c) w))
-replies (advances ∷ es) w = replies es (next advances w)
-replies (asks ∷ es) w = replies es (next asks w)
-replies (starts ∷ es) w = replies es (next starts w)
-
--- those calls
-unfoldable pub heard : List Event → World → List Call
-heard [] w = []
-heard (call c ∷ es) w = pick (isBusy c w) (heard es (next (call c) w)) (c ∷ heard es (next (call c) w))
-heard (advances ∷ es) w = heard es (next advances w)
-heard (asks ∷ es) w = heard es (next asks w)
-heard (starts ∷ es) w = heard es (next starts w)
-
--- the plain store's bytes and replies
+-- ---- the plain store: its bytes after the calls cs, and what their callers get
 unfoldable pub plainRun : List Call → List ℕ → List ℕ
 plainRun [] s = s
 plainRun (c ∷ cs) s = plainRun cs (plain c s .store)
 
-unfoldable pub plainReplies : List Call → List ℕ → List Reply
+unfoldable pub plainReplies : List Call → List ℕ → List Received
 plainReplies [] s = []
-plainReplies (c ∷ cs) s = record { answer = plain c s .answer; out = plain c s .out } ∷ plainReplies cs (plain c s .store)
+plainReplies (c ∷ cs) s = got (plain c s .answer) (plain c s .out) ∷ plainReplies cs (plain c s .store)

@@ -10,6 +10,8 @@ use Rattle.answers.specs.declared.Refusal.{Refusal}
 use Rattle.answers.specs.declared.Refusal.the-variants.{BadDesk, WrongState, ImageFull}
 use Rattle.answers.specs.declared.Answer.{Answer}
 use Rattle.answers.specs.declared.Answer.the-variants.{Done, Refused}
+use Rattle.answers.specs.Refusal.{refusalNumber}
+use Rattle.answers.specs.Told.{Told, told}
 use Rattle.answers.specs.Order.{Row, row}
 use Rattle.files.specs.declared.Guard.{Guard}
 use Rattle.files.specs.Guard.{guardOf, onGuard, guardBy, firstRows}
@@ -27,15 +29,24 @@ pub record World : Type 0 where
   pub image : List ℕ
   pub desk : List ℕ
 
--- what a call leaves: its answer, and the content of each buffer
+abbrev pub world : List ℕ → List ℕ → List ℕ → World
+world s m desk = record { store = s; image = m; desk = desk }
+
+-- what a call leaves: the answer that its caller is told, by the paper's numbers, and the content of each buffer
 pub record Outcome : Type 0 where
-  pub answer : Answer
+  pub answer : Told
   pub store : List ℕ
   pub image : List ℕ
   pub desk : List ℕ
 
+abbrev pub tells : Told → List ℕ → List ℕ → List ℕ → Outcome
+tells t s m desk = record { answer = t; store = s; image = m; desk = desk }
+
 abbrev pub left : Answer → List ℕ → List ℕ → List ℕ → Outcome
-left a s m desk = record { answer = a; store = s; image = m; desk = desk }
+left a s m desk = tells (told a) s m desk
+
+abbrev pub worldIn : Outcome → World
+worldIn o = world (o .store) (o .image) (o .desk)
 
 -- a refusal "changes no lent buffer"
 abbrev pub refuse : Refusal → List ℕ → List ℕ → List ℕ → Outcome
@@ -99,16 +110,23 @@ unfoldable pub start : List ℕ → List ℕ → List ℕ → Outcome
 start s m desk = guarded (startGuards s m desk) s m desk (started s m desk)
 
 -- ---- step: 1, 2, 3, 15, 16; "Each accepted step adds 1."
+abbrev pub stepAnswer : ℕ → Step → Answer
+stepAnswer steps (lock i) = Done steps
+stepAnswer steps (copy i k c) = Done steps
+stepAnswer steps (close i) = Done steps
+stepAnswer steps finish = Done steps
+stepAnswer steps full = Refused ImageFull
+
 abbrev pub doStep : List ℕ → List ℕ → List ℕ → ℕ → Step → Outcome
-doStep s m desk n (lock i) = left (Done (deskOf desk .steps + 1)) s (stepImage s m desk n (lock i)) (stepDesk desk (lock i))
-doStep s m desk n (copy i k c) = left (Done (deskOf desk .steps + 1)) s (stepImage s m desk n (copy i k c)) (stepDesk desk (copy i k c))
-doStep s m desk n (close i) = left (Done (deskOf desk .steps + 1)) s (stepImage s m desk n (close i)) (stepDesk desk (close i))
-doStep s m desk n finish = left (Done (deskOf desk .steps + 1)) s (stepImage s m desk n finish) (stepDesk desk finish)
-doStep s m desk n full = left (Refused ImageFull) s (stepImage s m desk n full) (stepDesk desk full)
+doStep s m desk n x = left (stepAnswer (deskOf desk .steps + 1) x) s (stepImage s m desk n x) (stepDesk desk x)
 
 unfoldable pub step : List ℕ → List ℕ → List ℕ → Outcome
 step s m desk = guarded (threeGuards s m desk) s m desk (pick (isRunning desk) (doStep s m desk (inodesIn s) (stepOf s m desk (inodesIn s))) (refuse WrongState s m desk))
 
 -- ---- state: 1, 2, 3; it changes nothing. "state takes all three buffers and gives state, locked inode and steps"
-unfoldable pub status : List ℕ → List ℕ → List ℕ → Status
-status s m desk = onGuard (threeGuards s m desk) (λ n b. Is (deskOf desk .state) (deskOf desk .locked) (deskOf desk .steps)) NoStatus
+abbrev pub toldStatus : Status → Told
+toldStatus (Is a l k) = record { number = 0; values = a ∷ l ∷ k ∷ [] }
+toldStatus (NoStatus e) = record { number = refusalNumber e; values = [] }
+
+unfoldable pub status : List ℕ → List ℕ → List ℕ → Told
+status s m desk = onGuard (threeGuards s m desk) (λ n b. toldStatus (Is (deskOf desk .state) (deskOf desk .locked) (deskOf desk .steps))) (λ e. toldStatus (NoStatus e))

@@ -1,23 +1,22 @@
--- The copy gets done, is out of the way, and stays. w is the world at any moment of a list.
-use Prim.Native.Nat.{ℕ, suc, _+_, _*_, _≤_, _<_}
+-- The copy gets done, is out of the way, and stays; and what the next event does. w is the world at any moment of a list.
+use Prim.Native.Nat.{ℕ, _*_, _≤_, _<_}
 use mathlib.Core.Path.{_≡_}
-use mathlib.Core.Logic.{_⊎_}
 use mathlib.Core.Bool.{Bool, true, false, not, _&&_}
 use mathlib.Core.List.{List, [], _∷_}
 use lib.ListN.{length, getD}
 use Rattle.octets.specs.Octets.{Octets}
-use Rattle.layout.specs.Sizes.{isComplete, mostBlocks}
-use Rattle.layout.specs.Header.{headerOf}
+use Rattle.layout.specs.Sizes.{mostBlocks}
 use Rattle.layout.specs.Inode.{sizeOf}
 use Rattle.blocks.specs.Block.{storeLength, blocksUsed}
 use Rattle.blocks.specs.Free.{namedBy}
-use Rattle.desk.specs.Sizes.{finished, stopped, stepsAnInode}
+use Rattle.desk.specs.Sizes.{finished, stopped}
 use Rattle.desk.specs.Desk.{deskOf}
-use Rattle.answers.specs.declared.Refusal.the-variants.{Busy, WrongState, ImageFull}
+use Rattle.answers.specs.declared.Refusal.the-variants.{BadBuffer, UnsoundStore, BadDesk, Busy, WrongState, ImageFull}
 use Rattle.answers.specs.declared.Answer.the-variants.{Done, Refused}
 use Rattle.answers.specs.Refusal.{refusalNumber}
 use Rattle.answers.specs.Told.{told}
 use Rattle.sound.specs.Sound.{inodesIn}
+use Rattle.sound.specs.Place.{filled, naming}
 use Rattle.content.specs.declared.NumberPlan.the-variants.{To}
 use Rattle.entries.specs.declared.Kind.{Kind}
 use Rattle.entries.specs.Plan.{lookUpPlan}
@@ -25,8 +24,7 @@ use Rattle.files.specs.Effect.{Call, create, write, shorten, link, unlink, rena
 use Rattle.files.specs.Plain.{plain}
 use Rattle.checkpoint.specs.Fit.{isRunning, imageAllowed, imageLong}
 use Rattle.checkpoint.specs.Live.{World, outOf}
-use Rattle.checkpoint.specs.Shown.{numberOf}
-use Rattle.checkpoint.specs.List.{Ready, Event, call, advances, asks, starts, outcome, next, refusalOf, accepted, restarts, completes, run, Finish}
+use Rattle.checkpoint.specs.List.{Ready, Event, call, advances, asks, starts, outcome, next, refusalOf, accepted, restarts, completes, run, Finish, takes}
 use Rattle.checkpoint.specs.Finished.{countOf}
 
 -- ---- it gets done
@@ -54,22 +52,9 @@ unfoldable pub noRestart : List Event → World → Bool
 noRestart [] w = true
 noRestart (e ∷ es) w = not (restarts e w) && noRestart es (next e w)
 
--- the steps that the list tries
-unfoldable pub tried : List Event → ℕ
-tried [] = 0
-tried (advances ∷ es) = suc (tried es)
-tried (call c ∷ es) = tried es
-tried (asks ∷ es) = tried es
-tried (starts ∷ es) = tried es
-
 -- "With 12 × N image blocks or more" (F-1: 44 × N)
 abbrev pub Roomy : World → Type 0
 Roomy w = storeLength (countOf w) (mostBlocks * countOf w) ≤ length (w .image)
-
--- after as many steps as a copy can take, whatever calls fall between, it is finished or stopped; with 44 × N image blocks it is finished. w is the world just after the start
-pub record GetsDone (es : List Event) (w : World) : Type 0 where
-  pub ended : noRestart es w ≡ true → stepsAnInode * countOf w + 1 ≤ tried es → (deskOf (run es w .desk) .state ≡ finished) ⊎ (deskOf (run es w .desk) .state ≡ stopped)
-  pub complete : Roomy w → noRestart es w ≡ true → stepsAnInode * countOf w + 1 ≤ tried es → (deskOf (run es w .desk) .state ≡ finished) × (headerOf (run es w .image) .complete ≡ isComplete)
 
 -- "15 start while running, step while not", and else a start is accepted, inside a list; a question changes nothing
 pub record Timing (w : World) : Type 0 where
@@ -100,7 +85,7 @@ pub record OnlyBusy (c : Call) (w : World) : Type 0 where
   pub runs : isRunning (w .desk) ≡ true
   pub locked : 1 ≤ deskOf (w .desk) .locked
   pub hinders : Hinders (w .store) (deskOf (w .desk) .locked) c
-  pub would : numberOf (plain c (w .store) .answer) ≡ 0
+  pub would : plain c (w .store) .answer .number ≡ 0
 
 -- a refused call leaves a read's out-buffer as it was, too
 pub record Calls (w : World) : Type 0 where
@@ -122,6 +107,21 @@ pub record Stays (es : List Event) (w : World) : Type 0 where
   pub copy : Finish es w → (fs : List Event) → noRestart fs (run es w) ≡ true → (run fs (run es w) .image ≡ run es w .image) × (run fs (run es w) .desk ≡ run es w .desk)
   pub stop : refusalOf advances (run es w) ≡ refusalNumber ImageFull → (fs : List Event) → noRestart fs (next advances (run es w)) ≡ true
       → (run fs (next advances (run es w)) .image ≡ run es w .image) × (run fs (next advances (run es w)) .desk ≡ next advances (run es w) .desk)
+
+-- ---- of the next event, after any list
+-- demand 1: "A refusal changes no lent buffer, save that 16 marks the copy stopped and unlocks what was being copied"; 1 to 3 never come. e is the next event
+pub record Refusals (e : Event) (w : World) : Type 0 where
+  pub buffers : refusalOf e w ≡ refusalNumber BadBuffer → ⊥
+  pub store : refusalOf e w ≡ refusalNumber UnsoundStore → ⊥
+  pub desk : refusalOf e w ≡ refusalNumber BadDesk → ⊥
+  pub keeps : (refusalOf e w ≡ 0 → ⊥) → (refusalOf e w ≡ refusalNumber ImageFull → ⊥) → next e w ≡ w
+  pub stops : refusalOf e w ≡ refusalNumber ImageFull → Stopped w (next e w)
+
+-- an entry is taken, when and only when the event empties its slot; all others stand for the same inode. p is a place
+pub record Takes (e : Event) (w : World) (p : ℕ) : Type 0 where
+  pub taken : takes e w p ≡ true → (filled (w .store) (countOf w) p ≡ true) × (filled (next e w .store) (countOf w) p ≡ false)
+  pub stands : takes e w p ≡ false → filled (w .store) (countOf w) p ≡ true
+      → (filled (next e w .store) (countOf w) p ≡ true) × (naming (next e w .store) (countOf w) p ≡ naming (w .store) (countOf w) p)
 
 -- ---- the opening start: accepted whenever the buffers fit and no copy runs; it leaves the store as it was
 pub record Opens (v : World) : Type 0 where

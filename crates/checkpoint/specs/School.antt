@@ -11,7 +11,7 @@ use Rattle.sound.specs.Sound.{inodesIn}
 use Rattle.content.specs.Content.{fileBytes}
 use Rattle.files.specs.Effect.{Call, onPlanned, plainDecision}
 use Rattle.checkpoint.specs.Live.{World}
-use Rattle.checkpoint.specs.List.{Event, call, advances, asks, starts, next, accepted, run, Moment, Finish, Kept}
+use Rattle.checkpoint.specs.List.{Event, call, starts, onEvent, next, accepted, run, Moment, Finish, Kept}
 use Rattle.checkpoint.specs.Finished.{countOf}
 
 -- of every list from an accepted start to the finish of its copy
@@ -30,10 +30,7 @@ anyIs (j ∷ js) i = eqb j i || anyIs js i
 
 -- an accepted call writes or shortens file i
 abbrev pub writes : Event → World → ℕ → Bool
-writes (call c) w i = accepted (call c) w && anyIs (writtenBy c (w .store)) i
-writes advances w i = false
-writes asks w i = false
-writes starts w i = false
+writes e w i = onEvent e (λ c. accepted (call c) w && anyIs (writtenBy c (w .store)) i) false false false
 
 unfoldable pub Unwritten : List Event → World → ℕ → Type 0
 Unwritten [] w i = Unit {0}

@@ -35,7 +35,7 @@ abbrev pub orZero : Found → ℕ
 orZero (At t) = t
 orZero Absent = 0
 
--- 1, 2 and 3 of a call on all three buffers
+-- 1, 2 and 3 of a call on all three buffers; the state question has no more
 abbrev pub liveRows : List ℕ → List ℕ → List ℕ → List Row
 liveRows s m desk = guardRows (bothFramed s desk) s m desk
 
@@ -142,10 +142,6 @@ startTable s m desk =
     guardRows (allFramed s m desk) s m desk
     ++ row (isRunning desk) WrongState
     ∷ []
-
--- the state question
-abbrev pub askTable : List ℕ → List ℕ → List ℕ → List Row
-askTable s m desk = liveRows s m desk
 
 -- 16: "a block step with every image block named"
 unfoldable pub stepTable : List ℕ → List ℕ → List ℕ → List Row

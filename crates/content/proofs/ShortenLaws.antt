@@ -23,7 +23,6 @@ use Rattle.growth.proofs.CutLaws.{cut-keeps, cut-file}
 use Rattle.content.specs.declared.NumberPlan.the-variants.{To}
 use Rattle.content.specs.Content.{zeroRest, cutTo}
 use Rattle.content.specs.Plan.{shortenPlan}
-use Rattle.content.specs.Apply.{shortened}
 use Rattle.content.proofs.FileLaws.{Holds, holds-of, byte-few, byte-fits, byte-none, same-bytes, ZeroPast, tail-past, other-byte, content-file, content-sound}
 use Rattle.content.proofs.PlanFacts.{shortens}
 
@@ -118,7 +117,7 @@ module _ (s : List ℕ) (n b i z : ℕ) (h : Holds s n b i z) where
 
 -- ---- the call
 pub shorten-sound : (s : List ℕ) (n b i z y : ℕ) → SoundStore s n b
-    → shortenPlan s n i z ≡ To y → Sound Store (shortened s n i y)
+    → shortenPlan s n i z ≡ To y → Sound Store (cutTo s n i y)
 shorten-sound s n b i z y h e =
     let w = shortens s n i z y e in
     let m = w .inside in

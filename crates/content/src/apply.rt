@@ -21,9 +21,9 @@ ghost use Rattle.sound.specs.Counted.{SoundStore};
 ghost use Rattle.growth.specs.Extend.{zeroBlocks, putSize, putBlocks, taken, extended, cutBlocks};
 ghost use Rattle.content.specs.declared.NumberPlan.the-variants.{To};
 ghost use Rattle.content.specs.Fits.{byteAt, FileFits};
-ghost use Rattle.content.specs.Content.{fileBytes, putFile, addBlock, zeroRest};
+ghost use Rattle.content.specs.Content.{fileBytes, putFile, addBlock, zeroRest, cutTo};
 ghost use Rattle.content.specs.Plan.{writePlan};
-ghost use Rattle.content.specs.Apply.{written, shortened};
+ghost use Rattle.content.specs.Apply.{written};
 use crate::plan::lesser;
 use blocks::block_at;
 use blocks::blocks_used;
@@ -277,7 +277,7 @@ fn cut_blocks(s: &mut [u8], n: usize, i: usize, z: usize)
 // Leaves the first z bytes of file i.
 pub fn shorten_file(s: &mut [u8], n: usize, i: usize, z: usize)
     requires { ⌜ SoundStore (now s) n (blocksIn (now s)) × (isFile (now s) n i ≡ true) × (z ≤ sizeOf (now s) i) ⌝ }
-    ensures { λ _. ⌜ now (s .exit) ≡ shortened (now (s .entry)) n i z ⌝ }
+    ensures { λ _. ⌜ now (s .exit) ≡ cutTo (now (s .entry)) n i z ⌝ }
 {
     zero_rest(&mut *s, n, i, z);
     cut_blocks(&mut *s, n, i, z);

@@ -12,7 +12,7 @@ use Rattle.bounded.specs.declared.Found.the-variants.{At, Absent}
 use Rattle.bounded.proofs.BoolLaws.{holds}
 use Rattle.bounded.proofs.SearchLaws.{found-lowest}
 use Rattle.layout.specs.Sizes.{rootInode, mostInodes, addressCount, mostBlocks, blockBytes}
-use Rattle.layout.specs.Inode.{sizeOf, inodeOf, putAttributes, addressIndex}
+use Rattle.layout.specs.Inode.{sizeOf, inodeOf, putAttributes, addressIndex, withLinks}
 use Rattle.layout.specs.Fits.{InodeFits}
 use Rattle.layout.specs.declared.inode.Inode.{Inode}
 use Rattle.blocks.specs.Block.{putInBlock, blocksUsed, isLong, addressBlock, kthBlock}
@@ -30,7 +30,7 @@ use Rattle.answers.specs.declared.Answer.{Answer}
 use Rattle.answers.specs.declared.Answer.the-variants.{Done, Refused}
 use Rattle.answers.specs.declared.Refusal.the-variants.{ImageFull}
 use Rattle.checkpoint.specs.Image.{inodeNamed}
-use Rattle.checkpoint.specs.Copier.{Step, lock, copy, close, finish, full, nextInode, targetBlock, unlinkedInode, finishImage, freeStep, lockedStep, stepOf, stepImage, stepDesk}
+use Rattle.checkpoint.specs.Copier.{Step, lock, copy, close, finish, full, nextInode, targetBlock, finishImage, freeStep, lockedStep, stepOf, stepImage, stepDesk}
 use Rattle.checkpoint.specs.Live.{Outcome, left, doStep}
 use Rattle.checkpoint.proofs.Copy.TargetLaws.{target-at}
 use Rattle.copier.specs.Held.{Locked, Target, OpenImage}
@@ -103,7 +103,7 @@ module _ (s m d : List ℕ) (n : ℕ) (h : Desk) (e : h ≡ deskOf d) where
       ∙ ap (λ (v : Desk). lockedStep s m n (v .blocks) (v .locked) (v .transferred)) (sym e)
 
 -- ---- what is left then
-pub same-left : (s : List ℕ) {r q : Answer} {m t d e : List ℕ} → r ≡ q → m ≡ t → d ≡ e → left r s m d ≡ left q s t e
+pub same-left : (s : List ℕ) {x y : ℕ} {m t d e : List ℕ} → x ≡ y → m ≡ t → d ≡ e → left (Done x) s m d ≡ left (Done y) s t e
 same-left s a b c = rw (a, b, c)
 
 module _ (s m d : List ℕ) (n : ℕ) (x : Step) where
@@ -129,10 +129,10 @@ module _ (d : List ℕ) (h next : Desk) (e : h ≡ deskOf d) where
         → left (Done (next .steps)) s a t ≡ doStep s m d n (copy (h .locked) (h .transferred) c)
     copy-done s a c p q w = same-left s (rw (q, e)) p (w ∙ ap (putDesk d) (q ∙ ap copyingOne e))
 
-    pub close-done : (s a u : List ℕ) (v : Inode) → v ≡ inodeOf s n (h .locked) → a ≡ putAttributes m (h .locked) (unlinkedInode v) → u ≡ putCopied d (h .locked) 1 → next ≡ unlocking h → t ≡ putDesk u next
+    pub close-done : (s a u : List ℕ) (v : Inode) → v ≡ inodeOf s n (h .locked) → a ≡ putAttributes m (h .locked) (withLinks v 0) → u ≡ putCopied d (h .locked) 1 → next ≡ unlocking h → t ≡ putDesk u next
         → left (Done (next .steps)) s a t ≡ doStep s m d n (close (h .locked))
     close-done s a u v f p g q w =
-        same-left s (rw (q, e)) (p ∙ ap (λ (y : Inode). putAttributes m (h .locked) (unlinkedInode y)) f) (w ∙ ap₂ putDesk g (q ∙ ap unlocking e))
+        same-left s (rw (q, e)) (p ∙ ap (λ (y : Inode). putAttributes m (h .locked) (withLinks y 0)) f) (w ∙ ap₂ putDesk g (q ∙ ap unlocking e))
 
     pub finish-done : (a : List ℕ) → a ≡ finishImage m n (h .blocks) → next ≡ finishing h → t ≡ putDesk d next
         → (s : List ℕ) → left (Done (next .steps)) s a t ≡ doStep s m d n finish

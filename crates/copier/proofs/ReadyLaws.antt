@@ -20,7 +20,7 @@ use Rattle.desk.specs.declared.Desk.{Desk}
 use Rattle.sound.specs.Sound.{inodesIn}
 use Rattle.preservation.proofs.StoreLaws.{sound-store}
 use Rattle.checkpoint.specs.Fit.{isRunning, mostSteps, blocksFit, deskFits, imageFits, imageLong, lacksAddresses}
-use Rattle.checkpoint.specs.Shown.{world}
+use Rattle.checkpoint.specs.Live.{world}
 use Rattle.checkpoint.specs.List.{Ready}
 use Rattle.checkpoint.proofs.Call.LiveLaws.{ready-sound}
 use Rattle.checkpoint.proofs.Copy.FitLaws.{desk-framed-is, desk-fits-is, image-fits-is, notes-fit-is}

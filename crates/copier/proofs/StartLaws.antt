@@ -1,6 +1,6 @@
 -- Each way that a start returns. s is the store, m the image, d the desk.
 use Prim.Native.Nat.{ℕ, _≤_}
-use mathlib.Core.Path.{_≡_, refl, sym, ap, _∙_}
+use mathlib.Core.Path.{_≡_, refl, sym, _∙_}
 use mathlib.Core.Bool.{true, false}
 use mathlib.Core.List.{List}
 use native.Mathlib.Omega.{arith}
@@ -23,7 +23,6 @@ use Rattle.answers.specs.declared.Answer.the-variants.{Done}
 use Rattle.checkpoint.specs.Fit.{bothFramed, imageBlocks, imageAllowed}
 use Rattle.checkpoint.specs.Copier.{startImage, startDesk}
 use Rattle.checkpoint.specs.Live.{Outcome, left, refuse, started, start, startGuards}
-use Rattle.checkpoint.specs.Shown.{shown}
 use Rattle.checkpoint.proofs.Copy.FitLaws.{notes-fit-is}
 use Rattle.checkpoint.proofs.Step.StartLaws.{image-allowed-is}
 use Rattle.image.proofs.FitLaws.{framed}
@@ -78,10 +77,10 @@ module _ (s m d : List ℕ) (w : Watched) (e : w ≡ handed (startGuards s m d) 
       let k = notes-fit-is s m d .to (x .notes) .1 .0 in
       record { read = g .1; few = omega arith; count = c; image = rw c (and-right (bothFramed s d) _ (x .allowed)); desk = omega arith }
 
-  pub start-stopped : (x : Refusal) → w ≡ Shut x → shown (refuse x s m d) ≡ shown (start s m d)
+  pub start-stopped : (x : Refusal) → w ≡ Shut x → refuse x s m d ≡ start s m d
   unfolding start
   start-stopped x q = let z = shut (startGuards s m d) (deskOf d) w e q in rw z
 
-  pub start-through : (i b : ℕ) (h : Desk) (o : Outcome) → w ≡ Open i b h → o ≡ started s m d → shown o ≡ shown (start s m d)
+  pub start-through : (i b : ℕ) (h : Desk) (o : Outcome) → w ≡ Open i b h → o ≡ started s m d → o ≡ start s m d
   unfolding start
-  start-through i b h o q r = let z = opened (startGuards s m d) (deskOf d) w e q .0 in rw z (ap shown r)
+  start-through i b h o q r = let z = opened (startGuards s m d) (deskOf d) w e q .0 in rw z (r)

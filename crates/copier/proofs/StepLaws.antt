@@ -21,8 +21,7 @@ use Rattle.guards.specs.Handed.{handed}
 use Rattle.guards.proofs.GuardLaws.{passed, desk-passed, opened, shut}
 use Rattle.checkpoint.specs.Fit.{isRunning}
 use Rattle.checkpoint.specs.Copier.{stepOf}
-use Rattle.checkpoint.specs.Live.{Outcome, refuse, threeGuards, doStep, step}
-use Rattle.checkpoint.specs.Shown.{world, shown}
+use Rattle.checkpoint.specs.Live.{Outcome, refuse, threeGuards, doStep, step, world}
 use Rattle.checkpoint.specs.List.{Ready}
 
 module _ (s m d : List ℕ) where
@@ -46,16 +45,16 @@ module _ (s m d : List ℕ) where
 
   -- w is what the guards have answered
   module _ (w : Watched) (e : w ≡ handed (threeGuards s m d) (deskOf d)) where
-    pub step-stopped : (x : Refusal) → w ≡ Shut x → shown (refuse x s m d) ≡ shown (step s m d)
+    pub step-stopped : (x : Refusal) → w ≡ Shut x → refuse x s m d ≡ step s m d
     unfolding step
     step-stopped x q = let z = shut (threeGuards s m d) (deskOf d) w e q in rw z
 
-    pub step-through : (n b : ℕ) (h : Desk) (o : Outcome) → w ≡ Open n b h → o ≡ goesOn n → shown o ≡ shown (step s m d)
+    pub step-through : (n b : ℕ) (h : Desk) (o : Outcome) → w ≡ Open n b h → o ≡ goesOn n → o ≡ step s m d
     unfolding step
     step-through n b h o q r =
         let z = opened (threeGuards s m d) (deskOf d) w e q .0 in
         let p = passed s m d n b z in
-        rw z (ap shown (r ∙ ap goesOn (p .sound .inodes)))
+        rw z ((r ∙ ap goesOn (p .sound .inodes)))
 
     -- what they let through
     pub step-ready : {n b : ℕ} {h : Desk} → w ≡ Open n b h → (h ≡ deskOf d) × Ready (world s m d) × (n ≡ inodesIn s)

@@ -18,8 +18,7 @@ ghost use Rattle.answers.specs.declared.Refusal.the-variants.{ImageFull};
 ghost use Rattle.checkpoint.specs.Fit.{isRunning};
 ghost use Rattle.checkpoint.specs.Image.{imageNaming};
 ghost use Rattle.checkpoint.specs.Copier.{lock, copy, close, finish, full, freeStep, lockedStep, stepOf, stepDesk};
-ghost use Rattle.checkpoint.specs.Live.{left, doStep};
-ghost use Rattle.checkpoint.specs.Shown.{world};
+ghost use Rattle.checkpoint.specs.Live.{left, doStep, world};
 ghost use Rattle.checkpoint.specs.List.{Ready};
 ghost use Rattle.image.specs.Addressed.{Addressed};
 ghost use Rattle.copier.specs.Held.{Held, Locked, Target, FreeImage, OpenImage};
@@ -50,7 +49,8 @@ pub fn lock(d: &mut [u8], h: Desk, i: usize) -> Answer
 // 3: the next block of the locked inode goes to image block c.
 pub fn copy(s: &[u8], m: &mut [u8], d: &mut [u8], h: Desk, n: usize, c: usize) -> Answer
     requires { ⌜ Held (now d) n h × Locked (now s) n h × (h .transferred < blocksUsed (sizeOf (now s) (h .locked))) × Target (now m) n h c ⌝ }
-    ensures { λ r. ⌜ left r (now (s .entry)) (now (m .exit)) (now (d .exit)) ≡ doStep (now (s .entry)) (now (m .entry)) (now (d .entry)) n (copy (h .locked) (h .transferred) c) ⌝ }
+    ensures { λ r. ⌜ left r (now (s .entry)) (now (m .exit)) (now (d .exit))
+        ≡ doStep (now (s .entry)) (now (m .entry)) (now (d .entry)) n (copy (h .locked) (h .transferred) c) ⌝ }
 {
     let i = h.locked as usize;
     let k = h.transferred as usize;
@@ -65,7 +65,8 @@ pub fn copy(s: &[u8], m: &mut [u8], d: &mut [u8], h: Desk, n: usize, c: usize) -
 // 4: the locked inode is copied.
 pub fn close(s: &[u8], m: &mut [u8], d: &mut [u8], h: Desk, n: usize) -> Answer
     requires { ⌜ Held (now d) n h × Locked (now s) n h × Addressed (now m) n ⌝ }
-    ensures { λ r. ⌜ left r (now (s .entry)) (now (m .exit)) (now (d .exit)) ≡ doStep (now (s .entry)) (now (m .entry)) (now (d .entry)) n (close (h .locked)) ⌝ }
+    ensures { λ r. ⌜ left r (now (s .entry)) (now (m .exit)) (now (d .exit))
+        ≡ doStep (now (s .entry)) (now (m .entry)) (now (d .entry)) n (close (h .locked)) ⌝ }
 {
     let i = h.locked as usize;
     Inode::read(s, n, i)
@@ -123,7 +124,8 @@ fn free_step(m: &mut [u8], d: &mut [u8], h: Desk, n: usize) -> Answer
 // An inode is locked.
 fn locked_step(s: &[u8], m: &mut [u8], d: &mut [u8], h: Desk, n: usize) -> Answer
     requires { ⌜ Held (now d) n h × Locked (now s) n h × OpenImage (now s) (now m) n h ⌝ }
-    ensures { λ r. ⌜ left r (now (s .entry)) (now (m .exit)) (now (d .exit)) ≡ doStep (now (s .entry)) (now (m .entry)) (now (d .entry)) n (lockedStep (now (s .entry)) (now (m .entry)) n (h .blocks) (h .locked) (h .transferred)) ⌝ }
+    ensures { λ r. ⌜ left r (now (s .entry)) (now (m .exit)) (now (d .exit))
+        ≡ doStep (now (s .entry)) (now (m .entry)) (now (d .entry)) n (lockedStep (now (s .entry)) (now (m .entry)) n (h .blocks) (h .locked) (h .transferred)) ⌝ }
 {
     let i = h.locked as usize;
     let k = h.transferred as usize;
@@ -141,7 +143,8 @@ fn locked_step(s: &[u8], m: &mut [u8], d: &mut [u8], h: Desk, n: usize) -> Answe
 // A step's body: refusals 1 to 3 do not come, and the copy runs.
 pub fn advance(s: &[u8], m: &mut [u8], d: &mut [u8], h: Desk, n: usize) -> Answer
     requires { ⌜ (h ≡ deskOf (now d)) × Ready (world (now s) (now m) (now d)) × (n ≡ inodesIn (now s)) × (isRunning (now d) ≡ true) ⌝ }
-    ensures { λ r. ⌜ left r (now (s .entry)) (now (m .exit)) (now (d .exit)) ≡ doStep (now (s .entry)) (now (m .entry)) (now (d .entry)) n (stepOf (now (s .entry)) (now (m .entry)) (now (d .entry)) n) ⌝ }
+    ensures { λ r. ⌜ left r (now (s .entry)) (now (m .exit)) (now (d .exit))
+        ≡ doStep (now (s .entry)) (now (m .entry)) (now (d .entry)) n (stepOf (now (s .entry)) (now (m .entry)) (now (d .entry)) n) ⌝ }
 {
     if h.locked == 0 {
         return free_step(&mut *m, &mut *d, h, n);

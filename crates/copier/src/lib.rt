@@ -15,8 +15,7 @@ ghost use Rattle.sound.specs.Sound.{inodesIn};
 ghost use Rattle.answers.specs.declared.Refusal.the-variants.{WrongState};
 ghost use Rattle.checkpoint.specs.Fit.{imageBlocks, imageAllowed, isRunning};
 ghost use Rattle.checkpoint.specs.Copier.{startImage, startDesk, stepOf};
-ghost use Rattle.checkpoint.specs.Live.{left, started, start, refuse, doStep, step};
-ghost use Rattle.checkpoint.specs.Shown.{shown, world};
+ghost use Rattle.checkpoint.specs.Live.{left, started, start, refuse, doStep, step, world};
 ghost use Rattle.checkpoint.specs.List.{Ready};
 use answers::Answer;
 use answers::Refusal;
@@ -55,7 +54,7 @@ fn start_desk(d: &mut [u8], h: Desk, n: usize, b: usize)
     h.start(b as u16).write(&mut *d);
 }
 
-// 15, or the start itself, beside whatever store of n inodes.
+// Refuses with 15, or starts the copy: of the store only its count of inodes, n, plays a part.
 fn begin(h: Desk, n: usize, m: &mut [u8], d: &mut [u8]) -> Answer
     requires { ⌜ (h ≡ deskOf (now d)) × (n ≤ mostInodes) × (imageAllowed n (length (now m)) ≡ true) × (deskLength n ≤ length (now d)) ⌝ }
     ensures { λ r. ⌜ ((s : List ℕ) → n ≡ inodesIn s → left r s (now (m .exit)) (now (d .exit)) ≡ started s (now (m .entry)) (now (d .entry))) ⌝ }
@@ -70,7 +69,8 @@ fn begin(h: Desk, n: usize, m: &mut [u8], d: &mut [u8]) -> Answer
 }
 
 pub fn start(store: &[u8], image: &mut [u8], desk: &mut [u8]) -> Answer
-    ensures { λ r. ⌜ shown (left r (now (store .entry)) (now (image .exit)) (now (desk .exit))) ≡ shown (start (now (store .entry)) (now (image .entry)) (now (desk .entry))) ⌝ }
+    ensures { λ r. ⌜ left r (now (store .entry)) (now (image .exit)) (now (desk .exit))
+        ≡ start (now (store .entry)) (now (image .entry)) (now (desk .entry)) ⌝ }
 {
     match guards::start_guards(store, &*image, &*desk) {
         Watched::Open(n, _, h) => begin(h, n, &mut *image, &mut *desk),
@@ -82,7 +82,8 @@ pub fn start(store: &[u8], image: &mut [u8], desk: &mut [u8]) -> Answer
 // 15, or the step itself.
 fn go_on(s: &[u8], m: &mut [u8], d: &mut [u8], h: Desk, n: usize) -> Answer
     requires { ⌜ (h ≡ deskOf (now d)) × Ready (world (now s) (now m) (now d)) × (n ≡ inodesIn (now s)) ⌝ }
-    ensures { λ r. ⌜ left r (now (s .entry)) (now (m .exit)) (now (d .exit)) ≡ pick (isRunning (now (d .entry))) (doStep (now (s .entry)) (now (m .entry)) (now (d .entry)) n (stepOf (now (s .entry)) (now (m .entry)) (now (d .entry)) n)) (refuse WrongState (now (s .entry)) (now (m .entry)) (now (d .entry))) ⌝ }
+    ensures { λ r. ⌜ left r (now (s .entry)) (now (m .exit)) (now (d .exit))
+        ≡ pick (isRunning (now (d .entry))) (doStep (now (s .entry)) (now (m .entry)) (now (d .entry)) n (stepOf (now (s .entry)) (now (m .entry)) (now (d .entry)) n)) (refuse WrongState (now (s .entry)) (now (m .entry)) (now (d .entry))) ⌝ }
 {
     if !h.runs() {
         return Answer::Refused(Refusal::WrongState);
@@ -91,7 +92,8 @@ fn go_on(s: &[u8], m: &mut [u8], d: &mut [u8], h: Desk, n: usize) -> Answer
 }
 
 pub fn step(store: &[u8], image: &mut [u8], desk: &mut [u8]) -> Answer
-    ensures { λ r. ⌜ shown (left r (now (store .entry)) (now (image .exit)) (now (desk .exit))) ≡ shown (step (now (store .entry)) (now (image .entry)) (now (desk .entry))) ⌝ }
+    ensures { λ r. ⌜ left r (now (store .entry)) (now (image .exit)) (now (desk .exit))
+        ≡ step (now (store .entry)) (now (image .entry)) (now (desk .entry)) ⌝ }
 {
     match guards::three_guards(store, &*image, &*desk) {
         Watched::Open(n, _, h) => go_on(store, &mut *image, &mut *desk, h, n),

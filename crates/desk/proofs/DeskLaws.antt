@@ -10,9 +10,9 @@ use Rattle.bounded.specs.Reflect.{Reflects}
 use Rattle.bounded.proofs.ReflectLaws.{r-and, r-le, r-eq}
 use Rattle.octets.specs.Octets.{splice, Apart, numAt, toBytes, putNum, zeroed}
 use Rattle.octets.proofs.PartLaws.{length-zeroed, apart-within}
-use Rattle.octets.proofs.NumLaws.{num-apart, num-in, zero-num, length-num, num-same, num-other, num-twice, num-comm, num-swap, num-off, num-stands}
+use Rattle.octets.proofs.NumLaws.{num-apart, num-in, zero-num, length-num, num-same, num-other, num-twice, num-swap, num-off, num-stands}
 use Rattle.marks.specs.Mark.{marked, withMark, withoutMark}
-use Rattle.marks.proofs.MarkLaws.{with-same, with-other, without-same, without-other, mark-none}
+use Rattle.marks.proofs.MarkLaws.{with-same, with-other, without-other, mark-none}
 use Rattle.layout.specs.Sizes.{mostInodes}
 use Rattle.desk.specs.Sizes.{deskHeaderBytes, deskInodeBytes, markBytes, deskLength, deskAllowed, copiedAt, marksAt}
 use Rattle.desk.specs.Desk.{deskOf, putDesk, deskRestZero, copiedOf, putCopied, marksOf, putMarks, markOf, setMark, clearMark, clearNotes}
@@ -80,10 +80,6 @@ fields : (s : List ℕ) (h : Desk) → putDesk s h ≡ putNum 4 (putNum 2 (putNu
 unfolding putDesk
 fields s h = refl
 
-pub putDesk-twice : (d : List ℕ) (h k : Desk) → putDesk (putDesk d h) k ≡ putDesk d k
-putDesk-twice d h k =
-    rw (fields (putDesk d h) k, over-inodes, over-blocks, over-state, over-locked, over-transferred, over-steps)
-
 -- ---- a header is read back
 pub desk-putDesk : (d : List ℕ) (h : Desk) → deskHeaderBytes ≤ length d → deskOf (putDesk d h) ≡ h
 unfolding deskOf
@@ -145,16 +141,6 @@ module _ (d : List ℕ) (p : ℕ) (xs : List ℕ) (past : deskHeaderBytes ≤ p)
   unfolding deskRestZero
   reserved-past = rw (num-apart 1 d 5 p xs (omega arith), num-apart 2 d 10 p xs (omega arith))
 
--- a header written before or after it
-past-putDesk : (d : List ℕ) (h : Desk) (k p v : ℕ) → deskHeaderBytes ≤ p → putNum k (putDesk d h) p v ≡ putDesk (putNum k d p v) h
-unfolding putDesk
-past-putDesk d h k p v past =
-    rw (num-swap 4 k 12 p (omega arith), num-swap 2 k 8 p (omega arith), num-swap 2 k 6 p (omega arith), num-swap 1 k 4 p (omega arith), num-swap 2 k 2 p (omega arith), num-swap 2 k 0 p (omega arith))
-
-pub desk-putCopied : (d : List ℕ) (i v : ℕ) → deskOf (putCopied d i v) ≡ deskOf d
-unfolding putCopied putNum
-desk-putCopied d i v = desk-past d (copiedAt i) (toBytes 1 v) (omega arith)
-
 pub desk-putMarks : (d : List ℕ) (n i w : ℕ) → deskOf (putMarks d n i w) ≡ deskOf d
 unfolding putMarks putNum
 desk-putMarks d n i w = desk-past d (marksAt n i) (toBytes 8 w) (omega arith)
@@ -166,10 +152,6 @@ desk-setMark d n i t = desk-putMarks d n i (withMark (marksOf d n i) t)
 pub desk-clearMark : (d : List ℕ) (n i t : ℕ) → deskOf (clearMark d n i t) ≡ deskOf d
 unfolding clearMark
 desk-clearMark d n i t = desk-putMarks d n i (withoutMark (marksOf d n i) t)
-
-pub desk-clearNotes : (d : List ℕ) (n : ℕ) → deskOf (clearNotes d n) ≡ deskOf d
-unfolding clearNotes zeroed
-desk-clearNotes d n = desk-past d deskHeaderBytes (replicate (deskInodeBytes * n) 0) (omega arith)
 
 pub reserved-putCopied : (d : List ℕ) (i v : ℕ) → deskRestZero (putCopied d i v) ≡ deskRestZero d
 unfolding putCopied putNum
@@ -258,10 +240,6 @@ pub mark-setMark-other : (d : List ℕ) (n i j t u : ℕ) → 1 ≤ i → 1 ≤ 
 unfolding markOf
 mark-setMark-other d n i j t u a b h = ap (λ (w : ℕ). marked w u) (marks-setMark-other d n i j t a b h)
 
-pub mark-clearMark-same : (d : List ℕ) (n i t : ℕ) → 1 ≤ i → i ≤ n → deskLength n ≤ length d → t < 64 → markOf (clearMark d n i t) n i t ≡ false
-unfolding markOf
-mark-clearMark-same d n i t a b f l = ap (λ (w : ℕ). marked w t) (marks-clearMark-same d n i t a b f) ∙ without-same (marksOf d n i) t l
-
 pub mark-clearMark-slot : (d : List ℕ) (n i t u : ℕ) → 1 ≤ i → i ≤ n → deskLength n ≤ length d → t < 64 → u < 64 → u ≢ t → markOf (clearMark d n i t) n i u ≡ markOf d n i u
 unfolding markOf
 mark-clearMark-slot d n i t u a b f l m h = ap (λ (w : ℕ). marked w u) (marks-clearMark-same d n i t a b f) ∙ without-other (marksOf d n i) t u l m h
@@ -294,22 +272,3 @@ module _ (d : List ℕ) (n : ℕ) (fits : deskLength n ≤ length d) where
   mark-clearNotes i t a b = ap (λ (w : ℕ). marked w t) (marks-clearNotes i a b) ∙ mark-none t
 
 -- ---- writers that follow each other
-pub putCopied-twice : (d : List ℕ) (i v w : ℕ) → putCopied (putCopied d i v) i w ≡ putCopied d i w
-unfolding putCopied
-putCopied-twice d i v w = num-twice 1 d (copiedAt i) v w
-
-pub putMarks-twice : (d : List ℕ) (n i v w : ℕ) → putMarks (putMarks d n i v) n i w ≡ putMarks d n i w
-unfolding putMarks
-putMarks-twice d n i v w = num-twice 8 d (marksAt n i) v w
-
-pub putCopied-putDesk : (d : List ℕ) (h : Desk) (i v : ℕ) → putCopied (putDesk d h) i v ≡ putDesk (putCopied d i v) h
-unfolding putCopied
-putCopied-putDesk d h i v = past-putDesk d h 1 (copiedAt i) v (omega arith)
-
-pub putMarks-putDesk : (d : List ℕ) (h : Desk) (n i w : ℕ) → putMarks (putDesk d h) n i w ≡ putDesk (putMarks d n i w) h
-unfolding putMarks
-putMarks-putDesk d h n i w = past-putDesk d h 8 (marksAt n i) w (omega arith)
-
-pub putMarks-putCopied : (d : List ℕ) (n i j v w : ℕ) → 1 ≤ i → i ≤ n → putMarks (putCopied d i v) n j w ≡ putCopied (putMarks d n j w) i v
-unfolding putMarks putCopied
-putMarks-putCopied d n i j v w a b = num-comm 1 8 d (copiedAt i) (marksAt n j) v w (omega arith)

@@ -49,7 +49,8 @@ pub fn slot_at(s: &[u8], n: usize, d: usize, t: usize) -> usize
 // The lowest slot of a block that has the name.
 fn named_in_block(block: &[u8], name: Name) -> Found
     requires { ⌜ length (now block) ≡ blockBytes ⌝ }
-    ensures { λ r. ⌜ r ≡ first (λ j. sameWords (wordsAt (part (now (block .entry)) (entryBytes * j) entryBytes) nameAt) name) slotsInBlock ⌝ }
+    ensures { λ r. ⌜ r
+        ≡ first (λ j. sameWords (wordsAt (part (now (block .entry)) (entryBytes * j) entryBytes) nameAt) name) slotsInBlock ⌝ }
 {
     for j in 0..SLOTS_IN_BLOCK {
         let o = ENTRY_BYTES * j;

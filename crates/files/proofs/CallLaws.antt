@@ -1,6 +1,6 @@
 -- The calls: what the guards let through, and each way that a call returns.
 use Prim.Native.Nat.{ℕ}
-use mathlib.Core.Path.{_≡_, refl, sym, ap, _∙_}
+use mathlib.Core.Path.{_≡_, refl, sym, _∙_}
 use mathlib.Core.Bool.{true, false}
 use mathlib.Core.List.{List}
 use native.Mathlib.Omega.{arith}
@@ -17,7 +17,7 @@ use Rattle.files.specs.declared.Guard.{Guard}
 use Rattle.files.specs.declared.Guard.the-variants.{Pass, Stop}
 use Rattle.files.specs.Guard.{guardOf}
 use Rattle.files.specs.Effect.{Call, planned, plainDecision, given}
-use Rattle.files.specs.Plain.{PlainOutcome, plainLeft, plainShown, leaves, plain}
+use Rattle.files.specs.Plain.{PlainOutcome, plainLeft, leaves, plain}
 
 -- ---- the guards in code
 module _ (s : List ℕ) where
@@ -53,10 +53,10 @@ module _ (s : List ℕ) where
 
 -- ---- a call returns: g is what the guard has answered, x what it leaves
 module _ (c : Call) (s : List ℕ) (g : Guard) (e : g ≡ guardOf s) where
-  pub call-through : (n b : ℕ) (x : PlainOutcome) → g ≡ Pass n b → x ≡ leaves s (given c) (planned c s n b) → plainShown x ≡ plainShown (plain c s)
+  pub call-through : (n b : ℕ) (x : PlainOutcome) → g ≡ Pass n b → x ≡ leaves s (given c) (planned c s n b) → x ≡ plain c s
   unfolding plain plainDecision
-  call-through n b x h q = let p = sym e ∙ h in rw p (ap plainShown q)
+  call-through n b x h q = let p = sym e ∙ h in rw p (q)
 
-  pub call-stopped : (w : Refusal) → g ≡ Stop w → plainShown (plainLeft (Refused w) s (given c)) ≡ plainShown (plain c s)
+  pub call-stopped : (w : Refusal) → g ≡ Stop w → plainLeft (Refused w) s (given c) ≡ plain c s
   unfolding plain plainDecision
   call-stopped w h = let p = sym e ∙ h in rw p refl

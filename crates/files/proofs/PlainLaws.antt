@@ -1,37 +1,16 @@
--- "a refused call changes nothing": what a refused call of the plain store leaves; and the guards as a chain of tests.
+-- The plain store's guards as a chain of tests.
 use Prim.Native.Nat.{ℕ}
-use mathlib.Core.Path.{_≡_, refl, ap}
+use mathlib.Core.Path.{_≡_, refl}
 use mathlib.Core.Bool.{Bool, true, false, not}
 use mathlib.Core.List.{List}
-use native.Mathlib.Omega.{arith}
 use Rattle.bounded.specs.Search.{pick}
 use Rattle.sound.specs.Sound.{inodesIn, blocksIn}
 use Rattle.sound.specs.declared.Form.the-variants.{Store}
 use Rattle.sound.specs.Test.{framedB, isSound}
 use Rattle.answers.specs.declared.Refusal.{Refusal}
 use Rattle.answers.specs.declared.Refusal.the-variants.{BadBuffer, UnsoundStore}
-use Rattle.answers.specs.declared.Answer.{Answer}
-use Rattle.answers.specs.declared.Answer.the-variants.{Done, Refused}
 use Rattle.files.specs.declared.Guard.the-variants.{Pass, Stop}
 use Rattle.files.specs.Guard.{guardOf, onGuard}
-use Rattle.files.specs.Effect.{Call, Planned, refused, does, plainDecision, given}
-use Rattle.files.specs.Plain.{PlainOutcome, plainLeft, leaves, plain}
-
--- no call is both done and refused
-pub never : {A : Type 0} (x : ℕ) (e : Refusal) → Done x ≡ Refused e → A
-never x e h = let z : _≡_ {A = ℕ} 0 1 = cc in absurd (omega arith)
-
--- if the outcome o is a refusal, the store is s and the out-buffer is out
-abbrev pub Keeps : List ℕ → List ℕ → PlainOutcome → Type 0
-Keeps s out o = (e : Refusal) → o .answer ≡ Refused e → o ≡ plainLeft (Refused e) s out
-
-leaves-keeps : (s out : List ℕ) (p : Planned) → Keeps s out (leaves s out p)
-leaves-keeps s out (does x) e h = never (x .answer) e h
-leaves-keeps s out (refused f) e h = ap (λ (a : Answer). plainLeft a s out) h
-
-pub plain-refused : (s : List ℕ) (c : Call) → Keeps s (given c) (plain c s)
-unfolding plain
-plain-refused s c = leaves-keeps s (given c) (plainDecision c s)
 
 -- refusals 1 and 2, one after the other
 pub on-guard : {A : Type 0} (s : List ℕ) (f : ℕ → ℕ → A) (g : Refusal → A)

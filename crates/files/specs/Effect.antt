@@ -7,9 +7,9 @@ use Rattle.sound.specs.Place.{placeOf}
 use Rattle.answers.specs.declared.Refusal.{Refusal}
 use Rattle.content.specs.declared.NumberPlan.{NumberPlan}
 use Rattle.content.specs.declared.NumberPlan.the-variants.{To, NoNumber}
-use Rattle.content.specs.Content.{fileBytes}
+use Rattle.content.specs.Content.{fileBytes, cutTo}
 use Rattle.content.specs.Plan.{readPlan, writePlan, shortenPlan}
-use Rattle.content.specs.Apply.{written, shortened}
+use Rattle.content.specs.Apply.{written}
 use Rattle.entries.specs.declared.Kind.{Kind}
 use Rattle.entries.specs.declared.CreatePlan.{CreatePlan}
 use Rattle.entries.specs.declared.LinkPlan.{LinkPlan}
@@ -95,7 +95,7 @@ doWrite s n b i o xs (To z) = does (rewrites z (written s n b i o xs z) i)
 doWrite s n b i o xs (NoNumber e) = refused e
 
 abbrev pub doShorten : List ℕ → ℕ → ℕ → NumberPlan → Planned
-doShorten s n i (To z) = does (rewrites z (shortened s n i z) i)
+doShorten s n i (To z) = does (rewrites z (cutTo s n i z) i)
 doShorten s n i (NoNumber e) = refused e
 
 abbrev pub doLink : List ℕ → ℕ → ℕ → List ℕ → ℕ → LinkPlan → Planned

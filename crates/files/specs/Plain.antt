@@ -6,23 +6,22 @@ use Rattle.answers.specs.Told.{Told, told}
 use Rattle.answers.specs.declared.Answer.the-variants.{Done, Refused}
 use Rattle.files.specs.Effect.{Call, Planned, refused, does, plainDecision, given}
 
--- what a call leaves: its answer, the store, and a read's out-buffer ([] for the other calls)
-pub record PlainOutcome : Type 0 where
-  pub answer : Answer
-  pub store : List ℕ
+-- what a caller gets: the answer by the paper's numbers, and a read's out-buffer ([] for the other calls)
+pub record Received : Type 0 where
+  pub answer : Told
   pub out : List ℕ
 
-abbrev pub plainLeft : Answer → List ℕ → List ℕ → PlainOutcome
-plainLeft a s o = record { answer = a; store = s; out = o }
+abbrev pub got : Told → List ℕ → Received
+got t out = record { answer = t; out = out }
 
--- the same by the paper's numbers: what a caller sees
-pub record PlainShown : Type 0 where
+-- what a call leaves: the answer that its caller is told, the store, and a read's out-buffer
+pub record PlainOutcome : Type 0 where
   pub answer : Told
   pub store : List ℕ
   pub out : List ℕ
 
-abbrev pub plainShown : PlainOutcome → PlainShown
-plainShown o = record { answer = told (o .answer); store = o .store; out = o .out }
+abbrev pub plainLeft : Answer → List ℕ → List ℕ → PlainOutcome
+plainLeft a s o = record { answer = told a; store = s; out = o }
 
 -- what is left of the store s and the out-buffer out by what was decided
 abbrev pub leaves : List ℕ → List ℕ → Planned → PlainOutcome

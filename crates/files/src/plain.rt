@@ -8,7 +8,7 @@ ghost use Rattle.content.specs.Plan.{readPlan, writePlan, shortenPlan};
 ghost use Rattle.entries.specs.Plan.{lookUpPlan, createPlan, linkPlan, unlinkPlan, renamePlan};
 ghost use Rattle.files.specs.Guard.{guardOf};
 ghost use Rattle.files.specs.Effect.{lookUp, read, create, write, shorten, link, unlink, rename, doLookUp, doRead, doCreate, doWrite, doShorten, doLink, doUnlink, doRename};
-ghost use Rattle.files.specs.Plain.{plainLeft, plainShown, leaves, plain};
+ghost use Rattle.files.specs.Plain.{plainLeft, leaves, plain};
 use crate::Guard;
 use answers::Answer;
 use answers::Refusal;
@@ -40,7 +40,8 @@ pub fn guard(s: &[u8]) -> Guard
 // ---- look up
 fn do_look_up(s: &[u8], n: usize, d: usize, name: &[u8]) -> Answer
     requires { ⌜ SoundStore (now s) n (blocksIn (now s)) ⌝ }
-    ensures { λ r. ⌜ plainLeft r (now (s .entry)) [] ≡ leaves (now (s .entry)) [] (doLookUp (now (s .entry)) (lookUpPlan (now (s .entry)) n d (now (name .entry)))) ⌝ }
+    ensures { λ r. ⌜ plainLeft r (now (s .entry)) []
+        ≡ leaves (now (s .entry)) [] (doLookUp (now (s .entry)) (lookUpPlan (now (s .entry)) n d (now (name .entry)))) ⌝ }
 {
     match entries::plan::look_up_plan(s, n, d, name) {
         NumberPlan::To(i) => Answer::Done(i),
@@ -49,7 +50,7 @@ fn do_look_up(s: &[u8], n: usize, d: usize, name: &[u8]) -> Answer
 }
 
 pub fn look_up(store: &[u8], dir: usize, name: &[u8]) -> Answer
-    ensures { λ r. ⌜ plainShown (plainLeft r (now (store .entry)) []) ≡ plainShown (plain (lookUp dir (now (name .entry))) (now (store .entry))) ⌝ }
+    ensures { λ r. ⌜ plainLeft r (now (store .entry)) [] ≡ plain (lookUp dir (now (name .entry))) (now (store .entry)) ⌝ }
 {
     match guard(store) {
         Guard::Pass(n, _) => do_look_up(store, n, dir, name),
@@ -60,7 +61,8 @@ pub fn look_up(store: &[u8], dir: usize, name: &[u8]) -> Answer
 // ---- read
 fn do_read(s: &[u8], n: usize, i: usize, o: usize, out: &mut [u8]) -> Answer
     requires { ⌜ SoundStore (now s) n (blocksIn (now s)) ⌝ }
-    ensures { λ r. ⌜ plainLeft r (now (s .entry)) (now (out .exit)) ≡ leaves (now (s .entry)) (now (out .entry)) (doRead (now (s .entry)) n i o (now (out .entry)) (readPlan (now (s .entry)) n i o (length (now (out .entry))))) ⌝ }
+    ensures { λ r. ⌜ plainLeft r (now (s .entry)) (now (out .exit))
+        ≡ leaves (now (s .entry)) (now (out .entry)) (doRead (now (s .entry)) n i o (now (out .entry)) (readPlan (now (s .entry)) n i o (length (now (out .entry))))) ⌝ }
 {
     match content::plan::read_plan(s, n, i, o, out.len()) {
         NumberPlan::To(count) => {
@@ -72,7 +74,8 @@ fn do_read(s: &[u8], n: usize, i: usize, o: usize, out: &mut [u8]) -> Answer
 }
 
 pub fn read(store: &[u8], inode: usize, offset: usize, out: &mut [u8]) -> Answer
-    ensures { λ r. ⌜ plainShown (plainLeft r (now (store .entry)) (now (out .exit))) ≡ plainShown (plain (read inode offset (now (out .entry))) (now (store .entry))) ⌝ }
+    ensures { λ r. ⌜ plainLeft r (now (store .entry)) (now (out .exit))
+        ≡ plain (read inode offset (now (out .entry))) (now (store .entry)) ⌝ }
 {
     match guard(store) {
         Guard::Pass(n, _) => do_read(store, n, inode, offset, &mut *out),
@@ -83,7 +86,8 @@ pub fn read(store: &[u8], inode: usize, offset: usize, out: &mut [u8]) -> Answer
 // ---- create
 fn do_create(s: &mut [u8], n: usize, b: usize, d: usize, name: &[u8], kind: Kind) -> Answer
     requires { ⌜ SoundStore (now s) n b ⌝ }
-    ensures { λ r. ⌜ plainLeft r (now (s .exit)) [] ≡ leaves (now (s .entry)) [] (doCreate (now (s .entry)) n d (now (name .entry)) kind (createPlan (now (s .entry)) n b d (now (name .entry)))) ⌝ }
+    ensures { λ r. ⌜ plainLeft r (now (s .exit)) []
+        ≡ leaves (now (s .entry)) [] (doCreate (now (s .entry)) n d (now (name .entry)) kind (createPlan (now (s .entry)) n b d (now (name .entry)))) ⌝ }
 {
     match entries::plan::create_plan(s, n, b, d, name) {
         CreatePlan::Make { inode: i, room } => {
@@ -95,7 +99,7 @@ fn do_create(s: &mut [u8], n: usize, b: usize, d: usize, name: &[u8], kind: Kind
 }
 
 pub fn create(store: &mut [u8], dir: usize, name: &[u8], kind: Kind) -> Answer
-    ensures { λ r. ⌜ plainShown (plainLeft r (now (store .exit)) []) ≡ plainShown (plain (create dir (now (name .entry)) kind) (now (store .entry))) ⌝ }
+    ensures { λ r. ⌜ plainLeft r (now (store .exit)) [] ≡ plain (create dir (now (name .entry)) kind) (now (store .entry)) ⌝ }
 {
     match guard(store) {
         Guard::Pass(n, b) => do_create(&mut *store, n, b, dir, name, kind),
@@ -106,7 +110,8 @@ pub fn create(store: &mut [u8], dir: usize, name: &[u8], kind: Kind) -> Answer
 // ---- write
 fn do_write(s: &mut [u8], n: usize, b: usize, i: usize, o: usize, xs: &[u8]) -> Answer
     requires { ⌜ SoundStore (now s) n b ⌝ }
-    ensures { λ r. ⌜ plainLeft r (now (s .exit)) [] ≡ leaves (now (s .entry)) [] (doWrite (now (s .entry)) n b i o (now (xs .entry)) (writePlan (now (s .entry)) n i o (length (now (xs .entry))))) ⌝ }
+    ensures { λ r. ⌜ plainLeft r (now (s .exit)) []
+        ≡ leaves (now (s .entry)) [] (doWrite (now (s .entry)) n b i o (now (xs .entry)) (writePlan (now (s .entry)) n i o (length (now (xs .entry))))) ⌝ }
 {
     match content::plan::write_plan(s, n, i, o, xs.len()) {
         NumberPlan::To(z) => {
@@ -118,7 +123,7 @@ fn do_write(s: &mut [u8], n: usize, b: usize, i: usize, o: usize, xs: &[u8]) -> 
 }
 
 pub fn write(store: &mut [u8], inode: usize, offset: usize, bytes: &[u8]) -> Answer
-    ensures { λ r. ⌜ plainShown (plainLeft r (now (store .exit)) []) ≡ plainShown (plain (write inode offset (now (bytes .entry))) (now (store .entry))) ⌝ }
+    ensures { λ r. ⌜ plainLeft r (now (store .exit)) [] ≡ plain (write inode offset (now (bytes .entry))) (now (store .entry)) ⌝ }
 {
     match guard(store) {
         Guard::Pass(n, b) => do_write(&mut *store, n, b, inode, offset, bytes),
@@ -129,7 +134,8 @@ pub fn write(store: &mut [u8], inode: usize, offset: usize, bytes: &[u8]) -> Ans
 // ---- shorten
 fn do_shorten(s: &mut [u8], n: usize, i: usize, z: usize) -> Answer
     requires { ⌜ SoundStore (now s) n (blocksIn (now s)) ⌝ }
-    ensures { λ r. ⌜ plainLeft r (now (s .exit)) [] ≡ leaves (now (s .entry)) [] (doShorten (now (s .entry)) n i (shortenPlan (now (s .entry)) n i z)) ⌝ }
+    ensures { λ r. ⌜ plainLeft r (now (s .exit)) []
+        ≡ leaves (now (s .entry)) [] (doShorten (now (s .entry)) n i (shortenPlan (now (s .entry)) n i z)) ⌝ }
 {
     match content::plan::shorten_plan(s, n, i, z) {
         NumberPlan::To(y) => {
@@ -141,7 +147,7 @@ fn do_shorten(s: &mut [u8], n: usize, i: usize, z: usize) -> Answer
 }
 
 pub fn shorten(store: &mut [u8], inode: usize, size: usize) -> Answer
-    ensures { λ r. ⌜ plainShown (plainLeft r (now (store .exit)) []) ≡ plainShown (plain (shorten inode size) (now (store .entry))) ⌝ }
+    ensures { λ r. ⌜ plainLeft r (now (store .exit)) [] ≡ plain (shorten inode size) (now (store .entry)) ⌝ }
 {
     match guard(store) {
         Guard::Pass(n, _) => do_shorten(&mut *store, n, inode, size),
@@ -152,7 +158,8 @@ pub fn shorten(store: &mut [u8], inode: usize, size: usize) -> Answer
 // ---- link
 fn do_link(s: &mut [u8], n: usize, b: usize, d: usize, name: &[u8], i: usize) -> Answer
     requires { ⌜ SoundStore (now s) n b ⌝ }
-    ensures { λ r. ⌜ plainLeft r (now (s .exit)) [] ≡ leaves (now (s .entry)) [] (doLink (now (s .entry)) n d (now (name .entry)) i (linkPlan (now (s .entry)) n b d (now (name .entry)) i)) ⌝ }
+    ensures { λ r. ⌜ plainLeft r (now (s .exit)) []
+        ≡ leaves (now (s .entry)) [] (doLink (now (s .entry)) n d (now (name .entry)) i (linkPlan (now (s .entry)) n b d (now (name .entry)) i)) ⌝ }
 {
     match entries::plan::link_plan(s, n, b, d, name, i) {
         LinkPlan::Add(room) => {
@@ -164,7 +171,7 @@ fn do_link(s: &mut [u8], n: usize, b: usize, d: usize, name: &[u8], i: usize) ->
 }
 
 pub fn link(store: &mut [u8], dir: usize, name: &[u8], inode: usize) -> Answer
-    ensures { λ r. ⌜ plainShown (plainLeft r (now (store .exit)) []) ≡ plainShown (plain (link dir (now (name .entry)) inode) (now (store .entry))) ⌝ }
+    ensures { λ r. ⌜ plainLeft r (now (store .exit)) [] ≡ plain (link dir (now (name .entry)) inode) (now (store .entry)) ⌝ }
 {
     match guard(store) {
         Guard::Pass(n, b) => do_link(&mut *store, n, b, dir, name, inode),
@@ -175,7 +182,8 @@ pub fn link(store: &mut [u8], dir: usize, name: &[u8], inode: usize) -> Answer
 // ---- unlink
 fn do_unlink(s: &mut [u8], n: usize, d: usize, name: &[u8]) -> Answer
     requires { ⌜ SoundStore (now s) n (blocksIn (now s)) ⌝ }
-    ensures { λ r. ⌜ plainLeft r (now (s .exit)) [] ≡ leaves (now (s .entry)) [] (doUnlink (now (s .entry)) n d (unlinkPlan (now (s .entry)) n d (now (name .entry)))) ⌝ }
+    ensures { λ r. ⌜ plainLeft r (now (s .exit)) []
+        ≡ leaves (now (s .entry)) [] (doUnlink (now (s .entry)) n d (unlinkPlan (now (s .entry)) n d (now (name .entry)))) ⌝ }
 {
     match entries::plan::unlink_plan(s, n, d, name) {
         UnlinkPlan::Take { slot: t, inode: i } => {
@@ -187,7 +195,7 @@ fn do_unlink(s: &mut [u8], n: usize, d: usize, name: &[u8]) -> Answer
 }
 
 pub fn unlink(store: &mut [u8], dir: usize, name: &[u8]) -> Answer
-    ensures { λ r. ⌜ plainShown (plainLeft r (now (store .exit)) []) ≡ plainShown (plain (unlink dir (now (name .entry))) (now (store .entry))) ⌝ }
+    ensures { λ r. ⌜ plainLeft r (now (store .exit)) [] ≡ plain (unlink dir (now (name .entry))) (now (store .entry)) ⌝ }
 {
     match guard(store) {
         Guard::Pass(n, _) => do_unlink(&mut *store, n, dir, name),
@@ -206,7 +214,8 @@ fn do_rename(
     other: &[u8],
 ) -> Answer
     requires { ⌜ SoundStore (now s) n b ⌝ }
-    ensures { λ r. ⌜ plainLeft r (now (s .exit)) [] ≡ leaves (now (s .entry)) [] (doRename (now (s .entry)) n d e (now (other .entry)) (renamePlan (now (s .entry)) n b d (now (name .entry)) e (now (other .entry)))) ⌝ }
+    ensures { λ r. ⌜ plainLeft r (now (s .exit)) []
+        ≡ leaves (now (s .entry)) [] (doRename (now (s .entry)) n d e (now (other .entry)) (renamePlan (now (s .entry)) n b d (now (name .entry)) e (now (other .entry)))) ⌝ }
 {
     match entries::plan::rename_plan(s, n, b, d, name, e, other) {
         RenamePlan::Rename { slot: t, inode: i } => {
@@ -226,7 +235,8 @@ fn do_rename(
 }
 
 pub fn rename(store: &mut [u8], dir: usize, name: &[u8], to_dir: usize, to_name: &[u8]) -> Answer
-    ensures { λ r. ⌜ plainShown (plainLeft r (now (store .exit)) []) ≡ plainShown (plain (rename dir (now (name .entry)) «to_dir» (now («to_name» .entry))) (now (store .entry))) ⌝ }
+    ensures { λ r. ⌜ plainLeft r (now (store .exit)) []
+        ≡ plain (rename dir (now (name .entry)) «to_dir» (now («to_name» .entry))) (now (store .entry)) ⌝ }
 {
     match guard(store) {
         Guard::Pass(n, b) => do_rename(&mut *store, n, b, dir, name, to_dir, to_name),

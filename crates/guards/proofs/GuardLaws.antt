@@ -22,7 +22,7 @@ use Rattle.files.specs.Guard.{guardBy}
 use Rattle.files.proofs.CallLaws.{no-pass}
 use Rattle.checkpoint.specs.declared.Status.the-variants.{Is, NoStatus}
 use Rattle.checkpoint.specs.Fit.{deskFramed, notesFit, bothFramed, allFramed, imageAllowed}
-use Rattle.checkpoint.specs.Live.{threeGuards, status, guardRows, startGuards}
+use Rattle.checkpoint.specs.Live.{threeGuards, status, guardRows, startGuards, toldStatus}
 use Rattle.guards.specs.Fit.{notesRight}
 use Rattle.guards.specs.Handed.{handed}
 use Rattle.guards.specs.declared.Watched.{Watched}
@@ -111,10 +111,10 @@ module _ (g : Guard) (x : Desk) (r : Watched) (e : r ≡ handed g x) where
 
 -- ---- the state question
 module _ (s m d : List ℕ) (r : Watched) (e : r ≡ handed (threeGuards s m d) (deskOf d)) where
-  pub state-through : (n b : ℕ) (h : Desk) → r ≡ Open n b h → Is (h .state) (h .locked) (h .steps) ≡ status s m d
+  pub state-through : (n b : ℕ) (h : Desk) → r ≡ Open n b h → toldStatus (Is (h .state) (h .locked) (h .steps)) ≡ status s m d
   unfolding status
-  state-through n b h p = let z = opened (threeGuards s m d) (deskOf d) r e p in rw (z .0) (ap (λ (y : Desk). Is (y .state) (y .locked) (y .steps)) (z .1))
+  state-through n b h p = let z = opened (threeGuards s m d) (deskOf d) r e p in rw (z .0) (ap (λ (y : Desk). toldStatus (Is (y .state) (y .locked) (y .steps))) (z .1))
 
-  pub state-stopped : (w : Refusal) → r ≡ Shut w → NoStatus w ≡ status s m d
+  pub state-stopped : (w : Refusal) → r ≡ Shut w → toldStatus (NoStatus w) ≡ status s m d
   unfolding status
   state-stopped w p = rw (shut (threeGuards s m d) (deskOf d) r e p)

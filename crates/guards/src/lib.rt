@@ -6,8 +6,7 @@ ghost use mathlib.Core.Bool.{true};
 ghost use Rattle.desk.specs.Desk.{deskOf};
 ghost use Rattle.files.specs.Guard.{guardBy};
 ghost use Rattle.checkpoint.specs.Fit.{bothFramed};
-ghost use Rattle.checkpoint.specs.Live.{guardRows, threeGuards, startGuards, status};
-ghost use Rattle.checkpoint.specs.Shown.{toldStatus};
+ghost use Rattle.checkpoint.specs.Live.{guardRows, threeGuards, startGuards, status, toldStatus};
 ghost use Rattle.guards.specs.Handed.{handed};
 use answers::Refusal;
 use checkpoint::Status;
@@ -35,7 +34,8 @@ pub fn both_framed(store: &[u8], desk: &[u8]) -> bool
 // 2 and 3, where 1 does not come: one check of the store, then the desk and the image of a running copy, beside the store that is sound by then.
 pub fn after_lengths(store: &[u8], image: &[u8], desk: &[u8]) -> Watched
     requires { ⌜ bothFramed (now store) (now desk) ≡ true ⌝ }
-    ensures { λ r. ⌜ r ≡ handed (guardBy (now (store .entry)) (guardRows true (now (store .entry)) (now (image .entry)) (now (desk .entry)))) (deskOf (now (desk .entry))) ⌝ }
+    ensures { λ r. ⌜ r
+        ≡ handed (guardBy (now (store .entry)) (guardRows true (now (store .entry)) (now (image .entry)) (now (desk .entry)))) (deskOf (now (desk .entry))) ⌝ }
 {
     let h = Header::read(store);
     let n = h.inodes as usize;
@@ -74,7 +74,7 @@ pub fn start_guards(store: &[u8], image: &[u8], desk: &[u8]) -> Watched
 
 // The state question.
 pub fn state(store: &[u8], image: &[u8], desk: &[u8]) -> Status
-    ensures { λ r. ⌜ toldStatus r ≡ toldStatus (status (now (store .entry)) (now (image .entry)) (now (desk .entry))) ⌝ }
+    ensures { λ r. ⌜ toldStatus r ≡ status (now (store .entry)) (now (image .entry)) (now (desk .entry)) ⌝ }
 {
     match three_guards(store, image, desk) {
         Watched::Open(_, _, h) => Status::Is(h.state, h.locked, h.steps),

@@ -147,8 +147,10 @@ pub fn settle(
     out: &mut [u8],
 ) -> usize
     requires { ⌜ Ready (now days) (now terms) (now out) ⌝ }
-    ensures { λ r. ⌜ r ≡ count (settled (now (days .entry)) (now (terms .entry)) today (now (map .entry)) (now (latest .entry)) (now (out .entry))) (copyCount (now (days .entry))) ⌝ }
-    ensures { λ _. ⌜ now (out .exit) ≡ splice (now (out .entry)) 0 (settledFlags (now (days .entry)) (now (terms .entry)) today (now (map .entry)) (now (latest .entry)) (now (out .entry)) (copyCount (now (days .entry)))) ⌝ }
+    ensures { λ r. ⌜ r
+        ≡ count (settled (now (days .entry)) (now (terms .entry)) today (now (map .entry)) (now (latest .entry)) (now (out .entry))) (copyCount (now (days .entry))) ⌝ }
+    ensures { λ _. ⌜ now (out .exit)
+        ≡ splice (now (out .entry)) 0 (settledFlags (now (days .entry)) (now (terms .entry)) today (now (map .entry)) (now (latest .entry)) (now (out .entry)) (copyCount (now (days .entry)))) ⌝ }
 {
     let mut kept: usize = 0;
     for i in 0..days.len() {

@@ -71,7 +71,8 @@ fn walk(
 ) -> usize
     requires { ⌜ Room (now watch) (now mat) (lists (now «paired_watch») (now «paired_mat») (now «alone_watch») (now «alone_mat»)) ⌝ }
     ensures { λ r. ⌜ r ≡ length (report (now (watch .entry)) (now (mat .entry)) .pairedWatch) ⌝ }
-    ensures { λ _. ⌜ lists (now («paired_watch» .exit)) (now («paired_mat» .exit)) (now («alone_watch» .exit)) (now («alone_mat» .exit)) ≡ over (report (now (watch .entry)) (now (mat .entry))) (lists (now («paired_watch» .entry)) (now («paired_mat» .entry)) (now («alone_watch» .entry)) (now («alone_mat» .entry))) ⌝ }
+    ensures { λ _. ⌜ lists (now («paired_watch» .exit)) (now («paired_mat» .exit)) (now («alone_watch» .exit)) (now («alone_mat» .exit))
+        ≡ over (report (now (watch .entry)) (now (mat .entry))) (lists (now («paired_watch» .entry)) (now («paired_mat» .entry)) (now («alone_watch» .entry)) (now («alone_mat» .entry))) ⌝ }
 {
     let mut p: usize = 0;
     let mut i: usize = 0;
@@ -108,7 +109,8 @@ pub fn match_laps(
     alone_watch: &mut [u32],
     alone_mat: &mut [u32],
 ) -> Answer
-    ensures { λ r. ⌜ left r (lists (now («paired_watch» .exit)) (now («paired_mat» .exit)) (now («alone_watch» .exit)) (now («alone_mat» .exit))) ≡ matchLaps (now (watch .entry)) (now (mat .entry)) (lists (now («paired_watch» .entry)) (now («paired_mat» .entry)) (now («alone_watch» .entry)) (now («alone_mat» .entry))) ⌝ }
+    ensures { λ r. ⌜ left r (lists (now («paired_watch» .exit)) (now («paired_mat» .exit)) (now («alone_watch» .exit)) (now («alone_mat» .exit)))
+        ≡ matchLaps (now (watch .entry)) (now (mat .entry)) (lists (now («paired_watch» .entry)) (now («paired_mat» .entry)) (now («alone_watch» .entry)) (now («alone_mat» .entry))) ⌝ }
 {
     if !allowed(watch) {
         return Answer::Refused(Refusal::BadTimes);

@@ -5,8 +5,7 @@ mod work;
 
 ghost use mathlib.Core.Path.{_≡_};
 ghost use Rattle.files.specs.Effect.{create, write, shorten, link, unlink, rename};
-ghost use Rattle.checkpoint.specs.Live.{left, live};
-ghost use Rattle.checkpoint.specs.Shown.{world, shown};
+ghost use Rattle.checkpoint.specs.Live.{left, live, world};
 use answers::Answer;
 use entries::Kind;
 use guards::Watched;
@@ -20,7 +19,8 @@ pub fn create(
     name: &[u8],
     kind: Kind,
 ) -> Answer
-    ensures { λ r. ⌜ shown (left r (now (store .exit)) (now (image .exit)) (now (desk .exit))) ≡ shown (live (create dir (now (name .entry)) kind) (world (now (store .entry)) (now (image .entry)) (now (desk .entry)))) ⌝ }
+    ensures { λ r. ⌜ left r (now (store .exit)) (now (image .exit)) (now (desk .exit))
+        ≡ live (create dir (now (name .entry)) kind) (world (now (store .entry)) (now (image .entry)) (now (desk .entry))) ⌝ }
 {
     match three_guards(store, image, desk) {
         Watched::Open(n, b, h) => work::create(&mut *store, &mut *desk, h, n, b, dir, name, kind),
@@ -36,7 +36,8 @@ pub fn write(
     offset: usize,
     bytes: &[u8],
 ) -> Answer
-    ensures { λ r. ⌜ shown (left r (now (store .exit)) (now (image .exit)) (now (desk .exit))) ≡ shown (live (write inode offset (now (bytes .entry))) (world (now (store .entry)) (now (image .entry)) (now (desk .entry)))) ⌝ }
+    ensures { λ r. ⌜ left r (now (store .exit)) (now (image .exit)) (now (desk .exit))
+        ≡ live (write inode offset (now (bytes .entry))) (world (now (store .entry)) (now (image .entry)) (now (desk .entry))) ⌝ }
 {
     match three_guards(store, image, desk) {
         Watched::Open(n, b, h) => work::write(&mut *store, h, n, b, inode, offset, bytes),
@@ -51,7 +52,8 @@ pub fn shorten(
     inode: usize,
     size: usize,
 ) -> Answer
-    ensures { λ r. ⌜ shown (left r (now (store .exit)) (now (image .exit)) (now (desk .exit))) ≡ shown (live (shorten inode size) (world (now (store .entry)) (now (image .entry)) (now (desk .entry)))) ⌝ }
+    ensures { λ r. ⌜ left r (now (store .exit)) (now (image .exit)) (now (desk .exit))
+        ≡ live (shorten inode size) (world (now (store .entry)) (now (image .entry)) (now (desk .entry))) ⌝ }
 {
     match three_guards(store, image, desk) {
         Watched::Open(n, _, h) => work::shorten(&mut *store, h, n, inode, size),
@@ -67,7 +69,8 @@ pub fn link(
     name: &[u8],
     inode: usize,
 ) -> Answer
-    ensures { λ r. ⌜ shown (left r (now (store .exit)) (now (image .exit)) (now (desk .exit))) ≡ shown (live (link dir (now (name .entry)) inode) (world (now (store .entry)) (now (image .entry)) (now (desk .entry)))) ⌝ }
+    ensures { λ r. ⌜ left r (now (store .exit)) (now (image .exit)) (now (desk .exit))
+        ≡ live (link dir (now (name .entry)) inode) (world (now (store .entry)) (now (image .entry)) (now (desk .entry))) ⌝ }
 {
     match three_guards(store, image, desk) {
         Watched::Open(n, b, h) => work::link(&mut *store, &mut *desk, h, n, b, dir, name, inode),
@@ -82,7 +85,8 @@ pub fn unlink(
     dir: usize,
     name: &[u8],
 ) -> Answer
-    ensures { λ r. ⌜ shown (left r (now (store .exit)) (now (image .exit)) (now (desk .exit))) ≡ shown (live (unlink dir (now (name .entry))) (world (now (store .entry)) (now (image .entry)) (now (desk .entry)))) ⌝ }
+    ensures { λ r. ⌜ left r (now (store .exit)) (now (image .exit)) (now (desk .exit))
+        ≡ live (unlink dir (now (name .entry))) (world (now (store .entry)) (now (image .entry)) (now (desk .entry))) ⌝ }
 {
     match three_guards(store, image, desk) {
         Watched::Open(n, _, h) => work::unlink(
@@ -107,7 +111,8 @@ pub fn rename(
     to_dir: usize,
     to_name: &[u8],
 ) -> Answer
-    ensures { λ r. ⌜ shown (left r (now (store .exit)) (now (image .exit)) (now (desk .exit))) ≡ shown (live (rename dir (now (name .entry)) «to_dir» (now («to_name» .entry))) (world (now (store .entry)) (now (image .entry)) (now (desk .entry)))) ⌝ }
+    ensures { λ r. ⌜ left r (now (store .exit)) (now (image .exit)) (now (desk .exit))
+        ≡ live (rename dir (now (name .entry)) «to_dir» (now («to_name» .entry))) (world (now (store .entry)) (now (image .entry)) (now (desk .entry))) ⌝ }
 {
     match three_guards(store, image, desk) {
         Watched::Open(n, b, h) => work::rename(

@@ -11,8 +11,7 @@ ghost use Rattle.content.specs.Plan.{writePlan, shortenPlan};
 ghost use Rattle.entries.specs.Plan.{createPlan, linkPlan, unlinkPlan, renamePlan};
 ghost use Rattle.files.specs.Effect.{doCreate, doWrite, doShorten, doLink, doUnlink, doRename};
 ghost use Rattle.checkpoint.specs.Busy.{unlessBusy};
-ghost use Rattle.checkpoint.specs.Live.{left, leavesIn};
-ghost use Rattle.checkpoint.specs.Shown.{world};
+ghost use Rattle.checkpoint.specs.Live.{left, leavesIn, world};
 ghost use Rattle.image.specs.Addressed.{Readable};
 ghost use Rattle.live.specs.Fits.{Fits};
 use crate::notes;
@@ -129,7 +128,8 @@ pub fn unlink(
     name: &[u8],
 ) -> Answer
     requires { ⌜ Fits (now s) (now d) h n (blocksIn (now s)) × Readable (now m) h n ⌝ }
-    ensures { λ r. ⌜ left r (now (s .exit)) (now (m .exit)) (now (d .exit)) ≡ leavesIn (world (now (s .entry)) (now (m .entry)) (now (d .entry))) (unlessBusy (now (d .entry)) (doUnlink (now (s .entry)) n dir (unlinkPlan (now (s .entry)) n dir (now (name .entry))))) ⌝ }
+    ensures { λ r. ⌜ left r (now (s .exit)) (now (m .exit)) (now (d .exit))
+        ≡ leavesIn (world (now (s .entry)) (now (m .entry)) (now (d .entry))) (unlessBusy (now (d .entry)) (doUnlink (now (s .entry)) n dir (unlinkPlan (now (s .entry)) n dir (now (name .entry))))) ⌝ }
 {
     match entries::plan::unlink_plan(s, n, dir, name) {
         UnlinkPlan::Take { slot: t, inode: i } => {
@@ -159,7 +159,8 @@ pub fn rename(
     other: &[u8],
 ) -> Answer
     requires { ⌜ Fits (now s) (now d) h n b × Readable (now m) h n ⌝ }
-    ensures { λ r. ⌜ left r (now (s .exit)) (now (m .exit)) (now (d .exit)) ≡ leavesIn (world (now (s .entry)) (now (m .entry)) (now (d .entry))) (unlessBusy (now (d .entry)) (doRename (now (s .entry)) n from to (now (other .entry)) (renamePlan (now (s .entry)) n b from (now (name .entry)) to (now (other .entry))))) ⌝ }
+    ensures { λ r. ⌜ left r (now (s .exit)) (now (m .exit)) (now (d .exit))
+        ≡ leavesIn (world (now (s .entry)) (now (m .entry)) (now (d .entry))) (unlessBusy (now (d .entry)) (doRename (now (s .entry)) n from to (now (other .entry)) (renamePlan (now (s .entry)) n b from (now (name .entry)) to (now (other .entry))))) ⌝ }
 {
     match entries::plan::rename_plan(s, n, b, from, name, to, other) {
         RenamePlan::Rename { slot: t, inode: i } => {

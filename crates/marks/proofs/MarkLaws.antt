@@ -9,7 +9,7 @@ use native.Mathlib.Omega.{arith}
 use lib.Dec.{eqb, lit<}
 use lib.Arith.{digits-div}
 use lib.Pow.{shl-exact, pow-pos, pow-lt, pow-add, ones-split, ones-lt}
-use lib.Bits.{bitAnd, bitOr, bitXor, and-shr, or-shr, xor-shr, and-mod, or-mod, xor-mod, and-mask, and-comm, or-zero-r, and-zero-r, xor-add-and}
+use lib.Bits.{bitAnd, bitOr, bitXor, and-shr, or-shr, xor-shr, and-mod, or-mod, xor-mod, and-mask, and-comm, or-zero-r, xor-add-and}
 use Rattle.marks.specs.Mark.{digit, marked, withMark, withoutMark}
 
 -- ---- the digits of each operation are its digits' operation
@@ -104,12 +104,6 @@ mask-digit : (s t : ℕ) → s < 64 → t < 64 → digit (2 ^ 64 - 1 - 2 ^ s) t 
 mask-digit s t hs ht =
     ap (λ (x : ℕ). digit x t) (complement (2 ^ s) (pow-lt hs)) ∙ xor-digit (2 ^ 64 - 1) (2 ^ s) t
     ∙ ap (λ (x : ℕ). bitXor x (digit (2 ^ s) t)) (ones-digit t ht)
-
-pub without-same : (w s : ℕ) → s < 64 → marked (withoutMark w s) s ≡ false
-unfolding marked withoutMark
-without-same w s h =
-    ap (λ (d : ℕ). eqb d 1)
-    (and-digit w (2 ^ 64 - 1 - 2 ^ s) s ∙ ap (bitAnd (digit w s)) (mask-digit s s h h ∙ ap (bitXor 1) (one-same s)) ∙ and-zero-r (digit w s))
 
 pub without-other : (w s t : ℕ) → s < 64 → t < 64 → t ≢ s → marked (withoutMark w s) t ≡ marked w t
 unfolding marked withoutMark

@@ -79,10 +79,6 @@ pub spelled-is : (e name : List ℕ) → Reflects (spelled e name) ((k : ℕ) �
 unfolding spelled
 spelled-is e name = r-all nameBytes (λ k. r-eq (getD e (nameAt + k) 0) (getD name k 0))
 
--- an entry that is spelled so has the name
-pub spelled-named : (e name : List ℕ) → spelled e name ≡ true → sameName e name ≡ true
-spelled-named e name h = named e name .from (λ k l. ap folded (spelled-is e name .to h k l))
-
 -- ---- the entry that names an inode
 pub length-entry : (i : ℕ) (name : List ℕ) → length (entryFor i name) ≡ entryBytes
 unfolding entryFor

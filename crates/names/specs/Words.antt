@@ -18,7 +18,7 @@ unfoldable pub folds : ℕ → ℕ → ℕ
 folds zero w = 0
 folds (suc k) w = folded (w % 256) + 256 * folds k (w / 256)
 
--- The 14 bytes of a name from o on, folded, as two numbers, of 8 bytes and of 6: what the code compares.
+-- The 14 bytes of a name from o on, folded, as two numbers, of 8 bytes and of 6 (folded as 8: the two above them are 0, and stay so): what the code compares.
 unfoldable pub wordsAt : List ℕ → ℕ → Name
 wordsAt s o = record { low = folds 8 (numAt 8 s o); high = folds 8 (numAt 6 s (o + 8)) }
 

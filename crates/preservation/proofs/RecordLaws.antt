@@ -1,5 +1,5 @@
 -- An inode's record and the free counts: what a write of them keeps, and writes in another order. n is the inode count.
-use Prim.Native.Nat.{ℕ, _+_, _*_, _-_, _≤_}
+use Prim.Native.Nat.{ℕ, _+_, _*_, _≤_}
 use mathlib.Core.Path.{_≡_, sym, ap, ap₂, _∙_}
 use mathlib.Core.List.{List}
 use native.Mathlib.Omega.{arith}
@@ -7,7 +7,7 @@ use lib.ListN.{length, getD}
 use Rattle.bounded.proofs.TableLaws.{length-table, table-ext, table-list}
 use Rattle.octets.specs.Octets.{splice, toBytes, putNum, wordBytes}
 use Rattle.octets.proofs.PartLaws.{splice-comm, splice-twice}
-use Rattle.octets.proofs.NumLaws.{length-toBytes, num-comm, num-twice}
+use Rattle.octets.proofs.NumLaws.{length-toBytes}
 use Rattle.octets.proofs.WordLaws.{length-words}
 use Rattle.layout.specs.declared.inode.Inode.{Inode}
 use Rattle.layout.specs.Header.{headerOf, putFree, lessFree}
@@ -32,12 +32,6 @@ module _ (s : List ℕ) (p : ℕ) (xs : List ℕ) (h : 16 ≤ p) where
   pub less-past : (x y : ℕ) → lessFree (splice s p xs) x y ≡ splice (lessFree s x y) p xs
   unfolding lessFree
   less-past x y = rw (header-past s p xs h) (free-past _ _)
-
-free-twice : (s : List ℕ) (a b c d : ℕ) → putFree (putFree s a b) c d ≡ putFree s c d
-unfolding putFree
-free-twice s a b c d =
-    ap (λ (t : List ℕ). putNum 2 t 6 d) (num-comm 2 2 (putNum 2 s 4 a) 6 4 b c (omega arith) ∙ ap (λ (t : List ℕ). putNum 2 t 6 b) (num-twice 2 s 4 a c))
-    ∙ num-twice 2 (putNum 2 s 4 c) 6 b d
 
 -- ---- an inode's record
 -- as it was read

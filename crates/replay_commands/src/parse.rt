@@ -130,7 +130,8 @@ fn asked(j: usize, a: usize, b: usize, c: usize, d: usize) -> Command
 
 // The command of a line, `Bad` if it is none. A name goes to the front of name, a rename's second one to the front of other.
 pub fn parse(cmd: &[u8], name: &mut [u8], other: &mut [u8]) -> Command
-    ensures { λ r. ⌜ parsed r (now (name .exit)) (now (other .exit)) ≡ parseCommand (now (cmd .entry)) (now (name .entry)) (now (other .entry)) ⌝ }
+    ensures { λ r. ⌜ parsed r (now (name .exit)) (now (other .exit))
+        ≡ parseCommand (now (cmd .entry)) (now (name .entry)) (now (other .entry)) ⌝ }
 {
     let forms: &[u8] =
         b"new # # #\npoke store # #\npoke image # #\npoke desk # #\nlay store # #\nlay desk #\nchk store\nchk image\nlk # *\nmk # * f\nmk # * d\nrd # # #\nwr # # *\nsh # #\nln # * #\nrm # *\nmv # * # +\ngo\nst\nbu #\nask";

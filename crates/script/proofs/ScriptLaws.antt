@@ -13,8 +13,7 @@ use Rattle.sound.specs.declared.Form.the-variants.{Image}
 use Rattle.answers.specs.declared.Answer.{Answer}
 use Rattle.format.specs.Format.{LaidOut, laidOut, layOutStore, layOutDesk}
 use Rattle.script_listing.specs.Listing.{printedText, mostPrinted, Listable}
-use Rattle.checkpoint.specs.Live.{World}
-use Rattle.checkpoint.specs.Shown.{world}
+use Rattle.checkpoint.specs.Live.{World, world}
 use Rattle.script_run.specs.Reply.{Ran, ran, lineRuns, worldAfter}
 use Rattle.script_run.specs.Script.{printed, linesRun, FinishesSound, scriptInodes, scriptBlocks, fresh}
 use Rattle.script_run.specs.declared.Reply.{Reply}

@@ -1,16 +1,15 @@
 -- The turns of the loop over a script's lines: what holds at each place, and that it holds at the next.
 use Prim.Native.Nat.{ℕ, _+_, _-_, _*_, _^_, _≤_, _<_}
-use mathlib.Core.Path.{_≡_, refl, sym, ap, _∙_, subst}
-use mathlib.Core.List.{List, [], _∷_}
+use mathlib.Core.Path.{_≡_, refl, sym, ap, _∙_}
+use mathlib.Core.List.{List, _∷_}
 use mathlib.Core.WellFounded.{WellFounded, InvImage·wf}
 use native.Mathlib.Omega.{arith}
 use lib.WfN.{Nat·lt-wfRel}
-use lib.ListN.{length, take, drop, length-append}
+use lib.ListN.{length, drop, length-append}
 use lib.Seq.{take-all}
 use Rattle.script_lines.specs.Lines.{linesIn, lineAt, nextAt, mostScriptBytes, scriptLines}
 use Rattle.script_lines.proofs.LineLaws.{lines-first, lines-end, next-later, next-within}
-use Rattle.checkpoint.specs.Live.{World}
-use Rattle.checkpoint.specs.Shown.{world}
+use Rattle.checkpoint.specs.Live.{World, world}
 use Rattle.script_run.specs.Reply.{worldAfter}
 use Rattle.script_run.specs.Script.{printed, linesRun, linesPrint, FinishesSound, scriptInodes, fresh, scriptPrints}
 use Rattle.script_run.proofs.PrintLaws.{printed-short, prints-all, prints-line, prints-none}

@@ -4,7 +4,7 @@ ghost use Prim.Native.Nat.{_≤_};
 ghost use lib.ListN.{length};
 ghost use Rattle.layout.specs.Sizes.{headerBytes};
 ghost use Rattle.desk.specs.Sizes.{deskHeaderBytes};
-ghost use Rattle.checkpoint.specs.Shown.{world};
+ghost use Rattle.checkpoint.specs.Live.{world};
 ghost use Rattle.script_lines.specs.Lines.{mostScriptBytes, scriptLines};
 ghost use Rattle.script_run.specs.Script.{linesRun, fresh, scriptPrints};
 use crate::print;

@@ -2,17 +2,30 @@
 mod lines_of;
 mod print;
 
+use desk::DESK_HEADER_BYTES;
+use desk::DESK_INODE_BYTES;
+use layout::sizes::BLOCK_BYTES;
+use layout::sizes::HEADER_BYTES;
+use layout::sizes::INODE_BYTES;
 use libc::STDIN_FILENO;
 
 const INODES: usize = 16;
 
 const BLOCKS: usize = 64;
 
-// A store of 16 inodes and 64 blocks, an image of 128 blocks, and their desk. Only the first 65,536 bytes of the script are read.
+const IMAGE_BLOCKS: usize = 128;
+
+const STORE_BYTES: usize = HEADER_BYTES + INODE_BYTES * INODES + BLOCK_BYTES * BLOCKS;
+
+const IMAGE_BYTES: usize = HEADER_BYTES + INODE_BYTES * INODES + BLOCK_BYTES * IMAGE_BLOCKS;
+
+const DESK_BYTES: usize = DESK_HEADER_BYTES + DESK_INODE_BYTES * INODES;
+
+// Only the first 65,536 bytes of the script are read.
 fn main() {
-    let mut store = [0u8; 4624];
-    let mut image = [0u8; 8720];
-    let mut desk = [0u8; 160];
+    let mut store = [0u8; STORE_BYTES];
+    let mut image = [0u8; IMAGE_BYTES];
+    let mut desk = [0u8; DESK_BYTES];
     watch::lay_out_store(&mut store, INODES, BLOCKS);
     watch::lay_out_desk(&mut desk, INODES);
     let mut script = io::large_buffer();

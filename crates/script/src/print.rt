@@ -5,7 +5,7 @@ ghost use lib.ListN.{length};
 ghost use Rattle.layout.specs.Sizes.{headerBytes};
 ghost use Rattle.desk.specs.Sizes.{deskHeaderBytes};
 ghost use Rattle.text.specs.Put.{Put};
-ghost use Rattle.checkpoint.specs.Shown.{world};
+ghost use Rattle.checkpoint.specs.Live.{world};
 ghost use Rattle.script_listing.specs.Listing.{mostPrinted};
 ghost use Rattle.script_run.specs.Reply.{worldAfter};
 ghost use Rattle.script_run.specs.Script.{printed, FinishesSound, scriptInodes};
@@ -25,7 +25,8 @@ fn put_line(
     desk: &mut [u8],
 ) -> usize
     requires { ⌜ (mostPrinted scriptInodes ≤ length (now out)) × (headerBytes ≤ length (now image)) × (deskHeaderBytes ≤ length (now desk)) × FinishesSound (world (now store) (now image) (now desk)) ⌝ }
-    ensures { λ _. ⌜ world (now (store .exit)) (now (image .exit)) (now (desk .exit)) ≡ worldAfter (now (line .entry)) (world (now (store .entry)) (now (image .entry)) (now (desk .entry))) ⌝ }
+    ensures { λ _. ⌜ world (now (store .exit)) (now (image .exit)) (now (desk .exit))
+        ≡ worldAfter (now (line .entry)) (world (now (store .entry)) (now (image .entry)) (now (desk .entry))) ⌝ }
     ensures { λ r. ⌜ Put (now (out .entry)) 0 (printed (now (line .entry)) (world (now (store .entry)) (now (image .entry)) (now (desk .entry)))) r (now (out .exit)) ⌝ }
 {
     let r = script_run::run::run(line, &mut *store, &mut *image, &mut *desk);

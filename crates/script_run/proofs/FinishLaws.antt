@@ -4,7 +4,7 @@ use mathlib.Core.Path.{_≡_, refl, sym, ap, _∙_, subst}
 use mathlib.Core.Bool.{Bool, true, false, _||_}
 use mathlib.Core.List.{List, [], _∷_}
 use native.Mathlib.Omega.{arith}
-use borrow.Author.Tests.{le-leb, eq-eqb}
+use borrow.Author.Tests.{le-leb, eq-eqb, eqb-false}
 use lib.Dec.{eqb}
 use lib.ListN.{length, replicate, length-replicate}
 use Rattle.bounded.specs.Search.{pick}
@@ -16,11 +16,9 @@ use Rattle.desk.specs.Desk.{deskOf}
 use Rattle.desk.specs.declared.Desk.{Desk}
 use Rattle.sound.specs.Sound.{Sound, inodesIn}
 use Rattle.sound.specs.declared.Form.the-variants.{Image}
-use Rattle.answers.specs.declared.Answer.{Answer}
-use Rattle.answers.specs.declared.Answer.the-variants.{Done, Refused}
 use Rattle.answers.specs.declared.Refusal.{Refusal}
 use Rattle.answers.specs.declared.Refusal.the-variants.{WrongState}
-use Rattle.answers.specs.Told.{Told, told}
+use Rattle.answers.specs.Told.{Told}
 use Rattle.answers.proofs.RefusalLaws.{not-none}
 use Rattle.files.specs.declared.Guard.{Guard}
 use Rattle.files.specs.declared.Guard.the-variants.{Pass, Stop}
@@ -29,7 +27,6 @@ use Rattle.format.specs.Format.{freshDesk, layOutDesk}
 use Rattle.format.proofs.FreshLaws.{desk-fresh}
 use Rattle.checkpoint.specs.Fit.{isRunning, imageBlocks}
 use Rattle.checkpoint.specs.Live.{World, Outcome, refuse, threeGuards, start, step}
-use Rattle.checkpoint.specs.Shown.{Shown, shown}
 use Rattle.checkpoint.specs.List.{Ready, Event, call, advances, asks, starts, outcome, next, accepted, completes}
 use Rattle.checkpoint.proofs.RefusedLaws.{start-refused}
 use Rattle.checkpoint.proofs.Run.Going.{Running, incomplete, next-is}
@@ -52,12 +49,12 @@ module _ (w : World) (i : isRunning (w .desk) ≡ false) where
   refusing (Pass n b) = (WrongState, refl)
   refusing (Stop e) = (e, refl)
 
-  idle-step : (e : Refusal) × (outcome advances w ≡ shown (refuse e (w .store) (w .image) (w .desk)))
+  idle-step : (e : Refusal) × (outcome advances w ≡ (refuse e (w .store) (w .image) (w .desk)))
   unfolding outcome step
-  idle-step = let r = refusing (threeGuards (w .store) (w .image) (w .desk)) in (r .0, rw i (ap shown (r .1)))
+  idle-step = let r = refusing (threeGuards (w .store) (w .image) (w .desk)) in (r .0, rw i ((r .1)))
 
   idle-not : accepted advances w ≡ false
-  idle-not = let r = idle-step in ap (λ (o : Shown). eqb (o .answer .number) 0) (r .1) ∙ not-none (r .0)
+  idle-not = let r = idle-step in ap (λ (o : Outcome). eqb (o .answer .number) 0) (r .1) ∙ not-none (r .0)
 
   idle-same : next advances w ≡ w
   idle-same = let r = idle-step in next-is advances w _ (r .1)
@@ -82,13 +79,9 @@ same-count w v n e c = ap (λ (h : Desk). h .inodes) e ∙ c
 
 module _ (n : ℕ) where
   started : (w : World) → isRunning (w .desk) ≡ false → deskOf (w .desk) .inodes ≡ n → (b : Bool) → accepted starts w ≡ b → Reached n (next starts w)
-  unfolding outcome
+  unfolding outcome next
   started w i c true a = let o = opens w a in awake _ (opened-runs n (imageBlocks n (length (w .image))) w o (sym c ∙ desk-count w (o .ready)) refl .runs)
-  started w i c false a = go (start (w .store) (w .image) (w .desk) .answer) refl
-    where
-      go : (x : Answer) → start (w .store) (w .image) (w .desk) .answer ≡ x → Reached n (next starts w)
-      go (Done x) e = absurd (clash (accepted starts w) (ap (λ (y : Answer). eqb (told y .number) 0) e) a)
-      go (Refused e) h = subst (Reached n) (sym (next-is starts w _ (ap shown (start-refused (w .store) (w .image) (w .desk) e h)))) (asleep i c)
+  started w i c false a = subst (Reached n) (sym (start-refused w (eqb-false (start (w .store) (w .image) (w .desk) .answer .number) 0 a))) (asleep i c)
 
   step-reached : (b : ℕ) (w : World) → Running n b w → Stepped n b w → Reached n (next advances w)
   step-reached b w r (on g q a) = awake b (g .still)

@@ -25,8 +25,7 @@ use Rattle.layout.specs.declared.header.Header.{Header}
 use Rattle.desk.specs.Desk.{deskOf}
 use Rattle.desk.specs.declared.Desk.{Desk}
 use Rattle.files.specs.Effect.{Call}
-use Rattle.checkpoint.specs.Live.{World, left, live, step}
-use Rattle.checkpoint.specs.Shown.{world, Shown, shown}
+use Rattle.checkpoint.specs.Live.{World, left, live, step, world, Outcome}
 use Rattle.checkpoint.specs.List.{Event, advances, outcome, next, refusalOf, accepted, completes}
 use Rattle.script_lines.specs.Ask.{Ask, event, forms, asked, askOf, formIn, formOf, num}
 use Rattle.script_run.specs.Reply.{Ran, reply, ran, replyTo, stepped, answered, lineRuns, eventIn, Turned}
@@ -34,10 +33,10 @@ use Rattle.script_run.specs.declared.Reply.{Reply}
 use Rattle.script_run.specs.declared.Turn.{Turn}
 
 -- ---- calls
-pub same-call : (w : World) (x : Shown) (c e : Call) → x ≡ shown (live c w) → c ≡ e → x ≡ shown (live e w)
-same-call w x c e h q = h ∙ ap (λ (d : Call). shown (live d w)) q
+pub same-call : (w : World) (x : Outcome) (c e : Call) → x ≡ live c w → c ≡ e → x ≡ live e w
+same-call w x c e h q = h ∙ ap (λ (d : Call). (live d w)) q
 
-pub row-is : (i j : ℕ) (l : List ℕ) (w : World) (x : Shown) → x ≡ outcome (eventIn i l) w → j ≡ i → x ≡ outcome (eventIn j l) w
+pub row-is : (i j : ℕ) (l : List ℕ) (w : World) (x : Outcome) → x ≡ outcome (eventIn i l) w → j ≡ i → x ≡ outcome (eventIn j l) w
 row-is i j l w x h e = h ∙ ap (λ (k : ℕ). outcome (eventIn k l) w) (sym e)
 
 -- none of the rows before the last, as a `match` leaves it
@@ -58,17 +57,17 @@ pub refused-reply : (a : Answer) (f : Refusal) (n : ℕ) → a ≡ Refused f →
 refused-reply a f n e h = rw (e, h, not-none f) refl
 
 -- ---- a step
-module _ (s m d m₂ d₂ : List ℕ) (a : Answer) (e : shown (left a s m₂ d₂) ≡ shown (step s m d)) where
-  told-step : outcome advances (world s m d) ≡ shown (left a s m₂ d₂)
+module _ (s m d m₂ d₂ : List ℕ) (a : Answer) (e : left a s m₂ d₂ ≡ step s m d) where
+  told-step : outcome advances (world s m d) ≡ left a s m₂ d₂
   unfolding outcome
   told-step = sym e
 
   number-is : refusalOf advances (world s m d) ≡ told a .number
-  number-is = ap (λ (o : Shown). o .answer .number) told-step
+  number-is = ap (λ (o : Outcome). o .answer .number) told-step
 
   left-after : next advances (world s m d) ≡ world s m₂ d₂
   unfolding next
-  left-after = ap (λ (o : Shown). world (o .store) (o .image) (o .desk)) told-step
+  left-after = ap (λ (o : Outcome). world (o .store) (o .image) (o .desk)) told-step
 
   pub turned-done : (x : ℕ) (f : Bool) → a ≡ Done x → f ≡ eqb (headerOf m₂ .complete) isComplete → Turned (record { number = 0; finished = f }) (world s m d) m₂ d₂
   turned-done x f h q =
@@ -125,9 +124,9 @@ row-event (suc (suc (suc (suc (suc (suc zero)))))) l p = refl
 row-event (suc (suc (suc (suc (suc (suc (suc zero))))))) l p = refl
 row-event (suc (suc (suc (suc (suc (suc (suc (suc j)))))))) l p = absurd (omega arith)
 
-told-event : (e : Event) (w : World) (a : Answer) (s m d : List ℕ) → shown (left a s m d) ≡ outcome e w → ran (replyTo (told a)) (world s m d) ≡ answered (event e) w
+told-event : (e : Event) (w : World) (a : Answer) (s m d : List ℕ) → left a s m d ≡ outcome e w → ran (replyTo (told a)) (world s m d) ≡ answered (event e) w
 unfolding next
-told-event e w a s m d g = ap (λ (o : Shown). ran (replyTo (o .answer)) (world (o .store) (o .image) (o .desk))) g
+told-event e w a s m d g = ap (λ (o : Outcome). ran (replyTo (o .answer)) (world (o .store) (o .image) (o .desk))) g
 
 module _ (l : List ℕ) (w : World) (t : Found) (e : t ≡ formIn l) where
   pub line-none : t ≡ Absent → ran (reply false 0 false) w ≡ lineRuns l w
@@ -147,5 +146,5 @@ module _ (l : List ℕ) (w : World) (t : Found) (e : t ≡ formIn l) where
     unfolding asked forms
     line-steps v r k q p g = g ∙ ap (λ (x : ℕ). stepped x w false) p ∙ ap (λ (i : ℕ). answered (asked i l) w) (sym q) ∙ line-asks
 
-    pub line-calls : (a : Answer) (s m d : List ℕ) (r : Reply) → j < 8 → shown (left a s m d) ≡ outcome (eventIn j l) w → r ≡ replyTo (told a) → ran r (world s m d) ≡ lineRuns l w
+    pub line-calls : (a : Answer) (s m d : List ℕ) (r : Reply) → j < 8 → left a s m d ≡ outcome (eventIn j l) w → r ≡ replyTo (told a) → ran r (world s m d) ≡ lineRuns l w
     line-calls a s m d r p g q = ap (λ (x : Reply). ran x (world s m d)) q ∙ told-event (eventIn j l) w a s m d g ∙ ap (λ (x : Ask). answered x w) (sym (row-event j l p)) ∙ line-asks

@@ -7,8 +7,7 @@ use lib.Dec.{eqb}
 use Rattle.bounded.specs.Search.{pick}
 use Rattle.answers.specs.Told.{Told}
 use Rattle.desk.specs.Desk.{deskOf}
-use Rattle.checkpoint.specs.Live.{World}
-use Rattle.checkpoint.specs.Shown.{world}
+use Rattle.checkpoint.specs.Live.{World, world}
 use Rattle.checkpoint.specs.List.{Event, advances, asks, outcome, next, refusalOf, accepted, completes}
 use Rattle.script_lines.specs.Ask.{Ask, event, stepping, none, asked, askOf}
 use Rattle.script_run.specs.declared.Reply.{Reply}

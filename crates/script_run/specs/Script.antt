@@ -9,8 +9,7 @@ use Rattle.desk.specs.Sizes.{deskLength}
 use Rattle.sound.specs.Sound.{Sound, inodesIn}
 use Rattle.sound.specs.declared.Form.the-variants.{Image}
 use Rattle.format.specs.Format.{layOutStore, layOutDesk}
-use Rattle.checkpoint.specs.Live.{World}
-use Rattle.checkpoint.specs.Shown.{world}
+use Rattle.checkpoint.specs.Live.{World, world}
 use Rattle.script_listing.specs.Listing.{printedText}
 use Rattle.script_lines.specs.Lines.{scriptLines}
 use Rattle.script_run.specs.Reply.{lineRuns, worldAfter}

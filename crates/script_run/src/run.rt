@@ -9,7 +9,7 @@ ghost use Rattle.layout.specs.Sizes.{headerBytes, isComplete};
 ghost use Rattle.layout.specs.Header.{headerOf};
 ghost use Rattle.desk.specs.Sizes.{deskHeaderBytes};
 ghost use Rattle.desk.specs.Desk.{deskOf};
-ghost use Rattle.checkpoint.specs.Shown.{world};
+ghost use Rattle.checkpoint.specs.Live.{world};
 ghost use Rattle.script_run.specs.Reply.{ran, replyTo, stepped, lineRuns, Turned};
 use crate::Reply;
 use crate::Turn;
@@ -68,7 +68,8 @@ fn steps_so_far(desk: &[u8]) -> usize
 // Single steps: as many as are asked for, or up to the first refusal.
 fn take_steps(store: &[u8], image: &mut [u8], desk: &mut [u8], count: usize) -> Reply
     requires { ⌜ (headerBytes ≤ length (now image)) × (deskHeaderBytes ≤ length (now desk)) ⌝ }
-    ensures { λ r. ⌜ ran r (world (now (store .entry)) (now (image .exit)) (now (desk .exit))) ≡ stepped count (world (now (store .entry)) (now (image .entry)) (now (desk .entry))) false ⌝ }
+    ensures { λ r. ⌜ ran r (world (now (store .entry)) (now (image .exit)) (now (desk .exit)))
+        ≡ stepped count (world (now (store .entry)) (now (image .entry)) (now (desk .entry))) false ⌝ }
 {
     let mut finished = false;
     for k in 0..count {
@@ -112,7 +113,8 @@ fn reply_to(a: Answer) -> Reply
 // What the line asks for.
 pub fn run(line: &[u8], store: &mut [u8], image: &mut [u8], desk: &mut [u8]) -> Reply
     requires { ⌜ (headerBytes ≤ length (now image)) × (deskHeaderBytes ≤ length (now desk)) ⌝ }
-    ensures { λ r. ⌜ ran r (world (now (store .exit)) (now (image .exit)) (now (desk .exit))) ≡ lineRuns (now (line .entry)) (world (now (store .entry)) (now (image .entry)) (now (desk .entry))) ⌝ }
+    ensures { λ r. ⌜ ran r (world (now (store .exit)) (now (image .exit)) (now (desk .exit)))
+        ≡ lineRuns (now (line .entry)) (world (now (store .entry)) (now (image .entry)) (now (desk .entry))) ⌝ }
 {
     let Found::At(j) = form(line) else {
         return Reply {

@@ -21,7 +21,7 @@ sibling p t = mostSlots * (p / mostSlots) + t
 
 -- an entry stands at p
 pub record EntrySound (s : List ℕ) (n p : ℕ) : Type 0 where
-  -- "Names in a directory differ, and are legal."
+  -- "Names in a directory differ, and are legal."; F-5: "A store or image with two such names in a directory is no longer sound"
   pub legal : legalEntry (entryAt s n p) ≡ true
   pub differ : (t : ℕ) → t < slotOf p → filled s n (sibling p t) ≡ true → sameNames s n (sibling p t) p ≡ false
   -- "Entries name every inode in use but the root, and nothing else"

@@ -21,7 +21,7 @@ pub record InodeSound (s : List ℕ) (n b i : ℕ) : Type 0 where
   -- "kind (0 free, 1 file, 2 directory), a zero byte"
   pub kind : kindOf s i ≤ directoryKind
   pub spare : spareOf s i ≡ 0
-  -- "Free inodes have all-zero attributes and addresses": their addresses by rest
+  -- "Free inodes have all-zero attributes and addresses": that the addresses are 0 is said by `rest`
   pub free : kindOf s i ≡ freeKind → (linksOf s i ≡ 0) × ((sizeOf s i ≡ 0) × (parentOf s i ≡ 0))
   -- "A size of s uses the first s/64 addresses, rounded up; the rest are 0", and F-1: a file above 768 bytes has an address block among them; each kind has its limit
   pub size : sizeOf s i ≤ mostBytes (kindOf s i)

@@ -6,6 +6,7 @@ use text::Number;
 use text::numbers::number;
 use text::pieces::front;
 use trial_events::print::difference;
+use trial_record::copy::MOMENTS_BYTES;
 use trial_record::list::run;
 
 // Word k, or the number given where there is none.
@@ -21,7 +22,7 @@ fn word(k: usize, given: usize) -> usize {
 fn main() {
     let seed = word(1, 1) as u64;
     let lists = word(2, 1000) as u64;
-    let mut moments = [0u8; 2097152];
+    let mut moments = [0u8; MOMENTS_BYTES];
     let mut tried = [0u64; 30];
     for l in 0..lists {
         let wrong = run(seed, l, &mut moments, &mut tried);

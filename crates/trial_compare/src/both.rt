@@ -10,6 +10,8 @@ use check::same;
 use files::plain;
 use trial_events::event;
 use trial_events::event::Event;
+use trial_events::event::MOST_BYTES;
+use trial_events::event::SLOTS;
 use trial_events::event::spell;
 use trial_judge::copy::note_taken;
 
@@ -55,7 +57,7 @@ fn plain_differs(
 }
 
 // The entries that an accepted unlink or move took out are noted, from the stores before and after it.
-fn note(e: Event, a: Got, n: usize, before: &[u8], after: &[u8], taken: &mut [u8; 384])
+fn note(e: Event, a: Got, n: usize, before: &[u8], after: &[u8], taken: &mut [u8; SLOTS])
     requires { ⌜ n ≤ 8 ⌝ }
 {
     if a.number != 0 {
@@ -120,11 +122,11 @@ fn do_call(
     image: &mut [u8],
     desk: &mut [u8],
     beside: &mut [u8],
-    taken: &mut [u8; 384],
+    taken: &mut [u8; SLOTS],
 ) -> Both
     requires { ⌜ n ≤ 8 ⌝ }
 {
-    let mut name = [fill; 2760];
+    let mut name = [fill; MOST_BYTES];
     let mut other = [0u8; 2];
     let mut out = [FILLER; 64];
     let f = put_first(e, &mut name);
@@ -145,7 +147,7 @@ pub fn do_both(
     image: &mut [u8],
     desk: &mut [u8],
     beside: &mut [u8],
-    taken: &mut [u8; 384],
+    taken: &mut [u8; SLOTS],
 ) -> Both
     requires { ⌜ n ≤ 8 ⌝ }
 {

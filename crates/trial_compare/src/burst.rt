@@ -8,6 +8,8 @@ use crate::calls::IMAGE;
 use crate::calls::same_answer;
 use crate::calls::told;
 use check::same;
+use trial_events::event::DESK_BYTES;
+use trial_events::event::IMAGE_BYTES;
 use trial_events::event::MOST_BURST;
 use trial_judge::fields::byte;
 
@@ -89,14 +91,14 @@ fn too_long() -> Both {
 pub fn do_burst(count: usize, store: &[u8], image: &mut [u8], desk: &mut [u8]) -> Both {
     let i = image.len();
     let d = desk.len();
-    if 22800 < i {
+    if IMAGE_BYTES < i {
         return too_long();
     }
-    if 88 < d {
+    if DESK_BYTES < d {
         return too_long();
     }
-    let mut other = [0u8; 22800];
-    let mut notes = [0u8; 88];
+    let mut other = [0u8; IMAGE_BYTES];
+    let mut notes = [0u8; DESK_BYTES];
     octets::copy_range(&mut other, 0, image, 0, i);
     octets::copy_range(&mut notes, 0, desk, 0, d);
     compare(

@@ -30,19 +30,35 @@ pub const STEP: usize = 11;
 
 pub const BURST: usize = 12;
 
-// Names by number: so many, then each with a capital letter, and after them one that no entry may have.
+// Names by number: the first 64 in small letters, the next 64 the same with a capital letter, and then one that no entry may have.
 const NAMES: usize = 64;
 
 const SPELLINGS: usize = 2 * NAMES;
 
 const FEW_NAMES: usize = 4;
 
-// At most so many are written, less one: a few more than a file may have. A read's out-buffer.
-const MOST_BYTES: usize = 2760;
+// The largest store of a list has 8 inodes and 59 blocks, and the largest image 352 blocks: their slots, and lengths in bytes.
+const MOST_INODES: usize = 8;
 
+const MOST_BLOCKS: usize = 59;
+
+const MOST_IMAGE_BLOCKS: usize = 352;
+
+pub const SLOTS: usize = 48 * MOST_INODES;
+
+pub const STORE_BYTES: usize = 16 + 32 * MOST_INODES + 64 * MOST_BLOCKS;
+
+pub const IMAGE_BYTES: usize = 16 + 32 * MOST_INODES + 64 * MOST_IMAGE_BLOCKS;
+
+pub const DESK_BYTES: usize = 16 + 9 * MOST_INODES;
+
+// A write has fewer bytes than this, which is a few more than a file may have.
+pub const MOST_BYTES: usize = 2760;
+
+// The length of a read's out-buffer.
 pub const OUT_BYTES: usize = 64;
 
-// A burst makes 1 to so many steps.
+// The most steps of a burst.
 pub const MOST_BURST: usize = 64;
 
 // Counts of inodes, blocks and image blocks; whether the list fills a directory; how many directories it makes before all else.

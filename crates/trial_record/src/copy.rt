@@ -16,6 +16,7 @@ use trial_compare::calls::Got;
 use trial_events::event;
 use trial_events::event::Event;
 use trial_events::event::MOST_BURST;
+use trial_events::event::SLOTS;
 use trial_judge::again::blocks_again;
 use trial_judge::again::files_crossed;
 use trial_judge::again::files_long;
@@ -32,6 +33,8 @@ const FULL: usize = 16;
 const BAD_COUNT: usize = 17;
 
 const MOST_MOMENTS: usize = 512;
+
+pub const MOMENTS_BYTES: usize = MOMENT_BYTES * MOST_MOMENTS;
 
 // More than a copy of a list's store has.
 const MOST_STEPS: usize = 1000;
@@ -63,7 +66,7 @@ fn wrong_unless(right: bool, what: usize) -> usize {
 }
 
 // The store is moment m.
-fn remember(store: &[u8], moments: &mut [u8; 2097152], m: usize) {
+fn remember(store: &[u8], moments: &mut [u8; MOMENTS_BYTES], m: usize) {
     let k = store.len();
     if k <= MOMENT_BYTES {
         if m < moments.len() / MOMENT_BYTES {
@@ -87,8 +90,8 @@ fn finish_right(
     n: usize,
     store: &[u8],
     image: &[u8],
-    moments: &[u8; 2097152],
-    taken: &[u8; 384],
+    moments: &[u8; MOMENTS_BYTES],
+    taken: &[u8; SLOTS],
     tried: &mut [u64; 30],
 ) -> bool
     requires { ⌜ n ≤ 8 ⌝ }
@@ -152,8 +155,8 @@ fn stepped(
     n: usize,
     store: &[u8],
     image: &[u8],
-    moments: &[u8; 2097152],
-    taken: &[u8; 384],
+    moments: &[u8; MOMENTS_BYTES],
+    taken: &[u8; SLOTS],
     tried: &mut [u64; 30],
 ) -> Next
     requires { ⌜ n ≤ 8 ⌝ }
@@ -181,8 +184,8 @@ fn stepped(
 }
 
 // An accepted start: the first moment, and nothing taken out.
-fn started(store: &[u8], moments: &mut [u8; 2097152], taken: &mut [u8; 384]) -> Copy {
-    octets::zero_range(&mut *taken, 0, 384);
+fn started(store: &[u8], moments: &mut [u8; MOMENTS_BYTES], taken: &mut [u8; SLOTS]) -> Copy {
+    octets::zero_range(&mut *taken, 0, SLOTS);
     remember(store, &mut *moments, 0);
     Copy {
         moments: 1,
@@ -191,7 +194,7 @@ fn started(store: &[u8], moments: &mut [u8; 2097152], taken: &mut [u8; 384]) -> 
 }
 
 // An accepted file call: one more moment of a copy under way.
-fn called(copy: Copy, store: &[u8], moments: &mut [u8; 2097152]) -> Copy {
+fn called(copy: Copy, store: &[u8], moments: &mut [u8; MOMENTS_BYTES]) -> Copy {
     let m = copy.moments;
     if m == 0 {
         return copy;
@@ -247,8 +250,8 @@ pub fn follow(
     n: usize,
     store: &[u8],
     image: &[u8],
-    moments: &mut [u8; 2097152],
-    taken: &mut [u8; 384],
+    moments: &mut [u8; MOMENTS_BYTES],
+    taken: &mut [u8; SLOTS],
     tried: &mut [u64; 30],
 ) -> Next
     requires { ⌜ n ≤ 8 ⌝ }

@@ -3,6 +3,7 @@ ghost use Prim.Native.Nat.{_+_, _*_, _≤_};
 ghost use mathlib.Core.Path.{_≡_};
 ghost use Rattle.trial_events.specs.Small.{Small};
 use crate::copy::Copy;
+use crate::copy::MOMENTS_BYTES;
 use crate::copy::Next;
 use crate::copy::follow;
 use crate::tried::EVENTS;
@@ -14,7 +15,11 @@ use trial_compare::both::do_both;
 use trial_compare::calls::ALIKE;
 use trial_compare::calls::Got;
 use trial_events::event;
+use trial_events::event::DESK_BYTES;
 use trial_events::event::Event;
+use trial_events::event::IMAGE_BYTES;
+use trial_events::event::SLOTS;
+use trial_events::event::STORE_BYTES;
 use trial_events::event::Shape;
 use trial_judge::copy::moment;
 use trial_judge::fields::kind;
@@ -62,8 +67,8 @@ pub fn turn(
     image: &mut [u8],
     desk: &mut [u8],
     beside: &mut [u8],
-    moments: &mut [u8; 2097152],
-    taken: &mut [u8; 384],
+    moments: &mut [u8; MOMENTS_BYTES],
+    taken: &mut [u8; SLOTS],
     tried: &mut [u64; 30],
 ) -> Next
     requires { ⌜ n ≤ 8 ⌝ }
@@ -99,8 +104,8 @@ fn run_events(
     image: &mut [u8],
     desk: &mut [u8],
     beside: &mut [u8],
-    moments: &mut [u8; 2097152],
-    taken: &mut [u8; 384],
+    moments: &mut [u8; MOMENTS_BYTES],
+    taken: &mut [u8; SLOTS],
     tried: &mut [u64; 30],
 ) -> u64
     requires { ⌜ Small shape ⌝ }
@@ -148,8 +153,8 @@ fn run_fresh(
     image: &mut [u8],
     desk: &mut [u8],
     beside: &mut [u8],
-    moments: &mut [u8; 2097152],
-    taken: &mut [u8; 384],
+    moments: &mut [u8; MOMENTS_BYTES],
+    taken: &mut [u8; SLOTS],
     tried: &mut [u64; 30],
 ) -> u64
     requires { ⌜ Small shape ⌝ }
@@ -175,17 +180,17 @@ fn run_fresh(
 }
 
 // Runs a list, and answers as above.
-pub fn run(seed: u64, list: u64, moments: &mut [u8; 2097152], tried: &mut [u64; 30]) -> u64 {
+pub fn run(seed: u64, list: u64, moments: &mut [u8; MOMENTS_BYTES], tried: &mut [u64; 30]) -> u64 {
     let shape = event::shape_of(seed, list);
     let n = shape.inodes;
     let s = length_of(n, shape.blocks);
     let i = length_of(n, shape.image);
     let d = 16 + 9 * n;
-    let mut store = [0u8; 4048];
-    let mut image = [0u8; 22800];
-    let mut desk = [0u8; 88];
-    let mut beside = [0u8; 4048];
-    let mut taken = [0u8; 384];
+    let mut store = [0u8; STORE_BYTES];
+    let mut image = [0u8; IMAGE_BYTES];
+    let mut desk = [0u8; DESK_BYTES];
+    let mut beside = [0u8; STORE_BYTES];
+    let mut taken = [0u8; SLOTS];
     run_fresh(
         seed,
         list,

@@ -6,36 +6,31 @@ use mathlib.Core.List.{List, [], _∷_}
 use lib.Dec.{eqb}
 use Rattle.bounded.specs.Search.{pick}
 use Rattle.bounded.proofs.BoolLaws.{or-r}
-use Rattle.answers.specs.declared.Refusal.{Refusal}
-use Rattle.answers.specs.declared.Answer.{Answer}
-use Rattle.answers.specs.declared.Answer.the-variants.{Done, Refused}
+use Rattle.answers.specs.declared.Answer.the-variants.{Refused}
 use Rattle.answers.specs.Refusal.{refusalNumber}
 use Rattle.answers.specs.Told.{Told, told}
 use Rattle.answers.proofs.RefusalLaws.{known}
-use Rattle.answers.specs.Order.{Row, firstOf, inOrder, lookedAt, among}
+use Rattle.answers.specs.Order.{Row, inOrder, lookedAt, among}
 use Rattle.files.specs.Effect.{lookUp, read, create, write, shorten, link, unlink, rename}
 use Rattle.checkpoint.specs.Live.{World, Outcome}
-use Rattle.checkpoint.specs.Shown.{toldStatus}
-use Rattle.checkpoint.specs.Table.{askTable}
 use Rattle.checkpoint.specs.List.{call, advances, asks, starts, outcome}
 use Rattle.checkpoint.specs.Burst.{Act, one, bursts}
-use Rattle.checkpoint.proofs.DecisionLaws.{asStatus}
+use Rattle.checkpoint.proofs.ConditionLaws.{firstOf}
 use Rattle.checkpoint.proofs.TableLaws.{look-up-table, read-table, create-table, write-table, shorten-table, link-table, unlink-table, rename-table, look-up-alone, read-alone}
 use Rattle.checkpoint.proofs.CopierTables.{start-table, step-table, status-table}
 use Rattle.checkpoint.proofs.BurstTables.{burst-table}
 use Rattle.checkpoint.proofs.RowLaws.{look-up-in-order, read-in-order, create-in-order, write-in-order, shorten-in-order, link-in-order, unlink-in-order, rename-in-order, start-in-order, step-in-order, status-in-order, burst-in-order}
 use Rattle.watch.specs.Answered.{ByTable, result, holds, passes, Answered, tableOf, resultOf}
-use Rattle.watch.specs.Claim.{outcomeOf}
+use Rattle.watch.specs.Received.{outcomeOf}
 
 -- ---- tables
--- the first condition that holds; f tells an answer
-by-first : (f : Answer → Told) (vs : List ℕ) (x : ℕ) → f (Done x) ≡ record { number = 0; values = vs } → ((e : Refusal) → f (Refused e) ≡ record { number = refusalNumber e; values = [] })
-    → (rs : List Row) → ByTable vs rs (f (firstOf rs (Done x)))
-by-first f vs x p q [] = rw p result
-by-first f vs x p q (r ∷ rs) = go (r .holds) refl (by-first f vs x p q rs)
+-- the first condition that holds
+by-first : (vs : List ℕ) (rs : List Row) → ByTable vs rs (firstOf rs (record { number = 0; values = vs }))
+by-first vs [] = result
+by-first vs (r ∷ rs) = go (r .holds) refl (by-first vs rs)
   where
-    go : (b : Bool) → r .holds ≡ b → ByTable vs rs (f (firstOf rs (Done x))) → ByTable vs (r ∷ rs) (f (pick b (Refused (r .refusal)) (firstOf rs (Done x))))
-    go true h t = rw (q (r .refusal)) (holds h)
+    go : (b : Bool) → r .holds ≡ b → ByTable vs rs (firstOf rs (record { number = 0; values = vs })) → ByTable vs (r ∷ rs) (pick b (told (Refused (r .refusal))) (firstOf rs (record { number = 0; values = vs })))
+    go true h t = holds h
     go false h t = passes h t
 
 pub known-by : {vs : List ℕ} {rs : List Row} {t : Told} → ByTable vs rs t → among (0 ∷ lookedAt) (t .number) ≡ true
@@ -43,8 +38,8 @@ known-by result = refl
 known-by (holds {r} h) = or-r (eqb 0 (refusalNumber (r .refusal))) (among lookedAt (refusalNumber (r .refusal))) (known (r .refusal))
 known-by (passes h b) = known-by b
 
-by-answer : (rs : List Row) (x : ℕ) (a : Answer) → a ≡ firstOf rs (Done x) → ByTable (x ∷ []) rs (told a)
-by-answer rs x a h = rw h (by-first told (x ∷ []) x refl (λ e. refl) rs)
+by-answer : (vs : List ℕ) (rs : List Row) (t : Told) → t ≡ firstOf rs (record { number = 0; values = vs }) → ByTable vs rs t
+by-answer vs rs t h = rw h (by-first vs rs)
 
 -- ---- each call's answer is by its table
 module _ (w : World) where
@@ -60,7 +55,7 @@ module _ (w : World) where
   by-table (one (call (rename d name e other))) = by-answer _ _ _ (rename-table w d name e other)
   by-table (one starts) = by-answer _ _ _ (start-table (w .store) (w .image) (w .desk))
   by-table (one advances) = by-answer _ _ _ (step-table (w .store) (w .image) (w .desk))
-  by-table (one asks) = rw (status-table (w .store) (w .image) (w .desk)) (by-first (λ a. toldStatus (asStatus a (w .desk))) _ 0 refl (λ e. refl) (askTable (w .store) (w .image) (w .desk)))
+  by-table (one asks) = by-answer _ _ _ (status-table (w .store) (w .image) (w .desk))
   by-table (bursts k) = by-answer _ _ _ (burst-table k w)
 
   table-in-order : (x : Act) → inOrder 0 (tableOf x w) ≡ true

@@ -1,7 +1,7 @@
 -- The hypotheses of specs/Made.antt are the contracts of the code: what a caller learns of a call by its contract, whatever the arguments, makes it one of the ways to have made that call.
 -- a are the arguments, z is the result, e the parameters at exit; m and d are an image and a desk that the call does not have.
 use Prim.Native.Nat.{ℕ}
-use mathlib.Core.Path.{_≡_}
+use mathlib.Core.Path.{_≡_, refl}
 use mathlib.Core.List.{List, []}
 use contract.Lifetimes.{Lfts}
 use denote.Ref.{now}
@@ -11,13 +11,14 @@ use Rattle.sound.specs.Test.{isSound}
 use Rattle.answers.specs.Told.{told}
 use Rattle.format.specs.Format.{laidOut, layOutStore, layOutDesk}
 use Rattle.files.specs.Effect.{lookUp, read, create, write, shorten, link, unlink, rename}
-use Rattle.checkpoint.specs.Shown.{world, toldStatus}
+use Rattle.files.specs.Plain.{got}
+use Rattle.checkpoint.specs.Live.{world, toldStatus}
 use Rattle.checkpoint.specs.List.{call, advances, asks, starts}
 use Rattle.checkpoint.specs.Burst.{one, bursts}
 use Rattle.laps.specs.Walk.{lists}
 use Rattle.laps.specs.Call.{left, matchLaps}
 use Rattle.keeping.specs.Call as keeping
-use Rattle.watch.specs.Made.{got, Did, looked-up, has-read, created, written, shortened, linked, unlinked, renamed, started, stepped, asked, stepped-many}
+use Rattle.watch.specs.Made.{Did, on-store, on-three, started, stepped, asked, stepped-many}
 use Rattle.files.proofs.plain.look_up.Kinds as look-up-kinds
 use Rattle.files.proofs.plain.look_up.Reads as look-up-reads
 use Rattle.files.proofs.plain.read.Kinds as read-kinds
@@ -60,53 +61,53 @@ Gives n ps r learnt D = (κs : Lfts n) (a : Dens κs ps) (z : resT r κs .Denot)
 -- ---- the calls on the store alone
 pub look-up-made : (m d : List ℕ) → Gives 2 look-up-kinds.ps look-up-kinds.r look-up-reads.Learnt (λ κs a z e.
     Did (one (call (lookUp (a .1 .0) (now (a .1 .1 .0))))) (world (now (a .0)) m d) (got (told z) []) (world (now (a .0)) m d))
-look-up-made m d κs a z e h = looked-up z h
+look-up-made m d κs a z e h = on-store (told z) refl h
 
 pub read-made : (m d : List ℕ) → Gives 2 read-kinds.ps read-kinds.r read-reads.Learnt (λ κs a z e.
     Did (one (call (read (a .1 .0) (a .1 .1 .0) (now (a .1 .1 .1 .0))))) (world (now (a .0)) m d) (got (told z) (now (e .1 .1 .1 .0))) (world (now (a .0)) m d))
-read-made m d κs a z e h = has-read z h
+read-made m d κs a z e h = on-store (told z) refl h
 
 -- ---- the file calls over the three buffers
 pub create-made : Gives 4 create-kinds.ps create-kinds.r create-reads.Learnt (λ κs a z e.
     Did (one (call (create (a .1 .1 .1 .0) (now (a .1 .1 .1 .1 .0)) (a .1 .1 .1 .1 .1 .0)))) (world (now (a .0)) (now (a .1 .0)) (now (a .1 .1 .0))) (got (told z) []) (world (now (e .0)) (now (e .1 .0)) (now (e .1 .1 .0))))
-create-made κs a z e h = created z h
+create-made κs a z e h = on-three (told z) refl h
 
 pub write-made : Gives 4 write-kinds.ps write-kinds.r write-reads.Learnt (λ κs a z e.
     Did (one (call (write (a .1 .1 .1 .0) (a .1 .1 .1 .1 .0) (now (a .1 .1 .1 .1 .1 .0))))) (world (now (a .0)) (now (a .1 .0)) (now (a .1 .1 .0))) (got (told z) []) (world (now (e .0)) (now (e .1 .0)) (now (e .1 .1 .0))))
-write-made κs a z e h = written z h
+write-made κs a z e h = on-three (told z) refl h
 
 pub shorten-made : Gives 3 shorten-kinds.ps shorten-kinds.r shorten-reads.Learnt (λ κs a z e.
     Did (one (call (shorten (a .1 .1 .1 .0) (a .1 .1 .1 .1 .0)))) (world (now (a .0)) (now (a .1 .0)) (now (a .1 .1 .0))) (got (told z) []) (world (now (e .0)) (now (e .1 .0)) (now (e .1 .1 .0))))
-shorten-made κs a z e h = shortened z h
+shorten-made κs a z e h = on-three (told z) refl h
 
 pub link-made : Gives 4 link-kinds.ps link-kinds.r link-reads.Learnt (λ κs a z e.
     Did (one (call (link (a .1 .1 .1 .0) (now (a .1 .1 .1 .1 .0)) (a .1 .1 .1 .1 .1 .0)))) (world (now (a .0)) (now (a .1 .0)) (now (a .1 .1 .0))) (got (told z) []) (world (now (e .0)) (now (e .1 .0)) (now (e .1 .1 .0))))
-link-made κs a z e h = linked z h
+link-made κs a z e h = on-three (told z) refl h
 
 pub unlink-made : Gives 4 unlink-kinds.ps unlink-kinds.r unlink-reads.Learnt (λ κs a z e.
     Did (one (call (unlink (a .1 .1 .1 .0) (now (a .1 .1 .1 .1 .0))))) (world (now (a .0)) (now (a .1 .0)) (now (a .1 .1 .0))) (got (told z) []) (world (now (e .0)) (now (e .1 .0)) (now (e .1 .1 .0))))
-unlink-made κs a z e h = unlinked z h
+unlink-made κs a z e h = on-three (told z) refl h
 
 pub rename-made : Gives 5 rename-kinds.ps rename-kinds.r rename-reads.Learnt (λ κs a z e.
     Did (one (call (rename (a .1 .1 .1 .0) (now (a .1 .1 .1 .1 .0)) (a .1 .1 .1 .1 .1 .0) (now (a .1 .1 .1 .1 .1 .1 .0))))) (world (now (a .0)) (now (a .1 .0)) (now (a .1 .1 .0))) (got (told z) []) (world (now (e .0)) (now (e .1 .0)) (now (e .1 .1 .0))))
-rename-made κs a z e h = renamed z h
+rename-made κs a z e h = on-three (told z) refl h
 
 -- ---- start, step, burst and state
 pub start-made : Gives 3 start-kinds.ps start-kinds.r start-reads.Learnt (λ κs a z e.
     Did (one starts) (world (now (a .0)) (now (a .1 .0)) (now (a .1 .1 .0))) (got (told z) []) (world (now (a .0)) (now (e .1 .0)) (now (e .1 .1 .0))))
-start-made κs a z e h = started z h
+start-made κs a z e h = started (told z) h
 
 pub step-made : Gives 3 step-kinds.ps step-kinds.r step-reads.Learnt (λ κs a z e.
     Did (one advances) (world (now (a .0)) (now (a .1 .0)) (now (a .1 .1 .0))) (got (told z) []) (world (now (a .0)) (now (e .1 .0)) (now (e .1 .1 .0))))
-step-made κs a z e h = stepped z h
+step-made κs a z e h = stepped (told z) h
 
 pub burst-made : Gives 3 burst-kinds.ps burst-kinds.r burst-reads.Learnt (λ κs a z e.
     Did (bursts (a .1 .1 .1 .0)) (world (now (a .0)) (now (a .1 .0)) (now (a .1 .1 .0))) (got (told z) []) (world (now (a .0)) (now (e .1 .0)) (now (e .1 .1 .0))))
-burst-made κs a z e h = stepped-many z h
+burst-made κs a z e h = stepped-many (told z) h
 
 pub state-made : Gives 3 state-kinds.ps state-kinds.r state-reads.Learnt (λ κs a z e.
     Did (one asks) (world (now (a .0)) (now (a .1 .0)) (now (a .1 .1 .0))) (got (toldStatus z) []) (world (now (a .0)) (now (a .1 .0)) (now (a .1 .1 .0))))
-state-made κs a z e h = asked z h
+state-made κs a z e h = asked (toldStatus z) h
 
 -- ---- the layout calls, of which `FirstDemand` (specs/Answered.antt) has the same hypothesis; the dealer's is in dealer/proofs/Contract.antt
 pub lay-store-made : Gives 1 lay-store-kinds.ps lay-store-kinds.r lay-store-reads.Learnt (λ κs a z e. laidOut z (now (e .0)) ≡ layOutStore (now (a .0)) (a .1 .0) (a .1 .1 .0))

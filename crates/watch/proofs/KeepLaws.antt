@@ -1,6 +1,6 @@
 -- What a refused call leaves, on any world: everything as it was, save that 16, which comes to a step, or to a burst by its first step, stops the copy.
 use Prim.Native.Nat.{ℕ, _≤_}
-use mathlib.Core.Path.{_≡_, refl, ap, _∙_}
+use mathlib.Core.Path.{_≡_, refl, ap}
 use mathlib.Core.Bool.{Bool, true, not, _&&_}
 use mathlib.Core.List.{List, [], _∷_, _++_}
 use mathlib.Core.Logic.{_⊎_, inl, inr}
@@ -14,59 +14,25 @@ use Rattle.bounded.proofs.BoolLaws.{and-left, and-right}
 use Rattle.desk.specs.Sizes.{deskHeaderBytes}
 use Rattle.desk.specs.Desk.{deskOf, putDesk}
 use Rattle.desk.specs.Next.{stopping}
-use Rattle.answers.specs.declared.Refusal.{Refusal}
-use Rattle.answers.specs.declared.Refusal.the-variants.{BadBuffer, UnsoundStore, BadDesk, IllegalName, WrongInode, NameAbsent, NameTaken, NotEmpty, PastEnd, IntoItself, NoInode, NoBlocks, NoSlot, Busy, WrongState, ImageFull, BadCount, BadTurn, NoDate, BadTerms, AfterAsked, BadTimes}
-use Rattle.answers.specs.declared.Answer.{Answer}
-use Rattle.answers.specs.declared.Answer.the-variants.{Done, Refused}
+use Rattle.answers.specs.declared.Refusal.the-variants.{ImageFull}
 use Rattle.answers.specs.Refusal.{refusalNumber}
 use Rattle.answers.specs.Told.{Told}
 use Rattle.answers.specs.Order.{Row}
 use Rattle.files.specs.Effect.{lookUp, read, create, write, shorten, link, unlink, rename}
 use Rattle.checkpoint.specs.Fit.{deskFramed}
-use Rattle.checkpoint.specs.Live.{World, Outcome, live, start, step}
-use Rattle.checkpoint.specs.Shown.{world, numberOf}
+use Rattle.checkpoint.specs.Live.{World, Outcome, step, world}
 use Rattle.checkpoint.specs.Table.{liveRows, lookUpTable, readTable, createTable, writeTable, shortenTable, linkTable, unlinkTable, renameTable, startTable, stepTable}
 use Rattle.checkpoint.specs.List.{call, advances, asks, starts, outcome, next, refusalOf}
 use Rattle.checkpoint.specs.Burst.{burst, Act, one, bursts}
 use Rattle.checkpoint.specs.Progress.{Stopped}
 use Rattle.checkpoint.proofs.Copy.FitLaws.{desk-framed-is}
-use Rattle.checkpoint.proofs.RefusedLaws.{Keeps, live-refused, start-refused, step-refused, step-full, burst-refused}
+use Rattle.checkpoint.proofs.RefusedLaws.{live-refused, start-refused, step-refused, burst-refused}
 use Rattle.checkpoint.proofs.BurstTables.{Ends, lengths, number, first, counts, ends}
 use Rattle.checkpoint.proofs.Run.Stops.{stop-leaves}
 use Rattle.checkpoint.proofs.Run.Busies.{out-kept}
 use Rattle.watch.specs.Answered.{ByTable, result, holds, passes, tableOf, lentTo, GetsFull, by-step, by-first}
-use Rattle.watch.specs.Claim.{outcomeOf, nextOf, outAfter}
+use Rattle.watch.specs.Received.{outcomeOf, nextOf, outAfter}
 use Rattle.watch.proofs.AnswerLaws.{by-table}
-
--- ---- 16
--- it has a number of its own
-is-full : (e : Refusal) → refusalNumber e ≡ refusalNumber ImageFull → e ≡ ImageFull
-is-full BadBuffer h = absurd (omega arith)
-is-full UnsoundStore h = absurd (omega arith)
-is-full BadDesk h = absurd (omega arith)
-is-full IllegalName h = absurd (omega arith)
-is-full WrongInode h = absurd (omega arith)
-is-full NameAbsent h = absurd (omega arith)
-is-full NameTaken h = absurd (omega arith)
-is-full NotEmpty h = absurd (omega arith)
-is-full PastEnd h = absurd (omega arith)
-is-full IntoItself h = absurd (omega arith)
-is-full NoInode h = absurd (omega arith)
-is-full NoBlocks h = absurd (omega arith)
-is-full NoSlot h = absurd (omega arith)
-is-full Busy h = absurd (omega arith)
-is-full WrongState h = absurd (omega arith)
-is-full ImageFull h = refl
-is-full BadCount h = absurd (omega arith)
-is-full BadTurn h = absurd (omega arith)
-is-full NoDate h = absurd (omega arith)
-is-full BadTerms h = absurd (omega arith)
-is-full AfterAsked h = absurd (omega arith)
-is-full BadTimes h = absurd (omega arith)
-
-answer-full : (a : Answer) → numberOf a ≡ refusalNumber ImageFull → a ≡ Refused ImageFull
-answer-full (Done x) h = absurd (omega arith)
-answer-full (Refused e) h = ap Refused (is-full e h)
 
 -- a table without it does not give it
 abbrev lacksFull : List Row → Bool
@@ -111,7 +77,7 @@ module _ (w : World) where
   -- what it leaves
   full-leaves : refusalOf advances w ≡ refusalNumber ImageFull → next advances w ≡ world (w .store) (w .image) stoppedDesk
   unfolding next outcome
-  full-leaves h = ap (λ (o : Outcome). world (o .store) (o .image) (o .desk)) (step-full (w .store) (w .image) (w .desk) (answer-full (step (w .store) (w .image) (w .desk) .answer) h))
+  full-leaves h = step-refused w .stops h
 
   desk-there : refusalOf advances w ≡ refusalNumber ImageFull → deskHeaderBytes ≤ length (w .desk)
   unfolding tableOf stepTable
@@ -121,14 +87,14 @@ module _ (w : World) where
   full-stops h = rw (full-leaves h) (stop-leaves w (desk-there h))
 
   -- a burst's is that of its first step
-  burst-full : (k : ℕ) → numberOf (burst k w .answer) ≡ refusalNumber ImageFull → burst k w ≡ step (w .store) (w .image) (w .desk)
+  burst-full : (k : ℕ) → burst k w .answer .number ≡ refusalNumber ImageFull → burst k w ≡ step (w .store) (w .image) (w .desk)
   burst-full k h = go (ends k w)
     where
       go : Ends k w → burst k w ≡ step (w .store) (w .image) (w .desk)
-      go (lengths f e t) = absurd (omega (arith, ap (λ (o : Outcome). numberOf (o .answer)) e))
-      go (number f a e t) = absurd (omega (arith, ap (λ (o : Outcome). numberOf (o .answer)) e))
+      go (lengths f e t) = absurd (omega (arith, ap (λ (o : Outcome). o .answer .number) e))
+      go (number f a e t) = absurd (omega (arith, ap (λ (o : Outcome). o .answer .number) e))
       go (first f a r e t) = e
-      go (counts f a r e) = absurd (omega (arith, ap numberOf e))
+      go (counts f a r e) = absurd (omega (arith, ap (λ (t : Told). t .number) e))
 
   pub stops : (x : Act) → outcomeOf x w .answer .number ≡ refusalNumber ImageFull → GetsFull w x × Stopped w (nextOf x w)
   unfolding next outcome
@@ -142,21 +108,13 @@ module _ (w : World) where
       go (a-burst {k}) q = let e = burst-full k q in let r = rw e at q in (by-first r, rw e (full-stops r))
 
   -- ---- the other refusals
-  -- an outcome that keeps the buffers if it is a refusal
-  kept : (o : Outcome) → Keeps (w .store) (w .image) (w .desk) o → (numberOf (o .answer) ≡ 0 → ⊥) → world (o .store) (o .image) (o .desk) ≡ w
-  kept o k n = go (o .answer) refl
-    where
-      go : (a : Answer) → o .answer ≡ a → world (o .store) (o .image) (o .desk) ≡ w
-      go (Done x) h = absurd (n (ap numberOf h))
-      go (Refused e) h = ap (λ (q : Outcome). world (q .store) (q .image) (q .desk)) (k e h)
-
   pub keeps : (x : Act) → (outcomeOf x w .answer .number ≡ 0 → ⊥) → (outcomeOf x w .answer .number ≡ refusalNumber ImageFull → ⊥) → nextOf x w ≡ w
   unfolding outcome
-  keeps (one (call c)) n f = kept (live c w) (live-refused c w) n
-  keeps (one starts) n f = kept (start (w .store) (w .image) (w .desk)) (start-refused (w .store) (w .image) (w .desk)) n
-  keeps (one advances) n f = kept (step (w .store) (w .image) (w .desk)) (λ e h. step-refused (w .store) (w .image) (w .desk) e (λ z. f (ap numberOf h ∙ ap refusalNumber z)) h) n
+  keeps (one (call c)) n f = live-refused w c n
+  keeps (one starts) n f = start-refused w n
+  keeps (one advances) n f = step-refused w .keeps n f
   keeps (one asks) n f = refl
-  keeps (bursts k) n f = kept (burst k w) (λ e h. burst-refused (w .store) (w .image) (w .desk) k e (λ z. f (ap numberOf h ∙ ap refusalNumber z)) h) n
+  keeps (bursts k) n f = burst-refused w k .keeps n f
 
   -- a read's out-buffer
   pub out-keeps : (x : Act) → (outcomeOf x w .answer .number ≡ 0 → ⊥) → outAfter x w ≡ lentTo x

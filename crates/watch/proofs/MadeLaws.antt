@@ -1,55 +1,50 @@
 -- A call made on the code is what its definition gives, by its contract, and so is a list of calls.
 use Prim.Native.Nat.{ℕ}
 use mathlib.Core.Path.{_≡_, refl, sym, ap, ap₂, _∙_}
-use mathlib.Core.Bool.{false}
+use mathlib.Core.Bool.{true, true≢false}
 use mathlib.Core.List.{List, [], _∷_}
-use Rattle.answers.specs.declared.Answer.{Answer}
-use Rattle.answers.specs.Told.{Told, told}
-use Rattle.files.specs.Effect.{Call}
-use Rattle.files.specs.Plain.{PlainShown}
-use Rattle.checkpoint.specs.Live.{World, left, storeAlone, live}
-use Rattle.checkpoint.specs.Shown.{world, Shown, shown}
-use Rattle.checkpoint.specs.List.{call, outcome, run}
-use Rattle.checkpoint.specs.Burst.{Act, one, singles}
+use Rattle.answers.specs.Told.{Told}
+use Rattle.files.specs.Effect.{Call, lookUp, read, create, write, shorten, link, unlink, rename}
+use Rattle.files.specs.Plain.{Received, got, PlainOutcome, plain}
+use Rattle.checkpoint.specs.Live.{World, Outcome, tells, worldIn, storeAlone, live, outOf}
+use Rattle.checkpoint.specs.List.{call, advances, starts, outcome, run}
+use Rattle.checkpoint.specs.Burst.{Act, one, bursts, singles}
 use Rattle.checkpoint.proofs.TableLaws.{look-up-alone, read-alone}
-use Rattle.watch.specs.Made.{Received, got, Did, looked-up, has-read, created, written, shortened, linked, unlinked, renamed, started, stepped, asked, stepped-many, Made, none, then}
-use Rattle.watch.specs.Claim.{outcomeOf, nextOf, outAfter, received}
+use Rattle.watch.specs.Received.{outcomeOf, outAfter, received}
+use Rattle.watch.specs.Claim.{AsDefined}
+use Rattle.watch.specs.Made.{Did, on-store, on-three, started, stepped, asked, stepped-many, Made, none, then}
 use Rattle.watch.proofs.OutLaws.{no-out, look-up-out, read-out}
 use Rattle.watch.proofs.SinglesLaws.{singles-next}
 
--- the world that is left, and what the caller gets, are the definition's
-pub record AsDefined (x : Act) (w : World) (a : Received) (v : World) : Type 0 where
-  pub world : v ≡ nextOf x w
-  pub got : a ≡ got (outcomeOf x w .answer) (outAfter x w)
-
 module _ (w : World) where
-  -- an outcome is shown as it is defined
-  by-outcome : (x : Act) (t : Told) (s m d out : List ℕ) → record { answer = t; store = s; image = m; desk = d } ≡ outcomeOf x w → out ≡ outAfter x w → AsDefined x w (got t out) (world s m d)
-  by-outcome x t s m d out h k = record { world = ap (λ (o : Shown). world (o .store) (o .image) (o .desk)) h; got = ap₂ got (ap (λ (o : Shown). o .answer) h) k }
+  -- what is left and told is the definition's
+  by-outcome : (x : Act) (t : Told) (v : World) (out : List ℕ) → tells t (v .store) (v .image) (v .desk) ≡ outcomeOf x w → out ≡ outAfter x w → AsDefined x w (got t out) v
+  by-outcome x t v out h k = record { world = ap worldIn h; got = ap₂ got (ap (λ (o : Outcome). o .answer) h) k }
 
-  -- a call over the three buffers
-  by-live : (c : Call) → storeAlone c ≡ false → (r : Answer) (v : World) → shown (left r (v .store) (v .image) (v .desk)) ≡ shown (live c w) → AsDefined (one (call c)) w (got (told r) []) v
-  unfolding outcome
-  by-live c n r v h = by-outcome (one (call c)) (told r) (v .store) (v .image) (v .desk) [] h (sym (no-out w c n))
+  -- a call on the store alone leaves what the plain store does
+  abbrev beside : PlainOutcome → Outcome
+  beside o = tells (o .answer) (o .store) (w .image) (w .desk)
 
-  -- one on the store alone
-  abbrev beside : PlainShown → Shown
-  beside o = record { answer = o .answer; store = o .store; image = w .image; desk = w .desk }
+  alone : (c : Call) → storeAlone c ≡ true → (live c w ≡ beside (plain c (w .store))) × (outOf c w ≡ plain c (w .store) .out)
+  alone (lookUp d name) h = (look-up-alone w d name, look-up-out w d name)
+  alone (read i o out) h = (read-alone w i o out, read-out w i o out)
+  alone (create d name k) h = absurd (true≢false (sym h))
+  alone (write i o xs) h = absurd (true≢false (sym h))
+  alone (shorten i z) h = absurd (true≢false (sym h))
+  alone (link d name i) h = absurd (true≢false (sym h))
+  alone (unlink d name) h = absurd (true≢false (sym h))
+  alone (rename d name e other) h = absurd (true≢false (sym h))
 
 pub did : {x : Act} {w v : World} {a : Received} → Did x w a v → AsDefined x w a v
 unfolding outcome
-did {w = w} (looked-up {dir} {name} r h) = by-outcome w _ (told r) _ _ _ _ (ap (beside w) h ∙ sym (ap shown (look-up-alone w dir name))) (sym (look-up-out w dir name))
-did {w = w} (has-read {inode} {offset} {out} r h) = by-outcome w _ (told r) _ _ _ _ (ap (beside w) h ∙ sym (ap shown (read-alone w inode offset out))) (ap (λ (o : PlainShown). o .out) h ∙ sym (read-out w inode offset out))
-did {w = w} {v = v} (created r h) = by-live w _ refl r v h
-did {w = w} {v = v} (written r h) = by-live w _ refl r v h
-did {w = w} {v = v} (shortened r h) = by-live w _ refl r v h
-did {w = w} {v = v} (linked r h) = by-live w _ refl r v h
-did {w = w} {v = v} (unlinked r h) = by-live w _ refl r v h
-did {w = w} {v = v} (renamed r h) = by-live w _ refl r v h
-did {w = w} (started r h) = by-outcome w _ (told r) _ _ _ [] h refl
-did {w = w} (stepped r h) = by-outcome w _ (told r) _ _ _ [] h refl
-did {w = w} (asked r h) = by-outcome w _ _ _ _ _ [] (ap (λ (t : Told). record { answer = t; store = w .store; image = w .image; desk = w .desk }) h) refl
-did {w = w} (stepped-many r h) = by-outcome w _ (told r) _ _ _ [] h refl
+did {w = w} (on-store {c} {out = out} t n h) =
+    let l = alone w c n in
+    by-outcome w (one (call c)) t w out (ap (beside w) h ∙ sym (l .0)) (ap (λ (o : PlainOutcome). o .out) h ∙ sym (l .1))
+did {w = w} {v = v} (on-three {c} t n h) = by-outcome w (one (call c)) t v [] h (sym (no-out w c n))
+did {w = w} {v = v} (started t h) = by-outcome w (one starts) t v [] h refl
+did {w = w} {v = v} (stepped t h) = by-outcome w (one advances) t v [] h refl
+did {w = w} (asked t h) = record { world = refl; got = ap (λ (x : Told). got x []) h }
+did {w = w} {v = v} (stepped-many {k} t h) = by-outcome w (bursts k) t v [] h refl
 
 pub record AllDefined (xs : List Act) (w : World) (rs : List Received) (u : World) : Type 0 where
   pub world : u ≡ run (singles xs w) w

@@ -16,17 +16,15 @@ use Rattle.answers.specs.declared.Answer.the-variants.{Done, Refused}
 use Rattle.answers.specs.Refusal.{refusalNumber}
 use Rattle.answers.specs.Told.{Told, told}
 use Rattle.checkpoint.specs.Fit.{isRunning, bothFramed}
-use Rattle.checkpoint.specs.Live.{World, Outcome, step}
-use Rattle.checkpoint.specs.Shown.{numberOf}
+use Rattle.checkpoint.specs.Live.{World, Outcome, step, worldIn}
 use Rattle.checkpoint.specs.List.{Event, advances, outcome, next, refusalOf, accepted, completes, run, acceptedSteps}
-use Rattle.checkpoint.specs.Burst.{countAllowed, tries, triesOf, burst, worldIn}
-use Rattle.checkpoint.specs.Progress.{Progress}
-use Rattle.checkpoint.specs.Demand.{Refusals, Demand}
+use Rattle.checkpoint.specs.Burst.{countAllowed, tries, triesOf, burst}
+use Rattle.checkpoint.specs.Progress.{Refusals, Progress}
+use Rattle.checkpoint.proofs.OfEvents.{OfEvents}
 use Rattle.checkpoint.proofs.DecisionLaws.{three-is}
 use Rattle.checkpoint.proofs.BurstLaws.{burst-world}
 use Rattle.checkpoint.proofs.BurstTables.{Ends, lengths, number, first, counts, ends}
-use Rattle.watch.specs.Made.{got}
-use Rattle.watch.specs.Claim.{NextBurst}
+use Rattle.watch.specs.Demand.{NextBurst}
 use Rattle.watch.proofs.SinglesLaws.{run-on}
 
 -- ---- steps that are all accepted
@@ -78,26 +76,26 @@ none-taken (suc k) u a r h =
     omega arith
 
 -- ---- the call
-module _ (es : List Event) (w : World) (ds : (fs : List Event) → Demand fs w) (k : ℕ) where
+module _ (es : List Event) (w : World) (ds : (fs : List Event) → OfEvents fs w) (k : ℕ) where
   abbrev u : World
   u = run es w
 
   laws-at : (fs : List Event) → Progress (run fs u) × Refusals advances (run fs u)
   laws-at fs = subst (λ (v : World). Progress v × Refusals advances v) (run-on es fs w) (ds (es ++ fs) .progress, ds (es ++ fs) .refusals advances)
 
-  d : Demand es w
+  d : OfEvents es w
   d = ds es
 
   -- 1 would come to the step too
   unframed : bothFramed (u .store) (u .desk) ≡ false → ⊥
   unfolding outcome step
-  unframed f = d .refusals advances .buffers (ap (λ (o : Outcome). numberOf (o .answer)) (three-is (u .store) (u .image) (u .desk) _) ∙ rw f refl)
+  unframed f = d .refusals advances .buffers (ap (λ (o : Outcome). o .answer .number) (three-is (u .store) (u .image) (u .desk) _) ∙ rw f refl)
 
-  number-of : {o : Outcome} → burst k u ≡ o → numberOf (burst k u .answer) ≡ numberOf (o .answer)
-  number-of e = ap (λ (o : Outcome). numberOf (o .answer)) e
+  number-of : {o : Outcome} → burst k u ≡ o → burst k u .answer .number ≡ o .answer .number
+  number-of e = ap (λ (o : Outcome). o .answer .number) e
 
   -- its number is 0, or 17, or the step's
-  never : (x : ℕ) → (x ≡ 0 → ⊥) → (x ≡ refusalNumber BadCount → ⊥) → (refusalOf advances u ≡ x → ⊥) → numberOf (burst k u .answer) ≡ x → ⊥
+  never : (x : ℕ) → (x ≡ 0 → ⊥) → (x ≡ refusalNumber BadCount → ⊥) → (refusalOf advances u ≡ x → ⊥) → burst k u .answer .number ≡ x → ⊥
   unfolding outcome
   never x z y n h = go (ends k u)
     where
@@ -105,14 +103,14 @@ module _ (es : List Event) (w : World) (ds : (fs : List Event) → Demand fs w) 
       go (lengths f e t) = unframed f
       go (number f a e t) = y (sym h ∙ number-of e)
       go (first f a r e t) = n (sym (number-of e) ∙ h)
-      go (counts f a r e) = z (sym h ∙ ap numberOf e)
+      go (counts f a r e) = z (sym h ∙ ap (λ (x : Told). x .number) e)
 
-  wrong : countAllowed k ≡ false → told (burst k u .answer) ≡ told (Refused BadCount)
+  wrong : countAllowed k ≡ false → burst k u .answer ≡ told (Refused BadCount)
   wrong c = go (ends k u)
     where
-      go : Ends k u → told (burst k u .answer) ≡ told (Refused BadCount)
+      go : Ends k u → burst k u .answer ≡ told (Refused BadCount)
       go (lengths f e t) = absurd (unframed f)
-      go (number f a e t) = ap (λ (o : Outcome). told (o .answer)) e
+      go (number f a e t) = ap (λ (o : Outcome). o .answer) e
       go (first f a r e t) = absurd (clash (countAllowed k) a c)
       go (counts f a r e) = absurd (clash (countAllowed k) a c)
 
@@ -124,7 +122,7 @@ module _ (es : List Event) (w : World) (ds : (fs : List Event) → Demand fs w) 
       go true e = let z = eqb-true (refusalOf advances u) 0 (d .progress .moves e (λ q. omega arith)) in absurd (omega arith)
       go false e = let z : refusalOf advances u ≡ 15 = ap (λ (x : Told). x .number) (d .timing .late e) in absurd (omega arith)
 
-  allowed : countAllowed k ≡ true → numberOf (burst k u .answer) ≡ refusalNumber BadCount → ⊥
+  allowed : countAllowed k ≡ true → burst k u .answer .number ≡ refusalNumber BadCount → ⊥
   unfolding outcome
   allowed c h = go (ends k u)
     where
@@ -132,19 +130,19 @@ module _ (es : List Event) (w : World) (ds : (fs : List Event) → Demand fs w) 
       go (lengths f e t) = unframed f
       go (number f a e t) = clash (countAllowed k) c a
       go (first f a r e t) = no-count (sym (number-of e) ∙ h)
-      go (counts f a r e) = let z : _≡_ {A = ℕ} 0 17 = sym (ap numberOf e) ∙ h in absurd (omega arith)
+      go (counts f a r e) = let z : _≡_ {A = ℕ} 0 17 = sym (ap (λ (x : Told). x .number) e) ∙ h in absurd (omega arith)
 
-  late : countAllowed k ≡ true → isRunning (u .desk) ≡ false → told (burst k u .answer) ≡ told (Refused WrongState)
+  late : countAllowed k ≡ true → isRunning (u .desk) ≡ false → burst k u .answer ≡ told (Refused WrongState)
   unfolding outcome
   late c i = go (ends k u)
     where
-      go : Ends k u → told (burst k u .answer) ≡ told (Refused WrongState)
+      go : Ends k u → burst k u .answer ≡ told (Refused WrongState)
       go (lengths f e t) = absurd (unframed f)
       go (number f a e t) = absurd (clash (countAllowed k) c a)
-      go (first f a r e t) = ap (λ (o : Outcome). told (o .answer)) e ∙ d .timing .late i
+      go (first f a r e t) = ap (λ (o : Outcome). o .answer) e ∙ d .timing .late i
       go (counts f a r e) = absurd (clash (accepted advances u) r (ap (λ (x : Told). eqb (x .number) 0) (d .timing .late i)))
 
-  all : countAllowed k ≡ true → isRunning (worldIn (burst k u) .desk) ≡ true → told (burst k u .answer) ≡ told (Done k)
+  all : countAllowed k ≡ true → isRunning (worldIn (burst k u) .desk) ≡ true → burst k u .answer ≡ told (Done k)
   unfolding outcome triesOf
   all c i = go (ends k u)
     where
@@ -158,13 +156,13 @@ module _ (es : List Event) (w : World) (ds : (fs : List Event) → Demand fs w) 
       taken f = all-taken k 0 u laws-at (runs-on f) ∙ omega arith
 
       -- where the first is refused, the steps tried are fewer than were asked for
-      go : Ends k u → told (burst k u .answer) ≡ told (Done k)
+      go : Ends k u → burst k u .answer ≡ told (Done k)
       go (lengths f e t) = absurd (unframed f)
       go (number f a e t) = absurd (clash (countAllowed k) c a)
       go (first f a r e t) = absurd (none-taken k u a r (taken f))
-      go (counts f a r e) = ap told e ∙ ap (λ (x : ℕ). told (Done x)) (ap (λ (b : Bool). acceptedSteps (pick b (tries k u) []) u 0) (framed f) ∙ taken f)
+      go (counts f a r e) = e ∙ ap (λ (x : ℕ). told (Done x)) (ap (λ (b : Bool). acceptedSteps (pick b (tries k u) []) u 0) (framed f) ∙ taken f)
 
-  pub next-burst : NextBurst k w u (got (told (burst k u .answer)) []) (worldIn (burst k u))
+  pub next-burst : NextBurst k w u (burst k u .answer) (worldIn (burst k u))
   next-burst = record {
     buffers = never 1 (λ z. omega arith) (λ z. omega arith) (d .refusals advances .buffers);
     store = never 2 (λ z. omega arith) (λ z. omega arith) (d .refusals advances .store);

@@ -95,13 +95,17 @@ module _ (w : World) where
   no-out c h = rw (given-none c h) (outless-guarded (guardsOf c w) (planned c (w .store)) (by-plan c h))
 
   -- look up and read
-  pub look-up-out : (d : ℕ) (name : List ℕ) → outOf (lookUp d name) w ≡ []
-  unfolding outOf decision
-  look-up-out d name = outless-guarded (guardOf (w .store)) (λ n b. doLookUp (w .store) (lookUpPlan (w .store) n d name)) (λ n b. go (lookUpPlan (w .store) n d name))
+  pub look-up-out : (d : ℕ) (name : List ℕ) → outOf (lookUp d name) w ≡ plain (lookUp d name) (w .store) .out
+  unfolding outOf decision plain plainDecision locksAny
+  look-up-out d name = go (guardOf (w .store))
     where
-      go : (p : NumberPlan) → Outless (doLookUp (w .store) p)
-      go (To i) = refl
-      go (NoNumber e) = refl
+      plan : (p : NumberPlan) → onPlanned (unlessBusy (w .desk) (doLookUp (w .store) p)) (λ x. x .out) (λ e. []) ≡ leaves (w .store) [] (doLookUp (w .store) p) .out
+      plan (To i) = refl
+      plan (NoNumber e) = refl
+
+      go : (g : Guard) → onPlanned (onGuard g (λ n b. unlessBusy (w .desk) (planned (lookUp d name) (w .store) n b)) refused) (λ x. x .out) (λ e. []) ≡ leaves (w .store) [] (onGuard g (planned (lookUp d name) (w .store)) refused) .out
+      go (Pass n b) = plan (lookUpPlan (w .store) n d name)
+      go (Stop e) = refl
 
   pub read-out : (i o : ℕ) (out : List ℕ) → outOf (read i o out) w ≡ plain (read i o out) (w .store) .out
   unfolding outOf decision plain plainDecision locksAny

@@ -8,10 +8,12 @@ use Rattle.bounded.specs.Search.{pick}
 use Rattle.bounded.proofs.SearchLaws.{by-pick}
 use Rattle.checkpoint.specs.Fit.{bothFramed}
 use Rattle.checkpoint.specs.Live.{World}
-use Rattle.checkpoint.specs.List.{Event, advances, next, accepted, completes, run, acceptedSteps, replies, heard}
+use Rattle.checkpoint.specs.List.{Event, advances, next, accepted, completes, run, acceptedSteps}
 use Rattle.checkpoint.specs.Burst.{countAllowed, tries, triesOf, Act, one, bursts, singles}
 use Rattle.checkpoint.proofs.BurstLaws.{burst-world}
-use Rattle.watch.specs.Claim.{nextOf, ones}
+use Rattle.checkpoint.proofs.OfEvents.{replies, heard}
+use Rattle.watch.specs.Received.{nextOf}
+use Rattle.watch.specs.Claim.{ones}
 
 -- ---- a list goes on
 pub run-on : (fs gs : List Event) (w : World) → run (fs ++ gs) w ≡ run gs (run fs w)

@@ -20,15 +20,17 @@ use Rattle.sound.specs.Test.{isSound}
 use Rattle.answers.specs.declared.Refusal.the-variants.{ImageFull}
 use Rattle.answers.specs.Refusal.{refusalNumber}
 use Rattle.checkpoint.specs.Fit.{isRunning, notesFit, bothFramed}
-use Rattle.checkpoint.specs.Live.{World, Outcome, step}
+use Rattle.checkpoint.specs.Live.{World, Outcome, step, worldIn}
 use Rattle.checkpoint.specs.List.{Event, call, advances, asks, starts, outcome, next, refusalOf, accepted, completes, restarts, run}
-use Rattle.checkpoint.specs.Burst.{countAllowed, tries, triesOf, burst, worldIn, Act, one, bursts, singles}
+use Rattle.checkpoint.specs.Burst.{countAllowed, tries, triesOf, burst, Act, one, bursts, singles}
 use Rattle.checkpoint.proofs.DecisionLaws.{three-is}
 use Rattle.checkpoint.proofs.BurstLaws.{burst-world}
 use Rattle.checkpoint.proofs.Copy.FitLaws.{image-fits-is, notes-fit-is}
 use Rattle.checkpoint.specs.Finished.{countOf}
-use Rattle.checkpoint.specs.Progress.{noRestart, tried, Roomy, GetsDone}
-use Rattle.watch.specs.Claim.{thatMany, stepsAsked}
+use Rattle.checkpoint.specs.Progress.{noRestart, Roomy}
+use Rattle.checkpoint.proofs.OfEvents.{tried, GetsDone}
+use Rattle.watch.specs.Received.{stepsAsked}
+use Rattle.watch.specs.Claim.{thatMany}
 use Rattle.watch.proofs.SinglesLaws.{run-on, Steps, none, more, burst-steps}
 use Rattle.watch.proofs.KeepLaws.{keeps, stops}
 

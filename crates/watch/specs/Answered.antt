@@ -13,6 +13,8 @@ use Rattle.layout.specs.Sizes.{mostStoreBlocks}
 use Rattle.desk.specs.Desk.{deskOf}
 use Rattle.desk.specs.Sizes.{deskAllowed}
 use Rattle.bounded.specs.Reflect.{Reflects}
+use Rattle.bounded.specs.Table.{table}
+use Rattle.octets.specs.Octets.{splice}
 use Rattle.sound.specs.declared.Form.{Form}
 use Rattle.sound.specs.Sound.{Sound, inodesIn}
 use Rattle.sound.specs.Test.{isSound}
@@ -21,20 +23,22 @@ use Rattle.answers.specs.declared.Refusal.the-variants.{BadBuffer, ImageFull, B
 use Rattle.answers.specs.Refusal.{refusalNumber}
 use Rattle.answers.specs.Told.{Told, told}
 use Rattle.answers.specs.Order.{Row, row, order, lookedAt, numbers, among, inOrder}
-use Rattle.format.specs.Format.{laidOut, layOutStore, layOutDesk}
+use Rattle.format.specs.Format.{laidOut, freshStore, freshDesk, layOutStore, layOutDesk}
 use Rattle.files.specs.Effect.{lookUp, read, create, write, shorten, link, unlink, rename, given}
+use Rattle.files.specs.Plain.{Received}
 use Rattle.checkpoint.specs.Live.{World}
-use Rattle.checkpoint.specs.Table.{orZero, inodeFor, lookUpTable, readTable, createTable, writeTable, shortenTable, linkTable, unlinkTable, renameTable, startTable, stepTable, askTable, burstTable}
+use Rattle.checkpoint.specs.Table.{orZero, inodeFor, lookUpTable, readTable, createTable, writeTable, shortenTable, linkTable, unlinkTable, renameTable, startTable, stepTable, liveRows, burstTable}
 use Rattle.checkpoint.specs.List.{call, advances, asks, starts, refusalOf, acceptedSteps}
 use Rattle.checkpoint.specs.Burst.{triesOf, Act, one, bursts}
 use Rattle.checkpoint.specs.Progress.{Stopped}
-use Rattle.dealer.specs.Deal.{bays, served, turn, turnAllowed, dealt}
+use Rattle.dealer.specs.Deal.{bays, served, gets, turn, turnAllowed, dealt}
 use Rattle.laps.specs.Walk.{Lists, report}
-use Rattle.laps.specs.Call.{lapsTable, left, matchLaps}
+use Rattle.laps.specs.Call.{lapsTable, left, over, matchLaps}
 use Rattle.calendar.specs.Date.{dateOf, dayNumber}
 use Rattle.keeping.specs.Call as keeping
 use Rattle.keeping.specs.Call.{inDays, keptCount, keepTable, keepCall}
-use Rattle.watch.specs.Made.{Received, Did}
+use Rattle.watch.specs.Received.{onAct}
+use Rattle.watch.specs.Made.{Did}
 
 -- ---- "Given by number, looked at lowest first, when and only when the condition holds for that call"
 -- the answer by a table of conditions, where the result has the values vs: the refusal of the first that holds, or the result if none does
@@ -62,7 +66,7 @@ tableOf (one (call (unlink d name))) w = unlinkTable (w .store) (w .image) (w .d
 tableOf (one (call (rename d name e other))) w = renameTable (w .store) (w .image) (w .desk) d name e other
 tableOf (one starts) w = startTable (w .store) (w .image) (w .desk)
 tableOf (one advances) w = stepTable (w .store) (w .image) (w .desk)
-tableOf (one asks) w = askTable (w .store) (w .image) (w .desk)
+tableOf (one asks) w = liveRows (w .store) (w .image) (w .desk)
 tableOf (bursts k) w = burstTable k (w .store) (w .image) (w .desk)
 
 -- "Create and look up answer the inode, read its count, write and shorten the new size, step the steps so far"; state "gives state, locked inode and steps"; a burst "reports how many were accepted"; the others 0
@@ -82,11 +86,7 @@ resultOf (bursts k) w = acceptedSteps (triesOf k w) w 0 ∷ []
 
 -- the out-buffer that came in, [] for a call that has none
 abbrev pub lentTo : Act → List ℕ
-lentTo (one (call c)) = given c
-lentTo (one starts) = []
-lentTo (one advances) = []
-lentTo (one asks) = []
-lentTo (bursts k) = []
+lentTo x = onAct x given [] [] [] (λ k. [])
 
 -- the calls that 16 may answer: a step, or a burst whose first step gets it
 pub data GetsFull (w : World) : Act → Type 0 where
@@ -109,9 +109,10 @@ storeLayTable s n b = row (not (allowed mostStoreBlocks n b (length s))) BadBuff
 abbrev pub deskLayTable : List ℕ → ℕ → List Row
 deskLayTable desk n = row (not (deskAllowed n (length desk))) BadBuffer ∷ []
 
--- a layout call with the table rs, on the buffer s: it answered r and left t
-pub record LayAnswers (rs : List Row) (s : List ℕ) (r : Answer) (t : List ℕ) : Type 0 where
+-- a layout call with the table rs, on the buffer s: it answered r and left t, which is fresh where it was accepted
+pub record LayAnswers (rs : List Row) (s fresh : List ℕ) (r : Answer) (t : List ℕ) : Type 0 where
   pub answered : Answered (0 ∷ []) rs (told r)
+  pub lays : told r .number ≡ 0 → t ≡ fresh
   pub keeps : (told r .number ≡ 0 → ⊥) → t ≡ s
 
 -- ---- the dealer: 21, "looked at first"
@@ -122,18 +123,21 @@ dealTable steps last = row (not (turnAllowed steps last)) BadTurn ∷ []
 -- refused, the counts are sixteen zeros
 pub record DealAnswers (flags : List Bool) (steps last : ℕ) (r : Answer) (counts : List ℕ) : Type 0 where
   pub answered : Answered (served flags last steps ∷ []) (dealTable steps last) (told r)
+  pub gives : told r .number ≡ 0 → counts ≡ table (gets flags last steps) bays
   pub zeros : (told r .number ≡ 0 → ⊥) → counts ≡ replicate bays 0
 
 -- ---- laps against the mat: 26, "looked at first", then 1
 -- the call on watch times w and mat times m, with the lists o lent, answered r and left v
 pub record LapsAnswers (w m : List ℕ) (o : Lists) (r : Answer) (v : Lists) : Type 0 where
   pub answered : Answered (length (report w m .pairedWatch) ∷ []) (lapsTable w m o) (told r)
+  pub reports : told r .number ≡ 0 → v ≡ over (report w m) o
   pub keeps : (told r .number ≡ 0 → ⊥) → v ≡ o
 
 -- ---- which copies to keep: 1, then "23 .. 24 .. 25 .. in that order"
 -- the call on copies, terms and the day asked, with the list out lent, answered r and left v
 pub record KeepAnswers (copies terms : List ℕ) (asked : ℕ) (out : List ℕ) (r : Answer) (v : List ℕ) : Type 0 where
   pub answered : Answered (keptCount (inDays copies) (inDays terms) (dayNumber (dateOf asked)) ∷ []) (keepTable copies terms asked out) (told r)
+  pub says : told r .number ≡ 0 → v ≡ splice out 0 (keeping.flags (inDays copies) (inDays terms) (dayNumber (dateOf asked)))
   pub keeps : (told r .number ≡ 0 → ⊥) → v ≡ out
 
 -- ---- demand 1: each call as its contract promises it. The check refuses nothing: it "takes any bytes and answers yes or no"; demand 2: "The soundness check says yes to a store that meets its conditions and no to every other."
@@ -141,8 +145,8 @@ pub record FirstDemand : Type 0 where
   -- "looked at lowest first"; 17 "comes right after 1"; 21 and 26 are "looked at first", each by its own call; 23 to 25 come after 1, "in that order"
   pub looked-at : numbers order ≡ 21 ∷ 26 ∷ 1 ∷ 17 ∷ 2 ∷ 3 ∷ 4 ∷ 5 ∷ 6 ∷ 7 ∷ 8 ∷ 9 ∷ 10 ∷ 11 ∷ 12 ∷ 13 ∷ 14 ∷ 15 ∷ 16 ∷ 23 ∷ 24 ∷ 25 ∷ []
   pub calls : {x : Act} {w v : World} {a : Received} → Did x w a v → Answers x w a v
-  pub lays-store : {s t : List ℕ} (r : Answer) (inodes blocks : ℕ) → laidOut r t ≡ layOutStore s inodes blocks → LayAnswers (storeLayTable s inodes blocks) s r t
-  pub lays-desk : {desk t : List ℕ} (r : Answer) (inodes : ℕ) → laidOut r t ≡ layOutDesk desk inodes → LayAnswers (deskLayTable desk inodes) desk r t
+  pub lays-store : {s t : List ℕ} (r : Answer) (inodes blocks : ℕ) → laidOut r t ≡ layOutStore s inodes blocks → LayAnswers (storeLayTable s inodes blocks) s (freshStore inodes blocks) r t
+  pub lays-desk : {desk t : List ℕ} (r : Answer) (inodes : ℕ) → laidOut r t ≡ layOutDesk desk inodes → LayAnswers (deskLayTable desk inodes) desk (freshDesk inodes) r t
   pub deals : {counts : List ℕ} (r : Answer) (flags : List Bool) (steps last : ℕ) → turn r counts ≡ dealt flags steps last → DealAnswers flags steps last r counts
   pub matches : {w m : List ℕ} {o v : Lists} (r : Answer) → left r v ≡ matchLaps w m o → LapsAnswers w m o r v
   pub keeps-copies : {copies terms out v : List ℕ} (asked : ℕ) (r : Answer) → keeping.left r v ≡ keepCall copies terms asked out → KeepAnswers copies terms asked out r v

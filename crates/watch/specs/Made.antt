@@ -1,69 +1,42 @@
 -- Public calls made on the code, "each done by the library on the buffers as the last one left them, while nobody else writes to them".
--- Of the code this knows the contracts of the public functions, and nothing else: each way to have made a call has the call's promise as its one hypothesis (proofs/Contracts.antt holds them to the code's). r is what the function answered.
+-- Of the code this knows the contracts of the public functions, and nothing else: each way to have made a call has the call's promise as its hypothesis (proofs/Contracts.antt holds them to the code's) and, for a file call, which buffers it takes. t is what the caller was told.
 use Prim.Native.Nat.{ℕ}
 use mathlib.Core.Path.{_≡_}
+use mathlib.Core.Bool.{true, false}
 use mathlib.Core.List.{List, [], _∷_}
-use Rattle.answers.specs.declared.Answer.{Answer}
-use Rattle.answers.specs.Told.{Told, told}
-use Rattle.entries.specs.declared.Kind.{Kind}
-use Rattle.files.specs.Effect.{lookUp, read, create, write, shorten, link, unlink, rename}
-use Rattle.files.specs.Plain.{plain, plainLeft, plainShown}
-use Rattle.checkpoint.specs.declared.Status.{Status}
-use Rattle.checkpoint.specs.Live.{World, left, live, start, step, status}
-use Rattle.checkpoint.specs.Shown.{world, shown, toldStatus}
+use Rattle.answers.specs.Told.{Told}
+use Rattle.files.specs.Effect.{Call}
+use Rattle.files.specs.Plain.{Received, got, plain}
+use Rattle.checkpoint.specs.Live.{World, world, tells, storeAlone, live, start, step, status}
 use Rattle.checkpoint.specs.List.{call, advances, asks, starts}
 use Rattle.checkpoint.specs.Burst.{burst, Act, one, bursts}
-
--- what a caller gets: the answer by the paper's numbers, and a read's out-buffer ([] for the other calls)
-pub record Received : Type 0 where
-  pub answer : Told
-  pub out : List ℕ
-
-abbrev pub got : Told → List ℕ → Received
-got t out = record { answer = t; out = out }
 
 -- one call: the world that was lent, what the caller got, and the world that was left. A buffer that is not lent to be written stays.
 pub data Did : Act → World → Received → World → Type 0 where
   -- "Look up and read take the store alone" (files/src/plain.rt)
-  looked-up : {dir : ℕ} {name : List ℕ} {w : World} (r : Answer)
-      → plainShown (plainLeft r (w .store) []) ≡ plainShown (plain (lookUp dir name) (w .store))
-      → Did (one (call (lookUp dir name))) w (got (told r) []) w
-  has-read : {inode offset : ℕ} {out filled : List ℕ} {w : World} (r : Answer)
-      → plainShown (plainLeft r (w .store) filled) ≡ plainShown (plain (read inode offset out) (w .store))
-      → Did (one (call (read inode offset out))) w (got (told r) filled) w
-  -- the file calls over the three buffers (watch/src/lib.rt)
-  created : {dir : ℕ} {name : List ℕ} {kind : Kind} {w v : World} (r : Answer)
-      → shown (left r (v .store) (v .image) (v .desk)) ≡ shown (live (create dir name kind) w)
-      → Did (one (call (create dir name kind))) w (got (told r) []) v
-  written : {inode offset : ℕ} {bytes : List ℕ} {w v : World} (r : Answer)
-      → shown (left r (v .store) (v .image) (v .desk)) ≡ shown (live (write inode offset bytes) w)
-      → Did (one (call (write inode offset bytes))) w (got (told r) []) v
-  shortened : {inode size : ℕ} {w v : World} (r : Answer)
-      → shown (left r (v .store) (v .image) (v .desk)) ≡ shown (live (shorten inode size) w)
-      → Did (one (call (shorten inode size))) w (got (told r) []) v
-  linked : {dir : ℕ} {name : List ℕ} {inode : ℕ} {w v : World} (r : Answer)
-      → shown (left r (v .store) (v .image) (v .desk)) ≡ shown (live (link dir name inode) w)
-      → Did (one (call (link dir name inode))) w (got (told r) []) v
-  unlinked : {dir : ℕ} {name : List ℕ} {w v : World} (r : Answer)
-      → shown (left r (v .store) (v .image) (v .desk)) ≡ shown (live (unlink dir name) w)
-      → Did (one (call (unlink dir name))) w (got (told r) []) v
-  renamed : {dir : ℕ} {name : List ℕ} {to-dir : ℕ} {to-name : List ℕ} {w v : World} (r : Answer)
-      → shown (left r (v .store) (v .image) (v .desk)) ≡ shown (live (rename dir name to-dir to-name) w)
-      → Did (one (call (rename dir name to-dir to-name))) w (got (told r) []) v
+  on-store : {c : Call} {w : World} {out : List ℕ} (t : Told)
+      → storeAlone c ≡ true
+      → record { answer = t; store = w .store; out = out } ≡ plain c (w .store)
+      → Did (one (call c)) w (got t out) w
+  -- the other file calls take all three buffers (live/src/lib.rt)
+  on-three : {c : Call} {w v : World} (t : Told)
+      → storeAlone c ≡ false
+      → tells t (v .store) (v .image) (v .desk) ≡ live c w
+      → Did (one (call c)) w (got t []) v
   -- start, step and state (copier/src/lib.rt, guards/src/lib.rt)
-  started : {w : World} {image desk : List ℕ} (r : Answer)
-      → shown (left r (w .store) image desk) ≡ shown (start (w .store) (w .image) (w .desk))
-      → Did (one starts) w (got (told r) []) (world (w .store) image desk)
-  stepped : {w : World} {image desk : List ℕ} (r : Answer)
-      → shown (left r (w .store) image desk) ≡ shown (step (w .store) (w .image) (w .desk))
-      → Did (one advances) w (got (told r) []) (world (w .store) image desk)
-  asked : {w : World} (r : Status)
-      → toldStatus r ≡ toldStatus (status (w .store) (w .image) (w .desk))
-      → Did (one asks) w (got (toldStatus r) []) w
+  started : {w : World} {image desk : List ℕ} (t : Told)
+      → tells t (w .store) image desk ≡ start (w .store) (w .image) (w .desk)
+      → Did (one starts) w (got t []) (world (w .store) image desk)
+  stepped : {w : World} {image desk : List ℕ} (t : Told)
+      → tells t (w .store) image desk ≡ step (w .store) (w .image) (w .desk)
+      → Did (one advances) w (got t []) (world (w .store) image desk)
+  asked : {w : World} (t : Told)
+      → t ≡ status (w .store) (w .image) (w .desk)
+      → Did (one asks) w (got t []) w
   -- up to 64 steps in one call (bursts/src/lib.rt)
-  stepped-many : {k : ℕ} {w : World} {image desk : List ℕ} (r : Answer)
-      → shown (left r (w .store) image desk) ≡ shown (burst k w)
-      → Did (bursts k) w (got (told r) []) (world (w .store) image desk)
+  stepped-many : {k : ℕ} {w : World} {image desk : List ℕ} (t : Told)
+      → tells t (w .store) image desk ≡ burst k w
+      → Did (bursts k) w (got t []) (world (w .store) image desk)
 
 -- a list of calls, one after another: from which world, what their callers got, and to which world
 pub data Made : List Act → World → List Received → World → Type 0 where

@@ -14,10 +14,14 @@ use text::pieces::pieces;
 use trial_compare::burst::compare;
 use trial_compare::calls::Got;
 use trial_events::event;
+use trial_events::event::DESK_BYTES;
 use trial_events::event::Event;
 use trial_events::event::MOST_BURST;
+use trial_events::event::SLOTS;
+use trial_events::event::STORE_BYTES;
 use trial_events::print::word;
 use trial_record::copy::Copy;
+use trial_record::copy::MOMENTS_BYTES;
 use trial_record::copy::follow;
 use trial_record::finished::find;
 use trial_record::list::turn;
@@ -66,12 +70,12 @@ pub fn copy(
     copy: Copy,
     store: &[u8],
     whole: &[u8],
-    moments: &mut [u8; 2097152],
-    taken: &mut [u8; 384],
+    moments: &mut [u8; MOMENTS_BYTES],
+    taken: &mut [u8; SLOTS],
 ) {
     let mut wrong = [0u8; 4368];
     let mut image = [0u8; 16];
-    let mut desk = [0u8; 88];
+    let mut desk = [0u8; DESK_BYTES];
     let mut tried = [0u64; 30];
     refill(&mut wrong, whole);
     watch::lay_out_desk(&mut desk, INODES);
@@ -97,12 +101,12 @@ pub fn copy(
 }
 
 // An event done by the library, and by a plain store that is wrong.
-fn beside_wrong(e: Event, commands: &[u8], store: &[u8], moments: &mut [u8; 2097152]) {
-    let mut right = [0u8; 4048];
-    let mut wrong = [0u8; 4048];
+fn beside_wrong(e: Event, commands: &[u8], store: &[u8], moments: &mut [u8; MOMENTS_BYTES]) {
+    let mut right = [0u8; STORE_BYTES];
+    let mut wrong = [0u8; STORE_BYTES];
     let mut image = [0u8; 16];
-    let mut desk = [0u8; 88];
-    let mut taken = [0u8; 384];
+    let mut desk = [0u8; DESK_BYTES];
+    let mut taken = [0u8; SLOTS];
     let mut tried = [0u64; 30];
     refill(&mut right, store);
     refill(&mut wrong, store);
@@ -128,7 +132,7 @@ fn beside_wrong(e: Event, commands: &[u8], store: &[u8], moments: &mut [u8; 2097
     print::wrong(next.wrong);
 }
 
-pub fn plain(commands: &[u8], store: &[u8], moments: &mut [u8; 2097152]) {
+pub fn plain(commands: &[u8], store: &[u8], moments: &mut [u8; MOMENTS_BYTES]) {
     word(b" look up");
     beside_wrong(
         on_entry(event::LOOK_UP, 1, 1, 0),
@@ -156,11 +160,11 @@ pub fn plain(commands: &[u8], store: &[u8], moments: &mut [u8; 2097152]) {
 
 // A burst, and single steps on an image or a desk that is wrong.
 pub fn burst(commands: &[u8], store: &[u8], half: &[u8], notes: &[u8]) {
-    let mut spare = [0u8; 4048];
+    let mut spare = [0u8; STORE_BYTES];
     let mut image = [0u8; 4368];
     let mut other = [0u8; 4368];
-    let mut desk = [0u8; 88];
-    let mut wrong = [0u8; 88];
+    let mut desk = [0u8; DESK_BYTES];
+    let mut wrong = [0u8; DESK_BYTES];
     refill(&mut spare, store);
     refill(&mut image, half);
     refill(&mut other, half);
@@ -192,8 +196,8 @@ pub fn answer(
     numbers: &[u8],
     store: &[u8],
     half: &[u8],
-    moments: &mut [u8; 2097152],
-    taken: &mut [u8; 384],
+    moments: &mut [u8; MOMENTS_BYTES],
+    taken: &mut [u8; SLOTS],
 ) {
     let mut tried = [0u64; 30];
     let a = Got {

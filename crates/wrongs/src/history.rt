@@ -3,9 +3,13 @@
 use crate::print;
 use trial_compare::calls::ALIKE;
 use trial_events::event;
+use trial_events::event::DESK_BYTES;
 use trial_events::event::Event;
+use trial_events::event::SLOTS;
+use trial_events::event::STORE_BYTES;
 use trial_events::print::word;
 use trial_record::copy::Copy;
+use trial_record::copy::MOMENTS_BYTES;
 use trial_record::list::turn;
 
 pub const INODES: usize = 8;
@@ -111,8 +115,8 @@ fn run_events(
     image: &mut [u8],
     desk: &mut [u8],
     beside: &mut [u8],
-    moments: &mut [u8; 2097152],
-    taken: &mut [u8; 384],
+    moments: &mut [u8; MOMENTS_BYTES],
+    taken: &mut [u8; SLOTS],
     tried: &mut [u64; 30],
 ) -> Copy {
     let mut copy = Copy {
@@ -161,11 +165,11 @@ fn finish(
     notes: &[u8],
     whole: &mut [u8],
     beside: &mut [u8],
-    moments: &mut [u8; 2097152],
-    taken: &mut [u8; 384],
+    moments: &mut [u8; MOMENTS_BYTES],
+    taken: &mut [u8; SLOTS],
     tried: &mut [u64; 30],
 ) -> usize {
-    let mut desk = [0u8; 88];
+    let mut desk = [0u8; DESK_BYTES];
     refill(&mut desk, notes);
     refill(&mut *whole, half);
     let next = turn(
@@ -191,10 +195,10 @@ pub fn run(
     image: &mut [u8],
     desk: &mut [u8],
     whole: &mut [u8],
-    moments: &mut [u8; 2097152],
-    taken: &mut [u8; 384],
+    moments: &mut [u8; MOMENTS_BYTES],
+    taken: &mut [u8; SLOTS],
 ) -> Copy {
-    let mut beside = [0u8; 4048];
+    let mut beside = [0u8; STORE_BYTES];
     let mut tried = [0u64; 30];
     watch::lay_out_store(&mut beside, INODES, BLOCKS);
     let copy = run_events(

@@ -4,8 +4,10 @@ use libc::STDIN_FILENO;
 use text::pieces::is_word;
 use text::pieces::piece;
 use text::pieces::pieces;
+use trial_events::event::SLOTS;
 use trial_events::print::word;
 use trial_record::copy::Copy;
+use trial_record::copy::MOMENTS_BYTES;
 
 const NEWLINE: u8 = 10;
 
@@ -18,8 +20,8 @@ fn line(
     half: &[u8],
     notes: &[u8],
     whole: &[u8],
-    moments: &mut [u8; 2097152],
-    taken: &mut [u8; 384],
+    moments: &mut [u8; MOMENTS_BYTES],
+    taken: &mut [u8; SLOTS],
 ) {
     let what = piece(text, COLON, 0);
     let how = piece(text, COLON, 2);
@@ -46,8 +48,8 @@ fn each_line(
     half: &[u8],
     notes: &[u8],
     whole: &[u8],
-    moments: &mut [u8; 2097152],
-    taken: &mut [u8; 384],
+    moments: &mut [u8; MOMENTS_BYTES],
+    taken: &mut [u8; SLOTS],
 ) {
     for k in 0..pieces(text, NEWLINE) {
         let next = piece(text, NEWLINE, k);
@@ -73,8 +75,8 @@ pub fn all(
     half: &[u8],
     notes: &[u8],
     whole: &[u8],
-    moments: &mut [u8; 2097152],
-    taken: &mut [u8; 384],
+    moments: &mut [u8; MOMENTS_BYTES],
+    taken: &mut [u8; SLOTS],
 ) {
     let mut text = io::large_buffer();
     let n = io::read_full(STDIN_FILENO, &mut text);

@@ -7,7 +7,11 @@ mod history;
 mod lines;
 mod print;
 
+use trial_events::event::DESK_BYTES;
+use trial_events::event::SLOTS;
+use trial_events::event::STORE_BYTES;
 use trial_events::print::difference;
+use trial_record::copy::MOMENTS_BYTES;
 
 // The list that a difference is printed of, up to an event that is a burst.
 const LIST: u64 = 19;
@@ -15,12 +19,12 @@ const LIST: u64 = 19;
 const EVENT: u64 = 11;
 
 fn main() {
-    let mut store = [0u8; 4048];
+    let mut store = [0u8; STORE_BYTES];
     let mut image = [0u8; 4368];
-    let mut desk = [0u8; 88];
+    let mut desk = [0u8; DESK_BYTES];
     let mut whole = [0u8; 4368];
-    let mut moments = [0u8; 2097152];
-    let mut taken = [0u8; 384];
+    let mut moments = [0u8; MOMENTS_BYTES];
+    let mut taken = [0u8; SLOTS];
     watch::lay_out_store(&mut store, history::INODES, history::BLOCKS);
     watch::lay_out_desk(&mut desk, history::INODES);
     let copy = history::run(

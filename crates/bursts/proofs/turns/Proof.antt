@@ -4,7 +4,7 @@ use native.Mathlib.Omega.{arith}
 use borrow.Author.Needs.{needs}
 use denote.Ref.{now}
 use lib.ListN.{length}
-use Rattle.checkpoint.specs.Shown.{world}
+use Rattle.checkpoint.specs.Live.{world}
 use Rattle.checkpoint.specs.Burst.{burstFrom}
 use Rattle.bursts.specs.Turn.{Kept}
 use Rattle.bursts.proofs.TurnLaws.{turns-begin, turns-end, turns-ends, turns-stops, turns-goes, turns-kept}

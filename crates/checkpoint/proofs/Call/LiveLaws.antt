@@ -29,7 +29,6 @@ use Rattle.files.proofs.EffectFacts.{away-or}
 use Rattle.checkpoint.specs.Busy.{anyLocked, unlessBusy}
 use Rattle.checkpoint.specs.Notes.{cutEntries, clearMarks, setMarks}
 use Rattle.checkpoint.specs.Live.{World, Outcome, threeGuards, storeAlone, decision, leavesIn, live}
-use Rattle.checkpoint.specs.Shown.{numberOf}
 use Rattle.checkpoint.specs.List.{Ready, call, outcome, next, accepted, takenFrom, anyAt, takes}
 use Rattle.checkpoint.proofs.Call.PartedLaws.{Parted, taken-made-apart}
 
@@ -72,7 +71,7 @@ abbrev buffers : Outcome → World
 buffers o = record { store = o .store; image = o .image; desk = o .desk }
 
 abbrev done : World → Planned → Bool
-done w p = eqb (numberOf (leavesIn w p .answer)) 0
+done w p = eqb (leavesIn w p .answer .number) 0
 
 accepted-is : (c : Call) (w : World) → accepted (call c) w ≡ done w (decision c w)
 unfolding outcome live

@@ -15,7 +15,6 @@ use Rattle.files.proofs.Lawful.{Each}
 use Rattle.desk.specs.Desk.{deskOf}
 use Rattle.checkpoint.specs.Busy.{anyLocked, unlessBusy}
 use Rattle.checkpoint.specs.Live.{World, decision, leavesIn, live, outOf}
-use Rattle.checkpoint.specs.Shown.{numberOf}
 use Rattle.checkpoint.specs.List.{Ready, call, outcome, accepted, refusalOf}
 use Rattle.checkpoint.specs.Progress.{Hinders, OnlyBusy, Calls}
 use Rattle.checkpoint.proofs.DecisionLaws.{accepted-is}
@@ -30,18 +29,18 @@ module _ (c : Call) (w : World) (r : Ready w) where
   -- a plan is never busy
   plan-free : (e : Refusal) → plan ≡ refused e → refusalNumber e ≡ refusalNumber Busy → ⊥
   unfolding plain
-  plan-free e h k = plain-never c (w .store) .fourteenth (ap (λ (q : Planned). numberOf (leaves (w .store) (given c) q .answer)) (ready-plain c w r ∙ h) ∙ k)
+  plan-free e h k = plain-never c (w .store) .fourteenth (ap (λ (q : Planned). leaves (w .store) (given c) q .answer .number) (ready-plain c w r ∙ h) ∙ k)
 
   -- the plain store would accept it
-  would : (x : Effect) → plan ≡ does x → numberOf (plain c (w .store) .answer) ≡ 0
+  would : (x : Effect) → plan ≡ does x → plain c (w .store) .answer .number ≡ 0
   unfolding plain
-  would x h = ap (λ (q : Planned). numberOf (leaves (w .store) (given c) q .answer)) (ready-plain c w r ∙ h)
+  would x h = ap (λ (q : Planned). leaves (w .store) (given c) q .answer .number) (ready-plain c w r ∙ h)
 
-  by-plan : (q : Planned) → plan ≡ q → numberOf (leavesIn w (unlessBusy (w .desk) q) .answer) ≡ refusalNumber Busy → OnlyBusy c w
+  by-plan : (q : Planned) → plan ≡ q → leavesIn w (unlessBusy (w .desk) q) .answer .number ≡ refusalNumber Busy → OnlyBusy c w
   by-plan (refused e) h k = absurd (plan-free e h k)
   by-plan (does x) h k = go (anyLocked (w .desk) (x .touches)) refl k
     where
-      go : (b : Bool) → anyLocked (w .desk) (x .touches) ≡ b → numberOf (leavesIn w (pick b (refused Busy) (does x)) .answer) ≡ refusalNumber Busy → OnlyBusy c w
+      go : (b : Bool) → anyLocked (w .desk) (x .touches) ≡ b → leavesIn w (pick b (refused Busy) (does x)) .answer .number ≡ refusalNumber Busy → OnlyBusy c w
       go false e k = absurd (omega arith)
       go true e k =
           let o = locked-one (w .desk) (x .touches) e in
@@ -50,7 +49,7 @@ module _ (c : Call) (w : World) (r : Ready w) where
 
   only-busy : refusalOf (call c) w ≡ refusalNumber Busy → OnlyBusy c w
   unfolding outcome live
-  only-busy k = by-plan plan refl (sym (ap (λ (q : Planned). numberOf (leavesIn w q .answer)) (ready-decides c w r)) ∙ k)
+  only-busy k = by-plan plan refl (sym (ap (λ (q : Planned). leavesIn w q .answer .number) (ready-decides c w r)) ∙ k)
 
 pub out-kept : (c : Call) (w : World) → (accepted (call c) w ≡ true → ⊥) → outOf c w ≡ given c
 unfolding outOf

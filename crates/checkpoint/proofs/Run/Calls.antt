@@ -1,6 +1,6 @@
 -- A file call, a question and a start while a copy runs. n and b are the counts of inodes and image blocks.
 use Prim.Native.Nat.{ℕ}
-use mathlib.Core.Path.{_≡_, refl, sym, ap, _∙_, subst}
+use mathlib.Core.Path.{_≡_, refl, sym, _∙_, subst}
 use mathlib.Core.Bool.{true, false}
 use native.Mathlib.Omega.{arith}
 use lib.ListN.{length}
@@ -20,7 +20,6 @@ use Rattle.checkpoint.specs.Fit.{imageAllowed, imageBlocks}
 use Rattle.checkpoint.specs.Notes.{cutEntries, clearMarks, setMarks}
 use Rattle.checkpoint.specs.Busy.{anyLocked}
 use Rattle.checkpoint.specs.Live.{World, refuse, decision, leavesIn, live, started}
-use Rattle.checkpoint.specs.Shown.{shown}
 use Rattle.checkpoint.specs.List.{call, asks, starts, outcome, next}
 use Rattle.checkpoint.proofs.DecisionLaws.{Unhindered, each-decided}
 use Rattle.checkpoint.proofs.Copy.Seen.{seen}
@@ -99,13 +98,13 @@ module _ (n b : ℕ) (w : World) (r : Running n b w) where
   pub asks-goes : Goes n b w (next asks w)
   asks-goes = same-goes (next asks w) (asks-same w)
 
-  pub start-busy : outcome starts w ≡ shown (refuse WrongState (w .store) (w .image) (w .desk))
+  pub start-busy : outcome starts w ≡ refuse WrongState (w .store) (w .image) (w .desk)
   unfolding outcome started
   start-busy =
       let f = r .laid .frame in
       let fits : Allowed mostImageBlocks n b (length (w .image)) = record { some-inodes = f .some-inodes; most-inodes = f .most-inodes; some-blocks = f .some-blocks; most-blocks = f .most-blocks; long = f .long } in
       let a : imageAllowed (inodesIn (w .store)) (length (w .image)) ≡ true = rw (sym (r .count)) (image-allowed n b (length (w .image)) fits) in
-      ap shown (start-passes w (ready r) a) ∙ rw (runs r) refl
+      (start-passes w (ready r) a) ∙ rw (runs r) refl
 
   pub starts-goes : Goes n b w (next starts w)
   starts-goes = same-goes (next starts w) (next-is starts w _ start-busy)

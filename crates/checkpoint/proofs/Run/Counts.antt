@@ -21,10 +21,9 @@ use Rattle.files.specs.Effect.{Call, Entry, Planned, does, refused}
 use Rattle.checkpoint.specs.declared.Status.the-variants.{Is}
 use Rattle.checkpoint.specs.Fit.{isRunning}
 use Rattle.checkpoint.specs.Notes.{noteMade, noteTaken, clearMarks, setMarks}
-use Rattle.checkpoint.specs.Live.{World, decision, leavesIn, live}
-use Rattle.checkpoint.specs.Shown.{Shown, toldStatus}
+use Rattle.checkpoint.specs.Live.{World, decision, leavesIn, live, Outcome, toldStatus}
 use Rattle.checkpoint.specs.List.{Event, call, advances, asks, starts, outcome, next, accepted, run, acceptedSteps, refusalOf, completes, stateAfter}
-use Rattle.checkpoint.specs.Demand.{Reported}
+use Rattle.checkpoint.proofs.OfEvents.{Reported}
 use Rattle.checkpoint.proofs.Copy.FitLaws.{laid-steps, notes-fit-is, desk-fits-is}
 use Rattle.checkpoint.proofs.Run.Going.{Running, next-is, incomplete}
 use Rattle.checkpoint.proofs.Run.Turned.{Stepped, on, ends, halts, stepped}
@@ -32,7 +31,7 @@ use Rattle.checkpoint.proofs.Run.Calls.{asks-same, start-busy}
 use Rattle.checkpoint.proofs.Run.Rests.{idle, step-idle}
 use Rattle.checkpoint.proofs.Run.Ends.{finals, halted, completed}
 use Rattle.checkpoint.proofs.Run.Results.{asked}
-use Rattle.checkpoint.proofs.Run.Lists.{Going, runs, rests, fit, counted, start-anew, start-taken, going-next, going-run}
+use Rattle.checkpoint.proofs.Run.Lists.{Going, runs, rests, counted, start-anew, start-taken, going-next, going-run}
 
 -- ---- a call writes marks alone
 module _ (d : List ℕ) (n : ℕ) where
@@ -71,8 +70,8 @@ unfolding next outcome live
 call-head c w = leaves-head w (decision c w)
 
 -- ---- one event
-not-accepted : (e : Event) (w : World) (x : Shown) → outcome e w ≡ x → eqb (x .answer .number) 0 ≡ false → accepted e w ≡ false
-not-accepted e w x h f = ap (λ (x : Shown). eqb (x .answer .number) 0) h ∙ f
+not-accepted : (e : Event) (w : World) (x : Outcome) → outcome e w ≡ x → eqb (x .answer .number) 0 ≡ false → accepted e w ≡ false
+not-accepted e w x h f = ap (λ (x : Outcome). eqb (x .answer .number) 0) h ∙ f
 
 abbrev pub stepsIn : World → ℕ
 stepsIn w = deskOf (w .desk) .steps
@@ -144,7 +143,7 @@ module _ (n b : ℕ) (w : World) where
   state-steps (rests r) c h =
       let e = step-idle n b w r in
       let x : completes advances w ≡ false = and-false-l (accepted advances w) (eqb (headerOf (next advances w .image) .complete) isComplete) (not-accepted advances w _ e refl) in
-      let y : eqb (refusalOf advances w) (refusalNumber ImageFull) ≡ false = ap (λ (z : Shown). eqb (z .answer .number) (refusalNumber ImageFull)) e in
+      let y : eqb (refusalOf advances w) (refusalNumber ImageFull) ≡ false = ap (λ (z : Outcome). eqb (z .answer .number) (refusalNumber ImageFull)) e in
       rw (x, y) (ap stateIn (next-is advances w _ e) ∙ h)
 
   state-starts : Going n b w → (c : ℕ) → stateIn w ≡ c → stateIn (next starts w) ≡ pick (accepted starts w) running c

@@ -28,8 +28,7 @@ use Rattle.answers.specs.declared.Answer.the-variants.{Done, Refused}
 use Rattle.answers.specs.Told.{Told, told}
 use Rattle.checkpoint.specs.Fit.{deskFramed, deskFits, blocksFit, isRunning, mostSteps, notesFit, imageFits}
 use Rattle.checkpoint.specs.Copier.{finish, full, finishImage}
-use Rattle.checkpoint.specs.Live.{World}
-use Rattle.checkpoint.specs.Shown.{Shown}
+use Rattle.checkpoint.specs.Live.{World, Outcome}
 use Rattle.checkpoint.specs.List.{advances, outcome, next, accepted, completes}
 use Rattle.checkpoint.proofs.Copy.Laid.{DeskLaid}
 use Rattle.checkpoint.proofs.Copy.FitLaws.{laid-steps}
@@ -205,7 +204,7 @@ module _ (n b : ℕ) (w : World) (r : Running n b w) where
         state = ap (λ (x : World). deskOf (x .desk) .state) v ∙ ap (λ (x : Desk). x .state) h;
         locked = ap (λ (x : World). deskOf (x .desk) .locked) v ∙ ap (λ (x : Desk). x .locked) h;
         counts = ap (λ (x : World). deskOf (x .desk) .steps) v ∙ ap (λ (x : Desk). x .steps) h;
-        answer = ap (λ (o : Shown). o .answer) (step-does r finish (f .is));
+        answer = ap (λ (o : Outcome). o .answer) (step-does r finish (f .is));
         sound = finish-sound (r .laid) (f .none) (tidy-image (r .holds) (f .ended));
         quiet = rw v (finish-quiet (r .laid) (f .none));
       }
@@ -229,7 +228,7 @@ module _ (n b : ℕ) (w : World) (r : Running n b w) where
         rest = rw v (comes-to-rest (w .image) (stopping (deskOf (w .desk))) refl (r .laid .frame .complete) record { inodes = r .laid .desk .inodes; blocks = r .laid .desk .blocks; state = inr refl; locked = refl; transferred = refl; steps = omega arith });
         state = ap (λ (x : World). deskOf (x .desk) .state) v ∙ ap (λ (x : Desk). x .state) h;
         counts = ap (λ (x : World). deskOf (x .desk) .steps) v ∙ ap (λ (x : Desk). x .steps) h;
-        answer = ap (λ (o : Shown). o .answer) o;
+        answer = ap (λ (o : Outcome). o .answer) o;
       }
 
   pub completed : Finishes n b w → completes advances w ≡ true

@@ -14,8 +14,7 @@ use Rattle.copy_theory.specs.View.{View, Tidy}
 use Rattle.copy_theory.specs.Deed.{Deed, rests}
 use Rattle.copy_theory.specs.Holds.{Fresh}
 use Rattle.copy_theory.specs.History.{Recorded}
-use Rattle.checkpoint.specs.Live.{World}
-use Rattle.checkpoint.specs.Shown.{Shown}
+use Rattle.checkpoint.specs.Live.{World, Outcome}
 use Rattle.checkpoint.specs.List.{Event, call, advances, asks, starts, next, accepted, completes, run, Finish, last, more}
 use Rattle.checkpoint.proofs.Copy.Seen.{seen}
 use Rattle.checkpoint.proofs.Copy.TidyLaws.{store-tidy}
@@ -34,7 +33,7 @@ views n es w j = seenIn n (at es w j)
 module _ (n b : ℕ) where
   -- what rests never finishes
   rest-never : (es : List Event) (w : World) → Resting n b w → Finish es w → ⊥
-  rest-never es w r (last c) = clash (accepted advances w) (and-left (accepted advances w) _ c) (ap (λ (o : Shown). eqb (o .answer .number) 0) (step-idle n b w r))
+  rest-never es w r (last c) = clash (accepted advances w) (and-left (accepted advances w) _ c) (ap (λ (o : Outcome). eqb (o .answer .number) 0) (step-idle n b w r))
   rest-never (e ∷ es) w r (more q c f) = rest-never es (next e w) (still-next n b e w r q .rest) f
 
   pub record Finale (es : List Event) (w : World) : Type 0 where

@@ -17,9 +17,8 @@ use Rattle.sound.specs.declared.Form.the-variants.{Store}
 use Rattle.copy_theory.specs.View.{View}
 use Rattle.copy_theory.specs.Holds.{Holds}
 use Rattle.checkpoint.specs.Fit.{isRunning, imageAllowed}
-use Rattle.checkpoint.specs.Copier.{Step, lock, stepOf}
+use Rattle.checkpoint.specs.Copier.{Step, stepOf}
 use Rattle.checkpoint.specs.Live.{World, Outcome, guarded, doStep, step, threeGuards, start, started}
-use Rattle.checkpoint.specs.Shown.{Shown, shown}
 use Rattle.checkpoint.specs.List.{Ready, Event, advances, outcome, next}
 use Rattle.checkpoint.proofs.DecisionLaws.{three-is, start-is}
 use Rattle.checkpoint.proofs.Copy.Seen.{shelfOf, seen}
@@ -63,24 +62,24 @@ guards-pass w r o = three-is (w .store) (w .image) (w .desk) o ∙ rw (r .framed
 pub start-passes : (w : World) → Ready w → imageAllowed (inodesIn (w .store)) (length (w .image)) ≡ true → start (w .store) (w .image) (w .desk) ≡ started (w .store) (w .image) (w .desk)
 start-passes w r a = start-is (w .store) (w .image) (w .desk) ∙ rw (r .framed, r .desk, a, r .sound, r .notes) refl
 
-pub step-is : {n b : ℕ} {w : World} → Running n b w → outcome advances w ≡ shown (doStep (w .store) (w .image) (w .desk) n (stepOf (w .store) (w .image) (w .desk) n))
+pub step-is : {n b : ℕ} {w : World} → Running n b w → outcome advances w ≡ doStep (w .store) (w .image) (w .desk) n (stepOf (w .store) (w .image) (w .desk) n)
 unfolding outcome step
 step-is {n} {b} {w} r =
-    ap shown (guards-pass w (ready r) _)
-    ∙ rw (runs r) (ap (λ (k : ℕ). shown (doStep (w .store) (w .image) (w .desk) k (stepOf (w .store) (w .image) (w .desk) k))) (sym (r .count)))
+    (guards-pass w (ready r) _)
+    ∙ rw (runs r) (ap (λ (k : ℕ). (doStep (w .store) (w .image) (w .desk) k (stepOf (w .store) (w .image) (w .desk) k))) (sym (r .count)))
 
 -- the same, once it is known what the step does
-pub step-does : {n b : ℕ} {w : World} → Running n b w → (p : Step) → stepOf (w .store) (w .image) (w .desk) n ≡ p → outcome advances w ≡ shown (doStep (w .store) (w .image) (w .desk) n p)
-step-does {n} {b} {w} r p e = step-is r ∙ ap (λ (q : Step). shown (doStep (w .store) (w .image) (w .desk) n q)) e
+pub step-does : {n b : ℕ} {w : World} → Running n b w → (p : Step) → stepOf (w .store) (w .image) (w .desk) n ≡ p → outcome advances w ≡ doStep (w .store) (w .image) (w .desk) n p
+step-does {n} {b} {w} r p e = step-is r ∙ ap (λ (q : Step). (doStep (w .store) (w .image) (w .desk) n q)) e
 
 -- a world after an outcome
 abbrev pub leftIn : Outcome → World
 leftIn o = record { store = o .store; image = o .image; desk = o .desk }
 
 -- the same of what is shown
-abbrev pub bufferOf : Shown → World
+abbrev pub bufferOf : Outcome → World
 bufferOf x = record { store = x .store; image = x .image; desk = x .desk }
 
-pub next-is : (e : Event) (w : World) (x : Shown) → outcome e w ≡ x → next e w ≡ bufferOf x
+pub next-is : (e : Event) (w : World) (x : Outcome) → outcome e w ≡ x → next e w ≡ bufferOf x
 unfolding next
 next-is e w x h = ap bufferOf h

@@ -214,7 +214,7 @@ module _ (b : ℕ) (es : List Event) (w : World) (r : Running (countOf w) b w) (
               );
         }
 
-  pub finished : Finished es w
+  pub finished : Finished es w (run es w .image) (run es w .desk)
   finished = record {
     count = fin .count;
     sound = fin .sound;

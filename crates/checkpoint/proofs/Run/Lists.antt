@@ -38,7 +38,7 @@ counted (rests r) = r .count
 -- a start is accepted where the buffers fit and no copy runs
 pub start-accepts : (w : World) → Ready w → isRunning (w .desk) ≡ false → imageAllowed (inodesIn (w .store)) (length (w .image)) ≡ true → outcome starts w .answer ≡ told (Done 0)
 unfolding outcome started
-start-accepts w r i a = ap (λ (o : Outcome). told (o .answer)) (start-passes w r a) ∙ rw i refl
+start-accepts w r i a = ap (λ (o : Outcome). o .answer) (start-passes w r a) ∙ rw i refl
 
 pub start-done : (n b : ℕ) (w : World) → Resting n b w → outcome starts w .answer ≡ told (Done 0)
 start-done n b w r =

@@ -20,11 +20,11 @@ use Rattle.answers.specs.declared.Refusal.the-variants.{ImageFull}
 use Rattle.answers.specs.Told.{Told}
 use Rattle.answers.specs.Refusal.{refusalNumber}
 use Rattle.checkpoint.specs.Fit.{isRunning}
-use Rattle.checkpoint.specs.Live.{World}
-use Rattle.checkpoint.specs.Shown.{Shown}
+use Rattle.checkpoint.specs.Live.{World, Outcome}
 use Rattle.checkpoint.specs.List.{Event, call, advances, asks, starts, next, accepted, restarts, run, refusalOf, completes}
 use Rattle.checkpoint.specs.Finished.{countOf}
-use Rattle.checkpoint.specs.Progress.{ImageTaken, Ended, Progress, noRestart, tried, Roomy, GetsDone, Timing}
+use Rattle.checkpoint.specs.Progress.{ImageTaken, Ended, Progress, noRestart, Roomy, Timing}
+use Rattle.checkpoint.proofs.OfEvents.{tried, GetsDone}
 use Rattle.checkpoint.proofs.Copy.FitLaws.{laid-steps}
 use Rattle.checkpoint.proofs.Copy.ChosenLaws.{never-full}
 use Rattle.checkpoint.proofs.Run.Going.{Running, incomplete, next-is}
@@ -69,13 +69,13 @@ module _ (n b : ℕ) (w : World) where
   progress (rests r) = record {
     moves = λ z _. absurd (clash (isRunning (w .desk)) z (idle r));
     fills = taken-at (result n b w advances (rests r));
-    ends = λ q. absurd (clash (accepted advances w) (and-left (accepted advances w) _ q) (ap (λ (x : Shown). eqb (x .answer .number) 0) (step-idle n b w r)));
+    ends = λ q. absurd (clash (accepted advances w) (and-left (accepted advances w) _ q) (ap (λ (x : Outcome). eqb (x .answer .number) 0) (step-idle n b w r)));
   }
 
   -- "15 start while running, step while not"
   pub timing : Going n b w → Timing w
   timing (runs r) = record {
-    early = λ z. ap (λ (x : Shown). x .answer) (start-busy n b w r);
+    early = λ z. ap (λ (x : Outcome). x .answer) (start-busy n b w r);
     again = λ z. absurd (clash (isRunning (w .desk)) (now.runs r) z);
     late = λ z. absurd (clash (isRunning (w .desk)) (now.runs r) z);
     question = asks-same w;
@@ -83,7 +83,7 @@ module _ (n b : ℕ) (w : World) where
   timing (rests r) = record {
     early = λ z. absurd (clash (isRunning (w .desk)) z (idle r));
     again = λ z. start-done n b w r;
-    late = λ z. ap (λ (x : Shown). x .answer) (step-idle n b w r);
+    late = λ z. ap (λ (x : Outcome). x .answer) (step-idle n b w r);
     question = asks-same w;
   }
 

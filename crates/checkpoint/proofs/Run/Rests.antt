@@ -1,6 +1,6 @@
 -- A world in which no copy runs, after one was started: what each event does to it. n and b are the counts of inodes and image blocks.
 use Prim.Native.Nat.{ℕ, _≤_}
-use mathlib.Core.Path.{_≡_, refl, sym, ap, _∙_}
+use mathlib.Core.Path.{_≡_, refl, sym, _∙_}
 use mathlib.Core.Logic.{_⊎_, inl, inr}
 use mathlib.Core.Bool.{false}
 use mathlib.Core.List.{List}
@@ -26,7 +26,6 @@ use Rattle.files.proofs.Lawful.{Each, Lawful}
 use Rattle.files.proofs.LawfulCalls.{lawful}
 use Rattle.checkpoint.specs.Fit.{isRunning}
 use Rattle.checkpoint.specs.Live.{World, refuse, decision, leavesIn, live, step}
-use Rattle.checkpoint.specs.Shown.{shown}
 use Rattle.checkpoint.specs.List.{Ready, call, advances, asks, outcome, next}
 use Rattle.checkpoint.proofs.Copy.FitLaws.{notes-fit-is}
 use Rattle.checkpoint.proofs.DecisionLaws.{Unhindered, each-decided}
@@ -101,9 +100,9 @@ module _ (n b : ℕ) (w : World) (r : Resting n b w) where
   pub asks-kept : Kept (next asks w)
   asks-kept = same-kept (next asks w) (asks-same w)
 
-  pub step-idle : outcome advances w ≡ shown (refuse WrongState (w .store) (w .image) (w .desk))
+  pub step-idle : outcome advances w ≡ refuse WrongState (w .store) (w .image) (w .desk)
   unfolding outcome step
-  step-idle = ap shown (guards-pass w (r .fit) _) ∙ rw (idle r) refl
+  step-idle = (guards-pass w (r .fit) _) ∙ rw (idle r) refl
 
   pub steps-kept : Kept (next advances w)
   steps-kept = same-kept (next advances w) (next-is advances w _ step-idle)

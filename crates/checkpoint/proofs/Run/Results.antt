@@ -1,27 +1,23 @@
 -- What an event answers at any moment of a list: a result, a refusal that changes nothing, or 16. n and b are the counts of inodes and image blocks.
 use Prim.Native.Nat.{ℕ}
-use mathlib.Core.Path.{_≡_, refl, sym, ap, _∙_, subst}
+use mathlib.Core.Path.{_≡_, sym, ap, _∙_, subst}
 use mathlib.Core.Logic.{_≢_}
 use mathlib.Core.Bool.{true}
 use native.Mathlib.Omega.{arith}
 use native.Mathlib.Decide.{ℕ-discrete}
 use Rattle.desk.specs.Desk.{deskOf}
-use Rattle.answers.specs.declared.Refusal.{Refusal}
 use Rattle.answers.specs.declared.Refusal.the-variants.{BadBuffer, UnsoundStore, BadDesk, Busy, WrongState, ImageFull}
 use Rattle.answers.specs.Refusal.{refusalNumber}
-use Rattle.answers.specs.declared.Answer.{Answer}
 use Rattle.answers.specs.declared.Answer.the-variants.{Done, Refused}
 use Rattle.answers.specs.Told.{Told, told}
 use Rattle.checkpoint.specs.declared.Status.the-variants.{Is}
 use Rattle.blocks.specs.Free.{namedBy}
 use Rattle.checkpoint.specs.Fit.{imageLong}
 use Rattle.files.specs.Effect.{Call}
-use Rattle.checkpoint.proofs.DecisionLaws.{asStatus, status-is}
-use Rattle.checkpoint.specs.Live.{World, Outcome, refuse, live}
-use Rattle.checkpoint.specs.Shown.{numberOf, Shown, shown, toldStatus}
+use Rattle.checkpoint.proofs.DecisionLaws.{status-is}
+use Rattle.checkpoint.specs.Live.{World, Outcome, refuse, live, toldStatus}
 use Rattle.checkpoint.specs.List.{Event, call, advances, asks, starts, outcome, next, refusalOf}
-use Rattle.checkpoint.specs.Progress.{ImageTaken, Stopped}
-use Rattle.checkpoint.specs.Demand.{Refusals}
+use Rattle.checkpoint.specs.Progress.{Refusals, ImageTaken, Stopped}
 use Rattle.checkpoint.proofs.PlainAnswers.{plain-never}
 use Rattle.checkpoint.proofs.PlainLaws.{guards-pass}
 use Rattle.checkpoint.proofs.RefusedLaws.{live-refused}
@@ -48,25 +44,20 @@ pub data Result (e : Event) (w : World) : Type 0 where
 
 -- ---- a file call
 module _ (n b : ℕ) (w : World) (g : Going n b w) (c : Call) where
-  kept : (f : Refusal) → live c w .answer ≡ Refused f → next (call c) w ≡ w
-  unfolding outcome
-  kept f h = next-is (call c) w _ (ap shown (live-refused c w f h))
-
-  later : Later (numberOf (live c w .answer))
-  later = elim (ℕ-discrete (numberOf (live c w .answer)) (refusalNumber Busy)) [
+  later : Later (live c w .answer .number)
+  later = elim (ℕ-discrete (live c w .answer .number) (refusalNumber Busy)) [
     | yes e ↦ record { buffers = λ z. omega arith; store = λ z. omega arith; desk = λ z. omega arith; full = λ z. omega arith }
     | no e ↦
         let a = guards-pass c w (fit g) e in
-        record { buffers = a .first; store = a .second; desk = a .third; full = λ z. plain-never c (w .store) .sixteenth (ap numberOf (sym (a .answer)) ∙ z) }
+        record { buffers = a .first; store = a .second; desk = a .third; full = λ z. plain-never c (w .store) .sixteenth (ap (λ (t : Told). t .number) (sym (a .answer)) ∙ z) }
   ]
 
-  answered : (a : Answer) → live c w .answer ≡ a → Result (call c) w
-  unfolding outcome
-  answered (Done x) h = done (ap numberOf h)
-  answered (Refused f) h = refuses later (kept f h)
-
   call-result : Result (call c) w
-  call-result = answered (live c w .answer) refl
+  unfolding outcome next
+  call-result = elim (ℕ-discrete (live c w .answer .number) 0) [
+    | yes h ↦ done h
+    | no h ↦ refuses later (live-refused w c h)
+  ]
 
 -- ---- a step
 module _ (n b : ℕ) (w : World) where
@@ -89,13 +80,13 @@ module _ (n b : ℕ) (w : World) where
   step-result r (ends f) = done (number-is advances _ (finals n b w r f .answer))
   step-result r (halts f) = fills (number-is advances _ (halted n b w r f .answer)) (stop-is r f) (taken-is r f)
 
-  wrong : (e : Event) → outcome e w ≡ shown (refuse WrongState (w .store) (w .image) (w .desk)) → Result e w
-  wrong e h = let k = number-is e (told (Refused WrongState)) (ap (λ (o : Shown). o .answer) h) in refuses (record { buffers = λ z. omega arith; store = λ z. omega arith; desk = λ z. omega arith; full = λ z. omega arith }) (next-is e w _ h)
+  wrong : (e : Event) → outcome e w ≡ refuse WrongState (w .store) (w .image) (w .desk) → Result e w
+  wrong e h = let k = number-is e (told (Refused WrongState)) (ap (λ (o : Outcome). o .answer) h) in refuses (record { buffers = λ z. omega arith; store = λ z. omega arith; desk = λ z. omega arith; full = λ z. omega arith }) (next-is e w _ h)
 
   -- the state question tells what the desk says
   pub asked : Going n b w → outcome asks w .answer ≡ toldStatus (Is (deskOf (w .desk) .state) (deskOf (w .desk) .locked) (deskOf (w .desk) .steps))
   unfolding outcome
-  asked g = ap toldStatus (status-is (w .store) (w .image) (w .desk)) ∙ ap (λ (o : Outcome). toldStatus (asStatus (o .answer) (w .desk))) (going.guards-pass w (fit g) _)
+  asked g = status-is (w .store) (w .image) (w .desk) ∙ ap (λ (o : Outcome). o .answer) (going.guards-pass w (fit g) _)
 
   pub result : (e : Event) → Going n b w → Result e w
   result (call c) g = call-result n b w g c

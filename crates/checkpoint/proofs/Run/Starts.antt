@@ -26,7 +26,6 @@ use Rattle.copy_theory.proofs.HoldsLight.{holds-fresh}
 use Rattle.checkpoint.specs.Fit.{deskFramed, deskFits, imageAllowed, imageBlocks, isRunning, notesFit}
 use Rattle.checkpoint.specs.Copier.{startImage, startDesk}
 use Rattle.checkpoint.specs.Live.{World, Outcome, left, refuse, started, start}
-use Rattle.checkpoint.specs.Shown.{numberOf, shown}
 use Rattle.checkpoint.specs.List.{Ready, starts, outcome, next, accepted}
 use Rattle.checkpoint.proofs.DecisionLaws.{start-is}
 use Rattle.checkpoint.proofs.Copy.Seen.{seen}
@@ -53,7 +52,7 @@ pub opens : (v : World) → accepted starts v ≡ true → Opens v
 unfolding outcome started
 opens v a =
     go (framedB Store s) (deskFramed d) (imageAllowed (inodesIn s) (length m)) (isSound Store s) (notesFit s m d) (isRunning d) refl refl refl refl refl refl
-    (sym (ap (λ (o : Outcome). eqb (numberOf (o .answer)) 0) (start-is s m d)) ∙ a) (start-is s m d)
+    (sym (ap (λ (o : Outcome). eqb (o .answer .number) 0) (start-is s m d)) ∙ a) (start-is s m d)
   where
     s : List ℕ
     s = v .store
@@ -75,12 +74,12 @@ opens v a =
         (pick r (refuse WrongState s m d) o)))
 
     go : (f g i k n r : Bool) → framedB Store s ≡ f → deskFramed d ≡ g → imageAllowed (inodesIn s) (length m) ≡ i → isSound Store s ≡ k → notesFit s m d ≡ n → isRunning d ≡ r
-        → eqb (numberOf (tests f g i k n r .answer)) 0 ≡ true → start s m d ≡ tests f g i k n r → Opens v
+        → eqb (tests f g i k n r .answer .number) 0 ≡ true → start s m d ≡ tests f g i k n r → Opens v
     go true true true true true false p q t u x y h e = record {
       ready = record { framed = p; sound = u; desk = q; notes = x };
       allowed = t;
       idle = y;
-      is = next-is starts v (shown o) (ap shown e);
+      is = next-is starts v (o) (e);
     }
     go true true true true true true p q t u x y h e = absurd (clash false h refl)
     go true true true true false r p q t u x y h e = absurd (clash false h refl)

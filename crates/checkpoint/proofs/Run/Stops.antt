@@ -12,8 +12,7 @@ use Rattle.desk.specs.Sizes.{finished, stopped, deskHeaderBytes}
 use Rattle.desk.specs.Desk.{deskOf, putDesk}
 use Rattle.desk.specs.Next.{finishing, stopping}
 use Rattle.desk.proofs.DeskLaws.{length-putDesk, desk-putDesk}
-use Rattle.checkpoint.specs.Live.{World}
-use Rattle.checkpoint.specs.Shown.{world}
+use Rattle.checkpoint.specs.Live.{World, world}
 use Rattle.checkpoint.specs.Progress.{Stopped}
 
 pub stop-bytes : (d : List ℕ) → Octets d → deskHeaderBytes ≤ length d → (x : ℕ) → (x ≡ 4 → ⊥) → (6 ≤ x → x ≤ 9 → ⊥) → getD (putDesk d (stopping (deskOf d))) x 0 ≡ getD d x 0

@@ -17,7 +17,7 @@ use Rattle.files.proofs.Lawful.{Away, Lawful}
 use Rattle.checkpoint.specs.Live.{World}
 use Rattle.checkpoint.specs.List.{Event, call, advances, asks, starts, next, accepted, anyAt, takes}
 use Rattle.checkpoint.specs.Finished.{countOf}
-use Rattle.checkpoint.specs.Demand.{Takes}
+use Rattle.checkpoint.specs.Progress.{Takes}
 use Rattle.checkpoint.proofs.Call.LiveLaws.{live-accepted}
 use Rattle.checkpoint.proofs.Run.Lists.{Going, fit}
 use Rattle.checkpoint.proofs.Run.Stood.{entry-of, event-names}

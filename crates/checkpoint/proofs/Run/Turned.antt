@@ -24,8 +24,7 @@ use Rattle.copy_theory.proofs.HoldsLaws.{holds-does}
 use Rattle.answers.specs.declared.Answer.the-variants.{Done}
 use Rattle.answers.specs.Told.{told}
 use Rattle.checkpoint.specs.Copier.{Step, lock, copy, close, finish, full, stepOf, targetBlock}
-use Rattle.checkpoint.specs.Live.{World, doStep}
-use Rattle.checkpoint.specs.Shown.{Shown}
+use Rattle.checkpoint.specs.Live.{World, doStep, Outcome}
 use Rattle.checkpoint.specs.List.{advances, outcome, next}
 use Rattle.bounded.specs.declared.Found.the-variants.{At}
 use Rattle.checkpoint.proofs.Copy.Seen.{seen}
@@ -84,10 +83,10 @@ module _ (n b : ℕ) (w : World) (r : Running n b w) where
   }
 
   step-on : (p : Step) → stepOf (w .store) (w .image) (w .desk) n ≡ p → Goes n b w (after p) → deskOf (after p .desk) .steps ≡ deskOf (w .desk) .steps + 1
-      → doStep (w .store) (w .image) (w .desk) n p .answer ≡ Done (deskOf (w .desk) .steps + 1) → Stepped n b w
+      → doStep (w .store) (w .image) (w .desk) n p .answer ≡ told (Done (deskOf (w .desk) .steps + 1)) → Stepped n b w
   step-on p e g c a =
       let h : next advances w ≡ after p = next-is advances w _ (step-does r p e) in
-      on (rw h g) (ap (λ (v : World). deskOf (v .desk) .steps) h ∙ c) (ap (λ (o : Shown). o .answer) (step-does r p e) ∙ ap told a)
+      on (rw h g) (ap (λ (v : World). deskOf (v .desk) .steps) h ∙ c) (ap (λ (o : Outcome). o .answer) (step-does r p e) ∙ a)
 
   long : deskHeaderBytes ≤ length (w .desk)
   long = let e = r .laid .desk .long in omega arith

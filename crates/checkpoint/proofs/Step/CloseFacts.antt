@@ -14,7 +14,7 @@ use Rattle.bounded.specs.Update.{Changed, here, there}
 use Rattle.bounded.proofs.CaseLaws.{each-else}
 use Rattle.octets.proofs.PartLaws.{length-inside}
 use Rattle.layout.specs.Sizes.{addressPlace, mostBlocks, blockBytes, mostDirectBytes}
-use Rattle.layout.specs.Inode.{kindOf, sizeOf, parentOf, inodeOf, freeKind, fileKind, directoryKind}
+use Rattle.layout.specs.Inode.{kindOf, sizeOf, parentOf, inodeOf, freeKind, fileKind, directoryKind, withLinks}
 use Rattle.blocks.specs.Block.{blockOf, blocksUsed, bytesPlace, isLong, kthBy, kthBlock, bytesBlock, rowBy}
 use Rattle.ledger.proofs.BytesLaws.{place-used, place-bytes}
 use Rattle.blocks.proofs.LongLaws.{but-here}
@@ -31,7 +31,7 @@ use Rattle.sound.specs.Counted.{SoundStore}
 use Rattle.preservation.proofs.SameLaws.{InInode, NewInode}
 use Rattle.preservation.proofs.KeepLaws.{body-of, inode-kept}
 use Rattle.preservation.proofs.StoreLaws.{dir-of, blocks-of, dir-short}
-use Rattle.checkpoint.specs.Copier.{close, copiedBlock, unlinkedInode, stepImage, stepDesk}
+use Rattle.checkpoint.specs.Copier.{close, copiedBlock, stepImage, stepDesk}
 use Rattle.checkpoint.proofs.Copy.Laid.{DeskLaid, Open, Laid}
 use Rattle.checkpoint.proofs.Copy.SeenLaws.{copied-is, copied-like}
 use Rattle.checkpoint.proofs.Step.RowChange as rows
@@ -115,7 +115,7 @@ module _ {n b : ℕ} {s m d : List ℕ} (c : Closing n b s m d) where
   pub in-inode : InInode m m′ n l
   in-inode = rows.in-inode s m n l fits
 
-  pub new : NewInode m′ l (unlinkedInode (inodeOf s n l))
+  pub new : NewInode m′ l (withLinks (inodeOf s n l) 0)
   new = rows.new-inode s m n l fits
 
   pub new-kind : kindOf m′ l ≡ kindOf s l

@@ -13,7 +13,7 @@ use Rattle.octets.specs.Octets.{numAt, toBytes}
 use Rattle.octets.proofs.PartLaws.{part-same}
 use Rattle.octets.proofs.NumLaws.{zero-num}
 use Rattle.layout.specs.Sizes.{addressCount, addressPlace, blockBytes, mostBlocks}
-use Rattle.layout.specs.Inode.{kindOf, sizeOf, addressIndex, addressOf, putAddress, inodeOf, putAttributes}
+use Rattle.layout.specs.Inode.{kindOf, sizeOf, addressIndex, addressOf, putAddress, inodeOf, putAttributes, withLinks}
 use Rattle.layout.specs.Fits.{InodeFits}
 use Rattle.blocks.specs.Block.{storeLength, blockAt, blockOf, putInBlock, isLong, addressBlock, furtherOf, kthBy, kthBlock, rowBy, putKth}
 use Rattle.blocks.specs.Free.{longBut}
@@ -22,7 +22,6 @@ use Rattle.ledger.proofs.WriteLaws.{Within, put-within, kth-data, address-other
 use Rattle.ledger.proofs.LedgerLaws.{Unnamed, free-none}
 use Rattle.blocks.proofs.LongLaws.{but-here, but-else}
 use Rattle.preservation.proofs.SameLaws.{InInode, NewInode, same-long, put-attributes, attributes-blocks, attributes-new}
-use Rattle.checkpoint.specs.Copier.{unlinkedInode}
 
 -- ---- 3: block c, which no inode has, gets the bytes xs and is then the k-th of inode i; the address block that holds its address is there. long tells which inodes have one
 module _ (long : ℕ → Bool) (m : List ℕ) (n b : ℕ) (fits : length m ≡ storeLength n b) (i : ℕ) (low : 1 ≤ i) (high : i ≤ n) (k : ℕ) (few : k < mostBlocks)
@@ -180,13 +179,13 @@ module _ (long : ℕ → Bool) (m : List ℕ) (n b : ℕ) (fits : length m ≡ s
 -- ---- 4: the attributes of inode l become the store's: it is long by its size now, as it was by the store's
 module _ (s m : List ℕ) (n l : ℕ) (fits : InodeFits m n l) where
   abbrev closed : List ℕ
-  closed = putAttributes m l (unlinkedInode (inodeOf s n l))
+  closed = putAttributes m l (withLinks (inodeOf s n l) 0)
 
   pub in-inode : InInode m closed n l
-  in-inode = put-attributes m n l fits (unlinkedInode (inodeOf s n l))
+  in-inode = put-attributes m n l fits (withLinks (inodeOf s n l) 0)
 
-  pub new-inode : NewInode closed l (unlinkedInode (inodeOf s n l))
-  new-inode = attributes-new m n l fits (unlinkedInode (inodeOf s n l))
+  pub new-inode : NewInode closed l (withLinks (inodeOf s n l) 0)
+  new-inode = attributes-new m n l fits (withLinks (inodeOf s n l) 0)
 
   pub new-kind : kindOf closed l ≡ kindOf s l
   new-kind = new-inode .kind ∙ (unfold inodeOf in refl)
@@ -203,7 +202,7 @@ module _ (s m : List ℕ) (n l : ℕ) (fits : InodeFits m n l) where
   kth-after : (i : ℕ) → 1 ≤ i → i ≤ n → (k : ℕ) → k < mostBlocks → kthBy (longBut m l (isLong s l) i) closed n i k ≡ kthBy (longBut m l (isLong s l) i) m n i k
   kth-after i o q k a =
       each-else (λ i. 1 ≤ i → i ≤ n → kthBy (longBut m l (isLong s l) i) closed n i k ≡ kthBy (longBut m l (isLong s l) i) m n i k) l i
-      (λ _ _. attributes-blocks m n l fits (unlinkedInode (inodeOf s n l)) (longBut m l (isLong s l) l) k a)
+      (λ _ _. attributes-blocks m n l fits (withLinks (inodeOf s n l) 0) (longBut m l (isLong s l) l) k a)
       (λ z x y.
       ap (λ (w : Bool). kthBy w closed n i k) (sym (long-after i x y)) ∙ in-inode .others i x y z .blocks k a
       ∙ ap (λ (w : Bool). kthBy w m n i k) (sym (but-else m l (isLong s l) i z))) o q

@@ -1,5 +1,3 @@
-use mathlib.Core.Path.{ap}
-use Rattle.checkpoint.specs.Shown.{toldStatus}
 use Rattle.guards.proofs.GuardLaws.{state-through, state-stopped}
 use borrow.Author.Needs.{needs}
 use Rattle.guards.proofs.state.Statement.{statement}
@@ -15,10 +13,10 @@ enum-known-why : tie.Need-enum-known-why
 enum-known-why c = search needs
 
 returns : tie.Need-returns
-returns c = ap toldStatus (state-through _ _ _ _ (c .before .before .before .three-guards .ensures) _ _ _ (c .before .h .given .1))
+returns c = state-through _ _ _ _ (c .before .before .before .three-guards .ensures) _ _ _ (c .before .h .given .1)
 
 returns-2 : tie.Need-returns-2
-returns-2 c = ap toldStatus (state-stopped _ _ _ _ (c .before .before .before .three-guards .ensures) _ (c .before .why .given .1))
+returns-2 c = state-stopped _ _ _ _ (c .before .before .before .three-guards .ensures) _ (c .before .why .given .1)
 
 pub state-spec : {M : Type 1} → statement M
 state-spec =

@@ -1,7 +1,7 @@
 use native.Mathlib.Omega.{arith}
 use Rattle.script_run.proofs.RunLaws.{line-none, line-below, line-steps, line-calls}
 use denote.Ref.{now}
-use Rattle.checkpoint.specs.Shown.{world}
+use Rattle.checkpoint.specs.Live.{world}
 use borrow.Author.Needs.{needs}
 use Rattle.script_run.proofs.run.run.Statement.{statement}
 use Rattle.script_run.proofs.run.run.Tie as tie

@@ -2,7 +2,7 @@ use Rattle.script_run.proofs.RunLaws.{step-begin}
 use borrow.Author.Needs.{needs}
 use native.Mathlib.Omega.{arith}
 use Rattle.script_run.proofs.RunLaws.{step-refused, step-on, step-end}
-use Rattle.checkpoint.specs.Shown.{world}
+use Rattle.checkpoint.specs.Live.{world}
 use Rattle.script_run.specs.Reply.{stepped}
 use lib.ListN.{length}
 use Prim.Native.Nat.{_-_, _≤_}
