@@ -28,7 +28,8 @@
  *
  * Numbers
  *     Inodes are numbered from 1, and 1 is the root directory. Numbers are never cut: one that is
- *     too large is refused.
+ *     too large is refused. Lengths and numbers are 64 bits wide on every machine (honecerise_size);
+ *     any unsigned type will do for what is passed by value.
  *
  * Answers
  *     An int32_t: the result if it is not negative, else minus the number of the refusal (below).
@@ -38,7 +39,8 @@
  * Stack
  *     No call takes more than HONECERISE_STACK bytes.
  *
- * To link: libapi.a, and memcpy, memset and strlen from any C library.
+ * To link: libapi.a on x86-64 Linux, and memcpy, memset and strlen from any C library; elsewhere the
+ * libhonecerise.a that targets/build writes, which says what it wants from outside.
  */
 #ifndef HONECERISE_H
 #define HONECERISE_H
@@ -49,6 +51,18 @@
 #ifdef __cplusplus
 extern "C" {
 #endif
+
+/* ---- the width of lengths and numbers -------------------------------------------------------
+ * size_t where that is 64 bits wide, so that a size_t's address can be handed to honecerise_state
+ * there; elsewhere uint64_t. */
+
+#if SIZE_MAX == UINT64_MAX
+typedef size_t honecerise_size;
+#else
+typedef uint64_t honecerise_size;
+#endif
+/* does not compile where the two limits above are not what they should be */
+typedef char honecerise_size_has_64_bits[sizeof(honecerise_size) == 8 ? 1 : -1];
 
 /* ---- limits -------------------------------------------------------------------------------- */
 
@@ -69,11 +83,26 @@ extern "C" {
 #define HONECERISE_MAX_TERMS       12u /* terms of a school                                     */
 
 /*
- * The deepest stack of any call, below its caller's frame, with room to spare: burst takes about
- * 10,800 bytes, step 10,500, write 10,200 and every other call less than 6,000 (bindings/c/stack.c
- * paints a stack, makes all calls on it and looks how far they came).
+ * The deepest stack of any call, below its caller's frame, with room to spare, by machine; beside it what
+ * was measured. By frames: the frames of the deepest row of calls added up, without memcpy's and its like's
+ * (targets/build says them). Painted: all calls made on a painted stack (bindings/c/stack.c on x86-64,
+ * targets/run/stack.c on the others).
  */
-#define HONECERISE_STACK        12288u
+#if defined(__ARM_ARCH_6M__)        /* Cortex-M0+ */
+#define HONECERISE_STACK        12288u /* by frames 10,888, painted 11,028 */
+#elif defined(__ARM_ARCH_8M_MAIN__) /* Cortex-M33 */
+#define HONECERISE_STACK        12288u /* by frames 10,696, painted 10,816 */
+#elif defined(__arm__)              /* Cortex-M4; 32-bit Arm Linux */
+#define HONECERISE_STACK        12288u /* by frames 10,704, painted 10,832 */
+#elif defined(__riscv)              /* RISC-V, 32 bits */
+#define HONECERISE_STACK        12288u /* by frames 10,736, painted 10,832 */
+#elif defined(__aarch64__)
+#define HONECERISE_STACK        12288u /* by frames 10,688, painted 10,800 */
+#elif defined(__wasm__)             /* of its linear memory; what the engine takes beside it is not in it */
+#define HONECERISE_STACK        12288u /* by frames 10,352, painted 10,324 */
+#else                               /* x86-64 */
+#define HONECERISE_STACK        12288u /* painted 10,776 */
+#endif
 
 /* ---- lengths in bytes: exact, and constant where the arguments are ------------------------- */
 
@@ -147,27 +176,29 @@ enum honecerise_refusal {
  * HONECERISE_STORE_LENGTH or HONECERISE_DESK_LENGTH of the numbers told. An image needs no laying
  * out: a start does it. Refused with 1. */
 
-int32_t honecerise_lay_out_store(uint8_t *store, size_t store_length, size_t inodes, size_t blocks);
+int32_t honecerise_lay_out_store(uint8_t *store, honecerise_size store_length,
+                                 honecerise_size inodes, honecerise_size blocks);
 
-int32_t honecerise_lay_out_desk(uint8_t *desk, size_t desk_length, size_t inodes);
+int32_t honecerise_lay_out_desk(uint8_t *desk, honecerise_size desk_length, honecerise_size inodes);
 
 /* ---- the check -----------------------------------------------------------------------------
  * 1 if the bytes are a sound store (image 0) or a sound finished image (image not 0), else 0. It
  * takes any bytes, and is the call for what came over the air. */
 
-uint8_t honecerise_check(uint8_t image, const uint8_t *bytes, size_t length);
+uint8_t honecerise_check(uint8_t image, const uint8_t *bytes, honecerise_size length);
 
 /* ---- looking and reading: the store alone, at any time -------------------------------------
  * Both refuse with 1 and 2. */
 
 /* The inode that a name stands for. 4, 5, 6. */
-int32_t honecerise_look_up(const uint8_t *store, size_t store_length,
-                           size_t directory, const uint8_t *name, size_t name_length);
+int32_t honecerise_look_up(const uint8_t *store, honecerise_size store_length,
+                           honecerise_size directory, const uint8_t *name, honecerise_size name_length);
 
 /* Bytes of a file from offset on, as many as there are and fit: answers how many. At the size it
  * answers 0. Bytes of out beyond that stay as they were. 5, 9. */
-int32_t honecerise_read(const uint8_t *store, size_t store_length,
-                        size_t inode, size_t offset, uint8_t *out, size_t out_length);
+int32_t honecerise_read(const uint8_t *store, honecerise_size store_length,
+                        honecerise_size inode, honecerise_size offset,
+                        uint8_t *out, honecerise_size out_length);
 
 /* ---- changing the store --------------------------------------------------------------------
  * With a copy running or not, always with all three buffers, so that the copier learns of it: a
@@ -175,49 +206,54 @@ int32_t honecerise_read(const uint8_t *store, size_t store_length,
  * written, and may be empty. All refuse with 1, 2 and 3, and with 14 while a copy runs. */
 
 /* A new empty file or directory: answers its inode, the lowest that is free. 4, 5, 7, 11 to 14. */
-int32_t honecerise_create_file(uint8_t *store, size_t store_length,
-                               uint8_t *image, size_t image_length,
-                               uint8_t *desk, size_t desk_length,
-                               size_t directory, const uint8_t *name, size_t name_length);
+int32_t honecerise_create_file(uint8_t *store, honecerise_size store_length,
+                               uint8_t *image, honecerise_size image_length,
+                               uint8_t *desk, honecerise_size desk_length,
+                               honecerise_size directory,
+                               const uint8_t *name, honecerise_size name_length);
 
-int32_t honecerise_create_directory(uint8_t *store, size_t store_length,
-                                    uint8_t *image, size_t image_length,
-                                    uint8_t *desk, size_t desk_length,
-                                    size_t directory, const uint8_t *name, size_t name_length);
+int32_t honecerise_create_directory(uint8_t *store, honecerise_size store_length,
+                                    uint8_t *image, honecerise_size image_length,
+                                    uint8_t *desk, honecerise_size desk_length,
+                                    honecerise_size directory,
+                                    const uint8_t *name, honecerise_size name_length);
 
 /* Lays bytes over a file from offset, which is at most its size, and grows it as needed: answers
  * the new size. 5, 9, 12, 14. */
-int32_t honecerise_write(uint8_t *store, size_t store_length,
-                         uint8_t *image, size_t image_length,
-                         uint8_t *desk, size_t desk_length,
-                         size_t inode, size_t offset, const uint8_t *bytes, size_t length);
+int32_t honecerise_write(uint8_t *store, honecerise_size store_length,
+                         uint8_t *image, honecerise_size image_length,
+                         uint8_t *desk, honecerise_size desk_length,
+                         honecerise_size inode, honecerise_size offset,
+                         const uint8_t *bytes, honecerise_size length);
 
 /* Cuts a file to length, which is at most its size: answers the new size. 5, 9, 14. */
-int32_t honecerise_shorten(uint8_t *store, size_t store_length,
-                           uint8_t *image, size_t image_length,
-                           uint8_t *desk, size_t desk_length,
-                           size_t inode, size_t length);
+int32_t honecerise_shorten(uint8_t *store, honecerise_size store_length,
+                           uint8_t *image, honecerise_size image_length,
+                           uint8_t *desk, honecerise_size desk_length,
+                           honecerise_size inode, honecerise_size length);
 
 /* A further name for a file. 4, 5, 7, 12, 13, 14. */
-int32_t honecerise_link(uint8_t *store, size_t store_length,
-                        uint8_t *image, size_t image_length,
-                        uint8_t *desk, size_t desk_length,
-                        size_t directory, const uint8_t *name, size_t name_length, size_t inode);
+int32_t honecerise_link(uint8_t *store, honecerise_size store_length,
+                        uint8_t *image, honecerise_size image_length,
+                        uint8_t *desk, honecerise_size desk_length,
+                        honecerise_size directory, const uint8_t *name, honecerise_size name_length,
+                        honecerise_size inode);
 
 /* Takes a name out: of a file, which is freed with its last name, or of an empty directory.
  * 4, 5, 6, 8, 14. */
-int32_t honecerise_unlink(uint8_t *store, size_t store_length,
-                          uint8_t *image, size_t image_length,
-                          uint8_t *desk, size_t desk_length,
-                          size_t directory, const uint8_t *name, size_t name_length);
+int32_t honecerise_unlink(uint8_t *store, honecerise_size store_length,
+                          uint8_t *image, honecerise_size image_length,
+                          uint8_t *desk, honecerise_size desk_length,
+                          honecerise_size directory, const uint8_t *name, honecerise_size name_length);
 
 /* Another name, another directory, or both. It replaces nothing: a taken name refuses.
  * To another spelling of its own name the entry gets that spelling. 4 to 7, 10, 12, 13, 14. */
-int32_t honecerise_rename(uint8_t *store, size_t store_length,
-                          uint8_t *image, size_t image_length,
-                          uint8_t *desk, size_t desk_length,
-                          size_t directory, const uint8_t *name, size_t name_length,
-                          size_t to_directory, const uint8_t *to_name, size_t to_name_length);
+int32_t honecerise_rename(uint8_t *store, honecerise_size store_length,
+                          uint8_t *image, honecerise_size image_length,
+                          uint8_t *desk, honecerise_size desk_length,
+                          honecerise_size directory, const uint8_t *name, honecerise_size name_length,
+                          honecerise_size to_directory,
+                          const uint8_t *to_name, honecerise_size to_name_length);
 
 /* ---- the copier ----------------------------------------------------------------------------
  * Start once, then step until the state is finished, with any calls in between: a step is short,
@@ -233,31 +269,31 @@ enum honecerise_copy_state {
 
 /* Begins a copy and writes over the whole image, of 1 to HONECERISE_MAX_IMAGE blocks and as many
  * inodes as the store has. 15. */
-int32_t honecerise_start(const uint8_t *store, size_t store_length,
-                         uint8_t *image, size_t image_length,
-                         uint8_t *desk, size_t desk_length);
+int32_t honecerise_start(const uint8_t *store, honecerise_size store_length,
+                         uint8_t *image, honecerise_size image_length,
+                         uint8_t *desk, honecerise_size desk_length);
 
 /* One step: answers the steps of this copy so far. 15, 16. */
-int32_t honecerise_step(const uint8_t *store, size_t store_length,
-                        uint8_t *image, size_t image_length,
-                        uint8_t *desk, size_t desk_length);
+int32_t honecerise_step(const uint8_t *store, honecerise_size store_length,
+                        uint8_t *image, honecerise_size image_length,
+                        uint8_t *desk, honecerise_size desk_length);
 
 /* Does what so many single steps would, 1 to HONECERISE_MOST_BURST, and answers how many of this call
  * were accepted. It ends early when the copy finishes or a step is refused: if that is the first, its
  * refusal is the answer; a later one only cuts the count short, and after 16 the copy is stopped.
  * 15, 16, 17. */
-int32_t honecerise_burst(const uint8_t *store, size_t store_length,
-                         uint8_t *image, size_t image_length,
-                         uint8_t *desk, size_t desk_length,
-                         size_t count);
+int32_t honecerise_burst(const uint8_t *store, honecerise_size store_length,
+                         uint8_t *image, honecerise_size image_length,
+                         uint8_t *desk, honecerise_size desk_length,
+                         honecerise_size count);
 
 /* Puts the state (enum honecerise_copy_state), the locked inode (0: none) and the accepted steps
  * since the latest start through the three pointers, which are three different ones, and answers
  * 0. A refusal leaves the three as they were. */
-int32_t honecerise_state(const uint8_t *store, size_t store_length,
-                         const uint8_t *image, size_t image_length,
-                         const uint8_t *desk, size_t desk_length,
-                         size_t *state, size_t *locked, size_t *steps);
+int32_t honecerise_state(const uint8_t *store, honecerise_size store_length,
+                         const uint8_t *image, honecerise_size image_length,
+                         const uint8_t *desk, honecerise_size desk_length,
+                         honecerise_size *state, honecerise_size *locked, honecerise_size *steps);
 
 /* ---- the charging case ---------------------------------------------------------------------
  * One radio, sixteen bays. Each turn of the case has 1 to HONECERISE_MOST_TURN steps to give away:
@@ -267,7 +303,7 @@ int32_t honecerise_state(const uint8_t *store, size_t store_length,
  * The answer is the bay last served, which the next turn is told:
  *
  *     answer = honecerise_deal(running, steps, last, counts);
- *     if (answer >= 0) last = (size_t)answer;
+ *     if (answer >= 0) last = (honecerise_size)answer;
  *     for each bay b with counts[b] > 0: honecerise_burst(.. the watch in bay b .., counts[b]);
  *
  * After a refusal keep the bay you had.
@@ -284,7 +320,8 @@ int32_t honecerise_state(const uint8_t *store, size_t store_length,
  * Tell a bay whose copy is finished or stopped as not running (ask honecerise_state), or it goes on
  * getting its share. examples/c/case.c is such a loop. 21. */
 
-int32_t honecerise_deal(uint16_t running, size_t steps, size_t last, uint8_t counts[HONECERISE_BAYS]);
+int32_t honecerise_deal(uint16_t running, honecerise_size steps, honecerise_size last,
+                        uint8_t counts[HONECERISE_BAYS]);
 
 /* ---- laps against the mat -------------------------------------------------------------------
  * Takes no store. Holds the lap times of a watch against the crossings that the track's timing mat
@@ -304,12 +341,12 @@ int32_t honecerise_deal(uint16_t running, size_t steps, size_t last, uint8_t cou
  * it. A watch whose clock is off by more than half a second as a rule pairs little: examples/c/laps.c
  * shifts its times, takes the shift with the most pairs, and finds how far the clock is off. */
 
-int32_t honecerise_match_laps(const uint32_t *watch, size_t watch_count,
-                              const uint32_t *mat, size_t mat_count,
-                              uint32_t *paired_watch, size_t paired_watch_count,
-                              uint32_t *paired_mat, size_t paired_mat_count,
-                              uint32_t *alone_watch, size_t alone_watch_count,
-                              uint32_t *alone_mat, size_t alone_mat_count);
+int32_t honecerise_match_laps(const uint32_t *watch, honecerise_size watch_count,
+                              const uint32_t *mat, honecerise_size mat_count,
+                              uint32_t *paired_watch, honecerise_size paired_watch_count,
+                              uint32_t *paired_mat, honecerise_size paired_mat_count,
+                              uint32_t *alone_watch, honecerise_size alone_watch_count,
+                              uint32_t *alone_mat, honecerise_size alone_mat_count);
 
 /* ---- which copies to keep -------------------------------------------------------------------
  * Takes no store, and deletes nothing: it says which of a case's finished images are kept on the day
@@ -336,10 +373,10 @@ int32_t honecerise_match_laps(const uint32_t *watch, size_t watch_count,
 #define HONECERISE_DATE(year, month, day) \
     ((uint32_t)(year) * 10000u + (uint32_t)(month) * 100u + (uint32_t)(day))
 
-int32_t honecerise_keep(const uint32_t *copies, size_t count,
-                        const uint32_t *terms, size_t term_days,
+int32_t honecerise_keep(const uint32_t *copies, honecerise_size count,
+                        const uint32_t *terms, honecerise_size term_days,
                         uint32_t asked,
-                        uint8_t *out, size_t out_length);
+                        uint8_t *out, honecerise_size out_length);
 
 #ifdef __cplusplus
 }

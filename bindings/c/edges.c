@@ -32,6 +32,9 @@ static size_t store_length, image_length, desk_length;
 static const uint8_t lap[200] = "71.2 70.8 72.0 69.9";
 #define NAME(text) (const uint8_t *)(text), strlen(text)
 
+/* What a number of 32 bits would cut to 0. */
+#define BEYOND (UINT64_C(1) << 32)
+
 static unsigned tried;
 
 static void same(const char *what, int32_t expected, int32_t answer)
@@ -52,7 +55,7 @@ static void accepted(const char *what, int32_t answer)
 
 /* ---- empty buffers without an address */
 
-static void null_store(size_t *n)
+static void null_store(honecerise_size *n)
 {
     IS(-1, honecerise_lay_out_store(NONE, 16, 64));
     IS(-1, honecerise_lay_out_desk(NONE, 16));
@@ -75,7 +78,7 @@ static void null_store(size_t *n)
     IS(-1, honecerise_state(NONE, NONE, NONE, n, n + 1, n + 2));
 }
 
-static void null_desk(size_t *n)
+static void null_desk(honecerise_size *n)
 {
     IS(-1, honecerise_create_file(STORE, IMAGE, NONE, 1, NAME("z")));
     IS(-1, honecerise_create_directory(STORE, IMAGE, NONE, 1, NAME("z")));
@@ -92,7 +95,7 @@ static void null_desk(size_t *n)
 }
 
 /* While a copy runs an empty image is not the one that it began on; else no call but start looks. */
-static void null_image(size_t *n, int running)
+static void null_image(honecerise_size *n, int running)
 {
     const int32_t off = running ? -3 : 0;
     IS(running ? -3 : 4, honecerise_create_file(STORE, NONE, DESK, 1, NAME("x")));
@@ -127,9 +130,25 @@ static void null_names(int32_t size)
     IS(-4, honecerise_rename(STORE, IMAGE, DESK, 1, NONE, 1, NONE));
 }
 
+/* Numbers are never cut, whatever a machine's own width is. */
+static void wide_numbers(void)
+{
+    IS(-1, honecerise_lay_out_store(STORE, BEYOND + 16, 64));
+    IS(-1, honecerise_lay_out_store(STORE, 16, BEYOND + 64));
+    IS(-1, honecerise_lay_out_desk(DESK, BEYOND + 16));
+    IS(-5, honecerise_look_up(STORE, BEYOND + 1, NAME("a")));
+    IS(-5, honecerise_read(STORE, BEYOND + 2, 0, NONE));
+    IS(-9, honecerise_read(STORE, 2, BEYOND, NONE));
+    IS(-5, honecerise_create_file(STORE, IMAGE, DESK, BEYOND + 1, NAME("w")));
+    IS(-5, honecerise_write(STORE, IMAGE, DESK, BEYOND + 2, 0, NONE));
+    IS(-9, honecerise_write(STORE, IMAGE, DESK, 2, BEYOND, NONE));
+    IS(-9, honecerise_shorten(STORE, IMAGE, DESK, 2, BEYOND));
+    IS(-5, honecerise_link(STORE, IMAGE, DESK, 1, NAME("w"), BEYOND + 2));
+}
+
 static void nulls(void)
 {
-    size_t n[3] = { 7, 7, 7 };
+    honecerise_size n[3] = { 7, 7, 7 };
     int running;
     TAKEN(honecerise_lay_out_store(STORE, 16, 64));
     TAKEN(honecerise_lay_out_desk(DESK, 16));
@@ -146,6 +165,7 @@ static void nulls(void)
             same("a refused state leaves its numbers", 0, 1);
         null_image(n, running);
         null_names(70);
+        wide_numbers();
     }
 }
 
@@ -186,7 +206,8 @@ static void copy_all(size_t inodes, size_t blocks)
 {
     const size_t most = HONECERISE_MAX_FILE;
     uint8_t *name = fenced(14, 1), *bytes = fenced(most, 1), *out = fenced(most, 1);
-    size_t n[3], i, length, folder = 1, count;
+    honecerise_size n[3];
+    size_t i, length, folder = 1, count;
     int32_t made;
     memset(bytes, 'b', most);
     TAKEN(honecerise_lay_out_store(STORE, inodes, blocks));
@@ -225,8 +246,9 @@ static void bad_counts(void)
 {
     IS(-17, honecerise_burst(STORE, IMAGE, DESK, 0));
     IS(-17, honecerise_burst(STORE, IMAGE, DESK, HONECERISE_MOST_BURST + 1));
-    IS(-17, honecerise_burst(STORE, IMAGE, DESK, SIZE_MAX));
-    IS(-17, honecerise_burst(STORE, IMAGE, DESK, SIZE_MAX / 2 + 2));
+    IS(-17, honecerise_burst(STORE, IMAGE, DESK, UINT64_MAX));
+    IS(-17, honecerise_burst(STORE, IMAGE, DESK, UINT64_MAX / 2 + 2));
+    IS(-17, honecerise_burst(STORE, IMAGE, DESK, BEYOND + 1));
 }
 
 /* A copy of 68 steps: the root in 3, the long file in 46, the other in 18, the finish. */
@@ -261,8 +283,9 @@ static void turns(int at_end)
 {
     static const uint8_t none[HONECERISE_BAYS] = { 0 };
     static const uint8_t three[HONECERISE_BAYS] = { 2, 0, 0, 0, 0, 0, 0, 0, 0, 0, 0, 0, 0, 0, 0, 1 };
-    static const size_t refused[][2] = { { 0, 0 },        { 65, 0 },       { 1, 16 },
-                                         { SIZE_MAX, 0 }, { 1, SIZE_MAX }, { 257, 272 } };
+    static const honecerise_size refused[][2] = { { 0, 0 }, { 65, 0 }, { 1, 16 }, { 257, 272 },
+                                                  { UINT64_MAX, 0 }, { 1, UINT64_MAX },
+                                                  { BEYOND + 1, 0 }, { 1, BEYOND } };
     uint8_t *counts = fenced(HONECERISE_BAYS, at_end);
     size_t i;
     for (i = 0; i < sizeof refused / sizeof refused[0]; i++) {

@@ -51,9 +51,9 @@ static void put_in(size_t bay, size_t bytes)
 }
 
 /* The state of a watch's copy; the steps that it has taken. */
-static size_t state_of(const struct watch *w, size_t *steps)
+static honecerise_size state_of(const struct watch *w, honecerise_size *steps)
 {
-    size_t state, locked;
+    honecerise_size state, locked;
     done("state", honecerise_state(WATCH(w), &state, &locked, steps));
     return state;
 }
@@ -62,7 +62,8 @@ static size_t state_of(const struct watch *w, size_t *steps)
 static uint16_t running_bays(void)
 {
     uint16_t running = 0;
-    size_t b, steps;
+    honecerise_size steps;
+    size_t b;
     for (b = 0; b < HONECERISE_BAYS; b++)
         if (bays[b].there && state_of(&bays[b], &steps) == HONECERISE_RUNNING)
             running = (uint16_t)(running | 1u << b);
@@ -87,7 +88,8 @@ static size_t turn(uint16_t running, size_t last)
 
 int main(void)
 {
-    size_t b, steps, turns = 0, last = HONECERISE_BAYS - 1; /* so that the first turn begins at bay 0 */
+    size_t b, turns = 0, last = HONECERISE_BAYS - 1; /* so that the first turn begins at bay 0 */
+    honecerise_size steps;
     uint16_t running;
 
     put_in(0, 100);

@@ -20,7 +20,8 @@ static size_t done(const char *call, int32_t answer) /* below 0: minus a refusal
 
 int main(void)
 {
-    size_t run, size = 0, state, locked, steps;
+    size_t run, size = 0;
+    honecerise_size state, locked, steps;
     uint8_t laps[HONECERISE_MAX_FILE];
 
     done("lay out", honecerise_lay_out_store(store, sizeof store, N, B));

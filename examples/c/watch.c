@@ -33,9 +33,9 @@ static size_t done(const char *what, int32_t answer)
     return (size_t)answer;
 }
 
-static int running(size_t *steps)
+static int running(honecerise_size *steps)
 {
-    size_t state, locked;
+    honecerise_size state, locked;
     done("state", honecerise_state(WATCH, &state, &locked, steps));
     return state == HONECERISE_RUNNING;
 }
@@ -52,7 +52,7 @@ static void record(size_t run, size_t offset, const char *lap)
     done("write", answer);
 }
 
-static void list(const uint8_t *bytes, size_t steps)
+static void list(const uint8_t *bytes, honecerise_size steps)
 {
     size_t directory, slot;
     struct honecerise_entry e;
@@ -68,7 +68,8 @@ static void list(const uint8_t *bytes, size_t steps)
 int main(void)
 {
     uint8_t text[HONECERISE_MAX_FILE];
-    size_t laps, first, second, size, steps = 0;
+    size_t laps, first, second, size;
+    honecerise_size steps = 0;
 
     done("lay out", honecerise_lay_out_store(store, sizeof store, INODES, BLOCKS));
     done("lay out", honecerise_lay_out_desk(desk, sizeof desk, INODES));

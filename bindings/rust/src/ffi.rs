@@ -5,6 +5,9 @@
 //! write inside these slices alone, whatever their bytes and the numbers are, and keeps none of them.
 use crate::{BAYS, Refusal};
 
+#[cfg(not(target_pointer_width = "64"))]
+compile_error!("the library's lengths and numbers are 64 bits wide, and this crate hands it usize");
+
 #[rustfmt::skip]
 mod c {
     // SAFETY: these are the functions of include/honecerise.h, with the same parameters in the same order.
