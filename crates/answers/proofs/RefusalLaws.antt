@@ -10,7 +10,7 @@ use mathlib.Core.Logic.{⊎-elim}
 use Rattle.bounded.proofs.BoolLaws.{never, and-left, and-right, or-cases}
 use Rattle.bounded.proofs.ReflectLaws.{r-and, r-le}
 use Rattle.answers.specs.declared.Refusal.{Refusal}
-use Rattle.answers.specs.declared.Refusal.the-variants.{BadBuffer, UnsoundStore, BadDesk, IllegalName, WrongInode, NameAbsent, NameTaken, NotEmpty, PastEnd, IntoItself, NoInode, NoBlocks, NoSlot, Busy, WrongState, ImageFull, BadCount, BadTurn, NoDate, BadTerms, AfterAsked, BadTimes}
+use Rattle.answers.specs.declared.Refusal.the-variants.{BadBuffer, UnsoundStore, BadDesk, IllegalName, WrongInode, NameAbsent, NameTaken, NotEmpty, PastEnd, IntoItself, NoInode, NoBlocks, NoSlot, Busy, WrongState, ImageFull, BadCount, KindsDiffer, BadTurn, NoDate, BadTerms, AfterAsked, BadTimes}
 use Rattle.answers.specs.Refusal.{refusalNumber}
 use Rattle.answers.specs.Order.{order, lookedAt, numbers, among}
 
@@ -37,6 +37,7 @@ known Busy = refl
 known WrongState = refl
 known ImageFull = refl
 known BadCount = refl
+known KindsDiffer = refl
 known BadTurn = refl
 known NoDate = refl
 known BadTerms = refl

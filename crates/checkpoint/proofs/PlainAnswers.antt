@@ -37,7 +37,7 @@ use Rattle.entries.specs.declared.CreatePlan.the-variants.{Make, NoCreate}
 use Rattle.entries.specs.declared.LinkPlan.the-variants.{Add, NoLink}
 use Rattle.entries.specs.declared.RenamePlan.the-variants.{Move, NoRename}
 use Rattle.entries.specs.Room.{roomIn, onRoom}
-use Rattle.entries.specs.Plan.{holdsNone, isBelow, lookUpPlan, createPlan, linkPlan, unlinkPlan, renameTo, renamePlan}
+use Rattle.entries.specs.Plan.{holdsNone, isBelow, lookUpPlan, createPlan, linkPlan, unlinkPlan, renameTo, renameNewPlan}
 use Rattle.files.specs.Effect.{Call, lookUp, read, create, write, shorten, link, unlink, rename, Planned, refused, does, onPlanned, doLookUp, doRead, doCreate, doWrite, doShorten, doLink, doUnlink, doRename, planned, plainDecision, given}
 use Rattle.files.specs.Plain.{leaves, plain, PlainOutcome}
 use Rattle.files.proofs.PlainLaws.{on-guard}
@@ -121,8 +121,8 @@ unlink-ordinary s n d name =
     (λ t. by-pick P (eqb (kindOf s (inodeAt s n d t)) directoryKind && not (holdsNone s n (inodeAt s n d t))) refl refl)
     refl))
 
-rename-ordinary : (s : List ℕ) (n b d : ℕ) (name : List ℕ) (e : ℕ) (other : List ℕ) → Ordinary (doRename s n d e other (renamePlan s n b d name e other))
-unfolding renamePlan renameTo
+rename-ordinary : (s : List ℕ) (n b d : ℕ) (name : List ℕ) (e : ℕ) (other : List ℕ) → Ordinary (doRename s n d e other (renameNewPlan s n b d name e other))
+unfolding renameNewPlan renameTo
 rename-ordinary s n b d name e other =
     let P : RenamePlan → Type 0 = λ x. Ordinary (doRename s n d e other x) in
     by-pick P (not (legalName name && legalName other)) refl

@@ -30,7 +30,7 @@ use Rattle.entries.specs.declared.UnlinkPlan.{UnlinkPlan}
 use Rattle.entries.specs.declared.RenamePlan.{RenamePlan}
 use Rattle.entries.specs.declared.RenamePlan.the-variants.{Rename, Move, NoRename}
 use Rattle.entries.specs.Room.{roomIn, onRoom}
-use Rattle.entries.specs.Plan.{holdsNone, isBelow, lookUpPlan, createPlan, linkPlan, unlinkPlan, renameTo, renamePlan}
+use Rattle.entries.specs.Plan.{holdsNone, isBelow, lookUpPlan, createPlan, linkPlan, unlinkPlan, renameTo, renameNewPlan}
 use Rattle.files.specs.declared.Guard.{Guard}
 use Rattle.files.specs.declared.Guard.the-variants.{Pass, Stop}
 use Rattle.files.specs.Guard.{guardOf, onGuard}
@@ -190,7 +190,7 @@ module _ (w : World) where
       (by-busy (anyLocked (w .desk) (e ∷ i ∷ [])) w _))))))
 
   pub rename-table : (e : ℕ) (name : List ℕ) (f : ℕ) (other : List ℕ) → live (rename e name f other) w .answer ≡ firstOf (renameTable (w .store) (w .image) (w .desk) e name f other) (told (Done 0))
-  unfolding renamePlan renameTable
+  unfolding renameNewPlan renameTable
   rename-table e name f other =
       let h : RenamePlan → Told = renameAnswer w e f other in
       give _ (renameTable (w .store) (w .image) (w .desk) e name f other) _

@@ -27,7 +27,7 @@ use Rattle.preservation.proofs.SlotPlaceLaws.{entry-here, found-full, place-fil
 use Rattle.preservation.proofs.KeepLaws.{same-slots, body-of}
 use Rattle.entries.specs.declared.Room.{Room}
 use Rattle.entries.specs.Room.{makeRoom}
-use Rattle.entries.specs.Plan.{renamePlan}
+use Rattle.entries.specs.Plan.{renameNewPlan}
 use Rattle.entries.specs.Apply.{renamed, setParent, moved}
 use Rattle.entries.specs.declared.RenamePlan.{RenamePlan}
 use Rattle.entries.specs.declared.RenamePlan.the-variants.{Rename, Move, NoRename}
@@ -96,7 +96,7 @@ slot-same : (s t : List ℕ) (n d u : ℕ) → SameInode s t n d → SlotIn s n 
 slot-same s t n d u a y = record { low = y .low; high = y .high; dir = a .kind ∙ y .dir; inside = subst (λ (z : ℕ). u < z) (sym (same-slots a)) (y .inside); small = y .small }
 
 module _ (s : List ℕ) (n b d : ℕ) (name : List ℕ) (e : ℕ) (other : List ℕ) (t i : ℕ) (r : Room) (h : SoundStore s n b)
-    (q : renamePlan s n b d name e other ≡ Move t i r) where
+    (q : renameNewPlan s n b d name e other ≡ Move t i r) where
   move-lawful : Lawful s n (changes 0 (moved s n d e other t i r) (d ∷ e ∷ i ∷ []) (entry d t i ∷ []) (entry e (r .slot) i ∷ []))
   unfolding moved slotEmpty
   move-lawful =
@@ -158,9 +158,9 @@ module _ (s : List ℕ) (n b d : ℕ) (name : List ℕ) (e : ℕ) (other : List 
       }
 
 pub lawful-rename : (s : List ℕ) (n b d : ℕ) (name : List ℕ) (e : ℕ) (other : List ℕ) → SoundStore s n b → Each (Lawful s n) (planned (rename d name e other) s n b)
-lawful-rename s n b d name e other h = go (renamePlan s n b d name e other) refl
+lawful-rename s n b d name e other h = go (renameNewPlan s n b d name e other) refl
   where
-    go : (p : RenamePlan) → renamePlan s n b d name e other ≡ p → Each (Lawful s n) (doRename s n d e other p)
+    go : (p : RenamePlan) → renameNewPlan s n b d name e other ≡ p → Each (Lawful s n) (doRename s n d e other p)
     go (NoRename w) q = tt
     go (Rename t i) q =
         let c = renames s n b d name e other t i q in

@@ -8,7 +8,7 @@ ghost use Rattle.desk.specs.Desk.{deskOf};
 ghost use Rattle.sound.specs.Sound.{blocksIn};
 ghost use Rattle.sound.specs.Counted.{SoundStore};
 ghost use Rattle.content.specs.Plan.{writePlan, shortenPlan};
-ghost use Rattle.entries.specs.Plan.{createPlan, linkPlan, unlinkPlan, renamePlan};
+ghost use Rattle.entries.specs.Plan.{createPlan, linkPlan, unlinkPlan, renameNewPlan};
 ghost use Rattle.files.specs.Effect.{doCreate, doWrite, doShorten, doLink, doUnlink, doRename};
 ghost use Rattle.checkpoint.specs.Busy.{unlessBusy};
 ghost use Rattle.checkpoint.specs.Live.{left, leavesIn, world};
@@ -160,9 +160,9 @@ pub fn rename(
 ) -> Answer
     requires { ⌜ Fits (now s) (now d) h n b × Readable (now m) h n ⌝ }
     ensures { λ r. ⌜ left r (now (s .exit)) (now (m .exit)) (now (d .exit))
-        ≡ leavesIn (world (now (s .entry)) (now (m .entry)) (now (d .entry))) (unlessBusy (now (d .entry)) (doRename (now (s .entry)) n from to (now (other .entry)) (renamePlan (now (s .entry)) n b from (now (name .entry)) to (now (other .entry))))) ⌝ }
+        ≡ leavesIn (world (now (s .entry)) (now (m .entry)) (now (d .entry))) (unlessBusy (now (d .entry)) (doRename (now (s .entry)) n from to (now (other .entry)) (renameNewPlan (now (s .entry)) n b from (now (name .entry)) to (now (other .entry))))) ⌝ }
 {
-    match entries::plan::rename_plan(s, n, b, from, name, to, other) {
+    match entries::plan::rename_new_plan(s, n, b, from, name, to, other) {
         RenamePlan::Rename { slot: t, inode: i } => {
             let touched = [from];
             if h.locks_any(&touched) {

@@ -18,7 +18,7 @@ use Rattle.entries.specs.declared.UnlinkPlan.{UnlinkPlan}
 use Rattle.entries.specs.declared.UnlinkPlan.the-variants.{Take, NoUnlink}
 use Rattle.entries.specs.declared.RenamePlan.{RenamePlan}
 use Rattle.entries.specs.declared.RenamePlan.the-variants.{Rename, Move, NoRename}
-use Rattle.entries.specs.Plan.{lookUpPlan, createPlan, linkPlan, unlinkPlan, renamePlan}
+use Rattle.entries.specs.Plan.{lookUpPlan, createPlan, linkPlan, unlinkPlan, renameNewPlan}
 use Rattle.files.specs.declared.Guard.{Guard}
 use Rattle.files.specs.declared.Guard.the-variants.{Pass, Stop}
 use Rattle.files.specs.Guard.{guardOf, onGuard}
@@ -72,7 +72,7 @@ module _ (w : World) where
       go : (p : UnlinkPlan) → Outless (doUnlink (w .store) n d p)
       go (Take t i) = refl
       go (NoUnlink e) = refl
-  by-plan (rename d name e other) h n b = go (renamePlan (w .store) n b d name e other)
+  by-plan (rename d name e other) h n b = go (renameNewPlan (w .store) n b d name e other)
     where
       go : (p : RenamePlan) → Outless (doRename (w .store) n d e other p)
       go (Rename t i) = refl

@@ -18,7 +18,7 @@ use Rattle.entries.specs.declared.LinkPlan.{LinkPlan}
 use Rattle.entries.specs.declared.LinkPlan.the-variants.{Add, NoLink}
 use Rattle.entries.specs.declared.UnlinkPlan.{UnlinkPlan}
 use Rattle.entries.specs.declared.UnlinkPlan.the-variants.{Take, NoUnlink}
-use Rattle.entries.specs.Plan.{lookUpPlan, createPlan, linkPlan, unlinkPlan, renamePlan}
+use Rattle.entries.specs.Plan.{lookUpPlan, createPlan, linkPlan, unlinkPlan, renameNewPlan}
 use Rattle.entries.proofs.PlanFacts.{moves}
 use Rattle.files.specs.Effect.{Call, lookUp, read, create, write, shorten, link, unlink, rename, Entry, placeIn, Effect, Planned, refused, does, planned, doLookUp, doRead, doCreate, doWrite, doShorten, doLink, doUnlink, doRename}
 use Rattle.files.proofs.Lawful.{Away, Lawful, Each}
@@ -66,9 +66,9 @@ elsewhere (unlink d name) s n b = go (unlinkPlan s n d name)
     go : (p : UnlinkPlan) → Each Elsewhere (doUnlink s n d p)
     go (Take t i) = (tt, tt)
     go (NoUnlink e) = tt
-elsewhere (rename d name e other) s n b = go (renamePlan s n b d name e other) refl
+elsewhere (rename d name e other) s n b = go (renameNewPlan s n b d name e other) refl
   where
-    go : (p : RenamePlan) → renamePlan s n b d name e other ≡ p → Each Elsewhere (doRename s n d e other p)
+    go : (p : RenamePlan) → renameNewPlan s n b d name e other ≡ p → Each Elsewhere (doRename s n d e other p)
     go (Rename t i) q = tt
     go (Move t i r) q = ((moves s n b d name e other t i r q .1 .other, tt), tt)
     go (NoRename f) q = tt

@@ -33,7 +33,7 @@ use Rattle.entries.specs.declared.UnlinkPlan.{UnlinkPlan}
 use Rattle.entries.specs.declared.UnlinkPlan.the-variants.{Take, NoUnlink}
 use Rattle.entries.specs.declared.RenamePlan.{RenamePlan}
 use Rattle.entries.specs.declared.RenamePlan.the-variants.{Rename, Move, NoRename}
-use Rattle.entries.specs.Plan.{lookUpPlan, createPlan, linkPlan, unlinkPlan, renamePlan}
+use Rattle.entries.specs.Plan.{lookUpPlan, createPlan, linkPlan, unlinkPlan, renameNewPlan}
 use Rattle.content.proofs.PlanFacts.{shortens, writes}
 use Rattle.entries.proofs.PlanFacts.{FoundIn, creates, links, unlinks, renames, moves}
 use Rattle.files.specs.Effect.{Call, lookUp, read, create, write, shorten, link, unlink, rename, Effect, planned, doLookUp, doRead, doCreate, doWrite, doShorten, doLink, doUnlink, doRename}
@@ -120,7 +120,7 @@ module _ (s : List ℕ) (b : ℕ) (h : Sound Store s) where
   within : (d : ℕ) (name : List ℕ) (e : ℕ) (other : List ℕ) → isDirectory s n d ≡ true → (l : ℕ) → Some (λ j. l ≡ j) (d ∷ []) → (1 ≤ l) × Hinders s l (rename d name e other)
   within d name e other k l (inl q) = (one-of directoryKind d l k q, subst (λ (y : ℕ). Hinders s l (rename y name e other)) q paper.renames)
 
-  moved : (d : ℕ) (name : List ℕ) (e : ℕ) (other : List ℕ) (p : RenamePlan) → renamePlan s n b d name e other ≡ p → Each (Touches (rename d name e other)) (doRename s n d e other p)
+  moved : (d : ℕ) (name : List ℕ) (e : ℕ) (other : List ℕ) (p : RenamePlan) → renameNewPlan s n b d name e other ≡ p → Each (Touches (rename d name e other)) (doRename s n d e other p)
   moved d name e other (NoRename f) q = tt
   moved d name e other (Rename t i) q = within d name e other (renames s n b d name e other t i q .0 .entry .directory)
   moved d name e other (Move t i r) q = go
@@ -140,4 +140,4 @@ module _ (s : List ℕ) (b : ℕ) (h : Sound Store s) where
   hinders (shorten i z) = cuts i z (shortenPlan s n i z) refl
   hinders (link d name i) = adds d name i (linkPlan s n b d name i) refl
   hinders (unlink d name) = takes d name (unlinkPlan s n d name) refl
-  hinders (rename d name e other) = moved d name e other (renamePlan s n b d name e other) refl
+  hinders (rename d name e other) = moved d name e other (renameNewPlan s n b d name e other) refl

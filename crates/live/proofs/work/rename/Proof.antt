@@ -14,8 +14,8 @@ use borrow.Author.Needs.{needs}
 use Rattle.live.proofs.work.rename.Statement.{statement}
 use Rattle.live.proofs.work.rename.Tie as tie
 
-rename-plan-requires : tie.Need-rename-plan-requires
-rename-plan-requires c κs = search needs
+rename-new-plan-requires : tie.Need-rename-new-plan-requires
+rename-new-plan-requires c κs = search needs
 
 enum-known-t : tie.Need-enum-known-t
 enum-known-t c = search needs
@@ -34,13 +34,13 @@ returns c =
     let x = c .before .before .before .before in
     let o = x .before .before .before .before .before .before .before .before .before in
     let a = o .args in
-    ends-busy _ _ _ (ap (doRename (now (a .s)) (a .n) (a .from) (a .to) (now (a .other))) (sym (x .t .given .1) ∙ x .before .before .rename-plan .ensures)) _ (o .pre .0 .read) _ (c .before .locks-any .ensures) (c .if1 .taken)
+    ends-busy _ _ _ (ap (doRename (now (a .s)) (a .n) (a .from) (a .to) (now (a .other))) (sym (x .t .given .1) ∙ x .before .before .rename-new-plan .ensures)) _ (o .pre .0 .read) _ (c .before .locks-any .ensures) (c .if1 .taken)
 
 rename-requires : tie.Need-rename-requires
 rename-requires c κs =
     let x = c .before .before .before .before .before in
     let p = x .before .before .before .before .before .before .before .before .before .pre .0 in
-    let g = renames _ _ _ _ _ _ _ _ _ (sym (x .before .before .rename-plan .ensures) ∙ x .t .given .1) .0 in
+    let g = renames _ _ _ _ _ _ _ _ _ (sym (x .before .before .rename-new-plan .ensures) ∙ x .t .given .1) .0 in
     let f = g .entry in
     let e = f .inode in
     let m = found-here (p .sound) _ _ _ (f .directory) (f .legal) (f .found) .high in
@@ -63,14 +63,14 @@ returns-2 c =
     let x = c .before .before .before .before in
     let o = x .before .before .before .before .before .before .before .before .before in
     let a = o .args in
-    ends-busy _ _ _ (ap (doRename (now (a .s)) (a .n) (a .from) (a .to) (now (a .other))) (sym (x .t2 .given .1) ∙ x .before .before .rename-plan .ensures)) _ (o .pre .0 .read) _ (c .before .locks-any2 .ensures) (c .if2 .taken)
+    ends-busy _ _ _ (ap (doRename (now (a .s)) (a .n) (a .from) (a .to) (now (a .other))) (sym (x .t2 .given .1) ∙ x .before .before .rename-new-plan .ensures)) _ (o .pre .0 .read) _ (c .before .locks-any2 .ensures) (c .if2 .taken)
 
 move-entry-requires : tie.Need-move-entry-requires
 move-entry-requires c κs =
     let x = c .before .before .before .before .before in
     let o = x .before .before .before .before .before .before .before .before .before in
     let p = o .pre .0 in
-    let g = moves _ _ _ _ _ _ _ _ _ _ (sym (x .before .before .rename-plan .ensures) ∙ x .t2 .given .1) in
+    let g = moves _ _ _ _ _ _ _ _ _ _ (sym (x .before .before .rename-new-plan .ensures) ∙ x .t2 .given .1) in
     let f = g .0 .entry in
     let e = f .inode in
     let l = found-here (p .sound) _ _ _ (f .directory) (f .legal) (f .found) .low in
@@ -83,10 +83,10 @@ cut-image-requires c κs =
     let o = x .before .before .before .before .before .before .before .before .before in
     let a = o .args in
     let p = o .pre .0 in
-    let f = moves _ _ _ _ _ _ _ _ _ _ (sym (x .before .before .rename-plan .ensures) ∙ x .t2 .given .1) .0 .entry in
+    let f = moves _ _ _ _ _ _ _ _ _ _ (sym (x .before .before .rename-new-plan .ensures) ∙ x .t2 .given .1) .0 .entry in
     let e = f .inode in
     let l = found-here (p .sound) _ _ _ (f .directory) (f .legal) (f .found) .low in
-    let k = effect-laws (rename (a .from) (now (a .name)) (a .to) (now (a .other))) (o .pre .0) _ (ap (doRename (now (a .s)) (a .n) (a .from) (a .to) (now (a .other))) (sym (x .t2 .given .1) ∙ x .before .before .rename-plan .ensures)) .stood .0 in
+    let k = effect-laws (rename (a .from) (now (a .name)) (a .to) (now (a .other))) (o .pre .0) _ (ap (doRename (now (a .s)) (a .n) (a .from) (a .to) (now (a .other))) (sym (x .t2 .given .1) ∙ x .before .before .rename-new-plan .ensures)) .stood .0 in
     (p .read, o .pre .1, p .long, k .low, k .high, k .small, omega arith)
 
 note-taken-requires : tie.Need-note-taken-requires
@@ -94,7 +94,7 @@ note-taken-requires c κs =
     let x = c .before .before .before .before .before .before .before .before .before .before .before .before .before .before in
     let o = x .before .before .before .before .before .before .before .before .before in
     let a = o .args in
-    let k = effect-laws (rename (a .from) (now (a .name)) (a .to) (now (a .other))) (o .pre .0) _ (ap (doRename (now (a .s)) (a .n) (a .from) (a .to) (now (a .other))) (sym (x .t2 .given .1) ∙ x .before .before .rename-plan .ensures)) .stood .0 in
+    let k = effect-laws (rename (a .from) (now (a .name)) (a .to) (now (a .other))) (o .pre .0) _ (ap (doRename (now (a .s)) (a .n) (a .from) (a .to) (now (a .other))) (sym (x .t2 .given .1) ∙ x .before .before .rename-new-plan .ensures)) .stood .0 in
     (o .pre .0 .read, k .low, k .high, o .pre .0 .long, k .small)
 
 note-made-requires : tie.Need-note-made-requires
@@ -103,7 +103,7 @@ note-made-requires c κs =
     let o = x .before .before .before .before .before .before .before .before .before in
     let a = o .args in
     let q = c .before .before .before .note-taken .ensures in
-    let k = effect-laws (rename (a .from) (now (a .name)) (a .to) (now (a .other))) (o .pre .0) _ (ap (doRename (now (a .s)) (a .n) (a .from) (a .to) (now (a .other))) (sym (x .t2 .given .1) ∙ x .before .before .rename-plan .ensures)) .stands .0 in
+    let k = effect-laws (rename (a .from) (now (a .name)) (a .to) (now (a .other))) (o .pre .0) _ (ap (doRename (now (a .s)) (a .n) (a .from) (a .to) (now (a .other))) (sym (x .t2 .given .1) ∙ x .before .before .rename-new-plan .ensures)) .stands .0 in
     (still-read _ _ _ _ _ q _ (o .pre .0 .read), k .low, k .high, still-long _ _ _ _ _ q _ (o .pre .0 .long), k .small)
 
 enum-known-why : tie.Need-enum-known-why
@@ -118,7 +118,7 @@ returns-3 c =
     let x = c .before .before .before .before .before in
     let o = x .before .before .before .before .before .before .before .before .before .before .before .before in
     let a = o .args in
-    ends-done _ _ _ (ap (doRename (now (a .s)) (a .n) (a .from) (a .to) (now (a .other))) (sym (x .before .before .before .t .given .1) ∙ x .before .before .before .before .before .rename-plan .ensures)) _ (o .pre .0 .read) _ (x .locks-any .ensures) (c .before .before .before .before .if1 .left) _ (o .pre .0 .sound .inodes) _ _ _ (c .before .before .rename .ensures) refl refl
+    ends-done _ _ _ (ap (doRename (now (a .s)) (a .n) (a .from) (a .to) (now (a .other))) (sym (x .before .before .before .t .given .1) ∙ x .before .before .before .before .before .rename-new-plan .ensures)) _ (o .pre .0 .read) _ (x .locks-any .ensures) (c .before .before .before .before .if1 .left) _ (o .pre .0 .sound .inodes) _ _ _ (c .before .before .rename .ensures) refl refl
 
 same-length-4 : tie.Need-same-length-4
 same-length-4 c = search needs
@@ -135,7 +135,7 @@ returns-4 c =
     let x = c .before .before .before .before .before .before .before .before .before .before .before .before .before .before .before .before .before .before in
     let o = x .before .before .before .before .before .before .before .before .before .before .before .before in
     let a = o .args in
-    ends-done _ _ _ (ap (doRename (now (a .s)) (a .n) (a .from) (a .to) (now (a .other))) (sym (x .before .before .before .t2 .given .1) ∙ x .before .before .before .before .before .rename-plan .ensures)) _ (o .pre .0 .read) _ (x .locks-any2 .ensures) (c .before .before .before .before .before .before .before .before .before .before .before .before .before .before .before .before .before .if2 .left) _ (o .pre .0 .sound .inodes) _ _ _ (c .before .before .before .before .before .before .before .before .before .before .before .before .before .before .before .move-entry .ensures) (c .before .before .before .before .before .before .before .before .before .before .cut-image .ensures) (c .before .before .note-made .ensures ∙ ap (λ y. noteMade y (a .n) (a .to) (x .before .before .before .t2 .given .0 .1 .1 .0 .slot)) (c .before .before .before .before .before .before .note-taken .ensures))
+    ends-done _ _ _ (ap (doRename (now (a .s)) (a .n) (a .from) (a .to) (now (a .other))) (sym (x .before .before .before .t2 .given .1) ∙ x .before .before .before .before .before .rename-new-plan .ensures)) _ (o .pre .0 .read) _ (x .locks-any2 .ensures) (c .before .before .before .before .before .before .before .before .before .before .before .before .before .before .before .before .before .if2 .left) _ (o .pre .0 .sound .inodes) _ _ _ (c .before .before .before .before .before .before .before .before .before .before .before .before .before .before .before .move-entry .ensures) (c .before .before .before .before .before .before .before .before .before .before .cut-image .ensures) (c .before .before .note-made .ensures ∙ ap (λ y. noteMade y (a .n) (a .to) (x .before .before .before .t2 .given .0 .1 .1 .0 .slot)) (c .before .before .before .before .before .before .note-taken .ensures))
 
 same-length-7 : tie.Need-same-length-7
 same-length-7 c = search needs
@@ -143,13 +143,13 @@ same-length-7 c = search needs
 returns-5 : tie.Need-returns-5
 returns-5 c =
     let a = c .before .before .before .before .before .before .before .before .before .before .args in
-    ends-refused _ _ _ (ap (doRename (now (a .s)) (a .n) (a .from) (a .to) (now (a .other))) (sym (c .before .why .given .1) ∙ c .before .before .before .rename-plan .ensures))
+    ends-refused _ _ _ (ap (doRename (now (a .s)) (a .n) (a .from) (a .to) (now (a .other))) (sym (c .before .why .given .1) ∙ c .before .before .before .rename-new-plan .ensures))
 
 pub rename-spec : {M : Type 1} → statement M
 rename-spec =
     tie.close
     (tie.spec
-    rename-plan-requires
+    rename-new-plan-requires
     enum-known-t
     slice-aggregate-locks-any
     locks-any-requires
