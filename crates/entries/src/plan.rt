@@ -270,7 +270,10 @@ fn over_of(s: &[u8], n: usize, d: usize, i: usize, e: usize, h: usize) -> OverPl
     if i == h {
         return OverPlan::Same { inode: i };
     }
-    OverPlan::Over { inode: i, holder: h }
+    OverPlan::Over {
+        inode: i,
+        holder: h,
+    }
 }
 
 // Rename onto a name that another entry has: what the lap recorder's refuses with 7.

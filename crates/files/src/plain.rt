@@ -251,7 +251,10 @@ fn do_over(
         ≡ leaves (now (s .entry)) [] (doOver (now (s .entry)) n b d (now (name .entry)) e (now (other .entry)) (overPlan (now (s .entry)) n d (now (name .entry)) e (now (other .entry)))) ⌝ }
 {
     match entries::plan::over_plan(s, n, d, name, e, other) {
-        OverPlan::Over { inode: _, holder: _ } => {
+        OverPlan::Over {
+            inode: _,
+            holder: _,
+        } => {
             do_unlink(&mut *s, n, e, other);
             do_rename_new(&mut *s, n, b, d, name, e, other)
         }
@@ -290,7 +293,13 @@ pub fn rename(store: &mut [u8], dir: usize, name: &[u8], to_dir: usize, to_name:
     }
 }
 
-pub fn rename_new(store: &mut [u8], dir: usize, name: &[u8], to_dir: usize, to_name: &[u8]) -> Answer
+pub fn rename_new(
+    store: &mut [u8],
+    dir: usize,
+    name: &[u8],
+    to_dir: usize,
+    to_name: &[u8],
+) -> Answer
     ensures { λ r. ⌜ plainLeft r (now (store .exit)) []
         ≡ plain (renameNew dir (now (name .entry)) «to_dir» (now («to_name» .entry))) (now (store .entry)) ⌝ }
 {

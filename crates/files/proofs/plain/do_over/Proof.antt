@@ -1,59 +1,48 @@
+use mathlib.Core.List.{[]}
+use mathlib.Core.Path.{sym, ap, _∙_}
+use denote.Ref.{now}
+use Rattle.files.specs.Effect.{doOver}
+use Rattle.files.specs.Plain.{leaves}
+use Rattle.files.proofs.OverLaws.{still-sound, over-leaves}
 use borrow.Author.Needs.{needs}
 use Rattle.files.proofs.plain.do_over.Statement.{statement}
 use Rattle.files.proofs.plain.do_over.Tie as tie
-use Rattle.files.proofs.plain.do_over.Reads as reads
-use Rattle.files.proofs.plain.do_over.Lts as lts
-use Rattle.entries.proofs.plan.over_plan.Reads as over-plan-reads
-use Rattle.files.proofs.plain.do_rename_new.Reads as do-rename-new-reads
-use Rattle.files.proofs.plain.do_unlink.Reads as do-unlink-reads
 
--- src/plain.rt:253:11
 over-plan-requires : tie.Need-over-plan-requires
 over-plan-requires c κs = search needs
 
--- src/plain.rt:255:23
 enum-told : tie.Need-enum-told
 enum-told c = search needs
 
--- src/plain.rt:255:13
 do-unlink-requires : tie.Need-do-unlink-requires
 do-unlink-requires c κs = search needs
 
--- src/plain.rt:256:13
 do-rename-new-requires : tie.Need-do-rename-new-requires
-do-rename-new-requires c κs = ?
+do-rename-new-requires c κs = still-sound _ _ _ _ _ _ _ _ _ (c .before .before .before .before .before .before .before .before .before .before .before .before .pre) (sym (c .before .before .before .before .before .before .before .over-plan .ensures) ∙ c .before .before .before .before .before .enum-told .given .1) _ (c .before .before .before .do-unlink .result) (c .before .before .before .do-unlink .ensures)
 
--- src/plain.rt:258:40
 enum-told-2 : tie.Need-enum-told-2
 enum-told-2 c = search needs
 
--- src/plain.rt:259:26
 enum-known-why : tie.Need-enum-known-why
 enum-known-why c = search needs
 
--- src/plain.rt:240:1
 same-length : tie.Need-same-length
 same-length c = search needs
 
--- src/plain.rt:240:1
 returns : tie.Need-returns
-returns c = ?
+returns c = over-leaves _ _ _ _ _ _ _ _ _ (c .before .before .before .before .before .before .before .before .before .before .before .before .before .before .before .pre) (sym (c .before .before .before .before .before .before .before .before .before .before .over-plan .ensures) ∙ c .before .before .before .before .before .before .before .before .enum-told .given .1) _ (c .before .before .before .before .before .before .do-unlink .result) (c .before .before .before .before .before .before .do-unlink .ensures) _ (c .before .before .do-rename-new .ensures)
 
--- src/plain.rt:240:1
 same-length-2 : tie.Need-same-length-2
 same-length-2 c = search needs
 
--- src/plain.rt:240:1
 returns-2 : tie.Need-returns-2
-returns-2 c = ?
+returns-2 c = let a = c .before .before .before .before .before .before .before .args in ap (λ p. leaves (now (a .s)) [] (doOver (now (a .s)) (a .n) (a .b) (a .d) (now (a .name)) (a .e) (now (a .other)) p)) (sym (c .enum-told2 .given .1) ∙ c .before .before .over-plan .ensures)
 
--- src/plain.rt:240:1
 same-length-3 : tie.Need-same-length-3
 same-length-3 c = search needs
 
--- src/plain.rt:240:1
 returns-3 : tie.Need-returns-3
-returns-3 c = ?
+returns-3 c = let a = c .before .before .before .before .before .before .before .before .args in ap (λ p. leaves (now (a .s)) [] (doOver (now (a .s)) (a .n) (a .b) (a .d) (now (a .name)) (a .e) (now (a .other)) p)) (sym (c .before .why .given .1) ∙ c .before .before .before .over-plan .ensures)
 
 pub do-over-spec : {M : Type 1} → statement M
 do-over-spec =
