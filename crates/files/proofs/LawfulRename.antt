@@ -4,7 +4,6 @@ use mathlib.Core.Path.{_≡_, refl, sym, ap, _∙_, subst}
 use mathlib.Core.Logic.{inl}
 use mathlib.Core.Bool.{Bool, true, false}
 use mathlib.Core.List.{List, [], _∷_}
-use native.Mathlib.Omega.{arith}
 use lib.Dec.{eqb}
 use Rattle.bounded.specs.Search.{pick}
 use Rattle.layout.specs.Inode.{kindOf, spareOf, inodeOf, putAttributes, directoryKind, isKind, isDirectory, withParent}
@@ -17,8 +16,9 @@ use Rattle.bounded.specs.declared.Found.the-variants.{Absent}
 use Rattle.bounded.proofs.CaseLaws.{each-else}
 use Rattle.names.specs.Name.{legalName}
 use Rattle.names.specs.Entry.{isEmpty, entryInode}
-use Rattle.sound.specs.Place.{placeOf}
+use Rattle.sound.specs.Place.{placeOf, dirOf}
 use Rattle.sound.specs.Counted.{SoundStore}
+use Rattle.sound.proofs.PlaceLaws.{place-dir}
 use Rattle.preservation.proofs.SameLaws.{SameInode, frame-stays, inode-stays, same-body}
 use Rattle.preservation.proofs.StoreLaws.{is-dir, fits}
 use Rattle.preservation.proofs.EntryWriteLaws.{SlotIn, slot-in, place-below}
@@ -59,9 +59,8 @@ module _ (s : List ℕ) (n d t i : ℕ) (other : List ℕ) {b : ℕ} (h : SoundS
         gone = tt;
         stands = tt;
         bare = tt;
-        one-taken = omega arith;
-        one-made = omega arith;
-        moves = tt;
+        distinct = tt;
+        swaps = tt;
         others = λ q l _ _.
             each-else (SameNaming s (putEntry s n d t i other) n) (placeOf d t) q (record { stands = o .stands ∙ sym f; names = o .names ∙ sym (y .names) })
             (λ z. let p = o .others q l z in record { stands = p .stands; names = p .names });
@@ -143,9 +142,8 @@ module _ (s : List ℕ) (n b d : ℕ) (name : List ℕ) (e : ℕ) (other : List 
         gone = (λ z. filling .others (placeOf d t) (place-below (old .slot)) (z .0) .stands ∙ emptied .stands, tt);
         stands = (record { low = there .low; high = there .high; small = there .small; stands = filling .stands; names = filling .names }, tt);
         bare = (λ _. was-bare s n b e other r h v (o .room), tt);
-        one-taken = omega arith;
-        one-made = omega arith;
-        moves = ((refl, tt), tt);
+        distinct = (tt, tt);
+        swaps = ((λ z. absurd (o .other (sym (place-dir d t (old .slot .low) (old .slot .small)) ∙ ap dirOf z ∙ place-dir e (r .slot) (there .low) (there .small))), tt), tt);
         others = λ k l z u.
             let j = filling .others k l (u .0) in
             let j′ = emptied .others k l (z .0) in

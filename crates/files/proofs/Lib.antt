@@ -6,6 +6,7 @@ pub mod LawfulEnter
 pub mod LawfulRename
 pub mod LawfulStays
 pub mod LawfulSteady
+pub mod LawfulThen
 pub mod LawfulUnlink
 pub mod CallLaws
 pub mod PlainKeeps

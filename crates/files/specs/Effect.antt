@@ -1,6 +1,6 @@
 -- A file call, and what it does to a sound store: a refusal, or one effect. n and b are the counts of inodes and blocks, which the guard tells.
 use Prim.Native.Nat.{ℕ}
-use mathlib.Core.List.{List, [], _∷_}
+use mathlib.Core.List.{List, [], _∷_, _++_}
 use lib.ListN.{length}
 use Rattle.octets.specs.Octets.{splice}
 use Rattle.sound.specs.Place.{placeOf}
@@ -67,6 +67,18 @@ changes a s touches taken made = record { answer = a; store = s; out = []; touch
 -- it writes or shortens file i
 abbrev pub rewrites : ℕ → List ℕ → ℕ → Effect
 rewrites a s i = record { answer = a; store = s; out = []; touches = i ∷ []; writes = i ∷ []; taken = []; made = [] }
+
+-- one effect and then another, on the store that the first leaves
+abbrev pub andThen : Effect → Effect → Effect
+andThen x y = record {
+  answer = y .answer;
+  store = y .store;
+  out = y .out;
+  touches = x .touches ++ y .touches;
+  writes = x .writes ++ y .writes;
+  taken = x .taken ++ y .taken;
+  made = x .made ++ y .made;
+}
 
 pub data Planned : Type 0 where
   refused : Refusal → Planned
