@@ -1,6 +1,7 @@
 -- The copy gets done, is out of the way, and stays; and what the next event does. w is the world at any moment of a list.
 use Prim.Native.Nat.{ℕ, _*_, _≤_, _<_}
 use mathlib.Core.Path.{_≡_}
+use mathlib.Core.Logic.{_≢_, _⊎_}
 use mathlib.Core.Bool.{Bool, true, false, not, _&&_}
 use mathlib.Core.List.{List, [], _∷_}
 use lib.ListN.{length, getD}
@@ -117,9 +118,10 @@ pub record Refusals (e : Event) (w : World) : Type 0 where
   pub keeps : (refusalOf e w ≡ 0 → ⊥) → (refusalOf e w ≡ refusalNumber ImageFull → ⊥) → next e w ≡ w
   pub stops : refusalOf e w ≡ refusalNumber ImageFull → Stopped w (next e w)
 
--- an entry is taken, when and only when the event empties its slot; all others stand for the same inode. p is a place
+-- an entry is taken, when and only when the event empties its slot or fills it for another inode; all others stand for the same inode. p is a place
 pub record Takes (e : Event) (w : World) (p : ℕ) : Type 0 where
-  pub taken : takes e w p ≡ true → (filled (w .store) (countOf w) p ≡ true) × (filled (next e w .store) (countOf w) p ≡ false)
+  pub taken : takes e w p ≡ true
+      → (filled (w .store) (countOf w) p ≡ true) × ((filled (next e w .store) (countOf w) p ≡ false) ⊎ (naming (next e w .store) (countOf w) p ≢ naming (w .store) (countOf w) p))
   pub stands : takes e w p ≡ false → filled (w .store) (countOf w) p ≡ true
       → (filled (next e w .store) (countOf w) p ≡ true) × (naming (next e w .store) (countOf w) p ≡ naming (w .store) (countOf w) p)
 
