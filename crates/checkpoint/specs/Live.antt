@@ -15,7 +15,7 @@ use Rattle.answers.specs.Told.{Told, told}
 use Rattle.answers.specs.Order.{Row, row}
 use Rattle.files.specs.declared.Guard.{Guard}
 use Rattle.files.specs.Guard.{guardOf, onGuard, guardBy, firstRows}
-use Rattle.files.specs.Effect.{Call, lookUp, read, create, write, shorten, link, unlink, rename, Planned, refused, does, onPlanned, planned, given}
+use Rattle.files.specs.Effect.{Call, lookUp, read, create, write, shorten, link, unlink, rename, renameNew, Planned, refused, does, onPlanned, planned, given}
 use Rattle.checkpoint.specs.declared.Status.{Status}
 use Rattle.checkpoint.specs.declared.Status.the-variants.{Is, NoStatus}
 use Rattle.checkpoint.specs.Fit.{imageBlocks, isRunning, notesFit, bothFramed, allFramed}
@@ -74,6 +74,7 @@ storeAlone (shorten i z) = false
 storeAlone (link d name i) = false
 storeAlone (unlink d name) = false
 storeAlone (rename d name e other) = false
+storeAlone (renameNew d name e other) = false
 
 abbrev pub guardsOf : Call → World → Guard
 guardsOf c w = pick (storeAlone c) (guardOf (w .store)) (threeGuards (w .store) (w .image) (w .desk))

@@ -90,7 +90,7 @@ room-had s n b d t l e =
 -- the rename that is left to do: within the directory, or to another
 pub data Onward (s : List ℕ) (n b d : ℕ) (name : List ℕ) (e : ℕ) (other : List ℕ) (t i : ℕ) : Type 0 where
   within : d ≡ e → renameNewPlan s n b d name e other ≡ Rename t i → Onward s n b d name e other t i
-  to : (r : Room) → renameNewPlan s n b d name e other ≡ Move t i r → Onward s n b d name e other t i
+  to : (d ≡ e → ⊥) → (r : Room) → renameNewPlan s n b d name e other ≡ Move t i r → Onward s n b d name e other t i
 
 module _ (s : List ℕ) (n b d : ℕ) (name : List ℕ) (e : ℕ) (other : List ℕ) (i h : ℕ) (k : SoundStore s n b) (p : Onto s n d name e other i h) (differ : i ≢ h) where
   -- the old holder's entry, which goes
@@ -257,4 +257,4 @@ module _ (s : List ℕ) (n b d : ℕ) (name : List ℕ) (e : ℕ) (other : List 
       go (yes q) = within q (sym (rename-here gone n b d e name other (p .entry .legal) legal-other from-gone into-gone t i (Rename t i) there inode-there q (within-new gone n t i e other absent)))
       go (no q) =
           let r = room-had gone n b e u inside-gone bare in
-          to (r .0) (sym (rename-away gone n b d e name other (p .entry .legal) legal-other from-gone into-gone t i (Move t i (r .0)) there inode-there q (move-room gone n b t i e other absent (outside q) (r .0) (r .1))))
+          to q (r .0) (sym (rename-away gone n b d e name other (p .entry .legal) legal-other from-gone into-gone t i (Move t i (r .0)) there inode-there q (move-room gone n b t i e other absent (outside q) (r .0) (r .1))))

@@ -4,6 +4,7 @@ use mathlib.Core.Path.{_≡_, refl, sym, ap, _∙_, subst}
 use mathlib.Core.Logic.{_≢_}
 use mathlib.Core.Bool.{Bool, true, false}
 use mathlib.Core.List.{List, [], _∷_}
+use borrow.Author.Tests.{eq-eqb, ne-eqb}
 use lib.Dec.{eqb}
 use Rattle.bounded.specs.Search.{pick}
 use Rattle.bounded.proofs.BoolLaws.{clash}
@@ -20,7 +21,7 @@ use Rattle.entries.specs.Plan.{unlinkPlan, renameNewPlan, overPlan}
 use Rattle.entries.specs.Apply.{unlinked}
 use Rattle.entries.proofs.PlanFacts.{Onto, replaces}
 use Rattle.entries.proofs.OverKeeps.{Onward, within, to, onward, gone-sound, mover-used}
-use Rattle.files.specs.Effect.{Entry, entry, Effect, changes, andThen, Planned, refused, does, planThen, ifTaken, doUnlink, doRename, doRenameNew, doOver}
+use Rattle.files.specs.Effect.{Entry, entry, Effect, changes, andThen, Planned, refused, does, planThen, ifTaken, watched, doUnlink, doRename, doRenameNew, doOver}
 use Rattle.files.specs.Plain.{PlainOutcome, plainLeft, leaves}
 
 -- ---- where the recorder's rename answers 7, and where it does not: s is the store before it, t after it
@@ -51,11 +52,25 @@ module _ (s t : List ℕ) (p : Planned) (a : Answer) (left : plainLeft a t [] �
 pub record Renamed (s : List ℕ) (n b d : ℕ) (name : List ℕ) (e : ℕ) (other : List ℕ) (i : ℕ) : Type 0 where
   pub effect : Effect
   pub done : doRenameNew s n b d name e other ≡ does effect
+  pub answers : effect .answer ≡ 0
+  pub touches : effect .touches ≡ watched d e i
   pub mover : All (λ z. z .inode ≡ i) (effect .made)
 
 onward-renamed : (s : List ℕ) (n b d : ℕ) (name : List ℕ) (e : ℕ) (other : List ℕ) (t i : ℕ) → Onward s n b d name e other t i → Renamed s n b d name e other i
-onward-renamed s n b d name e other t i (within z q) = record { effect = _; done = ap (doRename s n d e other) q; mover = tt }
-onward-renamed s n b d name e other t i (to r q) = record { effect = _; done = ap (doRename s n d e other) q; mover = (refl, tt) }
+onward-renamed s n b d name e other t i (within z q) = record {
+  effect = _;
+  done = ap (doRename s n d e other) q;
+  answers = refl;
+  touches = rw (eq-eqb d e z) refl;
+  mover = tt;
+}
+onward-renamed s n b d name e other t i (to z r q) = record {
+  effect = _;
+  done = ap (doRename s n d e other) q;
+  answers = refl;
+  touches = rw (ne-eqb d e z) refl;
+  mover = (refl, tt);
+}
 
 -- it is an unlink, and then the recorder's rename
 pub record Replaced (s : List ℕ) (n b d : ℕ) (name : List ℕ) (e : ℕ) (other : List ℕ) (i h : ℕ) : Type 0 where
