@@ -113,7 +113,7 @@ module _ (w : World) (e f : ℕ) (other : List ℕ) (t i : ℕ) where
       (onRoom (roomIn (w .store) (inodesIn (w .store)) (blocksIn (w .store)) f) (λ r. Move t i r) NoRename))) (freeRows false) (told (Done 0))
   by-away =
       by-pick (renameAnswer w e f other) (isBelow (w .store) (inodesIn (w .store)) i f) _ _ {e = IntoItself} refl
-      (by-room (renameAnswer w e f other) (w .store) f _ _ (λ x. refl) (λ r. by-busy (anyLocked (w .desk) (e ∷ f ∷ i ∷ [])) w _))
+      (by-room (renameAnswer w e f other) (w .store) f _ _ refl refl (λ r. by-busy (anyLocked (w .desk) (e ∷ f ∷ i ∷ [])) w _))
 
   by-rename : Gives (renameAnswer w e f other (renameTo (w .store) (inodesIn (w .store)) (blocksIn (w .store)) e t i f other))
       (row (found (findSlot (w .store) (inodesIn (w .store)) f other) && (not (eqb e f) || not (eqb (orZero (findSlot (w .store) (inodesIn (w .store)) f other)) t))) NameTaken ∷ freeRows (eqb e f)) (told (Done 0))
@@ -147,7 +147,7 @@ module _ (w : World) where
       (by-pick h (not (isDirectory (w .store) (inodesIn (w .store)) e)) _ _ refl
       (by-found h (findSlot (w .store) (inodesIn (w .store)) e name) _ _ (λ t. refl)
       (by-absent h (freeInode (w .store) (inodesIn (w .store))) _ _ refl
-      (by-room h (w .store) e _ _ (λ x. refl) (λ r. by-busy (anyLocked (w .desk) (e ∷ [])) w _)))))))
+      (by-room h (w .store) e _ _ refl refl (λ r. by-busy (anyLocked (w .desk) (e ∷ [])) w _)))))))
 
   pub write-table : (i o : ℕ) (xs : List ℕ) → live (write i o xs) w .answer ≡ firstOf (writeTable (w .store) (w .image) (w .desk) i o xs) (told (Done (max (sizeOf (w .store) i) (o + length xs))))
   unfolding writePlan writeTable
@@ -179,7 +179,7 @@ module _ (w : World) where
       (by-pick h (not (legalName name)) _ _ refl
       (by-pick h (not (isDirectory (w .store) (inodesIn (w .store)) e && isFile (w .store) (inodesIn (w .store)) i)) _ _ refl
       (by-found h (findSlot (w .store) (inodesIn (w .store)) e name) _ _ (λ t. refl)
-      (by-room h (w .store) e _ _ (λ x. refl) (λ r. by-busy (anyLocked (w .desk) (e ∷ i ∷ [])) w _))))))
+      (by-room h (w .store) e _ _ refl refl (λ r. by-busy (anyLocked (w .desk) (e ∷ i ∷ [])) w _))))))
 
   pub unlink-table : (e : ℕ) (name : List ℕ) → live (unlink e name) w .answer ≡ firstOf (unlinkTable (w .store) (w .image) (w .desk) e name) (told (Done 0))
   unfolding unlinkPlan unlinkTable
