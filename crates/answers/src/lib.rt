@@ -78,7 +78,7 @@ pub fn told_number(a: Answer) -> usize
     }
 }
 
-// It is that refusal.
+// The answer is that refusal.
 pub fn refused_with(a: Answer, e: Refusal) -> bool
     ensures { λ r. ⌜ r ≡ eqb (told a .number) (refusalNumber e) ⌝ }
 {

@@ -83,7 +83,7 @@ guardsOf c w = pick (storeAlone c) (guardOf (w .store)) (threeGuards (w .store) 
 unfoldable pub decision : Call → World → Planned
 decision c w = onGuard (guardsOf c w) (λ n b. unlessBusy (w .desk) (planned c (w .store) n b)) refused
 
--- the store's bytes, then the image's entries and the marks, by what is taken out and made
+-- the store's bytes, then the image's entries and the marks, by what is taken out and made; marks are cleared first, since a replacing move may fill the slot that it takes from
 abbrev pub leavesIn : World → Planned → Outcome
 leavesIn w (does x) =
     let n = inodesIn (w .store) in

@@ -1,7 +1,6 @@
 -- The copy gets done, is out of the way, and stays; and what the next event does. w is the world at any moment of a list.
 use Prim.Native.Nat.{ℕ, _*_, _≤_, _<_}
 use mathlib.Core.Path.{_≡_}
-use mathlib.Core.Logic.{_≢_, _⊎_}
 use mathlib.Core.Bool.{Bool, true, false, not, _&&_}
 use mathlib.Core.List.{List, [], _∷_}
 use lib.ListN.{length, getD}
@@ -126,10 +125,15 @@ pub record Refusals (e : Event) (w : World) : Type 0 where
   pub keeps : (refusalOf e w ≡ 0 → ⊥) → (refusalOf e w ≡ refusalNumber ImageFull → ⊥) → next e w ≡ w
   pub stops : refusalOf e w ≡ refusalNumber ImageFull → Stopped w (next e w)
 
--- an entry is taken, when and only when the event empties its slot or fills it for another inode; all others stand for the same inode. p is a place
+-- the slot p of an entry that e takes: it is empty or, where a rename replaced the entry (F-3: "being replaced is being unlinked"), it stands for what was renamed
+pub data Lost (w : World) (p : ℕ) : Event → Type 0 where
+  emptied : {e : Event} → filled (next e w .store) (countOf w) p ≡ false → Lost w p e
+  refilled : {d e i : ℕ} {name other : List ℕ} → lookUpPlan (w .store) (countOf w) d name ≡ To i → (naming (w .store) (countOf w) p ≡ i → ⊥)
+      → naming (next (call (rename d name e other)) w .store) (countOf w) p ≡ i → Lost w p (call (rename d name e other))
+
+-- an entry that is taken stood, and is lost; all others stand for the same inode. p is a place
 pub record Takes (e : Event) (w : World) (p : ℕ) : Type 0 where
-  pub taken : takes e w p ≡ true
-      → (filled (w .store) (countOf w) p ≡ true) × ((filled (next e w .store) (countOf w) p ≡ false) ⊎ (naming (next e w .store) (countOf w) p ≢ naming (w .store) (countOf w) p))
+  pub taken : takes e w p ≡ true → (filled (w .store) (countOf w) p ≡ true) × Lost w p e
   pub stands : takes e w p ≡ false → filled (w .store) (countOf w) p ≡ true
       → (filled (next e w .store) (countOf w) p ≡ true) × (naming (next e w .store) (countOf w) p ≡ naming (w .store) (countOf w) p)
 

@@ -126,7 +126,8 @@ unlinkTable s m desk e name =
 abbrev pub takenFor : List ℕ → ℕ → List ℕ → ℕ → List ℕ → Bool
 takenFor s e name f other = found (findSlot s (inodesIn s) f other) && (not (eqb e f) || not (eqb (slotFor s f other) (slotFor s e name)))
 
--- F-3: 8 and 18 are for a name that another entry has, its inode h; 12 and 13 for a move to one that none has. "A locked holder that would be replaced is busy."
+-- F-3: 8 and 18 are for a name that another entry has, its inode h. "Blocks and slots are judged as they are once the old holder is gone": its slot is
+-- empty then, so 12 and 13 are for a move to a name that none has. "A locked holder that would be replaced is busy."
 unfoldable pub renameTable : List ℕ → List ℕ → List ℕ → ℕ → List ℕ → ℕ → List ℕ → List Row
 renameTable s m desk e name f other =
     let i = inodeFor s e name in

@@ -71,6 +71,11 @@ looks s n d name i e =
     let q : inodeAt s n d (f .0) ≡ i = cc (f .2) in
     (f .0, record { legal = a .0; directory = c .0; found = f .1; inode = sym q })
 
+-- and back
+pub looks-up : (s : List ℕ) (n d : ℕ) (name : List ℕ) (t i : ℕ) → FoundIn s n d name t i → lookUpPlan s n d name ≡ To i
+unfolding lookUpPlan
+looks-up s n d name t i f = rw (f .legal, f .directory, f .found) (ap To (sym (f .inode)))
+
 -- ---- create
 no-make : (e : Refusal) (i : ℕ) (r : Room) → NoCreate e ≡ Make i r → ⊥
 no-make e i r h = let z : _≡_ {A = ℕ} 0 1 = cc in absurd (omega arith)

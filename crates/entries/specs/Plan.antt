@@ -109,6 +109,6 @@ abbrev pub onUnlink : {A : Type 0} → UnlinkPlan → (ℕ → ℕ → A) → (R
 onUnlink (Take t i) f g = f t i
 onUnlink (NoUnlink e) f g = g e
 
--- 8 is the unlink's own, "whichever kind comes"
+-- asked only where the recorder's rename has 7, so that 4, 5 and 6 do not come; 8 is the unlink's own, "whichever kind comes"
 unfoldable pub overPlan : List ℕ → ℕ → ℕ → List ℕ → ℕ → List ℕ → OverPlan
 overPlan s n d name e other = onNumber (lookUpPlan s n d name) (λ i. onUnlink (unlinkPlan s n e other) (λ u h. overOf s n d i e h) NoOver) NoOver

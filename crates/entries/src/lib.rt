@@ -47,7 +47,7 @@ pub enum RenamePlan {
     NoRename(Refusal),
 }
 
-// Rename onto a name that another entry has: its inode goes, and inode has the name; or both names stand for inode.
+// Rename onto a name that another entry has: the holder's entry goes, and inode has the name; or both names stand for inode already.
 pub enum OverPlan {
     Over { inode: usize, holder: usize },
     Same { inode: usize },

@@ -9,6 +9,7 @@ pub mod LawfulSteady
 pub mod LawfulThen
 pub mod LawfulUnlink
 pub mod OverLaws
+pub mod RefillLaws
 pub mod CallLaws
 pub mod PlainKeeps
 pub mod PlainLaws

@@ -97,12 +97,13 @@ abbrev pub onPlanned : {A : Type 0} → Planned → (Effect → A) → (Refusal 
 onPlanned (does x) f g = f x
 onPlanned (refused e) f g = g e
 
--- what is planned, and then what is planned on the store that it leaves
+-- what is planned, and then what is planned on the store that it leaves; if either is refused, nothing is done. In a replacing rename the
+-- second never is (`over-does` in proofs/OverLaws)
 abbrev pub planThen : Planned → (List ℕ → Planned) → Planned
 planThen (does x) f = onPlanned (f (x .store)) (λ y. does (andThen x y)) refused
 planThen (refused e) f = refused e
 
--- where 7 refuses the one, the other
+-- where the one is refused with 7, the other
 abbrev pub ifTaken : Planned → Planned → Planned
 ifTaken (does x) q = does x
 ifTaken (refused e) q = pick (eqb (refusalNumber e) (refusalNumber NameTaken)) q (refused e)

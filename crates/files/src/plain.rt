@@ -236,7 +236,7 @@ fn do_rename_new(
     }
 }
 
-// Onto a name that another entry has: the old holder goes, and then it is renamed.
+// Onto a name that another entry has: the old holder goes, and then the entry is renamed.
 fn do_over(
     s: &mut [u8],
     n: usize,
@@ -263,6 +263,7 @@ fn do_over(
     }
 }
 
+// The phone app's, which replaces.
 fn do_rename(
     s: &mut [u8],
     n: usize,

@@ -102,6 +102,7 @@ pub fn unlink(
     }
 }
 
+// The phone app's rename, which replaces.
 pub fn rename(
     store: &mut [u8],
     image: &mut [u8],

@@ -206,7 +206,7 @@ fn rename_locked(h: Desk, from: usize, to: usize, i: usize) -> bool
     h.locks_any(&touched)
 }
 
-// Onto a name that another entry has: the old holder goes as an unlink takes it, and then it is renamed.
+// Onto a name that another entry has: the old holder goes as an unlink takes it, and then the entry is renamed.
 fn over(
     s: &mut [u8],
     m: &mut [u8],
@@ -248,6 +248,7 @@ fn over(
     }
 }
 
+// The phone app's, which replaces.
 pub fn rename(
     s: &mut [u8],
     m: &mut [u8],

@@ -40,7 +40,7 @@ use Rattle.entries.specs.declared.OverPlan.{OverPlan}
 use Rattle.entries.specs.declared.OverPlan.the-variants.{Over, Same, NoOver}
 use Rattle.entries.specs.Plan.{lookUpPlan, createPlan, linkPlan, unlinkPlan, renameNewPlan, overPlan}
 use Rattle.content.proofs.PlanFacts.{shortens, writes}
-use Rattle.entries.proofs.PlanFacts.{FoundIn, Onto, creates, links, unlinks, renames, moves, replaces, both-names}
+use Rattle.entries.proofs.PlanFacts.{FoundIn, looks-up, Onto, creates, links, unlinks, renames, moves, replaces, both-names}
 use Rattle.files.specs.Effect.{Call, lookUp, read, create, write, shorten, link, unlink, rename, renameNew, Effect, Planned, refused, does, ifTaken, watched, planned, doLookUp, doRead, doCreate, doWrite, doShorten, doLink, doUnlink, doRename, doRenameNew, doOver}
 use Rattle.files.proofs.Lawful.{Each}
 use Rattle.files.proofs.OverLaws.{replaced, over-does}
@@ -57,11 +57,6 @@ locked-one d (i ∷ is) e = elim (or-cases (locks (deskOf d) i) (anyLocked d is)
   | inl h ↦ (and-left (isRunning d) _ h, inl (eqb-true (deskOf d .locked) i (and-right (isRunning d) _ h)))
   | inr h ↦ let k = locked-one d is h in (k .0, inr (k .1))
 ]
-
--- what an unlink or a move takes is what a look-up finds
-looks-up : (s : List ℕ) (n d : ℕ) (name : List ℕ) (t i : ℕ) → FoundIn s n d name t i → lookUpPlan s n d name ≡ To i
-unfolding lookUpPlan
-looks-up s n d name t i f = rw (f .legal, f .directory, f .found) (ap To (sym (f .inode)))
 
 module _ (s : List ℕ) (h : Sound Store s) where
   abbrev n : ℕ

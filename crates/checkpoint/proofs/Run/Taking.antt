@@ -1,7 +1,7 @@
--- What an event takes is what it empties or fills for another inode, and all other entries stand. n and b are the counts of inodes and image blocks.
+-- What an event takes is empty afterwards, or stands for what a rename put there; all other entries stand. n and b are the counts of inodes and image blocks.
 use Prim.Native.Nat.{ℕ, _*_, _<_}
-use mathlib.Core.Path.{_≡_, refl, sym, ap, _∙_, subst}
-use mathlib.Core.Logic.{_≢_, _⊎_, inl, inr, ⊎-elim}
+use mathlib.Core.Path.{_≡_, refl, sym, ap, _∙_}
+use mathlib.Core.Logic.{_≢_, inl, inr, ⊎-elim}
 use mathlib.Core.Bool.{true, false}
 use mathlib.Core.List.{List, [], _∷_}
 use native.Mathlib.Omega.{arith}
@@ -12,14 +12,14 @@ use Rattle.bounded.proofs.EachLaws.{All, all-both, some-get}
 use Rattle.directory.specs.Slot.{mostSlots}
 use Rattle.sound.specs.Place.{filled, naming}
 use Rattle.sound.proofs.PlaceLaws.{naming-filled}
-use Rattle.files.specs.Effect.{Call, Entry, placeIn, Effect, Planned, onPlanned}
-use Rattle.files.proofs.Lawful.{Lawful}
+use Rattle.files.specs.Effect.{Call, lookUp, read, create, write, shorten, link, unlink, rename, renameNew, Entry, placeIn, Planned, onPlanned}
+use Rattle.files.proofs.RefillLaws.{Refills}
 use Rattle.files.proofs.EffectFacts.{away-or}
 use Rattle.checkpoint.specs.Live.{World}
 use Rattle.checkpoint.specs.List.{Event, call, advances, asks, starts, next, accepted, anyAt, takes}
 use Rattle.checkpoint.specs.Finished.{countOf}
-use Rattle.checkpoint.specs.Progress.{Takes}
-use Rattle.checkpoint.proofs.Call.LiveLaws.{live-accepted}
+use Rattle.checkpoint.specs.Progress.{Lost, emptied, refilled, Takes}
+use Rattle.checkpoint.proofs.Call.LiveLaws.{afterIn, live-accepted}
 use Rattle.checkpoint.proofs.Run.Lists.{Going, fit}
 use Rattle.checkpoint.proofs.Run.Stood.{entry-of, event-names}
 
@@ -32,33 +32,42 @@ any-some P (y ∷ ys) p e a = elim (or-cases (eqb (placeIn y) p) (anyAt ys p) e)
   | inr h ↦ any-some P ys p h (a .1)
 ]
 
+-- a place that is filled anew is by a rename's mover
+mover : (c : Call) (w v : World) (p : ℕ) (z : Entry) → next (call c) w ≡ v → Refills c (w .store) (countOf w) z → naming (v .store) (countOf w) p ≡ z .inode → naming (w .store) (countOf w) p ≢ z .inode → Lost w p (call c)
+mover (lookUp d name) w v p z h r a b = absurd r
+mover (read i o out) w v p z h r a b = absurd r
+mover (create d name k) w v p z h r a b = absurd r
+mover (write i o xs) w v p z h r a b = absurd r
+mover (shorten i k) w v p z h r a b = absurd r
+mover (link d name i) w v p z h r a b = absurd r
+mover (unlink d name) w v p z h r a b = absurd r
+mover (rename d name e other) w v p z h r a b = refilled r b (ap (λ (u : World). naming (u .store) (countOf w) p) h ∙ a)
+mover (renameNew d name e other) w v p z h r a b = absurd r
+
 -- the entries that an accepted call takes are those of its effect
 module _ (w : World) (p : ℕ) where
-  -- the entry at p stands in s, and t has none there, or one for another inode
-  abbrev Loses : List ℕ → List ℕ → ℕ → Type 0
-  Loses s t n = (filled s n p ≡ true) × ((filled t n p ≡ false) ⊎ (naming t n p ≢ naming s n p))
-
-  replaced : (s : List ℕ) (n : ℕ) (x : Effect) → Lawful s n x → anyAt (x .taken) p ≡ true → Loses s (x .store) n
-  replaced s n x k e =
-      let r = any-some _ (x .taken) p e (all-both _ _ (x .taken) (k .stood) (all-both _ _ (x .taken) (k .gone) (k .swaps))) in
-      let y = r .0 in
-      let q = r .2 in (
-        ap (filled s n) (sym q) ∙ r .1 .0 .stands,
-        ⊎-elim
-            (λ a. inl (ap (filled (x .store) n) (sym q) ∙ r .1 .1 .0 a))
-            (λ a.
-            let g = some-get _ (x .made) a in
-            inr (λ z. g .1 .0 .1 (g .1 .1) (sym (g .1 .0 .0 .names) ∙ ap (naming (x .store) n) (sym (g .1 .1) ∙ q) ∙ z ∙ ap (naming s n) (sym q) ∙ r .1 .0 .names)))
-            (away-or _ (placeIn y) (x .made) (all-both _ _ (x .made) (k .stands) (r .1 .1 .1))),
-      )
-
-  call-takes : (n b : ℕ) → Going n b w → (c : Call) → takes (call c) w p ≡ true → Loses (w .store) (next (call c) w .store) (countOf w)
+  call-takes : (n b : ℕ) → Going n b w → (c : Call) → takes (call c) w p ≡ true → (filled (w .store) (countOf w) p ≡ true) × Lost w p (call c)
   call-takes n b g c t =
       let x = live-accepted c w (fit g) (and-left (accepted (call c) w) _ t) in
       let a : anyAt (x .0 .taken) p ≡ true = ap (λ (q : Planned). anyAt (onPlanned q (λ y. y .taken) (λ e. [])) p) (sym (x .1 .plain)) ∙ and-right (accepted (call c) w) _ t in
-      subst (λ (v : World). Loses (w .store) (v .store) (countOf w)) (sym (x .1 .after)) (replaced (w .store) (countOf w) (x .0) (x .1 .laws) a)
+      let k = x .1 .laws in
+      let ys = x .0 .taken in
+      let r = any-some _ ys p a (all-both _ _ ys (k .stood) (all-both _ _ ys (k .gone) (all-both _ _ ys (k .swaps) (x .1 .refills)))) in
+      let y = r .0 in
+      let q = r .2 in
+      let named : naming (w .store) (countOf w) p ≡ y .inode = ap (naming (w .store) (countOf w)) (sym q) ∙ r .1 .0 .names in (
+        ap (filled (w .store) (countOf w)) (sym q) ∙ r .1 .0 .stands,
+        ⊎-elim
+            (λ m. emptied (ap (λ (v : World). filled (v .store) (countOf w) p) (x .1 .after) ∙ ap (filled (x .0 .store) (countOf w)) (sym q) ∙ r .1 .1 .0 m))
+            (λ m.
+            let f = some-get _ (x .0 .made) m in
+            let z = f .0 in
+            let here = f .1 .1 in
+            mover c w (afterIn w (x .0)) p z (x .1 .after) (f .1 .0 .1 .1 here) (ap (naming (x .0 .store) (countOf w)) (sym q ∙ here) ∙ f .1 .0 .0 .names) (λ o. f .1 .0 .1 .0 here (sym o ∙ named)))
+            (away-or _ (placeIn y) (x .0 .made) (all-both _ _ (x .0 .made) (k .stands) (all-both _ _ (x .0 .made) (r .1 .1 .1 .0) (r .1 .1 .1 .1)))),
+      )
 
-  event-takes : (n b : ℕ) → Going n b w → (e : Event) → takes e w p ≡ true → Loses (w .store) (next e w .store) (countOf w)
+  event-takes : (n b : ℕ) → Going n b w → (e : Event) → takes e w p ≡ true → (filled (w .store) (countOf w) p ≡ true) × Lost w p e
   event-takes n b g (call c) t = call-takes n b g c t
   event-takes n b g advances t = absurd (clash false t refl)
   event-takes n b g asks t = absurd (clash false t refl)
