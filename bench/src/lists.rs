@@ -5,8 +5,9 @@ use bench::side::{Buffers, Plain, Side};
 
 const LISTS: usize = 2_000;
 const CALLS: usize = 150;
-/// The first number of a rename among the kinds of calls.
+/// The kinds of calls that are renames, and behind them the lap recorder's.
 const RENAME: usize = 12;
+const RENAME_NEW: usize = 15;
 const NAMES: [&[u8]; 10] = [b"a", b"b", b"c", b"laps", b"run-00012-lap", b"exactly-14-byt", b"longer-than-14b", b"", b"..", b"a/b"];
 
 fn any_name(r: &mut Random) -> &'static [u8] {
@@ -48,8 +49,8 @@ impl Call {
             8 => S::shorten(w, x, y),
             9 => S::link(w, x, name, z),
             10 | 11 => S::unlink(w, x, name),
-            RENAME..=14 => S::rename(w, x, name, z, other),
-            15 => S::rename_new(w, x, name, z, other),
+            RENAME..RENAME_NEW => S::rename(w, x, name, z, other),
+            RENAME_NEW => S::rename_new(w, x, name, z, other),
             16 => S::start(w),
             17 => return S::state(w).map_or_else(|no| (no, [0; 3], out), |(a, b, c)| (0, [a as usize, b as usize, c as usize], vec![])),
             18 => S::burst(w, z),
@@ -59,11 +60,28 @@ impl Call {
         (answer.err().unwrap_or(0), [answer.unwrap_or(0), 0, 0], out)
     }
 
+    /// A rename of either kind, half of the time, is one of an entry onto another.
+    fn aimed(mut self, r: &mut Random, store: &[u8], n: usize) -> Call {
+        if (RENAME..=RENAME_NEW).contains(&self.kind) && r.next(2) == 0 {
+            let all = entries(store, n);
+            for k in 0..all.len().min(2) {
+                (self.numbers[2 * k], self.names[k]) = all[r.next(all.len())];
+            }
+        }
+        self
+    }
+
     /// A rename that is to replace: its two names stand for two inodes.
     fn replaces(&self, store: &[u8]) -> bool {
         let inode = |k: usize| Plain::look_up(store, self.numbers[2 * k], self.names[k]).ok();
-        (RENAME..=14).contains(&self.kind) && inode(0).zip(inode(1)).is_some_and(|(mover, holder)| mover != holder)
+        (RENAME..RENAME_NEW).contains(&self.kind) && inode(0).zip(inode(1)).is_some_and(|(mover, holder)| mover != holder)
     }
+}
+
+/// The entries of a store, as directory and name; none if it is not sound.
+fn entries(store: &[u8], n: usize) -> Vec<(usize, &'static [u8])> {
+    let all = (1..=n).flat_map(|d| NAMES.iter().map(move |&name| (d, name)));
+    all.filter(|&(d, name)| Plain::look_up(store, d, name).is_ok()).collect()
 }
 
 /// Buffers of a few inodes and blocks, laid out by one side.
@@ -101,7 +119,7 @@ fn list(r: &mut Random, tally: &mut Tally) {
     let (n, b, image) = (1 + r.next(7), [1 + r.next(12), 20 + r.next(100)][r.next(2)], [1 + r.next(20), 20 + r.next(150)][r.next(2)]);
     let (mut w, mut v) = (fresh::<Proved>(n, b, image), fresh::<Plain>(n, b, image));
     for _ in 0..CALLS {
-        let call = Call::any(r, n);
+        let call = Call::any(r, n).aimed(r, &w.store, n);
         let hurt = (r.next(30) == 0).then(|| damage(&mut w, r));
         v.clone_from(&w);
         let replaces = call.replaces(&v.store);
