@@ -14,8 +14,8 @@ use Rattle.answers.specs.declared.Refusal.the-variants.{BadBuffer, Unsou
 use Rattle.answers.specs.Refusal.{refusalNumber}
 use Rattle.answers.specs.Order.{order, lookedAt, numbers, among}
 
--- "looked at lowest first"; 17 "comes right after 1", and 21 and 26 are "looked at first", each by its own call; 23 to 25
--- come after 1, "in that order"
+-- "looked at lowest first"; 17 "comes right after 1", 18 "comes after 10", and 21 and 26 are "looked at first", each by
+-- its own call; 23 to 25 come after 1, "in that order"
 pub looked-at : numbers order ≡ lookedAt
 looked-at = refl
 
