@@ -44,7 +44,9 @@ static void each(int copied)
     static honecerise_size n[3];
     honecerise_match_laps(times, 3, times, 2, lists[0], 3, lists[1], 3, lists[2], 3, lists[3], 3);
     if (copied) {
+        /* the root is copied, and nothing locked */
         honecerise_start(WATCH);
+        honecerise_step(WATCH);
         honecerise_step(WATCH);
         honecerise_step(WATCH);
     }
