@@ -144,8 +144,8 @@ enum honecerise_refusal {
     HONECERISE_ILLEGAL_NAME  =  4, /* not 1 to 14 bytes, a byte that is 0 or '/', or . or ..          */
     HONECERISE_WRONG_INODE   =  5, /* a number that is not the file or directory needed               */
     HONECERISE_NAME_ABSENT   =  6, /* no entry of that name                                           */
-    HONECERISE_NAME_TAKEN    =  7, /* the new name is another entry's, in whatever spelling; a rename
-                                      replaces that entry instead, unless it is to a new name         */
+    HONECERISE_NAME_TAKEN    =  7, /* the new name is another entry's, in whatever spelling;
+                                      honecerise_rename replaces that entry instead                   */
     HONECERISE_NOT_EMPTY     =  8, /* a directory to be unlinked, or to be replaced by a rename, has
                                       entries                                                         */
     HONECERISE_PAST_END      =  9, /* offset or new length past the size, or a write ending past 2752 */
