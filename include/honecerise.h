@@ -19,8 +19,8 @@
  *     A buffer is a pointer and a length in bytes; a list of times or dates is a pointer and a count.
  *     What a call may write (store, image, desk, an out-buffer, state's three numbers, deal's counts,
  *     a report's lists) must not overlap anything else that it is lent, and nothing else may write
- *     what it is lent until it returns: no interrupt, no other thread. A rename's two names may be the
- *     same bytes. Calls on different buffers may run at the same time.
+ *     what it is lent until it returns: no interrupt, no other thread. The two names of a rename may be
+ *     the same bytes. Calls on different buffers may run at the same time.
  *     Where a length or count is 0, the pointer may be anything, NULL included: an empty name is
  *     refused with 4, a write of no bytes is a write of no bytes. An empty image will do as long as
  *     no copy is started. The three pointers that honecerise_state takes, and honecerise_deal's
@@ -89,15 +89,15 @@ typedef char honecerise_size_has_64_bits[sizeof(honecerise_size) == 8 ? 1 : -1];
  * targets/run/stack.c on the others).
  */
 #if defined(__ARM_ARCH_6M__)        /* Cortex-M0+ */
-#define HONECERISE_STACK        12288u /* by frames 10,888, painted 11,028 */
+#define HONECERISE_STACK        12288u /* by frames 10,888, painted 11,036 */
 #elif defined(__ARM_ARCH_8M_MAIN__) /* Cortex-M33 */
 #define HONECERISE_STACK        12288u /* by frames 10,696, painted 10,816 */
 #elif defined(__arm__)              /* Cortex-M4; 32-bit Arm Linux */
-#define HONECERISE_STACK        12288u /* by frames 10,704, painted 10,832 */
+#define HONECERISE_STACK        12288u /* by frames 10,704, painted 10,856 */
 #elif defined(__riscv)              /* RISC-V, 32 bits */
-#define HONECERISE_STACK        12288u /* by frames 10,736, painted 10,832 */
+#define HONECERISE_STACK        12288u /* by frames 10,736, painted 10,848 */
 #elif defined(__aarch64__)
-#define HONECERISE_STACK        12288u /* by frames 10,688, painted 10,800 */
+#define HONECERISE_STACK        12288u /* by frames 10,688, painted 10,816 */
 #elif defined(__wasm__)             /* of its linear memory; what the engine takes beside it is not in it */
 #define HONECERISE_STACK        12288u /* by frames 10,352, painted 10,324 */
 #else                               /* x86-64 */
@@ -120,10 +120,10 @@ typedef char honecerise_size_has_64_bits[sizeof(honecerise_size) == 8 ? 1 : -1];
 #define HONECERISE_MOST_STEPS(inodes)           (46u * (inodes) + 1u)
 
 /* ---- refusals, by who causes them ----------------------------------------------------------
- * Where several apply, the lowest is answered, save that 17 is looked at right after 1, and 26 before
- * 1. 21 is honecerise_deal's only refusal, and no other call's; 26 comes to honecerise_match_laps
- * alone, and 23 to 25 to honecerise_keep. A call answers one when, and only when, its condition holds
- * for that call. */
+ * Where several apply, the lowest is answered, save that 17 is looked at right after 1, 18 right after
+ * 10, and 26 before 1. 18 comes to honecerise_rename alone, which never answers 7. 21 is
+ * honecerise_deal's only refusal, and no other call's; 26 comes to honecerise_match_laps alone, and 23
+ * to 25 to honecerise_keep. A call answers one when, and only when, its condition holds for that call. */
 
 enum honecerise_refusal {
     /* whoever wires the buffers */
@@ -144,8 +144,10 @@ enum honecerise_refusal {
     HONECERISE_ILLEGAL_NAME  =  4, /* not 1 to 14 bytes, a byte that is 0 or '/', or . or ..          */
     HONECERISE_WRONG_INODE   =  5, /* a number that is not the file or directory needed               */
     HONECERISE_NAME_ABSENT   =  6, /* no entry of that name                                           */
-    HONECERISE_NAME_TAKEN    =  7, /* the new name is another entry's, in whatever spelling           */
-    HONECERISE_NOT_EMPTY     =  8, /* a directory to be unlinked has entries                          */
+    HONECERISE_NAME_TAKEN    =  7, /* the new name is another entry's, in whatever spelling;
+                                      honecerise_rename replaces that entry instead                   */
+    HONECERISE_NOT_EMPTY     =  8, /* a directory to be unlinked, or to be replaced by a rename, has
+                                      entries                                                         */
     HONECERISE_PAST_END      =  9, /* offset or new length past the size, or a write ending past 2752 */
     HONECERISE_INTO_ITSELF   = 10, /* a directory moved into itself or below                          */
     /* a full watch */
@@ -156,11 +158,15 @@ enum honecerise_refusal {
     /* the copy's timing */
     HONECERISE_BUSY          = 14, /* a write or shortening of the inode that the copier has locked; a
                                       create, link, unlink or rename in a locked directory; a link to,
-                                      unlink or move of the locked inode: step, and try again         */
+                                      unlink or move of the locked inode, or a rename that would
+                                      replace an entry of it: step, and try again                     */
     HONECERISE_WRONG_STATE   = 15, /* a start while a copy runs, or a step while none does            */
     HONECERISE_IMAGE_FULL    = 16, /* a step had a block to copy and no image block for it: the copy
                                       is stopped, and what was locked is free again                   */
     HONECERISE_BAD_COUNT     = 17, /* a burst of no steps, or of more than 64                         */
+    /* the app that names things, once more */
+    HONECERISE_KINDS_DIFFER  = 18, /* a rename onto another entry's name: one of the two is a file's,
+                                      the other a directory's                                         */
     /* the charging case */
     HONECERISE_BAD_TURN      = 21, /* a turn of no steps, or of more than 64, or a last bay above 15  */
     /* which copies to keep: whoever enters dates and terms */
@@ -246,14 +252,27 @@ int32_t honecerise_unlink(uint8_t *store, honecerise_size store_length,
                           uint8_t *desk, honecerise_size desk_length,
                           honecerise_size directory, const uint8_t *name, honecerise_size name_length);
 
-/* Another name, another directory, or both. It replaces nothing: a taken name refuses.
- * To another spelling of its own name the entry gets that spelling. 4 to 7, 10, 12, 13, 14. */
+/* Another name, another directory, or both. An entry that has the new name is replaced: it is unlinked
+ * first, so a file is freed with its last name, and its blocks and its slot are there for the rename; a
+ * directory is replaced only if it is empty, and only by a directory. If both names stand for the same
+ * file already, nothing changes. To another spelling of its own name the entry gets that spelling.
+ * 4, 5, 6, 8, 10, 12, 13, 14, 18; where an entry is replaced, 12 and 13 never come. */
 int32_t honecerise_rename(uint8_t *store, honecerise_size store_length,
                           uint8_t *image, honecerise_size image_length,
                           uint8_t *desk, honecerise_size desk_length,
                           honecerise_size directory, const uint8_t *name, honecerise_size name_length,
                           honecerise_size to_directory,
                           const uint8_t *to_name, honecerise_size to_name_length);
+
+/* The same, but it replaces nothing: a name that another entry has, in whatever spelling, refuses, also
+ * where both stand for the same file. For a recorder that must not lose yesterday's run.
+ * 4 to 7, 10, 12, 13, 14. */
+int32_t honecerise_rename_new(uint8_t *store, honecerise_size store_length,
+                              uint8_t *image, honecerise_size image_length,
+                              uint8_t *desk, honecerise_size desk_length,
+                              honecerise_size directory, const uint8_t *name, honecerise_size name_length,
+                              honecerise_size to_directory,
+                              const uint8_t *to_name, honecerise_size to_name_length);
 
 /* ---- the copier ----------------------------------------------------------------------------
  * Start once, then step until the state is finished, with any calls in between: a step is short,

@@ -19,6 +19,7 @@ enum Call<'a> {
     Link(usize, &'a [u8], usize),
     Unlink(usize, &'a [u8]),
     Rename(usize, &'a [u8], usize, &'a [u8]),
+    RenameNew(usize, &'a [u8], usize, &'a [u8]),
 }
 
 fn make<S: Side>(call: &Call, w: &mut Buffers, out: &mut [u8]) -> Answer {
@@ -31,10 +32,11 @@ fn make<S: Side>(call: &Call, w: &mut Buffers, out: &mut [u8]) -> Answer {
         Call::Link(d, name, i) => S::link(w, d, name, i),
         Call::Unlink(d, name) => S::unlink(w, d, name),
         Call::Rename(d, name, e, other) => S::rename(w, d, name, e, other),
+        Call::RenameNew(d, name, e, other) => S::rename_new(w, d, name, e, other),
     }
 }
 
-/// Calls that together leave the store as it was, up to the bytes of free blocks; the last may be followed by writing back the buffers.
+/// Calls that together leave the store as it was, up to the bytes of free blocks; the last may be followed by writing back the buffers. One without a label only prepares or undoes, and has no row.
 struct Cycle<'a> {
     calls: Vec<(&'static str, Call<'a>)>,
     restore: bool,
@@ -64,7 +66,17 @@ fn writing<'a>(s: &'a Scene, bytes: &'a [u8]) -> Vec<Cycle<'a>> {
         cycle(vec![("link (undone: unlink)", Call::Link(d, free, s.long)), ("unlink (of the link)", Call::Unlink(d, free))]),
         cycle(vec![("rename (undone: back)", Call::Rename(d, name, d, free)), ("rename back", Call::Rename(d, free, d, name))]),
         cycle(vec![("move (undone: back)", Call::Rename(d, name, e, free)), ("move back", Call::Rename(e, free, d, name))]),
+        cycle(vec![("recorder's rename (undone: back)", Call::RenameNew(d, name, d, free)), ("", Call::RenameNew(d, free, d, name))]),
+        replacing(s, "rename onto a run of 768", d, bytes),
+        replacing(s, "move onto a run of 768", e, bytes),
     ]
+}
+
+/// The entry takes the name of a run of 768 bytes in directory e, whose only name it is, and gets its own again.
+fn replacing<'a>(s: &'a Scene, label: &'static str, e: usize, bytes: &'a [u8]) -> Cycle<'a> {
+    let (d, name, free) = (s.directory, &s.entry[..], &s.free_name[..]);
+    let prepare = [("", Call::Create(e, free)), ("", Call::Write(s.next, 0, &bytes[..768]))];
+    cycle(prepare.into_iter().chain([(label, Call::Rename(d, name, e, free)), ("", Call::Rename(e, free, d, name))]).collect())
 }
 
 /// A file of 768 bytes takes a block more and its address block, and gives both back.
@@ -163,13 +175,15 @@ impl<'a> Job<'a> {
     }
 
     fn assert_right(&self, side: &str) {
-        assert!(self.lent == self.expected, "{}, {} store: bytes after the {side} calls", self.cycle.calls[0].0, self.scene.name);
+        let label = self.cycle.calls.iter().find(|(label, _)| !label.is_empty()).map_or("", |(label, _)| label);
+        assert!(self.lent == self.expected, "{label}, {} store: bytes after the {side} calls", self.scene.name);
     }
 
-    /// Prints a row for each call; the largest ratio.
+    /// Prints a row for each call that has a label; the largest ratio.
     fn print(&self, clock: f64) -> f64 {
         let mut worst = 0.0f64;
-        for ((label, _), (p, q)) in self.cycle.calls.iter().zip(self.proved.iter().zip(&self.plain)) {
+        let rows = self.cycle.calls.iter().zip(self.proved.iter().zip(&self.plain));
+        for ((label, _), (p, q)) in rows.filter(|((label, _), _)| !label.is_empty()) {
             let (p, q) = (p - clock, q - clock);
             println!("{:<34} {:>17} {:>11.0} {:>11.0} {:>8}", label, self.scene.name, p, q, shown(p / q, TO_RUST));
             worst = worst.max(p / q);

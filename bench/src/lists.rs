@@ -5,6 +5,9 @@ use bench::side::{Buffers, Plain, Side};
 
 const LISTS: usize = 2_000;
 const CALLS: usize = 150;
+/// The kinds of calls that are renames, and behind them the lap recorder's.
+const RENAME: usize = 12;
+const RENAME_NEW: usize = 15;
 const NAMES: [&[u8]; 10] = [b"a", b"b", b"c", b"laps", b"run-00012-lap", b"exactly-14-byt", b"longer-than-14b", b"", b"..", b"a/b"];
 
 fn any_name(r: &mut Random) -> &'static [u8] {
@@ -26,8 +29,8 @@ impl Call {
     fn any(r: &mut Random, n: usize) -> Call {
         let length = [r.next(5), r.next(70), r.next(780), r.next(2760)][r.next(4)];
         Call {
-            kind: r.next(21),
-            numbers: [[1, r.next(n + 2)][r.next(2)], [0, r.next(65), r.next(780), r.next(2760), usize::MAX][r.next(5)], r.next(n + 2)],
+            kind: r.next(24),
+            numbers: [[1, r.next(n + 2)][r.next(2)], [0, r.next(65), r.next(780), r.next(2760), usize::MAX][r.next(5)], [1, r.next(n + 2), r.next(n + 2)][r.next(3)]],
             names: [any_name(r), any_name(r)],
             bytes: (0..length).map(|k| (k + 1) as u8).collect(),
         }
@@ -46,15 +49,39 @@ impl Call {
             8 => S::shorten(w, x, y),
             9 => S::link(w, x, name, z),
             10 | 11 => S::unlink(w, x, name),
-            12 | 13 => S::rename(w, x, name, z, other),
-            14 => S::start(w),
-            15 => return S::state(w).map_or_else(|no| (no, [0; 3], out), |(a, b, c)| (0, [a as usize, b as usize, c as usize], vec![])),
-            16 => S::burst(w, z),
-            17 => S::burst(w, [0, 1, 2, 63, 64, 65, usize::MAX][y % 7]),
+            RENAME..RENAME_NEW => S::rename(w, x, name, z, other),
+            RENAME_NEW => S::rename_new(w, x, name, z, other),
+            16 => S::start(w),
+            17 => return S::state(w).map_or_else(|no| (no, [0; 3], out), |(a, b, c)| (0, [a as usize, b as usize, c as usize], vec![])),
+            18 => S::burst(w, z),
+            19 => S::burst(w, [0, 1, 2, 63, 64, 65, usize::MAX][y % 7]),
             _ => S::step(w),
         };
         (answer.err().unwrap_or(0), [answer.unwrap_or(0), 0, 0], out)
     }
+
+    /// A rename of either kind, half of the time, is one of an entry onto another.
+    fn aimed(mut self, r: &mut Random, store: &[u8], n: usize) -> Call {
+        if (RENAME..=RENAME_NEW).contains(&self.kind) && r.next(2) == 0 {
+            let all = entries(store, n);
+            for k in 0..all.len().min(2) {
+                (self.numbers[2 * k], self.names[k]) = all[r.next(all.len())];
+            }
+        }
+        self
+    }
+
+    /// A rename that is to replace: its two names stand for two inodes.
+    fn replaces(&self, store: &[u8]) -> bool {
+        let inode = |k: usize| Plain::look_up(store, self.numbers[2 * k], self.names[k]).ok();
+        (RENAME..RENAME_NEW).contains(&self.kind) && inode(0).zip(inode(1)).is_some_and(|(mover, holder)| mover != holder)
+    }
+}
+
+/// The entries of a store, as directory and name; none if it is not sound.
+fn entries(store: &[u8], n: usize) -> Vec<(usize, &'static [u8])> {
+    let all = (1..=n).flat_map(|d| NAMES.iter().map(move |&name| (d, name)));
+    all.filter(|&(d, name)| Plain::look_up(store, d, name).is_ok()).collect()
 }
 
 /// Buffers of a few inodes and blocks, laid out by one side.
@@ -80,18 +107,26 @@ fn mend(w: &mut Buffers, (which, o, old): (usize, usize, u8)) {
     [&mut w.store, &mut w.image, &mut w.desk][which][o] = old;
 }
 
-/// One list; how often each refusal came, and at 0 how many calls were accepted.
-fn list(r: &mut Random, tally: &mut [usize; 18]) {
+/// How often each refusal came, at 0 how many calls were accepted, and how many of them replaced an entry.
+#[derive(Default)]
+struct Tally {
+    refused: [usize; 19],
+    replaced: usize,
+}
+
+fn list(r: &mut Random, tally: &mut Tally) {
     // few blocks, or room for some long files
     let (n, b, image) = (1 + r.next(7), [1 + r.next(12), 20 + r.next(100)][r.next(2)], [1 + r.next(20), 20 + r.next(150)][r.next(2)]);
     let (mut w, mut v) = (fresh::<Proved>(n, b, image), fresh::<Plain>(n, b, image));
     for _ in 0..CALLS {
-        let call = Call::any(r, n);
+        let call = Call::any(r, n).aimed(r, &w.store, n);
         let hurt = (r.next(30) == 0).then(|| damage(&mut w, r));
         v.clone_from(&w);
+        let replaces = call.replaces(&v.store);
         let (x, y) = (call.make::<Proved>(&mut w), call.make::<Plain>(&mut v));
         assert!(x == y && w == v, "{call:?} on {n} inodes, {b} and {image} blocks, damaged {hurt:?}: {x:?} proved, {y:?} plain");
-        tally[x.0 as usize] += 1;
+        tally.refused[x.0 as usize] += 1;
+        tally.replaced += (replaces && x.0 == 0) as usize;
         if let Some(old) = hurt {
             mend(&mut w, old);
         }
@@ -100,9 +135,10 @@ fn list(r: &mut Random, tally: &mut [usize; 18]) {
 
 pub fn run() {
     let mut r = Random(0x2545f4914f6cdd1d);
-    let mut tally = [0; 18];
+    let mut tally = Tally::default();
     for _ in 0..LISTS {
         list(&mut r, &mut tally);
     }
-    println!("\n{} calls at random: both sides answer and write alike; {} accepted, by refusal 1 to 17: {:?}", LISTS * CALLS, tally[0], &tally[1..]);
+    let Tally { refused, replaced } = tally;
+    println!("\n{} calls at random: both sides answer and write alike; {} accepted, {replaced} of them renames that replace; by refusal 1 to 18: {:?}", LISTS * CALLS, refused[0], &refused[1..]);
 }

@@ -35,6 +35,10 @@ extern "C" {
         store: *mut u8, store_length: usize, image: *mut u8, image_length: usize, desk: *mut u8, desk_length: usize,
         directory: usize, name: *const u8, name_length: usize, to_directory: usize, to_name: *const u8, to_name_length: usize,
     ) -> i32;
+    fn honecerise_rename_new(
+        store: *mut u8, store_length: usize, image: *mut u8, image_length: usize, desk: *mut u8, desk_length: usize,
+        directory: usize, name: *const u8, name_length: usize, to_directory: usize, to_name: *const u8, to_name_length: usize,
+    ) -> i32;
     fn honecerise_start(store: *const u8, store_length: usize, image: *mut u8, image_length: usize, desk: *mut u8, desk_length: usize) -> i32;
     fn honecerise_step(store: *const u8, store_length: usize, image: *mut u8, image_length: usize, desk: *mut u8, desk_length: usize) -> i32;
     fn honecerise_burst(
@@ -127,6 +131,9 @@ impl Side for Proved {
     }
     fn rename(w: &mut Buffers, directory: usize, name: &[u8], to: usize, to_name: &[u8]) -> Answer {
         over!(w, honecerise_rename, directory, name.as_ptr(), name.len(), to, to_name.as_ptr(), to_name.len())
+    }
+    fn rename_new(w: &mut Buffers, directory: usize, name: &[u8], to: usize, to_name: &[u8]) -> Answer {
+        over!(w, honecerise_rename_new, directory, name.as_ptr(), name.len(), to, to_name.as_ptr(), to_name.len())
     }
     fn start(w: &mut Buffers) -> Answer {
         over!(w, honecerise_start)

@@ -18,6 +18,8 @@ pub struct Scene {
     /// A file of 768 bytes, and an empty one.
     pub long: usize,
     pub fresh: usize,
+    /// The lowest free inode.
+    pub next: usize,
     /// A file of 2,752 bytes, where there is room for one more.
     pub longest: Option<usize>,
 }
@@ -66,7 +68,7 @@ pub fn typical_scene() -> Scene {
     let other = Plain::look_up(&buffers.store, 1, b"week-0").unwrap();
     let long = Plain::look_up(&buffers.store, last, b"run-3-0.lap").unwrap();
     let fresh = create(&mut buffers, last, b"run-3-5.lap", Kind::File);
-    Scene { name: "typical", buffers, directory: last, entry: b"run-3-4.lap".to_vec(), free_name: b"run-3-6.lap".to_vec(), other, long, fresh, longest: None }
+    Scene { name: "typical", buffers, directory: last, entry: b"run-3-4.lap".to_vec(), free_name: b"run-3-6.lap".to_vec(), other, long, fresh, next: fresh + 1, longest: None }
 }
 
 /// The full store without the last entry of a full directory and with one file cut to nothing: a file more takes the last inode, and 768 bytes the last blocks. The other directory has one empty slot.
@@ -75,7 +77,7 @@ pub fn full_scene() -> Scene {
     let name = |i: usize| format!("run-{i:05}-lap").into_bytes();
     Plain::unlink(&mut buffers, 2, &name(97)).unwrap();
     Plain::shorten(&mut buffers, 8, 0).unwrap();
-    Scene { name: "full", buffers, directory: 2, entry: name(96), free_name: name(0), other: 6, long: 7, fresh: 8, longest: None }
+    Scene { name: "full", buffers, directory: 2, entry: name(96), free_name: name(0), other: 6, long: 7, fresh: 8, next: 97, longest: None }
 }
 
 /// The store of long files with one cut to 768 bytes and one to nothing, which then has room for 2,752 bytes again.
@@ -84,5 +86,5 @@ pub fn long_scene() -> Scene {
     let name = |i: usize| format!("run-{i:05}-lap").into_bytes();
     Plain::shorten(&mut buffers, 7, 768).unwrap();
     Plain::shorten(&mut buffers, 8, 0).unwrap();
-    Scene { name: "long files", buffers, directory: 2, entry: name(4), free_name: name(0), other: 3, long: 7, fresh: 8, longest: Some(10) }
+    Scene { name: "long files", buffers, directory: 2, entry: name(4), free_name: name(0), other: 3, long: 7, fresh: 8, next: 27, longest: Some(10) }
 }

@@ -27,6 +27,8 @@ pub trait Side {
     fn link(w: &mut Buffers, directory: usize, name: &[u8], inode: usize) -> Answer;
     fn unlink(w: &mut Buffers, directory: usize, name: &[u8]) -> Answer;
     fn rename(w: &mut Buffers, directory: usize, name: &[u8], to: usize, to_name: &[u8]) -> Answer;
+    /// The lap recorder's, which replaces nothing.
+    fn rename_new(w: &mut Buffers, directory: usize, name: &[u8], to: usize, to_name: &[u8]) -> Answer;
     fn start(w: &mut Buffers) -> Answer;
     fn step(w: &mut Buffers) -> Answer;
     fn burst(w: &mut Buffers, count: usize) -> Answer;
@@ -73,6 +75,9 @@ impl Side for Plain {
     }
     fn rename(w: &mut Buffers, directory: usize, name: &[u8], to: usize, to_name: &[u8]) -> Answer {
         plain::rename(&mut w.store, &mut w.image, &mut w.desk, directory, name, to, to_name)
+    }
+    fn rename_new(w: &mut Buffers, directory: usize, name: &[u8], to: usize, to_name: &[u8]) -> Answer {
+        plain::rename_new(&mut w.store, &mut w.image, &mut w.desk, directory, name, to, to_name)
     }
     fn start(w: &mut Buffers) -> Answer {
         plain::start(&w.store, &mut w.image, &mut w.desk)

@@ -44,7 +44,9 @@ static void each(int copied)
     static honecerise_size n[3];
     honecerise_match_laps(times, 3, times, 2, lists[0], 3, lists[1], 3, lists[2], 3, lists[3], 3);
     if (copied) {
+        /* the root is copied, and nothing locked */
         honecerise_start(WATCH);
+        honecerise_step(WATCH);
         honecerise_step(WATCH);
         honecerise_step(WATCH);
     }
@@ -60,6 +62,15 @@ static void each(int copied)
     honecerise_link(WATCH, 3, NAME("l"), 4);
     honecerise_rename(WATCH, 3, NAME("l"), 1, NAME("m"));
     honecerise_rename(WATCH, 1, NAME("m"), 1, NAME("n"));
+    /* onto a long run of its own, within a directory and from another; then to new names */
+    honecerise_create_file(WATCH, 1, NAME("o"));
+    honecerise_write(WATCH, 6, 0, laps, sizeof laps);
+    honecerise_rename(WATCH, 1, NAME("n"), 1, NAME("o"));
+    honecerise_create_file(WATCH, 3, NAME("p"));
+    honecerise_write(WATCH, 6, 0, laps, sizeof laps);
+    honecerise_rename(WATCH, 1, NAME("o"), 3, NAME("p"));
+    honecerise_rename_new(WATCH, 3, NAME("p"), 3, NAME("q"));
+    honecerise_rename_new(WATCH, 3, NAME("q"), 1, NAME("n"));
     honecerise_unlink(WATCH, 1, NAME("n"));
     honecerise_unlink(WATCH, 1, NAME("g"));
     honecerise_unlink(WATCH, 1, NAME("f"));

@@ -70,6 +70,7 @@ static void null_store(honecerise_size *n)
     IS(-1, honecerise_link(NONE, IMAGE, DESK, 1, NAME("z"), 2));
     IS(-1, honecerise_unlink(NONE, IMAGE, DESK, 1, NAME("a")));
     IS(-1, honecerise_rename(NONE, IMAGE, DESK, 1, NAME("a"), 1, NAME("z")));
+    IS(-1, honecerise_rename_new(NONE, IMAGE, DESK, 1, NAME("a"), 1, NAME("z")));
     IS(-1, honecerise_start(NONE, IMAGE, DESK));
     IS(-1, honecerise_step(NONE, IMAGE, DESK));
     IS(-1, honecerise_burst(NONE, IMAGE, DESK, 1));
@@ -87,6 +88,7 @@ static void null_desk(honecerise_size *n)
     IS(-1, honecerise_link(STORE, IMAGE, NONE, 1, NAME("z"), 2));
     IS(-1, honecerise_unlink(STORE, IMAGE, NONE, 1, NAME("a")));
     IS(-1, honecerise_rename(STORE, IMAGE, NONE, 1, NAME("a"), 1, NAME("z")));
+    IS(-1, honecerise_rename_new(STORE, IMAGE, NONE, 1, NAME("a"), 1, NAME("z")));
     IS(-1, honecerise_start(STORE, IMAGE, NONE));
     IS(-1, honecerise_step(STORE, IMAGE, NONE));
     IS(-1, honecerise_burst(STORE, IMAGE, NONE, 1));
@@ -103,6 +105,10 @@ static void null_image(honecerise_size *n, int running)
     IS(running ? -3 : 3, honecerise_write(STORE, NONE, DESK, 4, 0, NAME("abc")));
     IS(running ? -3 : 2, honecerise_shorten(STORE, NONE, DESK, 4, 2));
     IS(off, honecerise_link(STORE, NONE, DESK, 1, NAME("l"), 4));
+    IS(running ? -3 : -7, honecerise_rename_new(STORE, NONE, DESK, 1, NAME("l"), 1, NAME("X")));
+    IS(off, honecerise_rename_new(STORE, NONE, DESK, 1, NAME("l"), 5, NAME("n")));
+    IS(off, honecerise_link(STORE, NONE, DESK, 1, NAME("l"), 2));
+    IS(off, honecerise_rename(STORE, NONE, DESK, 5, NAME("n"), 1, NAME("l")));
     IS(off, honecerise_rename(STORE, NONE, DESK, 1, NAME("l"), 5, NAME("m")));
     IS(off, honecerise_unlink(STORE, NONE, DESK, 5, NAME("m")));
     IS(off, honecerise_unlink(STORE, NONE, DESK, 1, NAME("y")));
@@ -128,6 +134,9 @@ static void null_names(int32_t size)
     IS(-4, honecerise_rename(STORE, IMAGE, DESK, 1, NONE, 1, NAME("z")));
     IS(-4, honecerise_rename(STORE, IMAGE, DESK, 1, NAME("a"), 1, NONE));
     IS(-4, honecerise_rename(STORE, IMAGE, DESK, 1, NONE, 1, NONE));
+    IS(-4, honecerise_rename_new(STORE, IMAGE, DESK, 1, NONE, 1, NAME("z")));
+    IS(-4, honecerise_rename_new(STORE, IMAGE, DESK, 1, NAME("a"), 1, NONE));
+    IS(-4, honecerise_rename_new(STORE, IMAGE, DESK, 1, NONE, 1, NONE));
 }
 
 /* Numbers are never cut, whatever a machine's own width is. */
@@ -144,6 +153,10 @@ static void wide_numbers(void)
     IS(-9, honecerise_write(STORE, IMAGE, DESK, 2, BEYOND, NONE));
     IS(-9, honecerise_shorten(STORE, IMAGE, DESK, 2, BEYOND));
     IS(-5, honecerise_link(STORE, IMAGE, DESK, 1, NAME("w"), BEYOND + 2));
+    IS(-5, honecerise_rename(STORE, IMAGE, DESK, BEYOND + 1, NAME("a"), 1, NAME("d")));
+    IS(-5, honecerise_rename(STORE, IMAGE, DESK, 1, NAME("a"), BEYOND + 1, NAME("d")));
+    IS(-5, honecerise_rename_new(STORE, IMAGE, DESK, BEYOND + 1, NAME("a"), 1, NAME("w")));
+    IS(-5, honecerise_rename_new(STORE, IMAGE, DESK, 1, NAME("a"), BEYOND + 1, NAME("w")));
 }
 
 static void nulls(void)
@@ -231,13 +244,49 @@ static void copy_all(size_t inodes, size_t blocks)
             honecerise_write(STORE, IMAGE, DESK, 1 + i % inodes, 0, bytes, most);
             honecerise_read(STORE, 1 + i % inodes, 0, out, most);
             honecerise_shorten(STORE, IMAGE, DESK, 1 + (i + 1) % inodes, 700 + i % 70);
-            honecerise_rename(STORE, IMAGE, DESK, 1, NAME("moved"), folder, name, 14);
+            honecerise_rename_new(STORE, IMAGE, DESK, 1, NAME("moved"), folder, name, 14);
+            honecerise_link(STORE, IMAGE, DESK, 1, NAME("held"), 2 + i % inodes);
+            honecerise_rename(STORE, IMAGE, DESK, folder, name, 14, 1, NAME("held"));
+            honecerise_rename(STORE, IMAGE, DESK, 1, NAME("held"), folder, name, 14);
         }
         IS(0, honecerise_state(STORE, IMAGE, DESK, n, n + 1, n + 2));
         IS(2, (int32_t)n[0]);
         IS(1, honecerise_check(0, STORE));
         IS(1, honecerise_check(1, IMAGE));
     }
+}
+
+/* ---- renames onto a taken name */
+
+static void replaced(void)
+{
+    TAKEN(honecerise_lay_out_store(STORE, 16, 64));
+    TAKEN(honecerise_lay_out_desk(DESK, 16));
+    IS(2, honecerise_create_file(STORE, IMAGE, DESK, 1, NAME("a")));
+    IS(3, honecerise_create_directory(STORE, IMAGE, DESK, 1, NAME("d")));
+    IS(4, honecerise_create_file(STORE, IMAGE, DESK, 3, NAME("b")));
+    IS(5, honecerise_create_directory(STORE, IMAGE, DESK, 1, NAME("e")));
+    IS(-7, honecerise_rename_new(STORE, IMAGE, DESK, 3, NAME("b"), 1, NAME("A")));
+    IS(-7, honecerise_rename_new(STORE, IMAGE, DESK, 1, NAME("a"), 1, NAME("e")));
+    IS(-8, honecerise_rename(STORE, IMAGE, DESK, 1, NAME("a"), 1, NAME("d")));
+    IS(-8, honecerise_rename(STORE, IMAGE, DESK, 1, NAME("e"), 1, NAME("d")));
+    IS(-10, honecerise_rename(STORE, IMAGE, DESK, 1, NAME("d"), 3, NAME("b")));
+    IS(-18, honecerise_rename(STORE, IMAGE, DESK, 1, NAME("a"), 1, NAME("e")));
+    IS(-18, honecerise_rename(STORE, IMAGE, DESK, 1, NAME("e"), 3, NAME("b")));
+    IS(0, honecerise_rename(STORE, IMAGE, DESK, 3, NAME("b"), 1, NAME("A")));
+    IS(4, honecerise_look_up(STORE, 1, NAME("a")));
+    IS(0, honecerise_rename(STORE, IMAGE, DESK, 1, NAME("e"), 1, NAME("d")));
+    IS(5, honecerise_look_up(STORE, 1, NAME("d")));
+    /* both are free again */
+    IS(2, honecerise_create_file(STORE, IMAGE, DESK, 1, NAME("f")));
+    IS(3, honecerise_create_file(STORE, IMAGE, DESK, 1, NAME("g")));
+    /* one name lent twice, to the same entry or to another */
+    IS(0, honecerise_rename(STORE, IMAGE, DESK, 1, NAME("f"), 1, NAME("f")));
+    IS(0, honecerise_rename_new(STORE, IMAGE, DESK, 1, NAME("f"), 1, NAME("f")));
+    IS(0, honecerise_link(STORE, IMAGE, DESK, 5, NAME("f"), 3));
+    IS(0, honecerise_rename(STORE, IMAGE, DESK, 1, NAME("f"), 5, NAME("f")));
+    IS(2, honecerise_look_up(STORE, 5, NAME("f")));
+    IS(1, honecerise_check(0, STORE));
 }
 
 /* ---- how many steps a burst may have */
@@ -421,6 +470,7 @@ int main(void)
         copy_all(256, 1024);
         lend(16, 64, 704, at_end);
         nulls();
+        replaced();
         counts();
         turns(at_end);
         laps(at_end);

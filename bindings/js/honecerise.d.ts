@@ -33,6 +33,7 @@ export type RefusalKind =
     | 'WrongState'
     | 'ImageFull'
     | 'BadCount'
+    | 'KindsDiffer'
     | 'BadTurn'
     | 'NoDate'
     | 'BadTerms'
@@ -148,8 +149,16 @@ export class Watch {
     link(directory: Count, name: Bytes, inode: Count): void;
     /** Refuses with `IllegalName`, `WrongInode`, `NameAbsent`, `NotEmpty`, `Busy`. */
     unlink(directory: Count, name: Bytes): void;
-    /** Refuses with `IllegalName`, `WrongInode`, `NameAbsent`, `NameTaken`, `IntoItself`, `NoBlocks`, `NoSlot`, `Busy`. */
+    /**
+     * An entry that has the new name is replaced. Refuses with `IllegalName`, `WrongInode`, `NameAbsent`, `NotEmpty`,
+     * `IntoItself`, `KindsDiffer`, `NoBlocks`, `NoSlot`, `Busy`.
+     */
     rename(directory: Count, name: Bytes, to: Count, toName: Bytes): void;
+    /**
+     * Replaces nothing. Refuses with `IllegalName`, `WrongInode`, `NameAbsent`, `NameTaken`, `IntoItself`, `NoBlocks`, `NoSlot`,
+     * `Busy`.
+     */
+    renameNew(directory: Count, name: Bytes, to: Count, toName: Bytes): void;
 
     /** Begins a copy. Refuses with `BadBuffer` for an image that does not fit, and with `WrongState`. */
     start(): void;

@@ -196,14 +196,26 @@ export class Watch {
     }
 
     /**
-     * Another name, another directory, or both. Refuses with `IllegalName`, `WrongInode`, `NameAbsent`, `NameTaken`,
-     * `IntoItself`, `NoBlocks`, `NoSlot`, `Busy`.
+     * Another name, another directory, or both; an entry that has the new name is replaced. Refuses with `IllegalName`,
+     * `WrongInode`, `NameAbsent`, `NotEmpty`, `IntoItself`, `KindsDiffer`, `NoBlocks`, `NoSlot`, `Busy`.
      */
     rename(directory, name, to, toName) {
+        this.#rename('honecerise_rename', directory, name, to, toName);
+    }
+
+    /**
+     * The same, but it replaces nothing. Refuses with `IllegalName`, `WrongInode`, `NameAbsent`, `NameTaken`, `IntoItself`,
+     * `NoBlocks`, `NoSlot`, `Busy`.
+     */
+    renameNew(directory, name, to, toName) {
+        this.#rename('honecerise_rename_new', directory, name, to, toName);
+    }
+
+    #rename(call, directory, name, to, toName) {
         const n = number(directory, 'directory');
         const m = number(to, 'directory');
         this.#with([bytesOf(name, 'name'), bytesOf(toName, 'name')], (at, length, toAt, toLength) =>
-            this.#call('honecerise_rename', n, at, length, m, toAt, toLength),
+            this.#call(call, n, at, length, m, toAt, toLength),
         );
     }
 

@@ -1,5 +1,6 @@
 /*
- * A watch that records two runs, and is copied while the second one is still being recorded.
+ * A watch that records two runs, and is copied while the second one is still being recorded. Meanwhile the
+ * first one takes the place of yesterday's best.
  *
  *     cc -std=c99 -Iinclude examples/c/watch.c target/staticlib/libapi.a -o watch
  *
@@ -68,7 +69,7 @@ static void list(const uint8_t *bytes, honecerise_size steps)
 int main(void)
 {
     uint8_t text[HONECERISE_MAX_FILE];
-    size_t laps, first, second, size;
+    size_t laps, first, second, best, size;
     honecerise_size steps = 0;
 
     done("lay out", honecerise_lay_out_store(store, sizeof store, INODES, BLOCKS));
@@ -80,6 +81,8 @@ int main(void)
     record(first, 0, "71.2 70.8 72.0 69.9");
     second = done("create", honecerise_create_file(WATCH, laps, TEXT("run2")));
     record(second, 0, "68.4 ");
+    best = done("create", honecerise_create_file(WATCH, laps, TEXT("best")));
+    record(best, 0, "72.5 71.9 73.0 70.8");
 
     /* the copy: one step for each turn of the watch's loop, and the pupil goes on meanwhile */
     done("start", honecerise_start(WATCH));
@@ -87,8 +90,12 @@ int main(void)
         steps = done("step", honecerise_step(WATCH));
         if (steps == 5)
             record(second, 5, "67.9 ");
-        if (steps == 8)
+        if (steps == 8) {
+            /* the recorder's own call keeps what has the name; the phone app's replaces it */
+            if (honecerise_rename_new(WATCH, laps, TEXT("run1"), laps, TEXT("best")) == -HONECERISE_NAME_TAKEN)
+                printf("the recorder leaves yesterday's best\n");
             done("rename", honecerise_rename(WATCH, laps, TEXT("run1"), laps, TEXT("best")));
+        }
         if (steps == 10)
             record(second, 10, "69.1 ");
     }

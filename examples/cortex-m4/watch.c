@@ -1,6 +1,7 @@
 /*
  * A watch on a bare Cortex-M4: it records two runs, is copied while the second one is still being
- * recorded, and prints the copy over semihosting. No operating system, no heap, no printf.
+ * recorded and the first one takes the place of yesterday's best, and prints the copy over semihosting.
+ * No operating system, no heap, no printf.
  *
  *     targets/build cortex-m4
  *     cd examples/cortex-m4
@@ -124,7 +125,7 @@ static void print_run(const char *where, const uint8_t *bytes, unsigned run)
 
 int main(void)
 {
-    unsigned laps, first, second;
+    unsigned laps, first, second, best;
     honecerise_size steps = 0;
 
     done("lay out", honecerise_lay_out_store(store, sizeof store, INODES, BLOCKS));
@@ -136,6 +137,8 @@ int main(void)
     record(first, 0, "71.2 70.8 72.0 69.9");
     second = done("create", honecerise_create_file(WATCH, laps, TEXT("run2")));
     record(second, 0, "68.4 ");
+    best = done("create", honecerise_create_file(WATCH, laps, TEXT("best")));
+    record(best, 0, "72.5 71.9 73.0 70.8");
 
     /* the copy: one step for each turn of the watch's loop, and the pupil goes on meanwhile */
     done("start", honecerise_start(WATCH));
@@ -143,8 +146,12 @@ int main(void)
         steps = done("step", honecerise_step(WATCH));
         if (steps == 5)
             record(second, 5, "67.9 ");
-        if (steps == 8)
+        if (steps == 8) {
+            /* the recorder's own call keeps what has the name; the phone app's replaces it */
+            if (honecerise_rename_new(WATCH, laps, TEXT("run1"), laps, TEXT("best")) == -HONECERISE_NAME_TAKEN)
+                semihosting_print("the recorder leaves yesterday's best\n");
             done("rename", honecerise_rename(WATCH, laps, TEXT("run1"), laps, TEXT("best")));
+        }
         if (steps == 10)
             record(second, 10, "69.1 ");
     }

@@ -49,15 +49,15 @@ static void put_sums(void)
 
 enum command {
     NEW, POKE_STORE, POKE_IMAGE, POKE_DESK, LAY_STORE, LAY_DESK, CHECK_STORE, CHECK_IMAGE, LOOK_UP,
-    CREATE_FILE, CREATE_DIRECTORY, READ, WRITE, SHORTEN, LINK, UNLINK, RENAME, START, STEP, BURST, ASK,
-    NONE
+    CREATE_FILE, CREATE_DIRECTORY, READ, WRITE, SHORTEN, LINK, UNLINK, RENAME, RENAME_NEW, START, STEP,
+    BURST, ASK, NONE
 };
 
 /* In the same order: # is a number, * a name or bytes, + a second name. */
 static const char *const forms[NONE] = {
     "new # # #", "poke store # #", "poke image # #", "poke desk # #", "lay store # #", "lay desk #",
     "chk store", "chk image", "lk # *", "mk # * f", "mk # * d", "rd # # #", "wr # # *", "sh # #",
-    "ln # * #", "rm # *", "mv # * # +", "go", "st", "bu #", "ask"
+    "ln # * #", "rm # *", "mv # * # +", "mvo # * # +", "go", "st", "bu #", "ask"
 };
 
 static uint8_t name[BYTES], other[BYTES], page[PAGE];
@@ -217,6 +217,7 @@ void respond(const uint8_t *line, size_t length)
     case LINK: answered(honecerise_link(WATCH, n[1], NAME, n[3])); break;
     case UNLINK: answered(honecerise_unlink(WATCH, n[1], NAME)); break;
     case RENAME: answered(honecerise_rename(WATCH, n[1], NAME, n[3], other, other_length)); break;
+    case RENAME_NEW: answered(honecerise_rename_new(WATCH, n[1], NAME, n[3], other, other_length)); break;
     case START: answered(honecerise_start(WATCH)); break;
     case STEP: answered(honecerise_step(WATCH)); break;
     case BURST: answered(honecerise_burst(WATCH, n[1])); break;

@@ -86,6 +86,7 @@ fn run<S: Side>(w: &mut Buffers, command: &str) -> String {
         "ln" => told(S::link(w, num(1), &hex(2), num(3))),
         "rm" => told(S::unlink(w, num(1), &hex(2))),
         "mv" => told(S::rename(w, num(1), &hex(2), num(3), &hex(4))),
+        "mvo" => told(S::rename_new(w, num(1), &hex(2), num(3), &hex(4))),
         "go" => told(S::start(w)),
         "st" => told(S::step(w)),
         "bu" => told(S::burst(w, num(1))),

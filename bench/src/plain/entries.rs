@@ -83,9 +83,7 @@ pub fn unlink(store: &mut [u8], image: &mut [u8], desk: &mut [u8], directory: us
     let dir = v.of_kind(directory, DIRECTORY).ok_or(WRONG_INODE)?;
     let (slot, inode) = search(&v, directory, dir, name).named.ok_or(NAME_ABSENT)?;
     let old = v.inode(inode);
-    if old.kind == DIRECTORY && v.blocks_of(inode, old.blocks()).any(|block| *block != [0; 64]) {
-        return Err(NOT_EMPTY);
-    }
+    holds_none(&v, inode, old)?;
     if notes.locked == directory || notes.locked == inode {
         return Err(BUSY);
     }
@@ -95,8 +93,14 @@ pub fn unlink(store: &mut [u8], image: &mut [u8], desk: &mut [u8], directory: us
     Ok(0)
 }
 
+/// A directory that is to go has no entries.
+pub fn holds_none(v: &View, i: usize, old: Inode) -> Result<(), u8> {
+    let full = old.kind == DIRECTORY && v.blocks_of(i, old.blocks()).any(|block| *block != [0; 64]);
+    if full { Err(NOT_EMPTY) } else { Ok(()) }
+}
+
 /// One link less; the last one frees the inode and its blocks.
-fn drop_link(store: &mut [u8], shape: Shape, i: usize, old: Inode) {
+pub fn drop_link(store: &mut [u8], shape: Shape, i: usize, old: Inode) {
     if old.links > 1 {
         return Inode { links: old.links - 1, ..old }.put(store, shape, i);
     }

@@ -24,7 +24,7 @@ pub use entries::{create, link, look_up, unlink, Kind};
 pub use format::{lay_out_desk, lay_out_store};
 pub use keep::keep;
 pub use laps::match_laps;
-pub use rename::rename;
+pub use rename::{rename, rename_new};
 pub use sound::check;
 
 /// A call's number (0 where document 01 names none), or the number of its refusal.
@@ -49,6 +49,7 @@ mod refusal {
     pub const WRONG_STATE: u8 = 15;
     pub const IMAGE_FULL: u8 = 16;
     pub const BAD_COUNT: u8 = 17;
+    pub const KINDS_DIFFER: u8 = 18;
     pub const BAD_TURN: u8 = 21;
     pub const NO_DATE: u8 = 23;
     pub const BAD_TERMS: u8 = 24;

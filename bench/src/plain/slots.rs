@@ -33,9 +33,16 @@ pub struct Room {
     block: Option<usize>,
 }
 
+impl Room {
+    /// An empty slot that the directory has.
+    pub fn at(slot: usize) -> Room {
+        Room { slot, block: None }
+    }
+}
+
 pub fn room(store: &[u8], v: &View, dir: Inode, empty: Option<usize>) -> Result<Room, u8> {
     if let Some(slot) = empty {
-        return Ok(Room { slot, block: None });
+        return Ok(Room::at(slot));
     }
     if dir.size() == MOST_DIRECT_BYTES {
         return Err(NO_SLOT);

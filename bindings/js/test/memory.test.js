@@ -84,7 +84,8 @@ test('a refused or thrown call leaves no memory behind', async () => {
     const watch = library.layOut({ inodes: 2, blocks: 2 });
     const before = library.used;
     for (const call of [() => watch.createFile(ROOT, 'a/b'), () => watch.read(9), () => watch.lookUp(ROOT, 'x'),
-        () => watch.rename(ROOT, 'x', ROOT, 5), () => library.matchLaps([2, 1], []), () => library.matchLaps([1], [-1]),
+        () => watch.rename(ROOT, 'x', ROOT, 5), () => watch.renameNew(ROOT, 'x', ROOT, 'y'),
+        () => library.matchLaps([2, 1], []), () => library.matchLaps([1], [-1]),
         () => library.keep([{ year: 1999, month: 1, day: 1 }], [], { year: 2024, month: 1, day: 1 }),
         () => library.deal([], 1, 0)])
         assert.throws(call);

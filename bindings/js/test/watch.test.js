@@ -65,6 +65,31 @@ test('every file call, and what it refuses', () => {
     watch.free();
 });
 
+test('a rename replaces, unless the name must be new', () => {
+    const watch = library.layOut({ inodes: 8, blocks: 8 });
+    const is = (kind, call) => assert.equal(refusal(call), kind);
+    const names = () => [...watch.files().all()].map(({ directory, text, inode }) => [directory, text, inode]);
+    const d = watch.createDirectory(ROOT, 'd');
+    watch.createFile(ROOT, 'best');
+    const run = watch.createFile(d, 'run');
+    is('NameTaken', () => watch.renameNew(d, 'run', ROOT, 'Best'));
+    assert.equal(names().length, 3);
+    watch.rename(d, 'run', ROOT, 'Best');
+    assert.deepEqual(names(), [[ROOT, 'd', d], [ROOT, 'Best', run]]);
+    watch.renameNew(ROOT, 'best', d, 'run');
+    watch.link(ROOT, 'twin', run);
+    watch.rename(ROOT, 'twin', d, 'RUN'); // the same file's already
+    assert.deepEqual(names(), [[ROOT, 'd', d], [ROOT, 'twin', run], [d, 'run', run]]);
+    const e = watch.createDirectory(ROOT, 'e');
+    is('KindsDiffer', () => watch.rename(ROOT, 'twin', ROOT, 'e'));
+    is('NotEmpty', () => watch.rename(ROOT, 'twin', ROOT, 'd'));
+    is('NotEmpty', () => watch.rename(ROOT, 'e', ROOT, 'd'));
+    watch.rename(ROOT, 'd', ROOT, 'e');
+    assert.equal(watch.files().kind(e), null);
+    assert.equal(watch.lookUp(ROOT, 'e'), d);
+    watch.free();
+});
+
 test('a busy file, and an image that is too small', () => {
     const watch = library.layOut({ inodes: 4, blocks: 8, imageBlocks: 1 });
     const f = watch.createFile(ROOT, 'f');
@@ -73,6 +98,8 @@ test('a busy file, and an image that is too small', () => {
     assert.equal(refusal(() => watch.start()), 'WrongState');
     while (watch.status().locked !== f) watch.step();
     assert.equal(refusal(() => watch.write(f, 0, 'x')), 'Busy');
+    watch.createFile(ROOT, 'g');
+    assert.equal(refusal(() => watch.rename(ROOT, 'g', ROOT, 'f')), 'Busy'); // it would replace what is locked
     assert.equal(refusal(() => watch.step()), 'ImageFull');
     assert.equal(watch.status().state, 'stopped');
     watch.free();

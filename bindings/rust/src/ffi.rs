@@ -47,6 +47,10 @@ mod c {
             store: *mut u8, store_len: usize, image: *mut u8, image_len: usize, desk: *mut u8, desk_len: usize,
             directory: usize, name: *const u8, name_len: usize, to_directory: usize, to_name: *const u8, to_name_len: usize,
         ) -> i32;
+        pub fn honecerise_rename_new(
+            store: *mut u8, store_len: usize, image: *mut u8, image_len: usize, desk: *mut u8, desk_len: usize,
+            directory: usize, name: *const u8, name_len: usize, to_directory: usize, to_name: *const u8, to_name_len: usize,
+        ) -> i32;
 
         pub fn honecerise_start(
             store: *const u8, store_len: usize, image: *mut u8, image_len: usize, desk: *mut u8, desk_len: usize,
@@ -157,6 +161,10 @@ pub fn unlink(lent: &mut Lent<'_>, directory: usize, name: &[u8]) -> Answer {
 
 pub fn rename(lent: &mut Lent<'_>, directory: usize, name: &[u8], to: usize, to_name: &[u8]) -> Answer {
     over!(lent, honecerise_rename, directory, name.as_ptr(), name.len(), to, to_name.as_ptr(), to_name.len())
+}
+
+pub fn rename_new(lent: &mut Lent<'_>, directory: usize, name: &[u8], to: usize, to_name: &[u8]) -> Answer {
+    over!(lent, honecerise_rename_new, directory, name.as_ptr(), name.len(), to, to_name.as_ptr(), to_name.len())
 }
 
 pub fn start(lent: &mut Lent<'_>) -> Answer {

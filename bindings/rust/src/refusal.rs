@@ -2,9 +2,11 @@
 use core::fmt;
 
 /// The refusals, by who causes them. Where several apply, the lowest is answered, save that
-/// [`BadCount`](Refusal::BadCount) is looked at right after [`BadBuffer`](Refusal::BadBuffer), and
-/// [`BadTimes`](Refusal::BadTimes) before it. [`BadTurn`](Refusal::BadTurn) comes to
-/// [`deal`](crate::deal) alone, `BadTimes` to [`match_laps`](crate::match_laps), and
+/// [`BadCount`](Refusal::BadCount) is looked at right after [`BadBuffer`](Refusal::BadBuffer),
+/// [`KindsDiffer`](Refusal::KindsDiffer) right after [`IntoItself`](Refusal::IntoItself), and
+/// [`BadTimes`](Refusal::BadTimes) before `BadBuffer`. `KindsDiffer` comes to
+/// [`rename`](crate::Watch::rename) alone, [`BadTurn`](Refusal::BadTurn) to [`deal`](crate::deal),
+/// `BadTimes` to [`match_laps`](crate::match_laps), and
 /// [`NoDate`](Refusal::NoDate) to [`AfterAsked`](Refusal::AfterAsked) to [`keep`](crate::keep).
 ///
 /// ```
@@ -32,9 +34,10 @@ pub enum Refusal {
     WrongInode = 5,
     /// Naming: no entry of that name.
     NameAbsent = 6,
-    /// Naming: the new name is taken by another entry, in whatever spelling.
+    /// Naming: the new name is taken by another entry, in whatever spelling. [`rename`](crate::Watch::rename) replaces that
+    /// entry instead.
     NameTaken = 7,
-    /// Naming: a directory to be unlinked has entries.
+    /// Naming: a directory to be unlinked, or to be replaced by a rename, has entries.
     NotEmpty = 8,
     /// Naming: offset or new length past the size, or a write that ends past [`MAX_FILE`](crate::MAX_FILE).
     PastEnd = 9,
@@ -47,7 +50,8 @@ pub enum Refusal {
     /// A full watch: all 48 slots of the directory are used.
     NoSlot = 13,
     /// Timing: a write or shortening of the inode that the copier has locked; a create, link, unlink or rename in a locked
-    /// directory; a link to, unlink or move of the locked inode. Step, and try again.
+    /// directory; a link to, unlink or move of the locked inode, or a rename that would replace an entry of it. Step, and try
+    /// again.
     Busy = 14,
     /// Timing: a start while a copy runs, or a step while none does.
     WrongState = 15,
@@ -55,6 +59,8 @@ pub enum Refusal {
     ImageFull = 16,
     /// Whoever asks for the steps: a burst of none, or of more than [`MOST_BURST`](crate::MOST_BURST).
     BadCount = 17,
+    /// Naming: a rename onto another entry's name, where one of the two is a file's and the other a directory's.
+    KindsDiffer = 18,
     /// The charging case: a turn of no steps, or of more than [`MOST_TURN`](crate::MOST_TURN), or a last bay that is none of the
     /// [`BAYS`](crate::BAYS).
     BadTurn = 21,
@@ -70,7 +76,7 @@ pub enum Refusal {
 
 impl Refusal {
     /// All of them, by number.
-    pub const ALL: [Refusal; 22] = [
+    pub const ALL: [Refusal; 23] = [
         Refusal::BadBuffer,
         Refusal::UnsoundStore,
         Refusal::BadDesk,
@@ -88,6 +94,7 @@ impl Refusal {
         Refusal::WrongState,
         Refusal::ImageFull,
         Refusal::BadCount,
+        Refusal::KindsDiffer,
         Refusal::BadTurn,
         Refusal::NoDate,
         Refusal::BadTerms,
@@ -95,7 +102,7 @@ impl Refusal {
         Refusal::BadTimes,
     ];
 
-    /// Its number: 1 to 17, 21, or 23 to 26.
+    /// Its number: 1 to 18, 21, or 23 to 26.
     pub const fn number(self) -> u8 {
         self as u8
     }
@@ -131,6 +138,7 @@ impl Refusal {
             Refusal::WrongState => "a copy runs already, or none does",
             Refusal::ImageFull => "the image has no block left",
             Refusal::BadCount => "a burst has 1 to 64 steps",
+            Refusal::KindsDiffer => "one name is a file's, the other a directory's",
             Refusal::BadTurn => "a turn has 1 to 64 steps, and its last bay is 0 to 15",
             Refusal::NoDate => "a date does not exist, or not from 2000 to 2049",
             Refusal::BadTerms => "terms share a day, run backwards or are out of order",

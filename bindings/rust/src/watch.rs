@@ -172,10 +172,25 @@ impl<'a> Watch<'a> {
         ffi::unlink(&mut self.lent, directory.0, name.as_ref()).map(drop)
     }
 
-    /// Another name, another directory, or both. It replaces nothing: a taken name refuses. Another spelling of the entry's own
-    /// name is written.
+    /// Another name, another directory, or both. An entry that has the new name is replaced: it is unlinked first, a directory
+    /// only if it is empty and a directory comes. If both names stand for the same file already, nothing changes. Another
+    /// spelling of the entry's own name is written.
     ///
-    /// Refuses with `IllegalName`, `WrongInode`, `NameAbsent`, `NameTaken`, `IntoItself`, `NoBlocks`, `NoSlot`, `Busy`.
+    /// Refuses with `IllegalName`, `WrongInode`, `NameAbsent`, `NotEmpty`, `IntoItself`, `KindsDiffer`, `NoBlocks`, `NoSlot`,
+    /// `Busy`; with `NoBlocks` and `NoSlot` never where it replaces.
+    ///
+    /// ```
+    /// # use honecerise::{desk_len, store_len, Inode, Refusal, Watch};
+    /// # let (mut store, mut desk) = ([0; store_len(16, 64)], [0; desk_len(16)]);
+    /// # let mut watch = Watch::lay_out(&mut store, &mut [], &mut desk, 16, 64)?;
+    /// # let root = Inode::ROOT;
+    /// let yesterday = watch.create_file(root, "best")?;
+    /// let today = watch.create_file(root, "run 7")?;
+    /// watch.rename(root, "run 7", root, "best")?;
+    /// assert_eq!(watch.look_up(root, "best")?, today);
+    /// assert_eq!(watch.files().expect("sound").kind(yesterday), None); // freed with its last name
+    /// # Ok::<(), Refusal>(())
+    /// ```
     pub fn rename(
         &mut self,
         directory: Inode,
@@ -184,6 +199,32 @@ impl<'a> Watch<'a> {
         to_name: impl AsRef<[u8]>,
     ) -> Result<(), Refusal> {
         ffi::rename(&mut self.lent, directory.0, name.as_ref(), to.0, to_name.as_ref()).map(drop)
+    }
+
+    /// As [`rename`](Watch::rename), but it replaces nothing: a name that another entry has refuses, and both stay.
+    ///
+    /// Refuses with `IllegalName`, `WrongInode`, `NameAbsent`, `NameTaken`, `IntoItself`, `NoBlocks`, `NoSlot`, `Busy`.
+    ///
+    /// ```
+    /// # use honecerise::{desk_len, store_len, Inode, Refusal, Watch};
+    /// # let (mut store, mut desk) = ([0; store_len(16, 64)], [0; desk_len(16)]);
+    /// # let mut watch = Watch::lay_out(&mut store, &mut [], &mut desk, 16, 64)?;
+    /// # let root = Inode::ROOT;
+    /// // a recorder that keeps yesterday's run
+    /// watch.create_file(root, "run")?;
+    /// watch.create_file(root, "recording")?;
+    /// assert_eq!(watch.rename_new(root, "recording", root, "Run"), Err(Refusal::NameTaken));
+    /// watch.rename_new(root, "recording", root, "run 2")?;
+    /// # Ok::<(), Refusal>(())
+    /// ```
+    pub fn rename_new(
+        &mut self,
+        directory: Inode,
+        name: impl AsRef<[u8]>,
+        to: Inode,
+        to_name: impl AsRef<[u8]>,
+    ) -> Result<(), Refusal> {
+        ffi::rename_new(&mut self.lent, directory.0, name.as_ref(), to.0, to_name.as_ref()).map(drop)
     }
 
     // ---- the copier

@@ -32,7 +32,7 @@ fn copied(watch: &mut Watch) -> usize {
 
 #[test]
 fn numbers_and_reasons() {
-    for (refusal, number) in Refusal::ALL.into_iter().zip((1..=17).chain([21, 23, 24, 25, 26])) {
+    for (refusal, number) in Refusal::ALL.into_iter().zip((1..=18).chain([21, 23, 24, 25, 26])) {
         assert_eq!(refusal.number(), number);
         assert_eq!(Refusal::from_number(number), Some(refusal));
         assert!(refusal.to_string().ends_with(&format!("({number})")));
@@ -67,7 +67,7 @@ fn naming() {
     assert_eq!(w.look_up(f, "x"), Err(Refusal::WrongInode));
     assert_eq!(w.look_up(Inode(usize::MAX), "x"), Err(Refusal::WrongInode));
     assert_eq!(w.unlink(root, "x"), Err(Refusal::NameAbsent));
-    assert_eq!(w.rename(b, "fourteen bytes", root, "a"), Err(Refusal::NameTaken));
+    assert_eq!(w.rename_new(b, "fourteen bytes", root, "a"), Err(Refusal::NameTaken));
     assert_eq!(w.unlink(root, "a"), Err(Refusal::NotEmpty));
     assert_eq!(w.rename(root, "a", b, "c"), Err(Refusal::IntoItself));
     assert_eq!(w.link(root, [0xff], f), Ok(()));
@@ -75,6 +75,144 @@ fn naming() {
     assert_eq!(w.rename(root, [0xff], a, "g"), Ok(()));
     let links: Vec<_> = w.files().unwrap().all().filter(|e| e.inode == f).map(|e| (e.directory, e.slot, e.links)).collect();
     assert_eq!(links, [(a, 1, 2), (b, 0, 2)]);
+}
+
+/// Directory, name and inode of every entry.
+fn listed(w: &Watch) -> Vec<(Inode, String, Inode)> {
+    let text = |name: &[u8]| String::from_utf8(name.to_vec()).unwrap();
+    w.files().unwrap().all().map(|e| (e.directory, text(e.name), e.inode)).collect()
+}
+
+#[test]
+fn replacing() {
+    let mut buffers = Buffers::new(16, 32, 96);
+    let mut w = buffers.lay_out(16, 32);
+    let root = Inode::ROOT;
+    let d = w.create_directory(root, "d").unwrap();
+    let old = w.create_file(root, "best").unwrap();
+    w.write(old, 0, &[1; 768]).unwrap();
+    let new = w.create_file(d, "run").unwrap();
+    let free = |w: &Watch| (w.files().unwrap().free_inodes(), w.files().unwrap().free_blocks());
+    let before = free(&w);
+    // the recorder's is refused, the phone app's replaces; the last name frees the file and its blocks
+    assert_eq!(w.rename_new(d, "run", root, "BEST"), Err(Refusal::NameTaken));
+    assert_eq!(w.rename(d, "run", root, "BEST"), Ok(()));
+    assert_eq!(listed(&w), [(root, "d".into(), d), (root, "BEST".into(), new)]);
+    assert_eq!(free(&w), (before.0 + 1, before.1 + 12));
+    // a holder with another name loses one
+    w.link(d, "kept", new).unwrap();
+    let more = w.create_file(d, "more").unwrap();
+    assert_eq!(w.rename(d, "more", d, "kept"), Ok(()));
+    assert_eq!(w.files().unwrap().find(root, "best").unwrap().links, 1);
+    assert_eq!(listed(&w), [(root, "d".into(), d), (root, "BEST".into(), new), (d, "kept".into(), more)]);
+    // both names are the same file's already
+    w.link(root, "twin", more).unwrap();
+    let store = w.store().to_vec();
+    assert_eq!(w.rename(root, "twin", d, "Kept"), Ok(()));
+    assert_eq!(w.store(), store);
+    assert_eq!(w.rename_new(root, "twin", d, "Kept"), Err(Refusal::NameTaken));
+    // files and directories
+    let e = w.create_directory(root, "e").unwrap();
+    assert_eq!(w.rename(root, "best", root, "e"), Err(Refusal::KindsDiffer));
+    assert_eq!(w.rename(root, "e", root, "best"), Err(Refusal::KindsDiffer));
+    assert_eq!(w.rename(root, "best", root, "d"), Err(Refusal::NotEmpty));
+    assert_eq!(w.rename(root, "e", root, "d"), Err(Refusal::NotEmpty));
+    assert_eq!(w.rename(root, "d", root, "e"), Ok(()));
+    assert_eq!(w.files().unwrap().kind(e), None);
+    assert_eq!(w.look_up(root, "e"), Ok(d));
+    // 8 before 10, and 10 before 18
+    let inner = w.create_directory(d, "inner").unwrap();
+    w.create_file(inner, "x").unwrap();
+    let deep = w.create_directory(inner, "deep").unwrap();
+    w.create_file(deep, "y").unwrap();
+    assert_eq!(w.rename(root, "e", inner, "deep"), Err(Refusal::NotEmpty));
+    assert_eq!(w.rename(root, "e", inner, "x"), Err(Refusal::IntoItself));
+    assert_eq!(w.rename_new(root, "e", inner, "deep"), Err(Refusal::NameTaken));
+}
+
+#[test]
+fn the_slot_of_a_replacing_move() {
+    let mut buffers = Buffers::new(16, 32, 96);
+    let mut w = buffers.lay_out(16, 32);
+    let d = w.create_directory(Inode::ROOT, "d").unwrap();
+    for name in ["a", "b", "c"] {
+        w.create_file(d, name).unwrap();
+    }
+    let slot = |w: &Watch, name: &str| w.files().unwrap().find(d, name).unwrap().slot;
+    w.create_file(Inode::ROOT, "new").unwrap();
+    // the holder's, since none below is empty
+    w.rename(Inode::ROOT, "new", d, "b").unwrap();
+    assert_eq!(slot(&w, "b"), 1);
+    // one below the holder's
+    w.create_file(Inode::ROOT, "new").unwrap();
+    w.unlink(d, "a").unwrap();
+    w.rename(Inode::ROOT, "new", d, "c").unwrap();
+    assert_eq!(slot(&w, "c"), 0);
+    // within the directory the entry keeps its own
+    w.rename(d, "c", d, "b").unwrap();
+    assert_eq!(slot(&w, "b"), 0);
+    assert_eq!(w.files().unwrap().entries(d).unwrap().count(), 1);
+}
+
+#[test]
+fn a_full_watch_replaces() {
+    // 48 names of one file, 13 blocks and no inode: only what is replaced makes room
+    let mut buffers = Buffers::new(4, 13, 36);
+    let mut w = buffers.lay_out(4, 13);
+    let root = Inode::ROOT;
+    let d = w.create_directory(root, "d").unwrap();
+    let f = w.create_file(d, "f").unwrap();
+    for i in 1..48 {
+        w.link(root, format!("link {i}"), f).unwrap();
+    }
+    assert_eq!(w.files().unwrap().free_blocks(), 0);
+    let g = w.create_file(d, "g").unwrap();
+    assert_eq!(w.rename(d, "g", root, "one more"), Err(Refusal::NoSlot));
+    assert_eq!(w.rename_new(d, "g", root, "link 9"), Err(Refusal::NameTaken));
+    assert_eq!(w.rename(d, "g", root, "link 9"), Ok(()));
+    assert_eq!(w.files().unwrap().find(root, "link 9").unwrap().inode, g);
+    assert_eq!(w.files().unwrap().entries(root).unwrap().count(), MAX_SLOTS);
+}
+
+#[test]
+fn busy_renames() {
+    let mut buffers = Buffers::new(8, 16, 96);
+    let mut w = buffers.lay_out(8, 16);
+    let root = Inode::ROOT;
+    let d = w.create_directory(root, "d").unwrap();
+    let held = w.create_file(root, "held").unwrap();
+    w.link(root, "twin", held).unwrap();
+    w.create_file(root, "a").unwrap();
+    w.create_file(root, "b").unwrap();
+    w.create_file(d, "c").unwrap();
+    let locked = |w: &Watch| w.status().unwrap().locked;
+    let until = |w: &mut Watch, inode| {
+        while locked(w) != Some(inode) {
+            w.step().unwrap();
+        }
+    };
+    w.start().unwrap();
+    until(&mut w, root);
+    for (name, to) in [("a", "b"), ("held", "twin"), ("a", "a")] {
+        assert_eq!(w.rename(root, name, root, to), Err(Refusal::Busy));
+    }
+    until(&mut w, held);
+    // the holder may not be replaced; what does not touch it may
+    assert_eq!(w.rename(root, "a", root, "held"), Err(Refusal::Busy));
+    assert_eq!(w.rename(d, "c", root, "held"), Err(Refusal::Busy));
+    assert_eq!(w.rename(root, "held", d, "c"), Err(Refusal::Busy));
+    assert_eq!(w.rename_new(root, "held", d, "e"), Err(Refusal::Busy));
+    // both names are the locked file's: no move, no ground
+    assert_eq!(w.rename(root, "held", root, "twin"), Ok(()));
+    // the mover may be locked
+    assert_eq!(w.rename(root, "held", root, "a"), Ok(()));
+    assert_eq!(w.rename(d, "c", root, "b"), Ok(()));
+    while w.status().unwrap().state == CopyState::Running {
+        w.step().unwrap();
+    }
+    let copy = w.copy().unwrap();
+    assert_eq!(copy.find(root, "held").unwrap().slot, 1);
+    assert_eq!(copy.entries(root).unwrap().map(|e| e.name).collect::<Vec<_>>(), [b"d" as &[u8], b"held", b"twin"]);
 }
 
 #[test]

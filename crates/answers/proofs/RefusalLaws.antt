@@ -10,12 +10,12 @@ use mathlib.Core.Logic.{⊎-elim}
 use Rattle.bounded.proofs.BoolLaws.{never, and-left, and-right, or-cases}
 use Rattle.bounded.proofs.ReflectLaws.{r-and, r-le}
 use Rattle.answers.specs.declared.Refusal.{Refusal}
-use Rattle.answers.specs.declared.Refusal.the-variants.{BadBuffer, UnsoundStore, BadDesk, IllegalName, WrongInode, NameAbsent, NameTaken, NotEmpty, PastEnd, IntoItself, NoInode, NoBlocks, NoSlot, Busy, WrongState, ImageFull, BadCount, BadTurn, NoDate, BadTerms, AfterAsked, BadTimes}
+use Rattle.answers.specs.declared.Refusal.the-variants.{BadBuffer, UnsoundStore, BadDesk, IllegalName, WrongInode, NameAbsent, NameTaken, NotEmpty, PastEnd, IntoItself, NoInode, NoBlocks, NoSlot, Busy, WrongState, ImageFull, BadCount, KindsDiffer, BadTurn, NoDate, BadTerms, AfterAsked, BadTimes}
 use Rattle.answers.specs.Refusal.{refusalNumber}
 use Rattle.answers.specs.Order.{order, lookedAt, numbers, among}
 
--- "looked at lowest first"; 17 "comes right after 1", and 21 and 26 are "looked at first", each by its own call; 23 to 25
--- come after 1, "in that order"
+-- "looked at lowest first"; 17 "comes right after 1", 18 "comes after 10", and 21 and 26 are "looked at first", each by
+-- its own call; 23 to 25 come after 1, "in that order"
 pub looked-at : numbers order ≡ lookedAt
 looked-at = refl
 
@@ -37,6 +37,7 @@ known Busy = refl
 known WrongState = refl
 known ImageFull = refl
 known BadCount = refl
+known KindsDiffer = refl
 known BadTurn = refl
 known NoDate = refl
 known BadTerms = refl

@@ -5,7 +5,7 @@ use mathlib.Core.List.{List, [], _∷_}
 use lib.Dec.{eqb, ltb}
 use Rattle.bounded.specs.Search.{pick}
 use Rattle.answers.specs.declared.Refusal.{Refusal}
-use Rattle.answers.specs.declared.Refusal.the-variants.{BadBuffer, UnsoundStore, BadDesk, IllegalName, WrongInode, NameAbsent, NameTaken, NotEmpty, PastEnd, IntoItself, NoInode, NoBlocks, NoSlot, Busy, WrongState, ImageFull, BadCount, BadTurn, NoDate, BadTerms, AfterAsked, BadTimes}
+use Rattle.answers.specs.declared.Refusal.the-variants.{BadBuffer, UnsoundStore, BadDesk, IllegalName, WrongInode, NameAbsent, NameTaken, NotEmpty, PastEnd, IntoItself, NoInode, NoBlocks, NoSlot, Busy, WrongState, ImageFull, BadCount, KindsDiffer, BadTurn, NoDate, BadTerms, AfterAsked, BadTimes}
 use Rattle.answers.specs.Refusal.{refusalNumber}
 
 -- a condition, and its refusal
@@ -25,14 +25,14 @@ firstBy f (r ∷ rs) a = pick (r .holds) (f (r .refusal)) (firstBy f rs a)
 abbrev pub order : List Refusal
 order =
     BadTurn ∷ BadTimes ∷ BadBuffer ∷ BadCount ∷ UnsoundStore ∷ BadDesk ∷ IllegalName ∷ WrongInode ∷ NameAbsent ∷ NameTaken
-    ∷ NotEmpty ∷ PastEnd ∷ IntoItself ∷ NoInode ∷ NoBlocks ∷ NoSlot ∷ Busy ∷ WrongState ∷ ImageFull
+    ∷ NotEmpty ∷ PastEnd ∷ IntoItself ∷ KindsDiffer ∷ NoInode ∷ NoBlocks ∷ NoSlot ∷ Busy ∷ WrongState ∷ ImageFull
     ∷ NoDate ∷ BadTerms ∷ AfterAsked ∷ []
 
--- the same by the paper's numbers: "looked at lowest first"; 17 "comes right after 1", and 21 and 26 are
--- "looked at first", each by the one call that has it; 23, 24 and 25, which one call has, come after 1,
--- "in that order"
+-- the same by the paper's numbers: "looked at lowest first"; 17 "comes right after 1", 18 "comes after
+-- 10", and 21 and 26 are "looked at first", each by the one call that has it; 23, 24 and 25, which one
+-- call has, come after 1, "in that order"
 abbrev pub lookedAt : List ℕ
-lookedAt = 21 ∷ 26 ∷ 1 ∷ 17 ∷ 2 ∷ 3 ∷ 4 ∷ 5 ∷ 6 ∷ 7 ∷ 8 ∷ 9 ∷ 10 ∷ 11 ∷ 12 ∷ 13 ∷ 14 ∷ 15 ∷ 16 ∷ 23 ∷ 24 ∷ 25 ∷ []
+lookedAt = 21 ∷ 26 ∷ 1 ∷ 17 ∷ 2 ∷ 3 ∷ 4 ∷ 5 ∷ 6 ∷ 7 ∷ 8 ∷ 9 ∷ 10 ∷ 18 ∷ 11 ∷ 12 ∷ 13 ∷ 14 ∷ 15 ∷ 16 ∷ 23 ∷ 24 ∷ 25 ∷ []
 
 abbrev pub numbers : List Refusal → List ℕ
 numbers [] = []

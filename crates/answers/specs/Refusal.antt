@@ -1,7 +1,7 @@
 -- "Refusals, by who causes it. Given by number": the number of each.
 use Prim.Native.Nat.{ℕ}
 use Rattle.answers.specs.declared.Refusal.{Refusal}
-use Rattle.answers.specs.declared.Refusal.the-variants.{BadBuffer, UnsoundStore, BadDesk, IllegalName, WrongInode, NameAbsent, NameTaken, NotEmpty, PastEnd, IntoItself, NoInode, NoBlocks, NoSlot, Busy, WrongState, ImageFull, BadCount, BadTurn, NoDate, BadTerms, AfterAsked, BadTimes}
+use Rattle.answers.specs.declared.Refusal.the-variants.{BadBuffer, UnsoundStore, BadDesk, IllegalName, WrongInode, NameAbsent, NameTaken, NotEmpty, PastEnd, IntoItself, NoInode, NoBlocks, NoSlot, Busy, WrongState, ImageFull, BadCount, KindsDiffer, BadTurn, NoDate, BadTerms, AfterAsked, BadTimes}
 
 abbrev pub refusalNumber : Refusal → ℕ
 -- "Whoever wires the buffers": a length or count not allowed; the store not sound; the desk, or the image of a running copy, otherwise not as laid down
@@ -27,6 +27,8 @@ refusalNumber WrongState = 15
 refusalNumber ImageFull = 16
 -- "17 when the number of steps is outside 1 to 64"
 refusalNumber BadCount = 17
+-- "18 when one name is a file's and the other a directory's"
+refusalNumber KindsDiffer = 18
 -- "21 when the steps allowed are outside 1 to 64 or the last bay outside 0 to 15"
 refusalNumber BadTurn = 21
 -- "23 when a date doesn't exist or lies outside the years; 24 when terms overlap, run backwards or are

@@ -1,5 +1,6 @@
 // What calls answer.
 ghost use mathlib.Core.Path.{_≡_};
+ghost use lib.Dec.{eqb};
 ghost use Rattle.answers.specs.Refusal.{refusalNumber};
 ghost use Rattle.answers.specs.Told.{told};
 
@@ -22,6 +23,7 @@ pub enum Refusal {
     WrongState,
     ImageFull,
     BadCount,
+    KindsDiffer,
     BadTurn,
     NoDate,
     BadTerms,
@@ -57,6 +59,7 @@ pub fn refusal_number(e: Refusal) -> usize
         Refusal::WrongState => 15,
         Refusal::ImageFull => 16,
         Refusal::BadCount => 17,
+        Refusal::KindsDiffer => 18,
         Refusal::BadTurn => 21,
         Refusal::NoDate => 23,
         Refusal::BadTerms => 24,
@@ -73,4 +76,11 @@ pub fn told_number(a: Answer) -> usize
         Answer::Done(_) => 0,
         Answer::Refused(e) => refusal_number(e),
     }
+}
+
+// The answer is that refusal.
+pub fn refused_with(a: Answer, e: Refusal) -> bool
+    ensures { λ r. ⌜ r ≡ eqb (told a .number) (refusalNumber e) ⌝ }
+{
+    told_number(a) == refusal_number(e)
 }

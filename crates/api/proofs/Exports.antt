@@ -22,7 +22,7 @@ use Rattle.answers.specs.declared.Answer.{Answer}
 use Rattle.answers.specs.declared.Answer.the-variants.{Done, Refused}
 use Rattle.answers.specs.Told.{Told, told}
 use Rattle.format.specs.Format.{laidOut, freshStore, freshDesk, layOutStore, layOutDesk}
-use Rattle.files.specs.Effect.{lookUp, read, create, write, shorten, link, unlink, rename}
+use Rattle.files.specs.Effect.{lookUp, read, create, write, shorten, link, unlink, rename, renameNew}
 use Rattle.files.specs.Plain as alone
 use Rattle.files.specs.Plain.{got}
 use Rattle.checkpoint.specs.Live.{World, Outcome, tells, live, start, step, status, world}
@@ -69,6 +69,8 @@ use Rattle.api.proofs.honecerise_unlink.Kinds as unlink-kinds
 use Rattle.api.proofs.honecerise_unlink.Reads as unlink-reads
 use Rattle.api.proofs.honecerise_rename.Kinds as rename-kinds
 use Rattle.api.proofs.honecerise_rename.Reads as rename-reads
+use Rattle.api.proofs.honecerise_rename_new.Kinds as rename-new-kinds
+use Rattle.api.proofs.honecerise_rename_new.Reads as rename-new-reads
 use Rattle.api.proofs.honecerise_start.Kinds as start-kinds
 use Rattle.api.proofs.honecerise_start.Reads as start-reads
 use Rattle.api.proofs.honecerise_step.Kinds as step-kinds
@@ -193,6 +195,13 @@ pub rename-exported : Gives 5 rename-kinds.ps rename-kinds.r rename-reads.Learnt
 rename-exported κs a z e h =
     let v = (world (now (e .0)) (now (e .1 .0)) (now (e .1 .1 .0))) in
     let o = live (rename (a .1 .1 .1 .0) (now (a .1 .1 .1 .1 .0)) (a .1 .1 .1 .1 .1 .0) (now (a .1 .1 .1 .1 .1 .1 .0))) (world (now (a .0)) (now (a .1 .0)) (now (a .1 .1 .0))) in
+    record { received = got (o .answer) []; made = on-three (o .answer) refl (same-buffers v z o h); code = same-code v z o h; shown = refl }
+
+pub rename-new-exported : Gives 5 rename-new-kinds.ps rename-new-kinds.r rename-new-reads.Learnt (λ κs a z e.
+    Exported (one (call (renameNew (a .1 .1 .1 .0) (now (a .1 .1 .1 .1 .0)) (a .1 .1 .1 .1 .1 .0) (now (a .1 .1 .1 .1 .1 .1 .0))))) (world (now (a .0)) (now (a .1 .0)) (now (a .1 .1 .0))) z [] (world (now (e .0)) (now (e .1 .0)) (now (e .1 .1 .0))))
+rename-new-exported κs a z e h =
+    let v = (world (now (e .0)) (now (e .1 .0)) (now (e .1 .1 .0))) in
+    let o = live (renameNew (a .1 .1 .1 .0) (now (a .1 .1 .1 .1 .0)) (a .1 .1 .1 .1 .1 .0) (now (a .1 .1 .1 .1 .1 .1 .0))) (world (now (a .0)) (now (a .1 .0)) (now (a .1 .1 .0))) in
     record { received = got (o .answer) []; made = on-three (o .answer) refl (same-buffers v z o h); code = same-code v z o h; shown = refl }
 
 -- ---- start, step, burst and state

@@ -33,7 +33,7 @@ use Rattle.answers.specs.declared.Refusal.the-variants.{BadTurn}
 use Rattle.answers.specs.Told.{Told}
 use Rattle.answers.specs.Order.{Row}
 use Rattle.format.specs.Format.{LaidOut, layOutStore, layOutDesk}
-use Rattle.files.specs.Effect.{Call, lookUp, read, create, write, shorten, link, unlink, rename}
+use Rattle.files.specs.Effect.{Call, lookUp, read, create, write, shorten, link, unlink, rename, renameNew}
 use Rattle.files.specs.Plain.{plain}
 use Rattle.checkpoint.specs.Fit.{bothFramed, deskFramed, deskFits, isRunning, notesFit}
 use Rattle.checkpoint.specs.Live.{World, Outcome, live, start, step, world}
@@ -143,6 +143,7 @@ module _ (w : World) where
   result-most (one (call (link d name i))) h = omega arith
   result-most (one (call (unlink d name))) h = omega arith
   result-most (one (call (rename d name e other))) h = omega arith
+  result-most (one (call (renameNew d name e other))) h = omega arith
   result-most (one starts) h = omega arith
   result-most (one advances) h =
       let n = desk-framed-is (w .desk) .to (and-right (framedB Store (w .store)) (deskFramed (w .desk)) (not-false _ (h .0))) .1 .0 in

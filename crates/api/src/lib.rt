@@ -10,7 +10,7 @@ ghost use mathlib.Core.List.{[], _∷_};
 ghost use Rattle.bounded.specs.Count.{one};
 ghost use Rattle.entries.specs.declared.Kind.the-variants.{File, Directory};
 ghost use Rattle.format.specs.Format.{layOutStore, layOutDesk};
-ghost use Rattle.files.specs.Effect.{lookUp, read, create, write, shorten, link, unlink, rename};
+ghost use Rattle.files.specs.Effect.{lookUp, read, create, write, shorten, link, unlink, rename, renameNew};
 ghost use Rattle.files.specs.Plain as alone;
 ghost use Rattle.checkpoint.specs.Live.{live, start, step, status, world, toldStatus};
 ghost use Rattle.checkpoint.specs.Burst.{burst};
@@ -181,6 +181,23 @@ pub extern "C" fn honecerise_rename(
         ≡ sent (live (rename directory (now (name .entry)) «to_directory» (now («to_name» .entry))) (world (now (store .entry)) (now (image .entry)) (now (desk .entry)))) ⌝ }
 {
     code(watch::rename(store, image, desk, directory, name, to_directory, to_name))
+}
+
+// The lap recorder's, which keeps what has the new name.
+#[no_mangle]
+pub extern "C" fn honecerise_rename_new(
+    store: &mut [u8],
+    image: &mut [u8],
+    desk: &mut [u8],
+    directory: usize,
+    name: &[u8],
+    to_directory: usize,
+    to_name: &[u8],
+) -> i32
+    ensures { λ r. ⌜ sends r (now (store .exit) ∷ now (image .exit) ∷ now (desk .exit) ∷ [])
+        ≡ sent (live (renameNew directory (now (name .entry)) «to_directory» (now («to_name» .entry))) (world (now (store .entry)) (now (image .entry)) (now (desk .entry)))) ⌝ }
+{
+    code(watch::rename_new(store, image, desk, directory, name, to_directory, to_name))
 }
 
 // ---- the copier

@@ -24,7 +24,7 @@ use Rattle.content.specs.Apply.{written}
 use Rattle.content.specs.Content.{putFile, addBlock, zeroRest, cutTo, fileBytes}
 use Rattle.content.specs.Plan.{writePlan, shortenPlan}
 use Rattle.entries.specs.Apply.{enter, created, dropLink, unlinked, setParent, moved}
-use Rattle.entries.specs.Plan.{createPlan, holdsNone, unlinkPlan, isBelow, renameTo, renamePlan}
+use Rattle.entries.specs.Plan.{createPlan, holdsNone, unlinkPlan, isBelow, renameTo, renameNewPlan}
 use Rattle.entries.specs.Room.{roomIn, makeRoom}
 use Rattle.files.specs.Guard.{guardOf}
 use Rattle.format.specs.Format.{freshHeader, emptyRoot, freshStore, freshDesk}
@@ -51,14 +51,14 @@ use Rattle.cases.specs.Worlds.{fresh, nameA, nameB, overTheEdge}
 use Rattle.cases.proofs.Behind.{behind, behindAll, behind-run, behind-two}
 
 begins : accepted starts (fresh 3 29) ≡ true
-unfolding fresh desk.deskRestZero allBelow someBelow leadsB count firstFrom first table part splice numAt toBytes putNum wordBytes digit marked withMark withoutMark entryInode isEmpty folded sameByte sameName spelled nameLength entryName legalEntry entryFor plainByte isDots legalName blockOf putInBlock zeroBlock blocksUsed bytesPlace isLong furtherOf kthBy rowBy putKth putRow freeInode namedBy lowestBy longBut across added grown kept lowestFrom nthFree zeroBlocks putBlocks taken extended cutBlocks headerOf putFree putComplete putHeader headerRestZero kindOf spareOf linksOf sizeOf parentOf putLinks attributeEntry putAttributes addressOf putAddress addressesOf putAddresses inodeOf putInode slots slotAt entryOf slotHasName findSlot slotEmpty emptySlot putEntry clearEntry deskOf putDesk copiedOf putCopied marksOf putMarks markOf setMark clearMark clearNotes sameNames namingB newNameB entryB attributesB addressesB zeroTailB inodeB countedB leadB isSlot entryAt filled naming allowed deskAllowed framedB headerB freeCountsB blankBlockB blanksB bodyB isSound enter created written dropLink unlinked setParent moved putFile addBlock putSize zeroRest cutTo isKind zeroInode lessFree moreFree createPlan writePlan shortenPlan holdsNone unlinkPlan isBelow renameTo renamePlan roomIn makeRoom freshHeader emptyRoot freshStore freshDesk startImage startDesk nextInode targetBlock lockedStep freeStep stepOf copiedEntry copiedEntries copiedBlock putCounts finishImage deskFramed imageBlocks imageAllowed isRunning blocksFit deskFits lacksAddresses imageFits notesFit hasSlot slotNames inodeNamed outcome next run started start step isCopied noteMade noteTaken cutsImage cutImage zeroed guardOf locksAny threeGuards startGuards decision live cutEntries clearMarks setMarks
+unfolding fresh desk.deskRestZero allBelow someBelow leadsB count firstFrom first table part splice numAt toBytes putNum wordBytes digit marked withMark withoutMark entryInode isEmpty folded sameByte sameName spelled nameLength entryName legalEntry entryFor plainByte isDots legalName blockOf putInBlock zeroBlock blocksUsed bytesPlace isLong furtherOf kthBy rowBy putKth putRow freeInode namedBy lowestBy longBut across added grown kept lowestFrom nthFree zeroBlocks putBlocks taken extended cutBlocks headerOf putFree putComplete putHeader headerRestZero kindOf spareOf linksOf sizeOf parentOf putLinks attributeEntry putAttributes addressOf putAddress addressesOf putAddresses inodeOf putInode slots slotAt entryOf slotHasName findSlot slotEmpty emptySlot putEntry clearEntry deskOf putDesk copiedOf putCopied marksOf putMarks markOf setMark clearMark clearNotes sameNames namingB newNameB entryB attributesB addressesB zeroTailB inodeB countedB leadB isSlot entryAt filled naming allowed deskAllowed framedB headerB freeCountsB blankBlockB blanksB bodyB isSound enter created written dropLink unlinked setParent moved putFile addBlock putSize zeroRest cutTo isKind zeroInode lessFree moreFree createPlan writePlan shortenPlan holdsNone unlinkPlan isBelow renameTo renameNewPlan roomIn makeRoom freshHeader emptyRoot freshStore freshDesk startImage startDesk nextInode targetBlock lockedStep freeStep stepOf copiedEntry copiedEntries copiedBlock putCounts finishImage deskFramed imageBlocks imageAllowed isRunning blocksFit deskFits lacksAddresses imageFits notesFit hasSlot slotNames inodeNamed outcome next run started start step isCopied noteMade noteTaken cutsImage cutImage zeroed guardOf locksAny threeGuards startGuards decision live cutEntries clearMarks setMarks
 begins = refl
 
 opening : Opens (fresh 3 29)
 opening = opens (fresh 3 29) begins
 
 going : Going 3 29 (next starts (fresh 3 29))
-unfolding fresh desk.deskRestZero allBelow someBelow leadsB count firstFrom first table part splice numAt toBytes putNum wordBytes digit marked withMark withoutMark entryInode isEmpty folded sameByte sameName spelled nameLength entryName legalEntry entryFor plainByte isDots legalName blockOf putInBlock zeroBlock blocksUsed bytesPlace isLong furtherOf kthBy rowBy putKth putRow freeInode namedBy lowestBy longBut across added grown kept lowestFrom nthFree zeroBlocks putBlocks taken extended cutBlocks headerOf putFree putComplete putHeader headerRestZero kindOf spareOf linksOf sizeOf parentOf putLinks attributeEntry putAttributes addressOf putAddress addressesOf putAddresses inodeOf putInode slots slotAt entryOf slotHasName findSlot slotEmpty emptySlot putEntry clearEntry deskOf putDesk copiedOf putCopied marksOf putMarks markOf setMark clearMark clearNotes sameNames namingB newNameB entryB attributesB addressesB zeroTailB inodeB countedB leadB isSlot entryAt filled naming allowed deskAllowed framedB headerB freeCountsB blankBlockB blanksB bodyB isSound enter created written dropLink unlinked setParent moved putFile addBlock putSize zeroRest cutTo isKind zeroInode lessFree moreFree createPlan writePlan shortenPlan holdsNone unlinkPlan isBelow renameTo renamePlan roomIn makeRoom freshHeader emptyRoot freshStore freshDesk startImage startDesk nextInode targetBlock lockedStep freeStep stepOf copiedEntry copiedEntries copiedBlock putCounts finishImage deskFramed imageBlocks imageAllowed isRunning blocksFit deskFits lacksAddresses imageFits notesFit hasSlot slotNames inodeNamed outcome next run started start step isCopied noteMade noteTaken cutsImage cutImage zeroed guardOf locksAny threeGuards startGuards decision live cutEntries clearMarks setMarks
+unfolding fresh desk.deskRestZero allBelow someBelow leadsB count firstFrom first table part splice numAt toBytes putNum wordBytes digit marked withMark withoutMark entryInode isEmpty folded sameByte sameName spelled nameLength entryName legalEntry entryFor plainByte isDots legalName blockOf putInBlock zeroBlock blocksUsed bytesPlace isLong furtherOf kthBy rowBy putKth putRow freeInode namedBy lowestBy longBut across added grown kept lowestFrom nthFree zeroBlocks putBlocks taken extended cutBlocks headerOf putFree putComplete putHeader headerRestZero kindOf spareOf linksOf sizeOf parentOf putLinks attributeEntry putAttributes addressOf putAddress addressesOf putAddresses inodeOf putInode slots slotAt entryOf slotHasName findSlot slotEmpty emptySlot putEntry clearEntry deskOf putDesk copiedOf putCopied marksOf putMarks markOf setMark clearMark clearNotes sameNames namingB newNameB entryB attributesB addressesB zeroTailB inodeB countedB leadB isSlot entryAt filled naming allowed deskAllowed framedB headerB freeCountsB blankBlockB blanksB bodyB isSound enter created written dropLink unlinked setParent moved putFile addBlock putSize zeroRest cutTo isKind zeroInode lessFree moreFree createPlan writePlan shortenPlan holdsNone unlinkPlan isBelow renameTo renameNewPlan roomIn makeRoom freshHeader emptyRoot freshStore freshDesk startImage startDesk nextInode targetBlock lockedStep freeStep stepOf copiedEntry copiedEntries copiedBlock putCounts finishImage deskFramed imageBlocks imageAllowed isRunning blocksFit deskFits lacksAddresses imageFits notesFit hasSlot slotNames inodeNamed outcome next run started start step isCopied noteMade noteTaken cutsImage cutImage zeroed guardOf locksAny threeGuards startGuards decision live cutEntries clearMarks setMarks
 going = runs (opened-runs 3 29 (fresh 3 29) opening refl refl .runs)
 
 -- ---- the list in four parts, each with the world that it leaves: a part is computed from bytes that are spelled out
@@ -124,15 +124,15 @@ afterTwelve = record {
 }
 
 reaches-two : behindAll (call (create 1 nameA File) ∷ call (create 1 nameB File) ∷ call (write 2 0 (replicate 768 7)) ∷ []) (opened (fresh 3 29)) ≡ afterTwo
-unfolding fresh desk.deskRestZero allBelow someBelow leadsB count firstFrom first table part splice numAt toBytes putNum wordBytes digit marked withMark withoutMark entryInode isEmpty folded sameByte sameName spelled nameLength entryName legalEntry entryFor plainByte isDots legalName blockOf putInBlock zeroBlock blocksUsed bytesPlace isLong furtherOf kthBy rowBy putKth putRow freeInode namedBy lowestBy longBut across added grown kept lowestFrom nthFree zeroBlocks putBlocks taken extended cutBlocks headerOf putFree putComplete putHeader headerRestZero kindOf spareOf linksOf sizeOf parentOf putLinks attributeEntry putAttributes addressOf putAddress addressesOf putAddresses inodeOf putInode slots slotAt entryOf slotHasName findSlot slotEmpty emptySlot putEntry clearEntry deskOf putDesk copiedOf putCopied marksOf putMarks markOf setMark clearMark clearNotes sameNames namingB newNameB entryB attributesB addressesB zeroTailB inodeB countedB leadB isSlot entryAt filled naming allowed deskAllowed framedB headerB freeCountsB blankBlockB blanksB bodyB isSound enter created written dropLink unlinked setParent moved putFile addBlock putSize zeroRest cutTo isKind zeroInode lessFree moreFree createPlan writePlan shortenPlan holdsNone unlinkPlan isBelow renameTo renamePlan roomIn makeRoom freshHeader emptyRoot freshStore freshDesk startImage startDesk nextInode targetBlock lockedStep freeStep stepOf copiedEntry copiedEntries copiedBlock putCounts finishImage deskFramed imageBlocks imageAllowed isRunning blocksFit deskFits lacksAddresses imageFits notesFit hasSlot slotNames inodeNamed outcome next run started start step isCopied noteMade noteTaken cutsImage cutImage zeroed guardOf locksAny threeGuards startGuards decision live cutEntries clearMarks setMarks behind behindAll pairs blocksOf joined headerIs inodeIs entriesOf deskIs emptyImage afterTwo afterThree afterTwelve
+unfolding fresh desk.deskRestZero allBelow someBelow leadsB count firstFrom first table part splice numAt toBytes putNum wordBytes digit marked withMark withoutMark entryInode isEmpty folded sameByte sameName spelled nameLength entryName legalEntry entryFor plainByte isDots legalName blockOf putInBlock zeroBlock blocksUsed bytesPlace isLong furtherOf kthBy rowBy putKth putRow freeInode namedBy lowestBy longBut across added grown kept lowestFrom nthFree zeroBlocks putBlocks taken extended cutBlocks headerOf putFree putComplete putHeader headerRestZero kindOf spareOf linksOf sizeOf parentOf putLinks attributeEntry putAttributes addressOf putAddress addressesOf putAddresses inodeOf putInode slots slotAt entryOf slotHasName findSlot slotEmpty emptySlot putEntry clearEntry deskOf putDesk copiedOf putCopied marksOf putMarks markOf setMark clearMark clearNotes sameNames namingB newNameB entryB attributesB addressesB zeroTailB inodeB countedB leadB isSlot entryAt filled naming allowed deskAllowed framedB headerB freeCountsB blankBlockB blanksB bodyB isSound enter created written dropLink unlinked setParent moved putFile addBlock putSize zeroRest cutTo isKind zeroInode lessFree moreFree createPlan writePlan shortenPlan holdsNone unlinkPlan isBelow renameTo renameNewPlan roomIn makeRoom freshHeader emptyRoot freshStore freshDesk startImage startDesk nextInode targetBlock lockedStep freeStep stepOf copiedEntry copiedEntries copiedBlock putCounts finishImage deskFramed imageBlocks imageAllowed isRunning blocksFit deskFits lacksAddresses imageFits notesFit hasSlot slotNames inodeNamed outcome next run started start step isCopied noteMade noteTaken cutsImage cutImage zeroed guardOf locksAny threeGuards startGuards decision live cutEntries clearMarks setMarks behind behindAll pairs blocksOf joined headerIs inodeIs entriesOf deskIs emptyImage afterTwo afterThree afterTwelve
 reaches-two = refl
 
 reaches-three : behindAll (call (write 3 0 (replicate 832 5)) ∷ []) afterTwo ≡ afterThree
-unfolding fresh desk.deskRestZero allBelow someBelow leadsB count firstFrom first table part splice numAt toBytes putNum wordBytes digit marked withMark withoutMark entryInode isEmpty folded sameByte sameName spelled nameLength entryName legalEntry entryFor plainByte isDots legalName blockOf putInBlock zeroBlock blocksUsed bytesPlace isLong furtherOf kthBy rowBy putKth putRow freeInode namedBy lowestBy longBut across added grown kept lowestFrom nthFree zeroBlocks putBlocks taken extended cutBlocks headerOf putFree putComplete putHeader headerRestZero kindOf spareOf linksOf sizeOf parentOf putLinks attributeEntry putAttributes addressOf putAddress addressesOf putAddresses inodeOf putInode slots slotAt entryOf slotHasName findSlot slotEmpty emptySlot putEntry clearEntry deskOf putDesk copiedOf putCopied marksOf putMarks markOf setMark clearMark clearNotes sameNames namingB newNameB entryB attributesB addressesB zeroTailB inodeB countedB leadB isSlot entryAt filled naming allowed deskAllowed framedB headerB freeCountsB blankBlockB blanksB bodyB isSound enter created written dropLink unlinked setParent moved putFile addBlock putSize zeroRest cutTo isKind zeroInode lessFree moreFree createPlan writePlan shortenPlan holdsNone unlinkPlan isBelow renameTo renamePlan roomIn makeRoom freshHeader emptyRoot freshStore freshDesk startImage startDesk nextInode targetBlock lockedStep freeStep stepOf copiedEntry copiedEntries copiedBlock putCounts finishImage deskFramed imageBlocks imageAllowed isRunning blocksFit deskFits lacksAddresses imageFits notesFit hasSlot slotNames inodeNamed outcome next run started start step isCopied noteMade noteTaken cutsImage cutImage zeroed guardOf locksAny threeGuards startGuards decision live cutEntries clearMarks setMarks behind behindAll pairs blocksOf joined headerIs inodeIs entriesOf deskIs emptyImage afterTwo afterThree afterTwelve
+unfolding fresh desk.deskRestZero allBelow someBelow leadsB count firstFrom first table part splice numAt toBytes putNum wordBytes digit marked withMark withoutMark entryInode isEmpty folded sameByte sameName spelled nameLength entryName legalEntry entryFor plainByte isDots legalName blockOf putInBlock zeroBlock blocksUsed bytesPlace isLong furtherOf kthBy rowBy putKth putRow freeInode namedBy lowestBy longBut across added grown kept lowestFrom nthFree zeroBlocks putBlocks taken extended cutBlocks headerOf putFree putComplete putHeader headerRestZero kindOf spareOf linksOf sizeOf parentOf putLinks attributeEntry putAttributes addressOf putAddress addressesOf putAddresses inodeOf putInode slots slotAt entryOf slotHasName findSlot slotEmpty emptySlot putEntry clearEntry deskOf putDesk copiedOf putCopied marksOf putMarks markOf setMark clearMark clearNotes sameNames namingB newNameB entryB attributesB addressesB zeroTailB inodeB countedB leadB isSlot entryAt filled naming allowed deskAllowed framedB headerB freeCountsB blankBlockB blanksB bodyB isSound enter created written dropLink unlinked setParent moved putFile addBlock putSize zeroRest cutTo isKind zeroInode lessFree moreFree createPlan writePlan shortenPlan holdsNone unlinkPlan isBelow renameTo renameNewPlan roomIn makeRoom freshHeader emptyRoot freshStore freshDesk startImage startDesk nextInode targetBlock lockedStep freeStep stepOf copiedEntry copiedEntries copiedBlock putCounts finishImage deskFramed imageBlocks imageAllowed isRunning blocksFit deskFits lacksAddresses imageFits notesFit hasSlot slotNames inodeNamed outcome next run started start step isCopied noteMade noteTaken cutsImage cutImage zeroed guardOf locksAny threeGuards startGuards decision live cutEntries clearMarks setMarks behind behindAll pairs blocksOf joined headerIs inodeIs entriesOf deskIs emptyImage afterTwo afterThree afterTwelve
 reaches-three = refl
 
 reaches-twelve : behindAll (advances ∷ advances ∷ advances ∷ call (write 2 768 (replicate 64 6)) ∷ advances ∷ replicate 12 advances) afterThree ≡ afterTwelve
-unfolding fresh desk.deskRestZero allBelow someBelow leadsB count firstFrom first table part splice numAt toBytes putNum wordBytes digit marked withMark withoutMark entryInode isEmpty folded sameByte sameName spelled nameLength entryName legalEntry entryFor plainByte isDots legalName blockOf putInBlock zeroBlock blocksUsed bytesPlace isLong furtherOf kthBy rowBy putKth putRow freeInode namedBy lowestBy longBut across added grown kept lowestFrom nthFree zeroBlocks putBlocks taken extended cutBlocks headerOf putFree putComplete putHeader headerRestZero kindOf spareOf linksOf sizeOf parentOf putLinks attributeEntry putAttributes addressOf putAddress addressesOf putAddresses inodeOf putInode slots slotAt entryOf slotHasName findSlot slotEmpty emptySlot putEntry clearEntry deskOf putDesk copiedOf putCopied marksOf putMarks markOf setMark clearMark clearNotes sameNames namingB newNameB entryB attributesB addressesB zeroTailB inodeB countedB leadB isSlot entryAt filled naming allowed deskAllowed framedB headerB freeCountsB blankBlockB blanksB bodyB isSound enter created written dropLink unlinked setParent moved putFile addBlock putSize zeroRest cutTo isKind zeroInode lessFree moreFree createPlan writePlan shortenPlan holdsNone unlinkPlan isBelow renameTo renamePlan roomIn makeRoom freshHeader emptyRoot freshStore freshDesk startImage startDesk nextInode targetBlock lockedStep freeStep stepOf copiedEntry copiedEntries copiedBlock putCounts finishImage deskFramed imageBlocks imageAllowed isRunning blocksFit deskFits lacksAddresses imageFits notesFit hasSlot slotNames inodeNamed outcome next run started start step isCopied noteMade noteTaken cutsImage cutImage zeroed guardOf locksAny threeGuards startGuards decision live cutEntries clearMarks setMarks behind behindAll pairs blocksOf joined headerIs inodeIs entriesOf deskIs emptyImage afterTwo afterThree afterTwelve
+unfolding fresh desk.deskRestZero allBelow someBelow leadsB count firstFrom first table part splice numAt toBytes putNum wordBytes digit marked withMark withoutMark entryInode isEmpty folded sameByte sameName spelled nameLength entryName legalEntry entryFor plainByte isDots legalName blockOf putInBlock zeroBlock blocksUsed bytesPlace isLong furtherOf kthBy rowBy putKth putRow freeInode namedBy lowestBy longBut across added grown kept lowestFrom nthFree zeroBlocks putBlocks taken extended cutBlocks headerOf putFree putComplete putHeader headerRestZero kindOf spareOf linksOf sizeOf parentOf putLinks attributeEntry putAttributes addressOf putAddress addressesOf putAddresses inodeOf putInode slots slotAt entryOf slotHasName findSlot slotEmpty emptySlot putEntry clearEntry deskOf putDesk copiedOf putCopied marksOf putMarks markOf setMark clearMark clearNotes sameNames namingB newNameB entryB attributesB addressesB zeroTailB inodeB countedB leadB isSlot entryAt filled naming allowed deskAllowed framedB headerB freeCountsB blankBlockB blanksB bodyB isSound enter created written dropLink unlinked setParent moved putFile addBlock putSize zeroRest cutTo isKind zeroInode lessFree moreFree createPlan writePlan shortenPlan holdsNone unlinkPlan isBelow renameTo renameNewPlan roomIn makeRoom freshHeader emptyRoot freshStore freshDesk startImage startDesk nextInode targetBlock lockedStep freeStep stepOf copiedEntry copiedEntries copiedBlock putCounts finishImage deskFramed imageBlocks imageAllowed isRunning blocksFit deskFits lacksAddresses imageFits notesFit hasSlot slotNames inodeNamed outcome next run started start step isCopied noteMade noteTaken cutsImage cutImage zeroed guardOf locksAny threeGuards startGuards decision live cutEntries clearMarks setMarks behind behindAll pairs blocksOf joined headerIs inodeIs entriesOf deskIs emptyImage afterTwo afterThree afterTwelve
 reaches-twelve = refl
 
 -- what is asked of the desk and the image when the list has run: one record, so that the last part is run once
@@ -166,7 +166,7 @@ askedAtEnd = record {
 
 reaches-end : askedOf (behindAll (call (shorten 3 768) ∷ replicate 18 advances) afterTwelve)
     ≡ askedAtEnd
-unfolding fresh desk.deskRestZero allBelow someBelow leadsB count firstFrom first table part splice numAt toBytes putNum wordBytes digit marked withMark withoutMark entryInode isEmpty folded sameByte sameName spelled nameLength entryName legalEntry entryFor plainByte isDots legalName blockOf putInBlock zeroBlock blocksUsed bytesPlace isLong furtherOf kthBy rowBy putKth putRow freeInode namedBy lowestBy longBut across added grown kept lowestFrom nthFree zeroBlocks putBlocks taken extended cutBlocks headerOf putFree putComplete putHeader headerRestZero kindOf spareOf linksOf sizeOf parentOf putLinks attributeEntry putAttributes addressOf putAddress addressesOf putAddresses inodeOf putInode slots slotAt entryOf slotHasName findSlot slotEmpty emptySlot putEntry clearEntry deskOf putDesk copiedOf putCopied marksOf putMarks markOf setMark clearMark clearNotes sameNames namingB newNameB entryB attributesB addressesB zeroTailB inodeB countedB leadB isSlot entryAt filled naming allowed deskAllowed framedB headerB freeCountsB blankBlockB blanksB bodyB isSound enter created written dropLink unlinked setParent moved putFile addBlock putSize zeroRest cutTo isKind zeroInode lessFree moreFree createPlan writePlan shortenPlan holdsNone unlinkPlan isBelow renameTo renamePlan roomIn makeRoom freshHeader emptyRoot freshStore freshDesk startImage startDesk nextInode targetBlock lockedStep freeStep stepOf copiedEntry copiedEntries copiedBlock putCounts finishImage deskFramed imageBlocks imageAllowed isRunning blocksFit deskFits lacksAddresses imageFits notesFit hasSlot slotNames inodeNamed outcome next run started start step isCopied noteMade noteTaken cutsImage cutImage zeroed guardOf locksAny threeGuards startGuards decision live cutEntries clearMarks setMarks behind behindAll fileByte fileBytes askedOf pairs blocksOf joined headerIs inodeIs entriesOf deskIs afterTwelve
+unfolding fresh desk.deskRestZero allBelow someBelow leadsB count firstFrom first table part splice numAt toBytes putNum wordBytes digit marked withMark withoutMark entryInode isEmpty folded sameByte sameName spelled nameLength entryName legalEntry entryFor plainByte isDots legalName blockOf putInBlock zeroBlock blocksUsed bytesPlace isLong furtherOf kthBy rowBy putKth putRow freeInode namedBy lowestBy longBut across added grown kept lowestFrom nthFree zeroBlocks putBlocks taken extended cutBlocks headerOf putFree putComplete putHeader headerRestZero kindOf spareOf linksOf sizeOf parentOf putLinks attributeEntry putAttributes addressOf putAddress addressesOf putAddresses inodeOf putInode slots slotAt entryOf slotHasName findSlot slotEmpty emptySlot putEntry clearEntry deskOf putDesk copiedOf putCopied marksOf putMarks markOf setMark clearMark clearNotes sameNames namingB newNameB entryB attributesB addressesB zeroTailB inodeB countedB leadB isSlot entryAt filled naming allowed deskAllowed framedB headerB freeCountsB blankBlockB blanksB bodyB isSound enter created written dropLink unlinked setParent moved putFile addBlock putSize zeroRest cutTo isKind zeroInode lessFree moreFree createPlan writePlan shortenPlan holdsNone unlinkPlan isBelow renameTo renameNewPlan roomIn makeRoom freshHeader emptyRoot freshStore freshDesk startImage startDesk nextInode targetBlock lockedStep freeStep stepOf copiedEntry copiedEntries copiedBlock putCounts finishImage deskFramed imageBlocks imageAllowed isRunning blocksFit deskFits lacksAddresses imageFits notesFit hasSlot slotNames inodeNamed outcome next run started start step isCopied noteMade noteTaken cutsImage cutImage zeroed guardOf locksAny threeGuards startGuards decision live cutEntries clearMarks setMarks behind behindAll fileByte fileBytes askedOf pairs blocksOf joined headerIs inodeIs entriesOf deskIs afterTwelve
 reaches-end = refl
 
 -- the parts together

@@ -34,7 +34,7 @@ use Rattle.checkpoint.specs.List.{Ready, outcome}
 use Rattle.checkpoint.proofs.TableLaws.{create-table, write-table}
 use Rattle.checkpoint.proofs.CopierTables.{start-table}
 use Rattle.cases.specs.Cases.{TrackCases, Writes, Creates, inodes}
-use Rattle.cases.proofs.Runs.{three-steps, finish, reused-block, moved-directory, unlinked-file, into-child}
+use Rattle.cases.proofs.Runs.{three-steps, finish, reused-block, moved-directory, unlinked-file, into-child, replaced-file, onto-taken, onto-full, onto-other-kind, into-child-taken, recorder-keeps}
 use Rattle.cases.proofs.Edge.{over-the-edge}
 use Rattle.cases.proofs.Witness.{fourteen-shown, fifteen-shown, end-shown, past-end-shown, at-size-shown, past-size-shown, last-slot-shown, no-slot-shown, twelfth-block}
 use Rattle.checkpoint.proofs.Run.Calls.{image-allowed}
@@ -212,4 +212,11 @@ track-cases = record {
   unlinked-file-done = unlinked-file .0;
   second-start = second-start;
   into-child = into-child;
+  replaced-file = replaced-file .1;
+  replaced-file-done = replaced-file .0;
+  onto-taken = onto-taken;
+  onto-full = onto-full;
+  onto-other-kind = onto-other-kind;
+  into-child-taken = into-child-taken;
+  recorder-keeps = recorder-keeps;
 }

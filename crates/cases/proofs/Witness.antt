@@ -24,7 +24,7 @@ use Rattle.content.specs.Apply.{written}
 use Rattle.content.specs.Content.{putFile, addBlock, zeroRest, cutTo}
 use Rattle.content.specs.Plan.{writePlan, shortenPlan}
 use Rattle.entries.specs.Apply.{enter, created, linked, dropLink, unlinked, setParent, moved}
-use Rattle.entries.specs.Plan.{createPlan, linkPlan, holdsNone, unlinkPlan, isBelow, renameTo, renamePlan}
+use Rattle.entries.specs.Plan.{createPlan, linkPlan, holdsNone, unlinkPlan, isBelow, renameTo, renameNewPlan}
 use Rattle.entries.specs.Room.{roomIn, makeRoom}
 use Rattle.files.specs.Guard.{guardOf}
 use Rattle.format.specs.Format.{freshHeader, emptyRoot, freshStore, freshDesk}
@@ -56,39 +56,39 @@ use Rattle.checkpoint.proofs.Run.Starts.{Opens, opens, opened, opened-runs}
 use Rattle.checkpoint.proofs.Run.Lists.{Going, runs}
 
 pub fourteen-shown : outcome (call (create 1 (replicate nameBytes 97) File)) (fresh 2 1) .answer ≡ told (Done 2)
-unfolding fresh desk.deskRestZero allBelow someBelow leadsB count firstFrom first table part splice numAt toBytes putNum wordBytes digit marked withMark withoutMark entryInode isEmpty folded sameByte sameName spelled nameLength entryName legalEntry entryFor plainByte isDots legalName blockOf putInBlock zeroBlock blocksUsed bytesPlace isLong furtherOf kthBy rowBy putKth putRow freeInode namedBy lowestBy longBut across added grown kept lowestFrom nthFree zeroBlocks putBlocks taken extended cutBlocks headerOf putFree putComplete putHeader headerRestZero kindOf spareOf linksOf sizeOf parentOf putLinks attributeEntry putAttributes addressOf putAddress addressesOf putAddresses inodeOf putInode slots slotAt entryOf slotHasName findSlot slotEmpty emptySlot putEntry clearEntry deskOf putDesk copiedOf putCopied marksOf putMarks markOf setMark clearMark clearNotes sameNames namingB newNameB entryB attributesB addressesB zeroTailB inodeB countedB leadB isSlot entryAt filled naming allowed deskAllowed framedB headerB freeCountsB blankBlockB blanksB bodyB isSound enter created written dropLink unlinked setParent moved putFile addBlock putSize zeroRest cutTo isKind zeroInode lessFree moreFree createPlan writePlan shortenPlan holdsNone unlinkPlan isBelow renameTo renamePlan roomIn makeRoom freshHeader emptyRoot freshStore freshDesk startImage startDesk nextInode targetBlock lockedStep freeStep stepOf copiedEntry copiedEntries copiedBlock putCounts finishImage deskFramed imageBlocks imageAllowed isRunning blocksFit deskFits lacksAddresses imageFits notesFit hasSlot slotNames inodeNamed outcome next run started start step isCopied noteMade noteTaken cutsImage cutImage zeroed guardOf locksAny threeGuards startGuards decision live cutEntries clearMarks setMarks
+unfolding fresh desk.deskRestZero allBelow someBelow leadsB count firstFrom first table part splice numAt toBytes putNum wordBytes digit marked withMark withoutMark entryInode isEmpty folded sameByte sameName spelled nameLength entryName legalEntry entryFor plainByte isDots legalName blockOf putInBlock zeroBlock blocksUsed bytesPlace isLong furtherOf kthBy rowBy putKth putRow freeInode namedBy lowestBy longBut across added grown kept lowestFrom nthFree zeroBlocks putBlocks taken extended cutBlocks headerOf putFree putComplete putHeader headerRestZero kindOf spareOf linksOf sizeOf parentOf putLinks attributeEntry putAttributes addressOf putAddress addressesOf putAddresses inodeOf putInode slots slotAt entryOf slotHasName findSlot slotEmpty emptySlot putEntry clearEntry deskOf putDesk copiedOf putCopied marksOf putMarks markOf setMark clearMark clearNotes sameNames namingB newNameB entryB attributesB addressesB zeroTailB inodeB countedB leadB isSlot entryAt filled naming allowed deskAllowed framedB headerB freeCountsB blankBlockB blanksB bodyB isSound enter created written dropLink unlinked setParent moved putFile addBlock putSize zeroRest cutTo isKind zeroInode lessFree moreFree createPlan writePlan shortenPlan holdsNone unlinkPlan isBelow renameTo renameNewPlan roomIn makeRoom freshHeader emptyRoot freshStore freshDesk startImage startDesk nextInode targetBlock lockedStep freeStep stepOf copiedEntry copiedEntries copiedBlock putCounts finishImage deskFramed imageBlocks imageAllowed isRunning blocksFit deskFits lacksAddresses imageFits notesFit hasSlot slotNames inodeNamed outcome next run started start step isCopied noteMade noteTaken cutsImage cutImage zeroed guardOf locksAny threeGuards startGuards decision live cutEntries clearMarks setMarks
 fourteen-shown = refl
 
 pub fifteen-shown : outcome (call (create 1 (replicate (nameBytes + 1) 97) File)) (fresh 2 1) .answer ≡ told (Refused IllegalName)
-unfolding fresh desk.deskRestZero allBelow someBelow leadsB count firstFrom first table part splice numAt toBytes putNum wordBytes digit marked withMark withoutMark entryInode isEmpty folded sameByte sameName spelled nameLength entryName legalEntry entryFor plainByte isDots legalName blockOf putInBlock zeroBlock blocksUsed bytesPlace isLong furtherOf kthBy rowBy putKth putRow freeInode namedBy lowestBy longBut across added grown kept lowestFrom nthFree zeroBlocks putBlocks taken extended cutBlocks headerOf putFree putComplete putHeader headerRestZero kindOf spareOf linksOf sizeOf parentOf putLinks attributeEntry putAttributes addressOf putAddress addressesOf putAddresses inodeOf putInode slots slotAt entryOf slotHasName findSlot slotEmpty emptySlot putEntry clearEntry deskOf putDesk copiedOf putCopied marksOf putMarks markOf setMark clearMark clearNotes sameNames namingB newNameB entryB attributesB addressesB zeroTailB inodeB countedB leadB isSlot entryAt filled naming allowed deskAllowed framedB headerB freeCountsB blankBlockB blanksB bodyB isSound enter created written dropLink unlinked setParent moved putFile addBlock putSize zeroRest cutTo isKind zeroInode lessFree moreFree createPlan writePlan shortenPlan holdsNone unlinkPlan isBelow renameTo renamePlan roomIn makeRoom freshHeader emptyRoot freshStore freshDesk startImage startDesk nextInode targetBlock lockedStep freeStep stepOf copiedEntry copiedEntries copiedBlock putCounts finishImage deskFramed imageBlocks imageAllowed isRunning blocksFit deskFits lacksAddresses imageFits notesFit hasSlot slotNames inodeNamed outcome next run started start step isCopied noteMade noteTaken cutsImage cutImage zeroed guardOf locksAny threeGuards startGuards decision live cutEntries clearMarks setMarks
+unfolding fresh desk.deskRestZero allBelow someBelow leadsB count firstFrom first table part splice numAt toBytes putNum wordBytes digit marked withMark withoutMark entryInode isEmpty folded sameByte sameName spelled nameLength entryName legalEntry entryFor plainByte isDots legalName blockOf putInBlock zeroBlock blocksUsed bytesPlace isLong furtherOf kthBy rowBy putKth putRow freeInode namedBy lowestBy longBut across added grown kept lowestFrom nthFree zeroBlocks putBlocks taken extended cutBlocks headerOf putFree putComplete putHeader headerRestZero kindOf spareOf linksOf sizeOf parentOf putLinks attributeEntry putAttributes addressOf putAddress addressesOf putAddresses inodeOf putInode slots slotAt entryOf slotHasName findSlot slotEmpty emptySlot putEntry clearEntry deskOf putDesk copiedOf putCopied marksOf putMarks markOf setMark clearMark clearNotes sameNames namingB newNameB entryB attributesB addressesB zeroTailB inodeB countedB leadB isSlot entryAt filled naming allowed deskAllowed framedB headerB freeCountsB blankBlockB blanksB bodyB isSound enter created written dropLink unlinked setParent moved putFile addBlock putSize zeroRest cutTo isKind zeroInode lessFree moreFree createPlan writePlan shortenPlan holdsNone unlinkPlan isBelow renameTo renameNewPlan roomIn makeRoom freshHeader emptyRoot freshStore freshDesk startImage startDesk nextInode targetBlock lockedStep freeStep stepOf copiedEntry copiedEntries copiedBlock putCounts finishImage deskFramed imageBlocks imageAllowed isRunning blocksFit deskFits lacksAddresses imageFits notesFit hasSlot slotNames inodeNamed outcome next run started start step isCopied noteMade noteTaken cutsImage cutImage zeroed guardOf locksAny threeGuards startGuards decision live cutEntries clearMarks setMarks
 fifteen-shown = refl
 
 pub at-size-shown : outcome (call (write 2 10 (7 ∷ []))) (run tenBytes (fresh 2 2)) .answer ≡ told (Done 11)
-unfolding fresh desk.deskRestZero allBelow someBelow leadsB count firstFrom first table part splice numAt toBytes putNum wordBytes digit marked withMark withoutMark entryInode isEmpty folded sameByte sameName spelled nameLength entryName legalEntry entryFor plainByte isDots legalName blockOf putInBlock zeroBlock blocksUsed bytesPlace isLong furtherOf kthBy rowBy putKth putRow freeInode namedBy lowestBy longBut across added grown kept lowestFrom nthFree zeroBlocks putBlocks taken extended cutBlocks headerOf putFree putComplete putHeader headerRestZero kindOf spareOf linksOf sizeOf parentOf putLinks attributeEntry putAttributes addressOf putAddress addressesOf putAddresses inodeOf putInode slots slotAt entryOf slotHasName findSlot slotEmpty emptySlot putEntry clearEntry deskOf putDesk copiedOf putCopied marksOf putMarks markOf setMark clearMark clearNotes sameNames namingB newNameB entryB attributesB addressesB zeroTailB inodeB countedB leadB isSlot entryAt filled naming allowed deskAllowed framedB headerB freeCountsB blankBlockB blanksB bodyB isSound enter created written dropLink unlinked setParent moved putFile addBlock putSize zeroRest cutTo isKind zeroInode lessFree moreFree createPlan writePlan shortenPlan holdsNone unlinkPlan isBelow renameTo renamePlan roomIn makeRoom freshHeader emptyRoot freshStore freshDesk startImage startDesk nextInode targetBlock lockedStep freeStep stepOf copiedEntry copiedEntries copiedBlock putCounts finishImage deskFramed imageBlocks imageAllowed isRunning blocksFit deskFits lacksAddresses imageFits notesFit hasSlot slotNames inodeNamed outcome next run started start step isCopied noteMade noteTaken cutsImage cutImage zeroed guardOf locksAny threeGuards startGuards decision live cutEntries clearMarks setMarks tenBytes
+unfolding fresh desk.deskRestZero allBelow someBelow leadsB count firstFrom first table part splice numAt toBytes putNum wordBytes digit marked withMark withoutMark entryInode isEmpty folded sameByte sameName spelled nameLength entryName legalEntry entryFor plainByte isDots legalName blockOf putInBlock zeroBlock blocksUsed bytesPlace isLong furtherOf kthBy rowBy putKth putRow freeInode namedBy lowestBy longBut across added grown kept lowestFrom nthFree zeroBlocks putBlocks taken extended cutBlocks headerOf putFree putComplete putHeader headerRestZero kindOf spareOf linksOf sizeOf parentOf putLinks attributeEntry putAttributes addressOf putAddress addressesOf putAddresses inodeOf putInode slots slotAt entryOf slotHasName findSlot slotEmpty emptySlot putEntry clearEntry deskOf putDesk copiedOf putCopied marksOf putMarks markOf setMark clearMark clearNotes sameNames namingB newNameB entryB attributesB addressesB zeroTailB inodeB countedB leadB isSlot entryAt filled naming allowed deskAllowed framedB headerB freeCountsB blankBlockB blanksB bodyB isSound enter created written dropLink unlinked setParent moved putFile addBlock putSize zeroRest cutTo isKind zeroInode lessFree moreFree createPlan writePlan shortenPlan holdsNone unlinkPlan isBelow renameTo renameNewPlan roomIn makeRoom freshHeader emptyRoot freshStore freshDesk startImage startDesk nextInode targetBlock lockedStep freeStep stepOf copiedEntry copiedEntries copiedBlock putCounts finishImage deskFramed imageBlocks imageAllowed isRunning blocksFit deskFits lacksAddresses imageFits notesFit hasSlot slotNames inodeNamed outcome next run started start step isCopied noteMade noteTaken cutsImage cutImage zeroed guardOf locksAny threeGuards startGuards decision live cutEntries clearMarks setMarks tenBytes
 at-size-shown = refl
 
 pub past-size-shown : outcome (call (write 2 11 (7 ∷ []))) (run tenBytes (fresh 2 2)) .answer ≡ told (Refused PastEnd)
-unfolding fresh desk.deskRestZero allBelow someBelow leadsB count firstFrom first table part splice numAt toBytes putNum wordBytes digit marked withMark withoutMark entryInode isEmpty folded sameByte sameName spelled nameLength entryName legalEntry entryFor plainByte isDots legalName blockOf putInBlock zeroBlock blocksUsed bytesPlace isLong furtherOf kthBy rowBy putKth putRow freeInode namedBy lowestBy longBut across added grown kept lowestFrom nthFree zeroBlocks putBlocks taken extended cutBlocks headerOf putFree putComplete putHeader headerRestZero kindOf spareOf linksOf sizeOf parentOf putLinks attributeEntry putAttributes addressOf putAddress addressesOf putAddresses inodeOf putInode slots slotAt entryOf slotHasName findSlot slotEmpty emptySlot putEntry clearEntry deskOf putDesk copiedOf putCopied marksOf putMarks markOf setMark clearMark clearNotes sameNames namingB newNameB entryB attributesB addressesB zeroTailB inodeB countedB leadB isSlot entryAt filled naming allowed deskAllowed framedB headerB freeCountsB blankBlockB blanksB bodyB isSound enter created written dropLink unlinked setParent moved putFile addBlock putSize zeroRest cutTo isKind zeroInode lessFree moreFree createPlan writePlan shortenPlan holdsNone unlinkPlan isBelow renameTo renamePlan roomIn makeRoom freshHeader emptyRoot freshStore freshDesk startImage startDesk nextInode targetBlock lockedStep freeStep stepOf copiedEntry copiedEntries copiedBlock putCounts finishImage deskFramed imageBlocks imageAllowed isRunning blocksFit deskFits lacksAddresses imageFits notesFit hasSlot slotNames inodeNamed outcome next run started start step isCopied noteMade noteTaken cutsImage cutImage zeroed guardOf locksAny threeGuards startGuards decision live cutEntries clearMarks setMarks tenBytes
+unfolding fresh desk.deskRestZero allBelow someBelow leadsB count firstFrom first table part splice numAt toBytes putNum wordBytes digit marked withMark withoutMark entryInode isEmpty folded sameByte sameName spelled nameLength entryName legalEntry entryFor plainByte isDots legalName blockOf putInBlock zeroBlock blocksUsed bytesPlace isLong furtherOf kthBy rowBy putKth putRow freeInode namedBy lowestBy longBut across added grown kept lowestFrom nthFree zeroBlocks putBlocks taken extended cutBlocks headerOf putFree putComplete putHeader headerRestZero kindOf spareOf linksOf sizeOf parentOf putLinks attributeEntry putAttributes addressOf putAddress addressesOf putAddresses inodeOf putInode slots slotAt entryOf slotHasName findSlot slotEmpty emptySlot putEntry clearEntry deskOf putDesk copiedOf putCopied marksOf putMarks markOf setMark clearMark clearNotes sameNames namingB newNameB entryB attributesB addressesB zeroTailB inodeB countedB leadB isSlot entryAt filled naming allowed deskAllowed framedB headerB freeCountsB blankBlockB blanksB bodyB isSound enter created written dropLink unlinked setParent moved putFile addBlock putSize zeroRest cutTo isKind zeroInode lessFree moreFree createPlan writePlan shortenPlan holdsNone unlinkPlan isBelow renameTo renameNewPlan roomIn makeRoom freshHeader emptyRoot freshStore freshDesk startImage startDesk nextInode targetBlock lockedStep freeStep stepOf copiedEntry copiedEntries copiedBlock putCounts finishImage deskFramed imageBlocks imageAllowed isRunning blocksFit deskFits lacksAddresses imageFits notesFit hasSlot slotNames inodeNamed outcome next run started start step isCopied noteMade noteTaken cutsImage cutImage zeroed guardOf locksAny threeGuards startGuards decision live cutEntries clearMarks setMarks tenBytes
 past-size-shown = refl
 
 pub end-shown : outcome (call (write 2 0 (replicate mostFileBytes 7))) (run oneFile (fresh 2 45)) .answer ≡ told (Done mostFileBytes)
-unfolding fresh desk.deskRestZero allBelow someBelow leadsB count firstFrom first table part splice numAt toBytes putNum wordBytes digit marked withMark withoutMark entryInode isEmpty folded sameByte sameName spelled nameLength entryName legalEntry entryFor plainByte isDots legalName blockOf putInBlock zeroBlock blocksUsed bytesPlace isLong furtherOf kthBy rowBy putKth putRow freeInode namedBy lowestBy longBut across added grown kept lowestFrom nthFree zeroBlocks putBlocks taken extended cutBlocks headerOf putFree putComplete putHeader headerRestZero kindOf spareOf linksOf sizeOf parentOf putLinks attributeEntry putAttributes addressOf putAddress addressesOf putAddresses inodeOf putInode slots slotAt entryOf slotHasName findSlot slotEmpty emptySlot putEntry clearEntry deskOf putDesk copiedOf putCopied marksOf putMarks markOf setMark clearMark clearNotes sameNames namingB newNameB entryB attributesB addressesB zeroTailB inodeB countedB leadB isSlot entryAt filled naming allowed deskAllowed framedB headerB freeCountsB blankBlockB blanksB bodyB isSound enter created written dropLink unlinked setParent moved putFile addBlock putSize zeroRest cutTo isKind zeroInode lessFree moreFree createPlan writePlan shortenPlan holdsNone unlinkPlan isBelow renameTo renamePlan roomIn makeRoom freshHeader emptyRoot freshStore freshDesk startImage startDesk nextInode targetBlock lockedStep freeStep stepOf copiedEntry copiedEntries copiedBlock putCounts finishImage deskFramed imageBlocks imageAllowed isRunning blocksFit deskFits lacksAddresses imageFits notesFit hasSlot slotNames inodeNamed outcome next run started start step isCopied noteMade noteTaken cutsImage cutImage zeroed guardOf locksAny threeGuards startGuards decision live cutEntries clearMarks setMarks oneFile
+unfolding fresh desk.deskRestZero allBelow someBelow leadsB count firstFrom first table part splice numAt toBytes putNum wordBytes digit marked withMark withoutMark entryInode isEmpty folded sameByte sameName spelled nameLength entryName legalEntry entryFor plainByte isDots legalName blockOf putInBlock zeroBlock blocksUsed bytesPlace isLong furtherOf kthBy rowBy putKth putRow freeInode namedBy lowestBy longBut across added grown kept lowestFrom nthFree zeroBlocks putBlocks taken extended cutBlocks headerOf putFree putComplete putHeader headerRestZero kindOf spareOf linksOf sizeOf parentOf putLinks attributeEntry putAttributes addressOf putAddress addressesOf putAddresses inodeOf putInode slots slotAt entryOf slotHasName findSlot slotEmpty emptySlot putEntry clearEntry deskOf putDesk copiedOf putCopied marksOf putMarks markOf setMark clearMark clearNotes sameNames namingB newNameB entryB attributesB addressesB zeroTailB inodeB countedB leadB isSlot entryAt filled naming allowed deskAllowed framedB headerB freeCountsB blankBlockB blanksB bodyB isSound enter created written dropLink unlinked setParent moved putFile addBlock putSize zeroRest cutTo isKind zeroInode lessFree moreFree createPlan writePlan shortenPlan holdsNone unlinkPlan isBelow renameTo renameNewPlan roomIn makeRoom freshHeader emptyRoot freshStore freshDesk startImage startDesk nextInode targetBlock lockedStep freeStep stepOf copiedEntry copiedEntries copiedBlock putCounts finishImage deskFramed imageBlocks imageAllowed isRunning blocksFit deskFits lacksAddresses imageFits notesFit hasSlot slotNames inodeNamed outcome next run started start step isCopied noteMade noteTaken cutsImage cutImage zeroed guardOf locksAny threeGuards startGuards decision live cutEntries clearMarks setMarks oneFile
 end-shown = refl
 
 pub past-end-shown : outcome (call (write 2 0 (replicate (mostFileBytes + 1) 7))) (run oneFile (fresh 2 45)) .answer ≡ told (Refused PastEnd)
-unfolding fresh desk.deskRestZero allBelow someBelow leadsB count firstFrom first table part splice numAt toBytes putNum wordBytes digit marked withMark withoutMark entryInode isEmpty folded sameByte sameName spelled nameLength entryName legalEntry entryFor plainByte isDots legalName blockOf putInBlock zeroBlock blocksUsed bytesPlace isLong furtherOf kthBy rowBy putKth putRow freeInode namedBy lowestBy longBut across added grown kept lowestFrom nthFree zeroBlocks putBlocks taken extended cutBlocks headerOf putFree putComplete putHeader headerRestZero kindOf spareOf linksOf sizeOf parentOf putLinks attributeEntry putAttributes addressOf putAddress addressesOf putAddresses inodeOf putInode slots slotAt entryOf slotHasName findSlot slotEmpty emptySlot putEntry clearEntry deskOf putDesk copiedOf putCopied marksOf putMarks markOf setMark clearMark clearNotes sameNames namingB newNameB entryB attributesB addressesB zeroTailB inodeB countedB leadB isSlot entryAt filled naming allowed deskAllowed framedB headerB freeCountsB blankBlockB blanksB bodyB isSound enter created written dropLink unlinked setParent moved putFile addBlock putSize zeroRest cutTo isKind zeroInode lessFree moreFree createPlan writePlan shortenPlan holdsNone unlinkPlan isBelow renameTo renamePlan roomIn makeRoom freshHeader emptyRoot freshStore freshDesk startImage startDesk nextInode targetBlock lockedStep freeStep stepOf copiedEntry copiedEntries copiedBlock putCounts finishImage deskFramed imageBlocks imageAllowed isRunning blocksFit deskFits lacksAddresses imageFits notesFit hasSlot slotNames inodeNamed outcome next run started start step isCopied noteMade noteTaken cutsImage cutImage zeroed guardOf locksAny threeGuards startGuards decision live cutEntries clearMarks setMarks oneFile
+unfolding fresh desk.deskRestZero allBelow someBelow leadsB count firstFrom first table part splice numAt toBytes putNum wordBytes digit marked withMark withoutMark entryInode isEmpty folded sameByte sameName spelled nameLength entryName legalEntry entryFor plainByte isDots legalName blockOf putInBlock zeroBlock blocksUsed bytesPlace isLong furtherOf kthBy rowBy putKth putRow freeInode namedBy lowestBy longBut across added grown kept lowestFrom nthFree zeroBlocks putBlocks taken extended cutBlocks headerOf putFree putComplete putHeader headerRestZero kindOf spareOf linksOf sizeOf parentOf putLinks attributeEntry putAttributes addressOf putAddress addressesOf putAddresses inodeOf putInode slots slotAt entryOf slotHasName findSlot slotEmpty emptySlot putEntry clearEntry deskOf putDesk copiedOf putCopied marksOf putMarks markOf setMark clearMark clearNotes sameNames namingB newNameB entryB attributesB addressesB zeroTailB inodeB countedB leadB isSlot entryAt filled naming allowed deskAllowed framedB headerB freeCountsB blankBlockB blanksB bodyB isSound enter created written dropLink unlinked setParent moved putFile addBlock putSize zeroRest cutTo isKind zeroInode lessFree moreFree createPlan writePlan shortenPlan holdsNone unlinkPlan isBelow renameTo renameNewPlan roomIn makeRoom freshHeader emptyRoot freshStore freshDesk startImage startDesk nextInode targetBlock lockedStep freeStep stepOf copiedEntry copiedEntries copiedBlock putCounts finishImage deskFramed imageBlocks imageAllowed isRunning blocksFit deskFits lacksAddresses imageFits notesFit hasSlot slotNames inodeNamed outcome next run started start step isCopied noteMade noteTaken cutsImage cutImage zeroed guardOf locksAny threeGuards startGuards decision live cutEntries clearMarks setMarks oneFile
 past-end-shown = refl
 
 -- ---- entries: the root with k of them in c blocks while a copy runs, part by part behind the guards
 begins : accepted starts (fresh 3 13) ≡ true
-unfolding fresh desk.deskRestZero allBelow someBelow leadsB count firstFrom first table part splice numAt toBytes putNum wordBytes digit marked withMark withoutMark entryInode isEmpty folded sameByte sameName spelled nameLength entryName legalEntry entryFor plainByte isDots legalName blockOf putInBlock zeroBlock blocksUsed bytesPlace isLong furtherOf kthBy rowBy putKth putRow freeInode namedBy lowestBy longBut across added grown kept lowestFrom nthFree zeroBlocks putBlocks taken extended cutBlocks headerOf putFree putComplete putHeader headerRestZero kindOf spareOf linksOf sizeOf parentOf putLinks attributeEntry putAttributes addressOf putAddress addressesOf putAddresses inodeOf putInode slots slotAt entryOf slotHasName findSlot slotEmpty emptySlot putEntry clearEntry deskOf putDesk copiedOf putCopied marksOf putMarks markOf setMark clearMark clearNotes sameNames namingB newNameB entryB attributesB addressesB zeroTailB inodeB countedB leadB isSlot entryAt filled naming allowed deskAllowed framedB headerB freeCountsB blankBlockB blanksB bodyB isSound enter created written dropLink unlinked setParent moved putFile addBlock putSize zeroRest cutTo isKind zeroInode lessFree moreFree createPlan writePlan shortenPlan holdsNone unlinkPlan isBelow renameTo renamePlan roomIn makeRoom freshHeader emptyRoot freshStore freshDesk startImage startDesk nextInode targetBlock lockedStep freeStep stepOf copiedEntry copiedEntries copiedBlock putCounts finishImage deskFramed imageBlocks imageAllowed isRunning blocksFit deskFits lacksAddresses imageFits notesFit hasSlot slotNames inodeNamed outcome next run started start step isCopied noteMade noteTaken cutsImage cutImage zeroed guardOf locksAny threeGuards startGuards decision live cutEntries clearMarks setMarks
+unfolding fresh desk.deskRestZero allBelow someBelow leadsB count firstFrom first table part splice numAt toBytes putNum wordBytes digit marked withMark withoutMark entryInode isEmpty folded sameByte sameName spelled nameLength entryName legalEntry entryFor plainByte isDots legalName blockOf putInBlock zeroBlock blocksUsed bytesPlace isLong furtherOf kthBy rowBy putKth putRow freeInode namedBy lowestBy longBut across added grown kept lowestFrom nthFree zeroBlocks putBlocks taken extended cutBlocks headerOf putFree putComplete putHeader headerRestZero kindOf spareOf linksOf sizeOf parentOf putLinks attributeEntry putAttributes addressOf putAddress addressesOf putAddresses inodeOf putInode slots slotAt entryOf slotHasName findSlot slotEmpty emptySlot putEntry clearEntry deskOf putDesk copiedOf putCopied marksOf putMarks markOf setMark clearMark clearNotes sameNames namingB newNameB entryB attributesB addressesB zeroTailB inodeB countedB leadB isSlot entryAt filled naming allowed deskAllowed framedB headerB freeCountsB blankBlockB blanksB bodyB isSound enter created written dropLink unlinked setParent moved putFile addBlock putSize zeroRest cutTo isKind zeroInode lessFree moreFree createPlan writePlan shortenPlan holdsNone unlinkPlan isBelow renameTo renameNewPlan roomIn makeRoom freshHeader emptyRoot freshStore freshDesk startImage startDesk nextInode targetBlock lockedStep freeStep stepOf copiedEntry copiedEntries copiedBlock putCounts finishImage deskFramed imageBlocks imageAllowed isRunning blocksFit deskFits lacksAddresses imageFits notesFit hasSlot slotNames inodeNamed outcome next run started start step isCopied noteMade noteTaken cutsImage cutImage zeroed guardOf locksAny threeGuards startGuards decision live cutEntries clearMarks setMarks
 begins = refl
 
 opening : Opens (fresh 3 13)
 opening = opens (fresh 3 13) begins
 
 going : Going 3 13 (next starts (fresh 3 13))
-unfolding fresh desk.deskRestZero allBelow someBelow leadsB count firstFrom first table part splice numAt toBytes putNum wordBytes digit marked withMark withoutMark entryInode isEmpty folded sameByte sameName spelled nameLength entryName legalEntry entryFor plainByte isDots legalName blockOf putInBlock zeroBlock blocksUsed bytesPlace isLong furtherOf kthBy rowBy putKth putRow freeInode namedBy lowestBy longBut across added grown kept lowestFrom nthFree zeroBlocks putBlocks taken extended cutBlocks headerOf putFree putComplete putHeader headerRestZero kindOf spareOf linksOf sizeOf parentOf putLinks attributeEntry putAttributes addressOf putAddress addressesOf putAddresses inodeOf putInode slots slotAt entryOf slotHasName findSlot slotEmpty emptySlot putEntry clearEntry deskOf putDesk copiedOf putCopied marksOf putMarks markOf setMark clearMark clearNotes sameNames namingB newNameB entryB attributesB addressesB zeroTailB inodeB countedB leadB isSlot entryAt filled naming allowed deskAllowed framedB headerB freeCountsB blankBlockB blanksB bodyB isSound enter created written dropLink unlinked setParent moved putFile addBlock putSize zeroRest cutTo isKind zeroInode lessFree moreFree createPlan writePlan shortenPlan holdsNone unlinkPlan isBelow renameTo renamePlan roomIn makeRoom freshHeader emptyRoot freshStore freshDesk startImage startDesk nextInode targetBlock lockedStep freeStep stepOf copiedEntry copiedEntries copiedBlock putCounts finishImage deskFramed imageBlocks imageAllowed isRunning blocksFit deskFits lacksAddresses imageFits notesFit hasSlot slotNames inodeNamed outcome next run started start step isCopied noteMade noteTaken cutsImage cutImage zeroed guardOf locksAny threeGuards startGuards decision live cutEntries clearMarks setMarks
+unfolding fresh desk.deskRestZero allBelow someBelow leadsB count firstFrom first table part splice numAt toBytes putNum wordBytes digit marked withMark withoutMark entryInode isEmpty folded sameByte sameName spelled nameLength entryName legalEntry entryFor plainByte isDots legalName blockOf putInBlock zeroBlock blocksUsed bytesPlace isLong furtherOf kthBy rowBy putKth putRow freeInode namedBy lowestBy longBut across added grown kept lowestFrom nthFree zeroBlocks putBlocks taken extended cutBlocks headerOf putFree putComplete putHeader headerRestZero kindOf spareOf linksOf sizeOf parentOf putLinks attributeEntry putAttributes addressOf putAddress addressesOf putAddresses inodeOf putInode slots slotAt entryOf slotHasName findSlot slotEmpty emptySlot putEntry clearEntry deskOf putDesk copiedOf putCopied marksOf putMarks markOf setMark clearMark clearNotes sameNames namingB newNameB entryB attributesB addressesB zeroTailB inodeB countedB leadB isSlot entryAt filled naming allowed deskAllowed framedB headerB freeCountsB blankBlockB blanksB bodyB isSound enter created written dropLink unlinked setParent moved putFile addBlock putSize zeroRest cutTo isKind zeroInode lessFree moreFree createPlan writePlan shortenPlan holdsNone unlinkPlan isBelow renameTo renameNewPlan roomIn makeRoom freshHeader emptyRoot freshStore freshDesk startImage startDesk nextInode targetBlock lockedStep freeStep stepOf copiedEntry copiedEntries copiedBlock putCounts finishImage deskFramed imageBlocks imageAllowed isRunning blocksFit deskFits lacksAddresses imageFits notesFit hasSlot slotNames inodeNamed outcome next run started start step isCopied noteMade noteTaken cutsImage cutImage zeroed guardOf locksAny threeGuards startGuards decision live cutEntries clearMarks setMarks
 going = runs (opened-runs 3 13 (fresh 3 13) opening refl refl .runs)
 
 -- entries of file 2 by the names of one byte from a on
@@ -107,31 +107,31 @@ rootWith k c marks = record {
 }
 
 to-12 : behindAll (entered 12) (opened (fresh 3 13)) ≡ rootWith 12 3 (255 ∷ 15 ∷ 0 ∷ 0 ∷ 0 ∷ 0 ∷ 0 ∷ 0 ∷ [])
-unfolding fresh desk.deskRestZero allBelow someBelow leadsB count firstFrom first table part splice numAt toBytes putNum wordBytes digit marked withMark withoutMark entryInode isEmpty folded sameByte sameName spelled nameLength entryName legalEntry entryFor plainByte isDots legalName blockOf putInBlock zeroBlock blocksUsed bytesPlace isLong furtherOf kthBy rowBy putKth putRow freeInode namedBy lowestBy longBut across added grown kept lowestFrom nthFree zeroBlocks putBlocks taken extended cutBlocks headerOf putFree putComplete putHeader headerRestZero kindOf spareOf linksOf sizeOf parentOf putLinks attributeEntry putAttributes addressOf putAddress addressesOf putAddresses inodeOf putInode slots slotAt entryOf slotHasName findSlot slotEmpty emptySlot putEntry clearEntry deskOf putDesk copiedOf putCopied marksOf putMarks markOf setMark clearMark clearNotes sameNames namingB newNameB entryB attributesB addressesB zeroTailB inodeB countedB leadB isSlot entryAt filled naming allowed deskAllowed framedB headerB freeCountsB blankBlockB blanksB bodyB isSound enter created written dropLink unlinked setParent moved putFile addBlock putSize zeroRest cutTo isKind zeroInode lessFree moreFree createPlan writePlan shortenPlan holdsNone unlinkPlan isBelow renameTo renamePlan roomIn makeRoom freshHeader emptyRoot freshStore freshDesk startImage startDesk nextInode targetBlock lockedStep freeStep stepOf copiedEntry copiedEntries copiedBlock putCounts finishImage deskFramed imageBlocks imageAllowed isRunning blocksFit deskFits lacksAddresses imageFits notesFit hasSlot slotNames inodeNamed outcome next run started start step isCopied noteMade noteTaken cutsImage cutImage zeroed guardOf locksAny threeGuards startGuards decision live cutEntries clearMarks setMarks entered linkedFrom linked linkPlan behind behindAll entriesFrom rootWith joined inodeIs pairs
+unfolding fresh desk.deskRestZero allBelow someBelow leadsB count firstFrom first table part splice numAt toBytes putNum wordBytes digit marked withMark withoutMark entryInode isEmpty folded sameByte sameName spelled nameLength entryName legalEntry entryFor plainByte isDots legalName blockOf putInBlock zeroBlock blocksUsed bytesPlace isLong furtherOf kthBy rowBy putKth putRow freeInode namedBy lowestBy longBut across added grown kept lowestFrom nthFree zeroBlocks putBlocks taken extended cutBlocks headerOf putFree putComplete putHeader headerRestZero kindOf spareOf linksOf sizeOf parentOf putLinks attributeEntry putAttributes addressOf putAddress addressesOf putAddresses inodeOf putInode slots slotAt entryOf slotHasName findSlot slotEmpty emptySlot putEntry clearEntry deskOf putDesk copiedOf putCopied marksOf putMarks markOf setMark clearMark clearNotes sameNames namingB newNameB entryB attributesB addressesB zeroTailB inodeB countedB leadB isSlot entryAt filled naming allowed deskAllowed framedB headerB freeCountsB blankBlockB blanksB bodyB isSound enter created written dropLink unlinked setParent moved putFile addBlock putSize zeroRest cutTo isKind zeroInode lessFree moreFree createPlan writePlan shortenPlan holdsNone unlinkPlan isBelow renameTo renameNewPlan roomIn makeRoom freshHeader emptyRoot freshStore freshDesk startImage startDesk nextInode targetBlock lockedStep freeStep stepOf copiedEntry copiedEntries copiedBlock putCounts finishImage deskFramed imageBlocks imageAllowed isRunning blocksFit deskFits lacksAddresses imageFits notesFit hasSlot slotNames inodeNamed outcome next run started start step isCopied noteMade noteTaken cutsImage cutImage zeroed guardOf locksAny threeGuards startGuards decision live cutEntries clearMarks setMarks entered linkedFrom linked linkPlan behind behindAll entriesFrom rootWith joined inodeIs pairs
 to-12 = refl
 
 to-24 : behindAll (linkedFrom 109 12) (rootWith 12 3 (255 ∷ 15 ∷ 0 ∷ 0 ∷ 0 ∷ 0 ∷ 0 ∷ 0 ∷ [])) ≡ rootWith 24 6 (255 ∷ 255 ∷ 255 ∷ 0 ∷ 0 ∷ 0 ∷ 0 ∷ 0 ∷ [])
-unfolding fresh desk.deskRestZero allBelow someBelow leadsB count firstFrom first table part splice numAt toBytes putNum wordBytes digit marked withMark withoutMark entryInode isEmpty folded sameByte sameName spelled nameLength entryName legalEntry entryFor plainByte isDots legalName blockOf putInBlock zeroBlock blocksUsed bytesPlace isLong furtherOf kthBy rowBy putKth putRow freeInode namedBy lowestBy longBut across added grown kept lowestFrom nthFree zeroBlocks putBlocks taken extended cutBlocks headerOf putFree putComplete putHeader headerRestZero kindOf spareOf linksOf sizeOf parentOf putLinks attributeEntry putAttributes addressOf putAddress addressesOf putAddresses inodeOf putInode slots slotAt entryOf slotHasName findSlot slotEmpty emptySlot putEntry clearEntry deskOf putDesk copiedOf putCopied marksOf putMarks markOf setMark clearMark clearNotes sameNames namingB newNameB entryB attributesB addressesB zeroTailB inodeB countedB leadB isSlot entryAt filled naming allowed deskAllowed framedB headerB freeCountsB blankBlockB blanksB bodyB isSound enter created written dropLink unlinked setParent moved putFile addBlock putSize zeroRest cutTo isKind zeroInode lessFree moreFree createPlan writePlan shortenPlan holdsNone unlinkPlan isBelow renameTo renamePlan roomIn makeRoom freshHeader emptyRoot freshStore freshDesk startImage startDesk nextInode targetBlock lockedStep freeStep stepOf copiedEntry copiedEntries copiedBlock putCounts finishImage deskFramed imageBlocks imageAllowed isRunning blocksFit deskFits lacksAddresses imageFits notesFit hasSlot slotNames inodeNamed outcome next run started start step isCopied noteMade noteTaken cutsImage cutImage zeroed guardOf locksAny threeGuards startGuards decision live cutEntries clearMarks setMarks entered linkedFrom linked linkPlan behind behindAll entriesFrom rootWith joined inodeIs pairs
+unfolding fresh desk.deskRestZero allBelow someBelow leadsB count firstFrom first table part splice numAt toBytes putNum wordBytes digit marked withMark withoutMark entryInode isEmpty folded sameByte sameName spelled nameLength entryName legalEntry entryFor plainByte isDots legalName blockOf putInBlock zeroBlock blocksUsed bytesPlace isLong furtherOf kthBy rowBy putKth putRow freeInode namedBy lowestBy longBut across added grown kept lowestFrom nthFree zeroBlocks putBlocks taken extended cutBlocks headerOf putFree putComplete putHeader headerRestZero kindOf spareOf linksOf sizeOf parentOf putLinks attributeEntry putAttributes addressOf putAddress addressesOf putAddresses inodeOf putInode slots slotAt entryOf slotHasName findSlot slotEmpty emptySlot putEntry clearEntry deskOf putDesk copiedOf putCopied marksOf putMarks markOf setMark clearMark clearNotes sameNames namingB newNameB entryB attributesB addressesB zeroTailB inodeB countedB leadB isSlot entryAt filled naming allowed deskAllowed framedB headerB freeCountsB blankBlockB blanksB bodyB isSound enter created written dropLink unlinked setParent moved putFile addBlock putSize zeroRest cutTo isKind zeroInode lessFree moreFree createPlan writePlan shortenPlan holdsNone unlinkPlan isBelow renameTo renameNewPlan roomIn makeRoom freshHeader emptyRoot freshStore freshDesk startImage startDesk nextInode targetBlock lockedStep freeStep stepOf copiedEntry copiedEntries copiedBlock putCounts finishImage deskFramed imageBlocks imageAllowed isRunning blocksFit deskFits lacksAddresses imageFits notesFit hasSlot slotNames inodeNamed outcome next run started start step isCopied noteMade noteTaken cutsImage cutImage zeroed guardOf locksAny threeGuards startGuards decision live cutEntries clearMarks setMarks entered linkedFrom linked linkPlan behind behindAll entriesFrom rootWith joined inodeIs pairs
 to-24 = refl
 
 to-34 : behindAll (linkedFrom 121 10) (rootWith 24 6 (255 ∷ 255 ∷ 255 ∷ 0 ∷ 0 ∷ 0 ∷ 0 ∷ 0 ∷ [])) ≡ rootWith 34 9 (255 ∷ 255 ∷ 255 ∷ 255 ∷ 3 ∷ 0 ∷ 0 ∷ 0 ∷ [])
-unfolding fresh desk.deskRestZero allBelow someBelow leadsB count firstFrom first table part splice numAt toBytes putNum wordBytes digit marked withMark withoutMark entryInode isEmpty folded sameByte sameName spelled nameLength entryName legalEntry entryFor plainByte isDots legalName blockOf putInBlock zeroBlock blocksUsed bytesPlace isLong furtherOf kthBy rowBy putKth putRow freeInode namedBy lowestBy longBut across added grown kept lowestFrom nthFree zeroBlocks putBlocks taken extended cutBlocks headerOf putFree putComplete putHeader headerRestZero kindOf spareOf linksOf sizeOf parentOf putLinks attributeEntry putAttributes addressOf putAddress addressesOf putAddresses inodeOf putInode slots slotAt entryOf slotHasName findSlot slotEmpty emptySlot putEntry clearEntry deskOf putDesk copiedOf putCopied marksOf putMarks markOf setMark clearMark clearNotes sameNames namingB newNameB entryB attributesB addressesB zeroTailB inodeB countedB leadB isSlot entryAt filled naming allowed deskAllowed framedB headerB freeCountsB blankBlockB blanksB bodyB isSound enter created written dropLink unlinked setParent moved putFile addBlock putSize zeroRest cutTo isKind zeroInode lessFree moreFree createPlan writePlan shortenPlan holdsNone unlinkPlan isBelow renameTo renamePlan roomIn makeRoom freshHeader emptyRoot freshStore freshDesk startImage startDesk nextInode targetBlock lockedStep freeStep stepOf copiedEntry copiedEntries copiedBlock putCounts finishImage deskFramed imageBlocks imageAllowed isRunning blocksFit deskFits lacksAddresses imageFits notesFit hasSlot slotNames inodeNamed outcome next run started start step isCopied noteMade noteTaken cutsImage cutImage zeroed guardOf locksAny threeGuards startGuards decision live cutEntries clearMarks setMarks entered linkedFrom linked linkPlan behind behindAll entriesFrom rootWith joined inodeIs pairs
+unfolding fresh desk.deskRestZero allBelow someBelow leadsB count firstFrom first table part splice numAt toBytes putNum wordBytes digit marked withMark withoutMark entryInode isEmpty folded sameByte sameName spelled nameLength entryName legalEntry entryFor plainByte isDots legalName blockOf putInBlock zeroBlock blocksUsed bytesPlace isLong furtherOf kthBy rowBy putKth putRow freeInode namedBy lowestBy longBut across added grown kept lowestFrom nthFree zeroBlocks putBlocks taken extended cutBlocks headerOf putFree putComplete putHeader headerRestZero kindOf spareOf linksOf sizeOf parentOf putLinks attributeEntry putAttributes addressOf putAddress addressesOf putAddresses inodeOf putInode slots slotAt entryOf slotHasName findSlot slotEmpty emptySlot putEntry clearEntry deskOf putDesk copiedOf putCopied marksOf putMarks markOf setMark clearMark clearNotes sameNames namingB newNameB entryB attributesB addressesB zeroTailB inodeB countedB leadB isSlot entryAt filled naming allowed deskAllowed framedB headerB freeCountsB blankBlockB blanksB bodyB isSound enter created written dropLink unlinked setParent moved putFile addBlock putSize zeroRest cutTo isKind zeroInode lessFree moreFree createPlan writePlan shortenPlan holdsNone unlinkPlan isBelow renameTo renameNewPlan roomIn makeRoom freshHeader emptyRoot freshStore freshDesk startImage startDesk nextInode targetBlock lockedStep freeStep stepOf copiedEntry copiedEntries copiedBlock putCounts finishImage deskFramed imageBlocks imageAllowed isRunning blocksFit deskFits lacksAddresses imageFits notesFit hasSlot slotNames inodeNamed outcome next run started start step isCopied noteMade noteTaken cutsImage cutImage zeroed guardOf locksAny threeGuards startGuards decision live cutEntries clearMarks setMarks entered linkedFrom linked linkPlan behind behindAll entriesFrom rootWith joined inodeIs pairs
 to-34 = refl
 
 to-44 : behindAll (linkedFrom 131 10) (rootWith 34 9 (255 ∷ 255 ∷ 255 ∷ 255 ∷ 3 ∷ 0 ∷ 0 ∷ 0 ∷ [])) ≡ rootWith 44 11 (255 ∷ 255 ∷ 255 ∷ 255 ∷ 255 ∷ 15 ∷ 0 ∷ 0 ∷ [])
-unfolding fresh desk.deskRestZero allBelow someBelow leadsB count firstFrom first table part splice numAt toBytes putNum wordBytes digit marked withMark withoutMark entryInode isEmpty folded sameByte sameName spelled nameLength entryName legalEntry entryFor plainByte isDots legalName blockOf putInBlock zeroBlock blocksUsed bytesPlace isLong furtherOf kthBy rowBy putKth putRow freeInode namedBy lowestBy longBut across added grown kept lowestFrom nthFree zeroBlocks putBlocks taken extended cutBlocks headerOf putFree putComplete putHeader headerRestZero kindOf spareOf linksOf sizeOf parentOf putLinks attributeEntry putAttributes addressOf putAddress addressesOf putAddresses inodeOf putInode slots slotAt entryOf slotHasName findSlot slotEmpty emptySlot putEntry clearEntry deskOf putDesk copiedOf putCopied marksOf putMarks markOf setMark clearMark clearNotes sameNames namingB newNameB entryB attributesB addressesB zeroTailB inodeB countedB leadB isSlot entryAt filled naming allowed deskAllowed framedB headerB freeCountsB blankBlockB blanksB bodyB isSound enter created written dropLink unlinked setParent moved putFile addBlock putSize zeroRest cutTo isKind zeroInode lessFree moreFree createPlan writePlan shortenPlan holdsNone unlinkPlan isBelow renameTo renamePlan roomIn makeRoom freshHeader emptyRoot freshStore freshDesk startImage startDesk nextInode targetBlock lockedStep freeStep stepOf copiedEntry copiedEntries copiedBlock putCounts finishImage deskFramed imageBlocks imageAllowed isRunning blocksFit deskFits lacksAddresses imageFits notesFit hasSlot slotNames inodeNamed outcome next run started start step isCopied noteMade noteTaken cutsImage cutImage zeroed guardOf locksAny threeGuards startGuards decision live cutEntries clearMarks setMarks entered linkedFrom linked linkPlan behind behindAll entriesFrom rootWith joined inodeIs pairs
+unfolding fresh desk.deskRestZero allBelow someBelow leadsB count firstFrom first table part splice numAt toBytes putNum wordBytes digit marked withMark withoutMark entryInode isEmpty folded sameByte sameName spelled nameLength entryName legalEntry entryFor plainByte isDots legalName blockOf putInBlock zeroBlock blocksUsed bytesPlace isLong furtherOf kthBy rowBy putKth putRow freeInode namedBy lowestBy longBut across added grown kept lowestFrom nthFree zeroBlocks putBlocks taken extended cutBlocks headerOf putFree putComplete putHeader headerRestZero kindOf spareOf linksOf sizeOf parentOf putLinks attributeEntry putAttributes addressOf putAddress addressesOf putAddresses inodeOf putInode slots slotAt entryOf slotHasName findSlot slotEmpty emptySlot putEntry clearEntry deskOf putDesk copiedOf putCopied marksOf putMarks markOf setMark clearMark clearNotes sameNames namingB newNameB entryB attributesB addressesB zeroTailB inodeB countedB leadB isSlot entryAt filled naming allowed deskAllowed framedB headerB freeCountsB blankBlockB blanksB bodyB isSound enter created written dropLink unlinked setParent moved putFile addBlock putSize zeroRest cutTo isKind zeroInode lessFree moreFree createPlan writePlan shortenPlan holdsNone unlinkPlan isBelow renameTo renameNewPlan roomIn makeRoom freshHeader emptyRoot freshStore freshDesk startImage startDesk nextInode targetBlock lockedStep freeStep stepOf copiedEntry copiedEntries copiedBlock putCounts finishImage deskFramed imageBlocks imageAllowed isRunning blocksFit deskFits lacksAddresses imageFits notesFit hasSlot slotNames inodeNamed outcome next run started start step isCopied noteMade noteTaken cutsImage cutImage zeroed guardOf locksAny threeGuards startGuards decision live cutEntries clearMarks setMarks entered linkedFrom linked linkPlan behind behindAll entriesFrom rootWith joined inodeIs pairs
 to-44 = refl
 
 to-45 : behindAll (linkedFrom 141 1) (rootWith 44 11 (255 ∷ 255 ∷ 255 ∷ 255 ∷ 255 ∷ 15 ∷ 0 ∷ 0 ∷ [])) ≡ rootWith 45 12 (255 ∷ 255 ∷ 255 ∷ 255 ∷ 255 ∷ 31 ∷ 0 ∷ 0 ∷ [])
-unfolding fresh desk.deskRestZero allBelow someBelow leadsB count firstFrom first table part splice numAt toBytes putNum wordBytes digit marked withMark withoutMark entryInode isEmpty folded sameByte sameName spelled nameLength entryName legalEntry entryFor plainByte isDots legalName blockOf putInBlock zeroBlock blocksUsed bytesPlace isLong furtherOf kthBy rowBy putKth putRow freeInode namedBy lowestBy longBut across added grown kept lowestFrom nthFree zeroBlocks putBlocks taken extended cutBlocks headerOf putFree putComplete putHeader headerRestZero kindOf spareOf linksOf sizeOf parentOf putLinks attributeEntry putAttributes addressOf putAddress addressesOf putAddresses inodeOf putInode slots slotAt entryOf slotHasName findSlot slotEmpty emptySlot putEntry clearEntry deskOf putDesk copiedOf putCopied marksOf putMarks markOf setMark clearMark clearNotes sameNames namingB newNameB entryB attributesB addressesB zeroTailB inodeB countedB leadB isSlot entryAt filled naming allowed deskAllowed framedB headerB freeCountsB blankBlockB blanksB bodyB isSound enter created written dropLink unlinked setParent moved putFile addBlock putSize zeroRest cutTo isKind zeroInode lessFree moreFree createPlan writePlan shortenPlan holdsNone unlinkPlan isBelow renameTo renamePlan roomIn makeRoom freshHeader emptyRoot freshStore freshDesk startImage startDesk nextInode targetBlock lockedStep freeStep stepOf copiedEntry copiedEntries copiedBlock putCounts finishImage deskFramed imageBlocks imageAllowed isRunning blocksFit deskFits lacksAddresses imageFits notesFit hasSlot slotNames inodeNamed outcome next run started start step isCopied noteMade noteTaken cutsImage cutImage zeroed guardOf locksAny threeGuards startGuards decision live cutEntries clearMarks setMarks entered linkedFrom linked linkPlan behind behindAll entriesFrom rootWith joined inodeIs pairs
+unfolding fresh desk.deskRestZero allBelow someBelow leadsB count firstFrom first table part splice numAt toBytes putNum wordBytes digit marked withMark withoutMark entryInode isEmpty folded sameByte sameName spelled nameLength entryName legalEntry entryFor plainByte isDots legalName blockOf putInBlock zeroBlock blocksUsed bytesPlace isLong furtherOf kthBy rowBy putKth putRow freeInode namedBy lowestBy longBut across added grown kept lowestFrom nthFree zeroBlocks putBlocks taken extended cutBlocks headerOf putFree putComplete putHeader headerRestZero kindOf spareOf linksOf sizeOf parentOf putLinks attributeEntry putAttributes addressOf putAddress addressesOf putAddresses inodeOf putInode slots slotAt entryOf slotHasName findSlot slotEmpty emptySlot putEntry clearEntry deskOf putDesk copiedOf putCopied marksOf putMarks markOf setMark clearMark clearNotes sameNames namingB newNameB entryB attributesB addressesB zeroTailB inodeB countedB leadB isSlot entryAt filled naming allowed deskAllowed framedB headerB freeCountsB blankBlockB blanksB bodyB isSound enter created written dropLink unlinked setParent moved putFile addBlock putSize zeroRest cutTo isKind zeroInode lessFree moreFree createPlan writePlan shortenPlan holdsNone unlinkPlan isBelow renameTo renameNewPlan roomIn makeRoom freshHeader emptyRoot freshStore freshDesk startImage startDesk nextInode targetBlock lockedStep freeStep stepOf copiedEntry copiedEntries copiedBlock putCounts finishImage deskFramed imageBlocks imageAllowed isRunning blocksFit deskFits lacksAddresses imageFits notesFit hasSlot slotNames inodeNamed outcome next run started start step isCopied noteMade noteTaken cutsImage cutImage zeroed guardOf locksAny threeGuards startGuards decision live cutEntries clearMarks setMarks entered linkedFrom linked linkPlan behind behindAll entriesFrom rootWith joined inodeIs pairs
 to-45 = refl
 
 to-47 : behindAll (linkedFrom 142 2) (rootWith 45 12 (255 ∷ 255 ∷ 255 ∷ 255 ∷ 255 ∷ 31 ∷ 0 ∷ 0 ∷ [])) ≡ rootWith 47 12 (255 ∷ 255 ∷ 255 ∷ 255 ∷ 255 ∷ 127 ∷ 0 ∷ 0 ∷ [])
-unfolding fresh desk.deskRestZero allBelow someBelow leadsB count firstFrom first table part splice numAt toBytes putNum wordBytes digit marked withMark withoutMark entryInode isEmpty folded sameByte sameName spelled nameLength entryName legalEntry entryFor plainByte isDots legalName blockOf putInBlock zeroBlock blocksUsed bytesPlace isLong furtherOf kthBy rowBy putKth putRow freeInode namedBy lowestBy longBut across added grown kept lowestFrom nthFree zeroBlocks putBlocks taken extended cutBlocks headerOf putFree putComplete putHeader headerRestZero kindOf spareOf linksOf sizeOf parentOf putLinks attributeEntry putAttributes addressOf putAddress addressesOf putAddresses inodeOf putInode slots slotAt entryOf slotHasName findSlot slotEmpty emptySlot putEntry clearEntry deskOf putDesk copiedOf putCopied marksOf putMarks markOf setMark clearMark clearNotes sameNames namingB newNameB entryB attributesB addressesB zeroTailB inodeB countedB leadB isSlot entryAt filled naming allowed deskAllowed framedB headerB freeCountsB blankBlockB blanksB bodyB isSound enter created written dropLink unlinked setParent moved putFile addBlock putSize zeroRest cutTo isKind zeroInode lessFree moreFree createPlan writePlan shortenPlan holdsNone unlinkPlan isBelow renameTo renamePlan roomIn makeRoom freshHeader emptyRoot freshStore freshDesk startImage startDesk nextInode targetBlock lockedStep freeStep stepOf copiedEntry copiedEntries copiedBlock putCounts finishImage deskFramed imageBlocks imageAllowed isRunning blocksFit deskFits lacksAddresses imageFits notesFit hasSlot slotNames inodeNamed outcome next run started start step isCopied noteMade noteTaken cutsImage cutImage zeroed guardOf locksAny threeGuards startGuards decision live cutEntries clearMarks setMarks entered linkedFrom linked linkPlan behind behindAll entriesFrom rootWith joined inodeIs pairs
+unfolding fresh desk.deskRestZero allBelow someBelow leadsB count firstFrom first table part splice numAt toBytes putNum wordBytes digit marked withMark withoutMark entryInode isEmpty folded sameByte sameName spelled nameLength entryName legalEntry entryFor plainByte isDots legalName blockOf putInBlock zeroBlock blocksUsed bytesPlace isLong furtherOf kthBy rowBy putKth putRow freeInode namedBy lowestBy longBut across added grown kept lowestFrom nthFree zeroBlocks putBlocks taken extended cutBlocks headerOf putFree putComplete putHeader headerRestZero kindOf spareOf linksOf sizeOf parentOf putLinks attributeEntry putAttributes addressOf putAddress addressesOf putAddresses inodeOf putInode slots slotAt entryOf slotHasName findSlot slotEmpty emptySlot putEntry clearEntry deskOf putDesk copiedOf putCopied marksOf putMarks markOf setMark clearMark clearNotes sameNames namingB newNameB entryB attributesB addressesB zeroTailB inodeB countedB leadB isSlot entryAt filled naming allowed deskAllowed framedB headerB freeCountsB blankBlockB blanksB bodyB isSound enter created written dropLink unlinked setParent moved putFile addBlock putSize zeroRest cutTo isKind zeroInode lessFree moreFree createPlan writePlan shortenPlan holdsNone unlinkPlan isBelow renameTo renameNewPlan roomIn makeRoom freshHeader emptyRoot freshStore freshDesk startImage startDesk nextInode targetBlock lockedStep freeStep stepOf copiedEntry copiedEntries copiedBlock putCounts finishImage deskFramed imageBlocks imageAllowed isRunning blocksFit deskFits lacksAddresses imageFits notesFit hasSlot slotNames inodeNamed outcome next run started start step isCopied noteMade noteTaken cutsImage cutImage zeroed guardOf locksAny threeGuards startGuards decision live cutEntries clearMarks setMarks entered linkedFrom linked linkPlan behind behindAll entriesFrom rootWith joined inodeIs pairs
 to-47 = refl
 
 to-48 : behindAll (linkedFrom 144 1) (rootWith 47 12 (255 ∷ 255 ∷ 255 ∷ 255 ∷ 255 ∷ 127 ∷ 0 ∷ 0 ∷ [])) ≡ rootWith 48 12 (255 ∷ 255 ∷ 255 ∷ 255 ∷ 255 ∷ 255 ∷ 0 ∷ 0 ∷ [])
-unfolding fresh desk.deskRestZero allBelow someBelow leadsB count firstFrom first table part splice numAt toBytes putNum wordBytes digit marked withMark withoutMark entryInode isEmpty folded sameByte sameName spelled nameLength entryName legalEntry entryFor plainByte isDots legalName blockOf putInBlock zeroBlock blocksUsed bytesPlace isLong furtherOf kthBy rowBy putKth putRow freeInode namedBy lowestBy longBut across added grown kept lowestFrom nthFree zeroBlocks putBlocks taken extended cutBlocks headerOf putFree putComplete putHeader headerRestZero kindOf spareOf linksOf sizeOf parentOf putLinks attributeEntry putAttributes addressOf putAddress addressesOf putAddresses inodeOf putInode slots slotAt entryOf slotHasName findSlot slotEmpty emptySlot putEntry clearEntry deskOf putDesk copiedOf putCopied marksOf putMarks markOf setMark clearMark clearNotes sameNames namingB newNameB entryB attributesB addressesB zeroTailB inodeB countedB leadB isSlot entryAt filled naming allowed deskAllowed framedB headerB freeCountsB blankBlockB blanksB bodyB isSound enter created written dropLink unlinked setParent moved putFile addBlock putSize zeroRest cutTo isKind zeroInode lessFree moreFree createPlan writePlan shortenPlan holdsNone unlinkPlan isBelow renameTo renamePlan roomIn makeRoom freshHeader emptyRoot freshStore freshDesk startImage startDesk nextInode targetBlock lockedStep freeStep stepOf copiedEntry copiedEntries copiedBlock putCounts finishImage deskFramed imageBlocks imageAllowed isRunning blocksFit deskFits lacksAddresses imageFits notesFit hasSlot slotNames inodeNamed outcome next run started start step isCopied noteMade noteTaken cutsImage cutImage zeroed guardOf locksAny threeGuards startGuards decision live cutEntries clearMarks setMarks entered linkedFrom linked linkPlan behind behindAll entriesFrom rootWith joined inodeIs pairs
+unfolding fresh desk.deskRestZero allBelow someBelow leadsB count firstFrom first table part splice numAt toBytes putNum wordBytes digit marked withMark withoutMark entryInode isEmpty folded sameByte sameName spelled nameLength entryName legalEntry entryFor plainByte isDots legalName blockOf putInBlock zeroBlock blocksUsed bytesPlace isLong furtherOf kthBy rowBy putKth putRow freeInode namedBy lowestBy longBut across added grown kept lowestFrom nthFree zeroBlocks putBlocks taken extended cutBlocks headerOf putFree putComplete putHeader headerRestZero kindOf spareOf linksOf sizeOf parentOf putLinks attributeEntry putAttributes addressOf putAddress addressesOf putAddresses inodeOf putInode slots slotAt entryOf slotHasName findSlot slotEmpty emptySlot putEntry clearEntry deskOf putDesk copiedOf putCopied marksOf putMarks markOf setMark clearMark clearNotes sameNames namingB newNameB entryB attributesB addressesB zeroTailB inodeB countedB leadB isSlot entryAt filled naming allowed deskAllowed framedB headerB freeCountsB blankBlockB blanksB bodyB isSound enter created written dropLink unlinked setParent moved putFile addBlock putSize zeroRest cutTo isKind zeroInode lessFree moreFree createPlan writePlan shortenPlan holdsNone unlinkPlan isBelow renameTo renameNewPlan roomIn makeRoom freshHeader emptyRoot freshStore freshDesk startImage startDesk nextInode targetBlock lockedStep freeStep stepOf copiedEntry copiedEntries copiedBlock putCounts finishImage deskFramed imageBlocks imageAllowed isRunning blocksFit deskFits lacksAddresses imageFits notesFit hasSlot slotNames inodeNamed outcome next run started start step isCopied noteMade noteTaken cutsImage cutImage zeroed guardOf locksAny threeGuards startGuards decision live cutEntries clearMarks setMarks entered linkedFrom linked linkPlan behind behindAll entriesFrom rootWith joined inodeIs pairs
 to-48 = refl
 
 -- together: behind the guards, and so by the calls
@@ -160,19 +160,19 @@ unfolding run
 ran k w e = behind-run 3 13 (entered k) (next starts (fresh 3 13)) going ∙ ap (behindAll (entered k)) (opening .is) ∙ e
 
 eleven : blocksUsed (sizeOf ((rootWith 44 11 (255 ∷ 255 ∷ 255 ∷ 255 ∷ 255 ∷ 15 ∷ 0 ∷ 0 ∷ [])) .store) 1) ≡ 11
-unfolding fresh desk.deskRestZero allBelow someBelow leadsB count firstFrom first table part splice numAt toBytes putNum wordBytes digit marked withMark withoutMark entryInode isEmpty folded sameByte sameName spelled nameLength entryName legalEntry entryFor plainByte isDots legalName blockOf putInBlock zeroBlock blocksUsed bytesPlace isLong furtherOf kthBy rowBy putKth putRow freeInode namedBy lowestBy longBut across added grown kept lowestFrom nthFree zeroBlocks putBlocks taken extended cutBlocks headerOf putFree putComplete putHeader headerRestZero kindOf spareOf linksOf sizeOf parentOf putLinks attributeEntry putAttributes addressOf putAddress addressesOf putAddresses inodeOf putInode slots slotAt entryOf slotHasName findSlot slotEmpty emptySlot putEntry clearEntry deskOf putDesk copiedOf putCopied marksOf putMarks markOf setMark clearMark clearNotes sameNames namingB newNameB entryB attributesB addressesB zeroTailB inodeB countedB leadB isSlot entryAt filled naming allowed deskAllowed framedB headerB freeCountsB blankBlockB blanksB bodyB isSound enter created written dropLink unlinked setParent moved putFile addBlock putSize zeroRest cutTo isKind zeroInode lessFree moreFree createPlan writePlan shortenPlan holdsNone unlinkPlan isBelow renameTo renamePlan roomIn makeRoom freshHeader emptyRoot freshStore freshDesk startImage startDesk nextInode targetBlock lockedStep freeStep stepOf copiedEntry copiedEntries copiedBlock putCounts finishImage deskFramed imageBlocks imageAllowed isRunning blocksFit deskFits lacksAddresses imageFits notesFit hasSlot slotNames inodeNamed outcome next run started start step isCopied noteMade noteTaken cutsImage cutImage zeroed guardOf locksAny threeGuards startGuards decision live cutEntries clearMarks setMarks entered linkedFrom linked linkPlan behind behindAll entriesFrom rootWith joined inodeIs pairs
+unfolding fresh desk.deskRestZero allBelow someBelow leadsB count firstFrom first table part splice numAt toBytes putNum wordBytes digit marked withMark withoutMark entryInode isEmpty folded sameByte sameName spelled nameLength entryName legalEntry entryFor plainByte isDots legalName blockOf putInBlock zeroBlock blocksUsed bytesPlace isLong furtherOf kthBy rowBy putKth putRow freeInode namedBy lowestBy longBut across added grown kept lowestFrom nthFree zeroBlocks putBlocks taken extended cutBlocks headerOf putFree putComplete putHeader headerRestZero kindOf spareOf linksOf sizeOf parentOf putLinks attributeEntry putAttributes addressOf putAddress addressesOf putAddresses inodeOf putInode slots slotAt entryOf slotHasName findSlot slotEmpty emptySlot putEntry clearEntry deskOf putDesk copiedOf putCopied marksOf putMarks markOf setMark clearMark clearNotes sameNames namingB newNameB entryB attributesB addressesB zeroTailB inodeB countedB leadB isSlot entryAt filled naming allowed deskAllowed framedB headerB freeCountsB blankBlockB blanksB bodyB isSound enter created written dropLink unlinked setParent moved putFile addBlock putSize zeroRest cutTo isKind zeroInode lessFree moreFree createPlan writePlan shortenPlan holdsNone unlinkPlan isBelow renameTo renameNewPlan roomIn makeRoom freshHeader emptyRoot freshStore freshDesk startImage startDesk nextInode targetBlock lockedStep freeStep stepOf copiedEntry copiedEntries copiedBlock putCounts finishImage deskFramed imageBlocks imageAllowed isRunning blocksFit deskFits lacksAddresses imageFits notesFit hasSlot slotNames inodeNamed outcome next run started start step isCopied noteMade noteTaken cutsImage cutImage zeroed guardOf locksAny threeGuards startGuards decision live cutEntries clearMarks setMarks entered linkedFrom linked linkPlan behind behindAll entriesFrom rootWith joined inodeIs pairs
 eleven = refl
 
 twelve : blocksUsed (sizeOf ((rootWith 45 12 (255 ∷ 255 ∷ 255 ∷ 255 ∷ 255 ∷ 31 ∷ 0 ∷ 0 ∷ [])) .store) 1) ≡ 12
-unfolding fresh desk.deskRestZero allBelow someBelow leadsB count firstFrom first table part splice numAt toBytes putNum wordBytes digit marked withMark withoutMark entryInode isEmpty folded sameByte sameName spelled nameLength entryName legalEntry entryFor plainByte isDots legalName blockOf putInBlock zeroBlock blocksUsed bytesPlace isLong furtherOf kthBy rowBy putKth putRow freeInode namedBy lowestBy longBut across added grown kept lowestFrom nthFree zeroBlocks putBlocks taken extended cutBlocks headerOf putFree putComplete putHeader headerRestZero kindOf spareOf linksOf sizeOf parentOf putLinks attributeEntry putAttributes addressOf putAddress addressesOf putAddresses inodeOf putInode slots slotAt entryOf slotHasName findSlot slotEmpty emptySlot putEntry clearEntry deskOf putDesk copiedOf putCopied marksOf putMarks markOf setMark clearMark clearNotes sameNames namingB newNameB entryB attributesB addressesB zeroTailB inodeB countedB leadB isSlot entryAt filled naming allowed deskAllowed framedB headerB freeCountsB blankBlockB blanksB bodyB isSound enter created written dropLink unlinked setParent moved putFile addBlock putSize zeroRest cutTo isKind zeroInode lessFree moreFree createPlan writePlan shortenPlan holdsNone unlinkPlan isBelow renameTo renamePlan roomIn makeRoom freshHeader emptyRoot freshStore freshDesk startImage startDesk nextInode targetBlock lockedStep freeStep stepOf copiedEntry copiedEntries copiedBlock putCounts finishImage deskFramed imageBlocks imageAllowed isRunning blocksFit deskFits lacksAddresses imageFits notesFit hasSlot slotNames inodeNamed outcome next run started start step isCopied noteMade noteTaken cutsImage cutImage zeroed guardOf locksAny threeGuards startGuards decision live cutEntries clearMarks setMarks entered linkedFrom linked linkPlan behind behindAll entriesFrom rootWith joined inodeIs pairs
+unfolding fresh desk.deskRestZero allBelow someBelow leadsB count firstFrom first table part splice numAt toBytes putNum wordBytes digit marked withMark withoutMark entryInode isEmpty folded sameByte sameName spelled nameLength entryName legalEntry entryFor plainByte isDots legalName blockOf putInBlock zeroBlock blocksUsed bytesPlace isLong furtherOf kthBy rowBy putKth putRow freeInode namedBy lowestBy longBut across added grown kept lowestFrom nthFree zeroBlocks putBlocks taken extended cutBlocks headerOf putFree putComplete putHeader headerRestZero kindOf spareOf linksOf sizeOf parentOf putLinks attributeEntry putAttributes addressOf putAddress addressesOf putAddresses inodeOf putInode slots slotAt entryOf slotHasName findSlot slotEmpty emptySlot putEntry clearEntry deskOf putDesk copiedOf putCopied marksOf putMarks markOf setMark clearMark clearNotes sameNames namingB newNameB entryB attributesB addressesB zeroTailB inodeB countedB leadB isSlot entryAt filled naming allowed deskAllowed framedB headerB freeCountsB blankBlockB blanksB bodyB isSound enter created written dropLink unlinked setParent moved putFile addBlock putSize zeroRest cutTo isKind zeroInode lessFree moreFree createPlan writePlan shortenPlan holdsNone unlinkPlan isBelow renameTo renameNewPlan roomIn makeRoom freshHeader emptyRoot freshStore freshDesk startImage startDesk nextInode targetBlock lockedStep freeStep stepOf copiedEntry copiedEntries copiedBlock putCounts finishImage deskFramed imageBlocks imageAllowed isRunning blocksFit deskFits lacksAddresses imageFits notesFit hasSlot slotNames inodeNamed outcome next run started start step isCopied noteMade noteTaken cutsImage cutImage zeroed guardOf locksAny threeGuards startGuards decision live cutEntries clearMarks setMarks entered linkedFrom linked linkPlan behind behindAll entriesFrom rootWith joined inodeIs pairs
 twelve = refl
 
 one-more : outcome (call (create 1 (96 ∷ []) File)) (rootWith 47 12 (255 ∷ 255 ∷ 255 ∷ 255 ∷ 255 ∷ 127 ∷ 0 ∷ 0 ∷ [])) .answer ≡ told (Done 3)
-unfolding fresh desk.deskRestZero allBelow someBelow leadsB count firstFrom first table part splice numAt toBytes putNum wordBytes digit marked withMark withoutMark entryInode isEmpty folded sameByte sameName spelled nameLength entryName legalEntry entryFor plainByte isDots legalName blockOf putInBlock zeroBlock blocksUsed bytesPlace isLong furtherOf kthBy rowBy putKth putRow freeInode namedBy lowestBy longBut across added grown kept lowestFrom nthFree zeroBlocks putBlocks taken extended cutBlocks headerOf putFree putComplete putHeader headerRestZero kindOf spareOf linksOf sizeOf parentOf putLinks attributeEntry putAttributes addressOf putAddress addressesOf putAddresses inodeOf putInode slots slotAt entryOf slotHasName findSlot slotEmpty emptySlot putEntry clearEntry deskOf putDesk copiedOf putCopied marksOf putMarks markOf setMark clearMark clearNotes sameNames namingB newNameB entryB attributesB addressesB zeroTailB inodeB countedB leadB isSlot entryAt filled naming allowed deskAllowed framedB headerB freeCountsB blankBlockB blanksB bodyB isSound enter created written dropLink unlinked setParent moved putFile addBlock putSize zeroRest cutTo isKind zeroInode lessFree moreFree createPlan writePlan shortenPlan holdsNone unlinkPlan isBelow renameTo renamePlan roomIn makeRoom freshHeader emptyRoot freshStore freshDesk startImage startDesk nextInode targetBlock lockedStep freeStep stepOf copiedEntry copiedEntries copiedBlock putCounts finishImage deskFramed imageBlocks imageAllowed isRunning blocksFit deskFits lacksAddresses imageFits notesFit hasSlot slotNames inodeNamed outcome next run started start step isCopied noteMade noteTaken cutsImage cutImage zeroed guardOf locksAny threeGuards startGuards decision live cutEntries clearMarks setMarks entered linkedFrom linked linkPlan behind behindAll entriesFrom rootWith joined inodeIs pairs
+unfolding fresh desk.deskRestZero allBelow someBelow leadsB count firstFrom first table part splice numAt toBytes putNum wordBytes digit marked withMark withoutMark entryInode isEmpty folded sameByte sameName spelled nameLength entryName legalEntry entryFor plainByte isDots legalName blockOf putInBlock zeroBlock blocksUsed bytesPlace isLong furtherOf kthBy rowBy putKth putRow freeInode namedBy lowestBy longBut across added grown kept lowestFrom nthFree zeroBlocks putBlocks taken extended cutBlocks headerOf putFree putComplete putHeader headerRestZero kindOf spareOf linksOf sizeOf parentOf putLinks attributeEntry putAttributes addressOf putAddress addressesOf putAddresses inodeOf putInode slots slotAt entryOf slotHasName findSlot slotEmpty emptySlot putEntry clearEntry deskOf putDesk copiedOf putCopied marksOf putMarks markOf setMark clearMark clearNotes sameNames namingB newNameB entryB attributesB addressesB zeroTailB inodeB countedB leadB isSlot entryAt filled naming allowed deskAllowed framedB headerB freeCountsB blankBlockB blanksB bodyB isSound enter created written dropLink unlinked setParent moved putFile addBlock putSize zeroRest cutTo isKind zeroInode lessFree moreFree createPlan writePlan shortenPlan holdsNone unlinkPlan isBelow renameTo renameNewPlan roomIn makeRoom freshHeader emptyRoot freshStore freshDesk startImage startDesk nextInode targetBlock lockedStep freeStep stepOf copiedEntry copiedEntries copiedBlock putCounts finishImage deskFramed imageBlocks imageAllowed isRunning blocksFit deskFits lacksAddresses imageFits notesFit hasSlot slotNames inodeNamed outcome next run started start step isCopied noteMade noteTaken cutsImage cutImage zeroed guardOf locksAny threeGuards startGuards decision live cutEntries clearMarks setMarks entered linkedFrom linked linkPlan behind behindAll entriesFrom rootWith joined inodeIs pairs
 one-more = refl
 
 no-more : outcome (call (create 1 (96 ∷ []) File)) (rootWith 48 12 (255 ∷ 255 ∷ 255 ∷ 255 ∷ 255 ∷ 255 ∷ 0 ∷ 0 ∷ [])) .answer ≡ told (Refused NoSlot)
-unfolding fresh desk.deskRestZero allBelow someBelow leadsB count firstFrom first table part splice numAt toBytes putNum wordBytes digit marked withMark withoutMark entryInode isEmpty folded sameByte sameName spelled nameLength entryName legalEntry entryFor plainByte isDots legalName blockOf putInBlock zeroBlock blocksUsed bytesPlace isLong furtherOf kthBy rowBy putKth putRow freeInode namedBy lowestBy longBut across added grown kept lowestFrom nthFree zeroBlocks putBlocks taken extended cutBlocks headerOf putFree putComplete putHeader headerRestZero kindOf spareOf linksOf sizeOf parentOf putLinks attributeEntry putAttributes addressOf putAddress addressesOf putAddresses inodeOf putInode slots slotAt entryOf slotHasName findSlot slotEmpty emptySlot putEntry clearEntry deskOf putDesk copiedOf putCopied marksOf putMarks markOf setMark clearMark clearNotes sameNames namingB newNameB entryB attributesB addressesB zeroTailB inodeB countedB leadB isSlot entryAt filled naming allowed deskAllowed framedB headerB freeCountsB blankBlockB blanksB bodyB isSound enter created written dropLink unlinked setParent moved putFile addBlock putSize zeroRest cutTo isKind zeroInode lessFree moreFree createPlan writePlan shortenPlan holdsNone unlinkPlan isBelow renameTo renamePlan roomIn makeRoom freshHeader emptyRoot freshStore freshDesk startImage startDesk nextInode targetBlock lockedStep freeStep stepOf copiedEntry copiedEntries copiedBlock putCounts finishImage deskFramed imageBlocks imageAllowed isRunning blocksFit deskFits lacksAddresses imageFits notesFit hasSlot slotNames inodeNamed outcome next run started start step isCopied noteMade noteTaken cutsImage cutImage zeroed guardOf locksAny threeGuards startGuards decision live cutEntries clearMarks setMarks entered linkedFrom linked linkPlan behind behindAll entriesFrom rootWith joined inodeIs pairs
+unfolding fresh desk.deskRestZero allBelow someBelow leadsB count firstFrom first table part splice numAt toBytes putNum wordBytes digit marked withMark withoutMark entryInode isEmpty folded sameByte sameName spelled nameLength entryName legalEntry entryFor plainByte isDots legalName blockOf putInBlock zeroBlock blocksUsed bytesPlace isLong furtherOf kthBy rowBy putKth putRow freeInode namedBy lowestBy longBut across added grown kept lowestFrom nthFree zeroBlocks putBlocks taken extended cutBlocks headerOf putFree putComplete putHeader headerRestZero kindOf spareOf linksOf sizeOf parentOf putLinks attributeEntry putAttributes addressOf putAddress addressesOf putAddresses inodeOf putInode slots slotAt entryOf slotHasName findSlot slotEmpty emptySlot putEntry clearEntry deskOf putDesk copiedOf putCopied marksOf putMarks markOf setMark clearMark clearNotes sameNames namingB newNameB entryB attributesB addressesB zeroTailB inodeB countedB leadB isSlot entryAt filled naming allowed deskAllowed framedB headerB freeCountsB blankBlockB blanksB bodyB isSound enter created written dropLink unlinked setParent moved putFile addBlock putSize zeroRest cutTo isKind zeroInode lessFree moreFree createPlan writePlan shortenPlan holdsNone unlinkPlan isBelow renameTo renameNewPlan roomIn makeRoom freshHeader emptyRoot freshStore freshDesk startImage startDesk nextInode targetBlock lockedStep freeStep stepOf copiedEntry copiedEntries copiedBlock putCounts finishImage deskFramed imageBlocks imageAllowed isRunning blocksFit deskFits lacksAddresses imageFits notesFit hasSlot slotNames inodeNamed outcome next run started start step isCopied noteMade noteTaken cutsImage cutImage zeroed guardOf locksAny threeGuards startGuards decision live cutEntries clearMarks setMarks entered linkedFrom linked linkPlan behind behindAll entriesFrom rootWith joined inodeIs pairs
 no-more = refl
 
 pub twelfth-block : (blocksUsed (sizeOf (run (starts ∷ entered 44) (fresh 3 13) .store) 1) ≡ 11)

@@ -16,7 +16,7 @@ use Rattle.directory.specs.Slot.{mostSlots, slots, findSlot, emptySlot, slotEmp
 use Rattle.desk.specs.Sizes.{finished}
 use Rattle.desk.specs.Desk.{deskOf}
 use Rattle.desk.specs.Next.{locks}
-use Rattle.answers.specs.declared.Refusal.the-variants.{IllegalName, PastEnd, NoSlot, WrongState, IntoItself}
+use Rattle.answers.specs.declared.Refusal.the-variants.{IllegalName, NameTaken, NotEmpty, PastEnd, NoSlot, WrongState, IntoItself, KindsDiffer}
 use Rattle.answers.specs.Told.{told}
 use Rattle.answers.specs.declared.Answer.the-variants.{Done, Refused}
 use Rattle.sound.specs.Sound.{inodesIn, blocksIn}
@@ -24,11 +24,11 @@ use Rattle.sound.specs.Place.{naming}
 use Rattle.content.specs.Content.{fileBytes}
 use Rattle.entries.specs.declared.Kind.{Kind}
 use Rattle.entries.specs.declared.Kind.the-variants.{File}
-use Rattle.files.specs.Effect.{create, write, rename}
+use Rattle.files.specs.Effect.{lookUp, create, write, rename, renameNew}
 use Rattle.checkpoint.specs.Fit.{isRunning}
 use Rattle.checkpoint.specs.Live.{World}
 use Rattle.checkpoint.specs.List.{Ready, call, advances, starts, outcome, next, run, Finish}
-use Rattle.cases.specs.Worlds.{fresh, nameA, oneFile, tenBytes, entered, reusedBlock, overTheEdge, movedDirectory, unlinkedFile, parentAndChild}
+use Rattle.cases.specs.Worlds.{fresh, nameA, nameB, oneFile, tenBytes, entered, reusedBlock, overTheEdge, movedDirectory, unlinkedFile, parentAndChild, replacedFile, takenNames}
 
 -- the counts of the world's store
 abbrev pub inodes : World → ℕ
@@ -122,3 +122,16 @@ pub record TrackCases : Type 0 where
       → outcome starts w .answer ≡ told (Refused WrongState)
   -- "Directory moved into its child: 10."
   pub into-child : outcome (call (rename 1 nameA 3 nameA)) (run parentAndChild (fresh 3 3)) .answer ≡ told (Refused IntoItself)
+  -- F-3: "For the guarantee about untouched paths, being replaced is being unlinked.": no entry left, and that of the file that has the name now stays
+  pub replaced-file : (tally (naming (run replacedFile (fresh 3 1) .image) 3) (mostSlots * 3) 2 ≡ 0)
+      × (naming (run replacedFile (fresh 3 1) .image) 3 1 ≡ 3)
+  pub replaced-file-done : deskOf (run replacedFile (fresh 3 1) .desk) .state ≡ finished
+  -- F-3: "a rename onto a name taken by another entry unlinks this old holder and then renames": with no block and no inode to be had, the name stands for the file that has it now
+  pub onto-taken : outcome (call (lookUp 3 nameA)) (next (call (rename 1 nameB 3 nameA)) (run takenNames (fresh 5 3))) .answer ≡ told (Done 4)
+  -- F-3: "an old holder that is a directory and not empty gives 8, whichever kind comes"
+  pub onto-full : outcome (call (rename 1 nameB 1 nameA)) (run takenNames (fresh 5 3)) .answer ≡ told (Refused NotEmpty)
+  -- F-3: "18 when one name is a file's and the other a directory's; it comes after 10."
+  pub onto-other-kind : outcome (call (rename 1 nameA 1 nameB)) (run takenNames (fresh 5 3)) .answer ≡ told (Refused KindsDiffer)
+  pub into-child-taken : outcome (call (rename 1 nameA 3 nameA)) (run takenNames (fresh 5 3)) .answer ≡ told (Refused IntoItself)
+  -- F-3: "a file call of its own with the old rule"
+  pub recorder-keeps : outcome (call (renameNew 1 nameB 3 nameA)) (run takenNames (fresh 5 3)) .answer ≡ told (Refused NameTaken)

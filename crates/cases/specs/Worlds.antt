@@ -44,6 +44,18 @@ unlinkedFile = call (create 1 nameA File) ∷ starts ∷ advances ∷ advances �
 unfoldable pub parentAndChild : List Event
 parentAndChild = call (create 1 nameA Directory) ∷ call (create 2 nameB Directory) ∷ []
 
+-- F-3: two files in the root; when the root is copied, 3 gets the name of 2
+unfoldable pub replacedFile : List Event
+replacedFile =
+    call (create 1 nameA File) ∷ call (create 1 nameB File)
+    ∷ starts ∷ advances ∷ advances ∷ advances
+    ∷ call (rename 1 nameB 1 nameA)
+    ∷ advances ∷ advances ∷ advances ∷ []
+
+-- F-3: the root has the directory 2 by the name `a` and the file 4 by the name `b`, 2 has the directory 3, and 3 the file 5 by the name `a`
+unfoldable pub takenNames : List Event
+takenNames = call (create 1 nameA Directory) ∷ call (create 2 nameB Directory) ∷ call (create 1 nameB File) ∷ call (create 3 nameA File) ∷ []
+
 -- F-1, "Growing and shortening cross the edge both ways and free what they no longer use.": file 2 has 768 bytes in blocks 2 to 13, file 3 has 832 in blocks 14 to 27, of which 25 is its address block. With the root copied, 2 gets 64 bytes more; when
 -- twelve of its blocks are copied, 3 is cut to 768.
 unfoldable pub overTheEdge : List Event

@@ -6,4 +6,4 @@ pub mod CutEntries
 pub mod CutLaid
 pub mod CutLaws
 pub mod LiveLaws
-pub mod PartedLaws
+pub mod ThenLaws

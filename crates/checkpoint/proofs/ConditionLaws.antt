@@ -13,6 +13,9 @@ use Rattle.blocks.specs.Block.{blocksUsed}
 use Rattle.blocks.specs.Free.{freeBlock}
 use Rattle.directory.specs.Slot.{slots, emptySlot}
 use Rattle.sound.specs.Sound.{inodesIn, blocksIn}
+use Rattle.sound.specs.Counted.{SoundStore}
+use Rattle.sound.proofs.SoundLaws.{is-sound}
+use Rattle.preservation.proofs.StoreLaws.{sound-store}
 use Rattle.sound.specs.declared.Form.the-variants.{Store}
 use Rattle.sound.specs.Test.{framedB, isSound}
 use Rattle.answers.specs.declared.Refusal.{Refusal}
@@ -44,9 +47,12 @@ pub record Gives (x : Told) (rs : List Row) (a : Told) : Type 0 where
 
 -- ---- one condition more at the head of a table; h is the answer of what was decided
 module _ {A : Type 0} (h : A → Told) where
+  pub by-pick-if : (b : Bool) (x y : A) {e : Refusal} {rs : List Row} {a : Told} → h x ≡ told (Refused e) → (b ≡ false → Gives (h y) rs a) → Gives (h (pick b x y)) (row b e ∷ rs) a
+  by-pick-if true x y p q = record { first = p }
+  by-pick-if false x y p q = record { first = q refl .first }
+
   pub by-pick : (b : Bool) (x y : A) {e : Refusal} {rs : List Row} {a : Told} → h x ≡ told (Refused e) → Gives (h y) rs a → Gives (h (pick b x y)) (row b e ∷ rs) a
-  by-pick true x y p q = record { first = p }
-  by-pick false x y p q = record { first = q .first }
+  by-pick b x y p q = by-pick-if b x y p (λ _. q)
 
   -- what is found refuses
   pub by-found : (f : Found) (g : ℕ → A) (y : A) {e : Refusal} {rs : List Row} {a : Told}
@@ -55,26 +61,31 @@ module _ {A : Type 0} (h : A → Told) where
   by-found Absent g y p q = record { first = q .first }
 
   -- what is not found refuses
+  pub by-absent-if : (f : Found) (g : ℕ → A) (y : A) {e : Refusal} {rs : List Row} {a : Told}
+      → h y ≡ told (Refused e) → (f ≡ At (orZero f) → Gives (h (g (orZero f))) rs a) → Gives (h (onFound f g y)) (row (not (found f)) e ∷ rs) a
+  by-absent-if (At t) g y p q = record { first = q refl .first }
+  by-absent-if Absent g y p q = record { first = p }
+
   pub by-absent : (f : Found) (g : ℕ → A) (y : A) {e : Refusal} {rs : List Row} {a : Told}
       → h y ≡ told (Refused e) → Gives (h (g (orZero f))) rs a → Gives (h (onFound f g y)) (row (not (found f)) e ∷ rs) a
-  by-absent (At t) g y p q = record { first = q .first }
-  by-absent Absent g y p q = record { first = p }
+  by-absent f g y p q = by-absent-if f g y p (λ _. q)
 
   -- room for an entry more in the directory e
   pub by-room : (s : List ℕ) (e : ℕ) (f : Room → A) (g : Refusal → A) {rs : List Row} {a : Told}
-      → ((x : Refusal) → h (g x) ≡ told (Refused x))
+      → h (g NoBlocks) ≡ told (Refused NoBlocks)
+      → h (g NoSlot) ≡ told (Refused NoSlot)
       → ((r : Room) → Gives (h (f r)) rs a)
       → Gives (h (onRoom (roomIn s (inodesIn s) (blocksIn s) e) f g)) (row (noBlock s e) NoBlocks ∷ row (noSlot s e) NoSlot ∷ rs) a
   unfolding roomIn
-  by-room s e f g {rs} {a} p q = go (emptySlot s (inodesIn s) e) (ltb (blocksUsed (sizeOf s e)) addressCount) (freeBlock s (inodesIn s) (blocksIn s))
+  by-room s e f g {rs} {a} p r q = go (emptySlot s (inodesIn s) e) (ltb (blocksUsed (sizeOf s e)) addressCount) (freeBlock s (inodesIn s) (blocksIn s))
     where
       go : (t : Found) (b : Bool) (c : Found)
           → Gives (h (onRoom (onFound t (λ j. Has (room j 0)) (pick b (onFound c (λ j. Has (room (slots s e) j)) (NoRoom NoBlocks)) (NoRoom NoSlot))) f g))
           (row (not (found t) && (b && not (found c))) NoBlocks ∷ row (not (found t) && not b) NoSlot ∷ rs) a
       go (At t) b c = record { first = q (room t 0) .first }
       go Absent true (At c) = record { first = q (room (slots s e) c) .first }
-      go Absent true Absent = record { first = p NoBlocks }
-      go Absent false c = record { first = p NoSlot }
+      go Absent true Absent = record { first = p }
+      go Absent false c = record { first = r }
 
 -- the last condition, and what is done where it does not hold
 pub by-busy : (b : Bool) (w : World) (x : Effect) → Gives (leavesIn w (pick b (refused Busy) (does x)) .answer) (row b Busy ∷ []) (told (Done (x .answer)))
@@ -92,18 +103,23 @@ by-chain framed s m d o q =
 pub by-guards : (s m d : List ℕ) (o : Outcome) {rs : List Row} {a : Told} → Gives (o .answer) rs a → Gives (guarded (threeGuards s m d) s m d o .answer) (liveRows s m d ++ rs) a
 by-guards s m d o q = rw (three-is s m d o) (by-chain (bothFramed s d) s m d o q)
 
--- of a file call that takes all three buffers
+-- of a file call that takes all three buffers: its plan is looked at on a sound store
+pub by-sound : (c : Call) (w : World) {rs : List Row} {a : Told} → storeAlone c ≡ false
+    → (SoundStore (w .store) (inodesIn (w .store)) (blocksIn (w .store)) → Gives (leavesIn w (unlessBusy (w .desk) (planned c (w .store) (inodesIn (w .store)) (blocksIn (w .store)))) .answer) rs a)
+    → Gives (live c w .answer) (liveRows (w .store) (w .image) (w .desk) ++ rs) a
+unfolding live decision threeGuards
+by-sound c w {rs} {a} z q = rw z (go (framedB Store (w .store) && deskFramed (w .desk)) (isSound Store (w .store)) (notesFit (w .store) (w .image) (w .desk)) refl)
+  where
+    go : (x y z : Bool) → isSound Store (w .store) ≡ y → Gives (leavesIn w (onGuard (pick (not x) (Stop BadBuffer) (pick (not y) (Stop UnsoundStore) (pick (not z) (Stop BadDesk) (Pass (inodesIn (w .store)) (blocksIn (w .store))))))
+        (λ n b. unlessBusy (w .desk) (planned c (w .store) n b)) refused) .answer) (row (not x) BadBuffer ∷ row (not y) UnsoundStore ∷ row (not z) BadDesk ∷ rs) a
+    go true true true e = record { first = q (sound-store (is-sound Store (w .store) .to e) refl) .first }
+    go true true false e = record { first = refl }
+    go true false z e = record { first = refl }
+    go false y z e = record { first = refl }
+
 pub by-three : (c : Call) (w : World) {rs : List Row} {a : Told} → storeAlone c ≡ false
     → Gives (leavesIn w (unlessBusy (w .desk) (planned c (w .store) (inodesIn (w .store)) (blocksIn (w .store)))) .answer) rs a → Gives (live c w .answer) (liveRows (w .store) (w .image) (w .desk) ++ rs) a
-unfolding live decision threeGuards
-by-three c w {rs} {a} z q = rw z (go (framedB Store (w .store) && deskFramed (w .desk)) (isSound Store (w .store)) (notesFit (w .store) (w .image) (w .desk)))
-  where
-    go : (x y z : Bool) → Gives (leavesIn w (onGuard (pick (not x) (Stop BadBuffer) (pick (not y) (Stop UnsoundStore) (pick (not z) (Stop BadDesk) (Pass (inodesIn (w .store)) (blocksIn (w .store))))))
-        (λ n b. unlessBusy (w .desk) (planned c (w .store) n b)) refused) .answer) (row (not x) BadBuffer ∷ row (not y) UnsoundStore ∷ row (not z) BadDesk ∷ rs) a
-    go true true true = record { first = q .first }
-    go true true false = record { first = refl }
-    go true false z = record { first = refl }
-    go false y z = record { first = refl }
+by-three c w z q = by-sound c w z (λ _. q)
 
 -- 1 and 2 of a call on the store alone
 pub by-store : (c : Call) (s : List ℕ) {rs : List Row} {a : Told} → Gives (leaves s (given c) (planned c s (inodesIn s) (blocksIn s)) .answer) rs a → Gives (plain c s .answer) (storeRows s ++ rs) a

@@ -4,6 +4,7 @@ pub mod PlainAnswers
 pub mod OfEvents
 pub mod PlainLaws
 pub mod RefusedLaws
+pub mod ReplaceTable
 pub mod RowLaws
 pub mod TableLaws
 pub mod CopierTables

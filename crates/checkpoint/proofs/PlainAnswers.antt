@@ -19,11 +19,12 @@ use Rattle.directory.specs.Slot.{findSlot, emptySlot, inodeAt}
 use Rattle.sound.specs.Sound.{inodesIn, blocksIn}
 use Rattle.sound.specs.declared.Form.the-variants.{Store}
 use Rattle.sound.specs.Test.{framedB, isSound}
-use Rattle.answers.specs.declared.Refusal.the-variants.{BadBuffer, UnsoundStore, BadDesk, NoBlocks, NoSlot, Busy}
+use Rattle.answers.specs.declared.Refusal.the-variants.{BadBuffer, UnsoundStore, BadDesk, NameTaken, NoBlocks, NoSlot, Busy}
 use Rattle.answers.specs.Refusal.{refusalNumber}
 use Rattle.answers.specs.Order.{order, rankIn, rank}
 use Rattle.answers.specs.Told.{Told}
 use Rattle.content.specs.declared.NumberPlan.{NumberPlan}
+use Rattle.content.specs.declared.NumberPlan.the-variants.{To, NoNumber}
 use Rattle.content.specs.Plan.{readPlan, writePlan, shortenPlan}
 use Rattle.entries.specs.declared.Kind.{Kind}
 use Rattle.entries.specs.declared.Room.{Room}
@@ -33,12 +34,15 @@ use Rattle.entries.specs.declared.CreatePlan.{CreatePlan}
 use Rattle.entries.specs.declared.LinkPlan.{LinkPlan}
 use Rattle.entries.specs.declared.UnlinkPlan.{UnlinkPlan}
 use Rattle.entries.specs.declared.RenamePlan.{RenamePlan}
+use Rattle.entries.specs.declared.OverPlan.{OverPlan}
+use Rattle.entries.specs.declared.OverPlan.the-variants.{Over, Same, NoOver}
+use Rattle.entries.specs.declared.UnlinkPlan.the-variants.{Take, NoUnlink}
 use Rattle.entries.specs.declared.CreatePlan.the-variants.{Make, NoCreate}
 use Rattle.entries.specs.declared.LinkPlan.the-variants.{Add, NoLink}
 use Rattle.entries.specs.declared.RenamePlan.the-variants.{Move, NoRename}
 use Rattle.entries.specs.Room.{roomIn, onRoom}
-use Rattle.entries.specs.Plan.{holdsNone, isBelow, lookUpPlan, createPlan, linkPlan, unlinkPlan, renameTo, renamePlan}
-use Rattle.files.specs.Effect.{Call, lookUp, read, create, write, shorten, link, unlink, rename, Planned, refused, does, onPlanned, doLookUp, doRead, doCreate, doWrite, doShorten, doLink, doUnlink, doRename, planned, plainDecision, given}
+use Rattle.entries.specs.Plan.{holdsNone, isBelow, lookUpPlan, createPlan, linkPlan, unlinkPlan, renameTo, renameNewPlan, onNumber, onUnlink, overOf, overPlan}
+use Rattle.files.specs.Effect.{Call, lookUp, read, create, write, shorten, link, unlink, rename, renameNew, Planned, refused, does, onPlanned, andThen, planThen, ifTaken, doLookUp, doRead, doCreate, doWrite, doShorten, doLink, doUnlink, doRename, doRenameNew, doOver, planned, plainDecision, given}
 use Rattle.files.specs.Plain.{leaves, plain, PlainOutcome}
 use Rattle.files.proofs.PlainLaws.{on-guard}
 
@@ -121,9 +125,9 @@ unlink-ordinary s n d name =
     (λ t. by-pick P (eqb (kindOf s (inodeAt s n d t)) directoryKind && not (holdsNone s n (inodeAt s n d t))) refl refl)
     refl))
 
-rename-ordinary : (s : List ℕ) (n b d : ℕ) (name : List ℕ) (e : ℕ) (other : List ℕ) → Ordinary (doRename s n d e other (renamePlan s n b d name e other))
-unfolding renamePlan renameTo
-rename-ordinary s n b d name e other =
+rename-new-ordinary : (s : List ℕ) (n b d : ℕ) (name : List ℕ) (e : ℕ) (other : List ℕ) → Ordinary (doRenameNew s n b d name e other)
+unfolding renameNewPlan renameTo
+rename-new-ordinary s n b d name e other =
     let P : RenamePlan → Type 0 = λ x. Ordinary (doRename s n d e other x) in
     by-pick P (not (legalName name && legalName other)) refl
     (by-pick P (not (isDirectory s n d && isDirectory s n e)) refl
@@ -135,6 +139,40 @@ rename-ordinary s n b d name e other =
     (by-room (λ x. P (onRoom x (λ r. Move t (inodeAt s n d t) r) NoRename)) s n b e (λ r. refl) refl refl))))
     refl))
 
+-- of two that follow each other
+then-ordinary : (p : Planned) (f : List ℕ → Planned) → Ordinary p → ((t : List ℕ) → Ordinary (f t)) → Ordinary (planThen p f)
+then-ordinary (refused e) f a h = a
+then-ordinary (does x) f a h = go (f (x .store)) (h (x .store))
+  where
+    go : (q : Planned) → Ordinary q → Ordinary (onPlanned q (λ y. does (andThen x y)) refused)
+    go (does y) k = refl
+    go (refused e) k = k
+
+over-ordinary : (s : List ℕ) (n b d : ℕ) (name : List ℕ) (e : ℕ) (other : List ℕ) → Ordinary (doOver s n b d name e other (overPlan s n d name e other))
+unfolding overPlan overOf
+over-ordinary s n b d name e other = go (lookUpPlan s n d name) (look-up-ordinary s n d name) (unlinkPlan s n e other) (unlink-ordinary s n e other)
+  where
+    P : OverPlan → Type 0
+    P x = Ordinary (doOver s n b d name e other x)
+
+    both : (i h : ℕ) → P (Over i h)
+    both i h = then-ordinary (doUnlink s n e (unlinkPlan s n e other)) (λ t. doRenameNew t n b d name e other) (unlink-ordinary s n e other) (λ t. rename-new-ordinary t n b d name e other)
+
+    go : (p : NumberPlan) → Ordinary (doLookUp s p) → (u : UnlinkPlan) → Ordinary (doUnlink s n e u) → P (onNumber p (λ i. onUnlink u (λ t h. overOf s n d i e h) NoOver) NoOver)
+    go (NoNumber f) a u c = a
+    go (To i) a (NoUnlink f) c = c
+    go (To i) a (Take t h) c =
+        by-pick P (not (eqb d e) && isBelow s n i e) refl
+        (by-pick P (not (eqb (kindOf s i) (kindOf s h))) refl
+        (by-pick P (eqb i h) refl (both i h)))
+
+rename-ordinary : (s : List ℕ) (n b d : ℕ) (name : List ℕ) (e : ℕ) (other : List ℕ) → Ordinary (planned (rename d name e other) s n b)
+rename-ordinary s n b d name e other = go (doRenameNew s n b d name e other) (rename-new-ordinary s n b d name e other)
+  where
+    go : (p : Planned) → Ordinary p → Ordinary (ifTaken p (doOver s n b d name e other (overPlan s n d name e other)))
+    go (does x) a = a
+    go (refused f) a = by-pick Ordinary (eqb (refusalNumber f) (refusalNumber NameTaken)) (over-ordinary s n b d name e other) a
+
 ordinary-planned : (c : Call) (s : List ℕ) (n b : ℕ) → Ordinary (planned c s n b)
 ordinary-planned (lookUp d name) s n b = look-up-ordinary s n d name
 ordinary-planned (read i o out) s n b = read-ordinary s n i o out (length out)
@@ -144,6 +182,7 @@ ordinary-planned (shorten i z) s n b = shorten-ordinary s n i z
 ordinary-planned (link d name i) s n b = link-ordinary s n b d name i
 ordinary-planned (unlink d name) s n b = unlink-ordinary s n d name
 ordinary-planned (rename d name e other) s n b = rename-ordinary s n b d name e other
+ordinary-planned (renameNew d name e other) s n b = rename-new-ordinary s n b d name e other
 
 -- ---- the plain store's answers
 -- no answer of a desk or a copy

@@ -4,7 +4,7 @@ use mathlib.Core.Bool.{true}
 use mathlib.Core.List.{List}
 use Prim.Native.Nat.{ℕ}
 use Rattle.answers.specs.Order.{inOrder}
-use Rattle.checkpoint.specs.Table.{liveRows, lookUpTable, readTable, createTable, writeTable, shortenTable, linkTable, unlinkTable, renameTable, startTable, stepTable, burstTable}
+use Rattle.checkpoint.specs.Table.{liveRows, lookUpTable, readTable, createTable, writeTable, shortenTable, linkTable, unlinkTable, renameTable, renameNewTable, startTable, stepTable, burstTable}
 
 -- ---- each table is in order
 module _ (s : List ℕ) where
@@ -40,6 +40,10 @@ module _ (s m d : List ℕ) where
   pub rename-in-order : (e : ℕ) (name : List ℕ) (f : ℕ) (other : List ℕ) → inOrder 0 (renameTable s m d e name f other) ≡ true
   unfolding renameTable
   rename-in-order e name f other = refl
+
+  pub rename-new-in-order : (e : ℕ) (name : List ℕ) (f : ℕ) (other : List ℕ) → inOrder 0 (renameNewTable s m d e name f other) ≡ true
+  unfolding renameNewTable
+  rename-new-in-order e name f other = refl
 
   pub start-in-order : inOrder 0 (startTable s m d) ≡ true
   unfolding startTable

@@ -30,16 +30,16 @@ use Rattle.entries.specs.declared.UnlinkPlan.{UnlinkPlan}
 use Rattle.entries.specs.declared.RenamePlan.{RenamePlan}
 use Rattle.entries.specs.declared.RenamePlan.the-variants.{Rename, Move, NoRename}
 use Rattle.entries.specs.Room.{roomIn, onRoom}
-use Rattle.entries.specs.Plan.{holdsNone, isBelow, lookUpPlan, createPlan, linkPlan, unlinkPlan, renameTo, renamePlan}
+use Rattle.entries.specs.Plan.{holdsNone, isBelow, lookUpPlan, createPlan, linkPlan, unlinkPlan, renameTo, renameNewPlan}
 use Rattle.files.specs.declared.Guard.{Guard}
 use Rattle.files.specs.declared.Guard.the-variants.{Pass, Stop}
 use Rattle.files.specs.Guard.{guardOf, onGuard}
-use Rattle.files.specs.Effect.{lookUp, read, create, write, shorten, link, unlink, rename, refused, doLookUp, doRead, doCreate, doWrite, doShorten, doLink, doUnlink, doRename, planned, plainDecision}
+use Rattle.files.specs.Effect.{lookUp, read, create, write, shorten, link, unlink, renameNew, refused, doLookUp, doRead, doCreate, doWrite, doShorten, doLink, doUnlink, doRename, planned, plainDecision}
 use Rattle.files.specs.Plain.{leaves, plain, PlainOutcome}
 use Rattle.checkpoint.specs.Busy.{anyLocked, unlessBusy}
 use Rattle.checkpoint.specs.Notes.{cutEntries, clearMarks, setMarks}
 use Rattle.checkpoint.specs.Live.{World, Outcome, tells, decision, leavesIn, live}
-use Rattle.checkpoint.specs.Table.{found, orZero, noBlock, noSlot, slotFor, inodeFor, lookUpTable, readTable, createTable, writeTable, shortenTable, linkTable, unlinkTable, renameTable}
+use Rattle.checkpoint.specs.Table.{found, orZero, noBlock, noSlot, slotFor, inodeFor, lookUpTable, readTable, createTable, writeTable, shortenTable, linkTable, unlinkTable, renameNewTable}
 use Rattle.checkpoint.proofs.ConditionLaws.{firstOf, Gives, by-pick, by-found, by-absent, by-room, by-busy, by-three, by-store, by-none, give}
 
 -- ---- the calls on the store alone
@@ -92,26 +92,36 @@ module _ (w : World) where
       go (Pass n b) = plan n (readPlan (w .store) n i o (length out))
       go (Stop f) = refl
 
--- rename of the entry in slot t of e, which names i, to another in f: 7, 10, 12, 13, 14
+-- the lap recorder's rename of the entry in slot t of e, which names i, to another name in f: 7, 10, 12, 13, 14
 abbrev renameAnswer : World → ℕ → ℕ → List ℕ → RenamePlan → Told
 renameAnswer w e f other p = leavesIn w (unlessBusy (w .desk) (doRename (w .store) (inodesIn (w .store)) e f other p)) .answer
 
 module _ (w : World) (e f : ℕ) (other : List ℕ) (t i : ℕ) where
-  abbrev renameRows : Bool → Found → List Row
-  renameRows same u =
-      row (found u && (not same || not (eqb (orZero u) t))) NameTaken
-      ∷ row (not same && isBelow (w .store) (inodesIn (w .store)) i f) IntoItself
+  -- to a name that no other entry has
+  abbrev freeRows : Bool → List Row
+  freeRows same =
+      row (not same && isBelow (w .store) (inodesIn (w .store)) i f) IntoItself
       ∷ row (not same && noBlock (w .store) f) NoBlocks
       ∷ row (not same && noSlot (w .store) f) NoSlot
-      ∷ row (anyLocked (w .desk) (pick (not same) (e ∷ f ∷ i ∷ []) (e ∷ []))) Busy
+      ∷ row (anyLocked (w .desk) (pick same (e ∷ []) (e ∷ f ∷ i ∷ []))) Busy
       ∷ []
 
-  by-rename : Gives (renameAnswer w e f other (renameTo (w .store) (inodesIn (w .store)) (blocksIn (w .store)) e t i f other)) (renameRows (eqb e f) (findSlot (w .store) (inodesIn (w .store)) f other)) (told (Done 0))
+  by-within : Gives (renameAnswer w e f other (Rename t i)) (freeRows true) (told (Done 0))
+  by-within = record { first = by-busy (anyLocked (w .desk) (e ∷ [])) w _ .first }
+
+  by-away : Gives (renameAnswer w e f other (pick (isBelow (w .store) (inodesIn (w .store)) i f) (NoRename IntoItself)
+      (onRoom (roomIn (w .store) (inodesIn (w .store)) (blocksIn (w .store)) f) (λ r. Move t i r) NoRename))) (freeRows false) (told (Done 0))
+  by-away =
+      by-pick (renameAnswer w e f other) (isBelow (w .store) (inodesIn (w .store)) i f) _ _ {e = IntoItself} refl
+      (by-room (renameAnswer w e f other) (w .store) f _ _ refl refl (λ r. by-busy (anyLocked (w .desk) (e ∷ f ∷ i ∷ [])) w _))
+
+  by-rename : Gives (renameAnswer w e f other (renameTo (w .store) (inodesIn (w .store)) (blocksIn (w .store)) e t i f other))
+      (row (found (findSlot (w .store) (inodesIn (w .store)) f other) && (not (eqb e f) || not (eqb (orZero (findSlot (w .store) (inodesIn (w .store)) f other)) t))) NameTaken ∷ freeRows (eqb e f)) (told (Done 0))
   unfolding renameTo
   by-rename = go (eqb e f) (findSlot (w .store) (inodesIn (w .store)) f other)
     where
-      at : (b : Bool) → Gives (renameAnswer w e f other (pick b (Rename t i) (NoRename NameTaken))) (row (not b) NameTaken ∷ row (anyLocked (w .desk) (e ∷ [])) Busy ∷ []) (told (Done 0))
-      at true = record { first = by-busy (anyLocked (w .desk) (e ∷ [])) w _ .first }
+      at : (b : Bool) → Gives (renameAnswer w e f other (pick b (Rename t i) (NoRename NameTaken))) (row (not b) NameTaken ∷ freeRows true) (told (Done 0))
+      at true = record { first = by-within .first }
       at false = record { first = refl }
 
       go : (same : Bool) (u : Found)
@@ -119,16 +129,11 @@ module _ (w : World) (e f : ℕ) (other : List ℕ) (t i : ℕ) where
           (onFound u (λ j. pick (eqb j t) (Rename t i) (NoRename NameTaken)) (Rename t i))
           (onFound u (λ j. NoRename NameTaken)
           (pick (isBelow (w .store) (inodesIn (w .store)) i f) (NoRename IntoItself) (onRoom (roomIn (w .store) (inodesIn (w .store)) (blocksIn (w .store)) f) (λ r. Move t i r) NoRename)))))
-          (renameRows same u) (told (Done 0))
+          (row (found u && (not same || not (eqb (orZero u) t))) NameTaken ∷ freeRows same) (told (Done 0))
       go true (At u) = record { first = at (eqb u t) .first }
-      go true Absent = record { first = by-busy (anyLocked (w .desk) (e ∷ [])) w _ .first }
+      go true Absent = record { first = by-within .first }
       go false (At u) = record { first = refl }
-      go false Absent =
-          record {
-            first =
-                by-pick (renameAnswer w e f other) (isBelow (w .store) (inodesIn (w .store)) i f) _ _ {e = IntoItself} refl
-                (by-room (renameAnswer w e f other) (w .store) f _ _ (λ x. refl) (λ r. by-busy (anyLocked (w .desk) (e ∷ f ∷ i ∷ [])) w _)) .first;
-          }
+      go false Absent = record { first = by-away .first }
 
 -- ---- the calls on all three buffers
 module _ (w : World) where
@@ -142,7 +147,7 @@ module _ (w : World) where
       (by-pick h (not (isDirectory (w .store) (inodesIn (w .store)) e)) _ _ refl
       (by-found h (findSlot (w .store) (inodesIn (w .store)) e name) _ _ (λ t. refl)
       (by-absent h (freeInode (w .store) (inodesIn (w .store))) _ _ refl
-      (by-room h (w .store) e _ _ (λ x. refl) (λ r. by-busy (anyLocked (w .desk) (e ∷ [])) w _)))))))
+      (by-room h (w .store) e _ _ refl refl (λ r. by-busy (anyLocked (w .desk) (e ∷ [])) w _)))))))
 
   pub write-table : (i o : ℕ) (xs : List ℕ) → live (write i o xs) w .answer ≡ firstOf (writeTable (w .store) (w .image) (w .desk) i o xs) (told (Done (max (sizeOf (w .store) i) (o + length xs))))
   unfolding writePlan writeTable
@@ -174,7 +179,7 @@ module _ (w : World) where
       (by-pick h (not (legalName name)) _ _ refl
       (by-pick h (not (isDirectory (w .store) (inodesIn (w .store)) e && isFile (w .store) (inodesIn (w .store)) i)) _ _ refl
       (by-found h (findSlot (w .store) (inodesIn (w .store)) e name) _ _ (λ t. refl)
-      (by-room h (w .store) e _ _ (λ x. refl) (λ r. by-busy (anyLocked (w .desk) (e ∷ i ∷ [])) w _))))))
+      (by-room h (w .store) e _ _ refl refl (λ r. by-busy (anyLocked (w .desk) (e ∷ i ∷ [])) w _))))))
 
   pub unlink-table : (e : ℕ) (name : List ℕ) → live (unlink e name) w .answer ≡ firstOf (unlinkTable (w .store) (w .image) (w .desk) e name) (told (Done 0))
   unfolding unlinkPlan unlinkTable
@@ -189,12 +194,12 @@ module _ (w : World) where
       (by-pick h (eqb (kindOf (w .store) i) directoryKind && not (holdsNone (w .store) (inodesIn (w .store)) i)) _ _ refl
       (by-busy (anyLocked (w .desk) (e ∷ i ∷ [])) w _))))))
 
-  pub rename-table : (e : ℕ) (name : List ℕ) (f : ℕ) (other : List ℕ) → live (rename e name f other) w .answer ≡ firstOf (renameTable (w .store) (w .image) (w .desk) e name f other) (told (Done 0))
-  unfolding renamePlan renameTable
-  rename-table e name f other =
+  pub rename-new-table : (e : ℕ) (name : List ℕ) (f : ℕ) (other : List ℕ) → live (renameNew e name f other) w .answer ≡ firstOf (renameNewTable (w .store) (w .image) (w .desk) e name f other) (told (Done 0))
+  unfolding renameNewPlan renameNewTable
+  rename-new-table e name f other =
       let h : RenamePlan → Told = renameAnswer w e f other in
-      give _ (renameTable (w .store) (w .image) (w .desk) e name f other) _
-      (by-three (rename e name f other) w refl
+      give _ (renameNewTable (w .store) (w .image) (w .desk) e name f other) _
+      (by-three (renameNew e name f other) w refl
       (by-pick h (not (legalName name && legalName other)) _ _ refl
       (by-pick h (not (isDirectory (w .store) (inodesIn (w .store)) e && isDirectory (w .store) (inodesIn (w .store)) f)) _ _ refl
       (by-absent h (findSlot (w .store) (inodesIn (w .store)) e name) _ _ refl

@@ -1,5 +1,5 @@
 -- Refusal 14, "busy: a write or shortening of the locked inode; a create, link, unlink or rename in a locked directory; a link to, unlink or move of the locked inode": the copy has locked one of the inodes that the call's effect touches.
--- These are: of a write or shortening, the file; of a create, the directory; of a link or unlink, the directory and the inode linked to or unlinked; of a rename within a directory, the directory; of a move, which is a rename in both, the two directories and the inode moved; of look up and read, none.
+-- These are: of a write or shortening, the file; of a create, the directory; of a link or unlink, the directory and the inode linked to or unlinked; of a rename within a directory, the directory; of a move, which is a rename in both, the two directories and the inode moved; of a rename that replaces, also what the unlink of the old holder looks at (F-3: "A locked holder that would be replaced is busy"), and where both names stand for one file what any rename does; of look up and read, none.
 use Prim.Native.Nat.{ℕ}
 use mathlib.Core.Bool.{Bool}
 use mathlib.Core.List.{List}

@@ -80,8 +80,8 @@ pub data Finish : List Event → World → Type 0 where
   last : {w : World} → completes advances w ≡ true → Finish (advances ∷ []) w
   more : {e : Event} {es : List Event} {w : World} → restarts e w ≡ false → completes e w ≡ false → Finish es (next e w) → Finish (e ∷ es) w
 
--- ---- entries: "a directory's slot, filled at the start; it is unlinked or moved when an accepted unlink or move empties it"
--- the entries that a call takes out of the store s; only unlink and move take any
+-- ---- entries: "a directory's slot, filled at the start; it is unlinked or moved when an accepted unlink or move empties it"; F-3: "being replaced is being unlinked"
+-- the entries that a call takes out of the store s; only unlinks, moves and replacing renames take any
 abbrev pub takenFrom : Call → List ℕ → List Entry
 takenFrom c s = onPlanned (plainDecision c s) (λ x. x .taken) (λ e. [])
 

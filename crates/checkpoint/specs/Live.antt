@@ -15,7 +15,7 @@ use Rattle.answers.specs.Told.{Told, told}
 use Rattle.answers.specs.Order.{Row, row}
 use Rattle.files.specs.declared.Guard.{Guard}
 use Rattle.files.specs.Guard.{guardOf, onGuard, guardBy, firstRows}
-use Rattle.files.specs.Effect.{Call, lookUp, read, create, write, shorten, link, unlink, rename, Planned, refused, does, onPlanned, planned, given}
+use Rattle.files.specs.Effect.{Call, lookUp, read, create, write, shorten, link, unlink, rename, renameNew, Planned, refused, does, onPlanned, planned, given}
 use Rattle.checkpoint.specs.declared.Status.{Status}
 use Rattle.checkpoint.specs.declared.Status.the-variants.{Is, NoStatus}
 use Rattle.checkpoint.specs.Fit.{imageBlocks, isRunning, notesFit, bothFramed, allFramed}
@@ -74,6 +74,7 @@ storeAlone (shorten i z) = false
 storeAlone (link d name i) = false
 storeAlone (unlink d name) = false
 storeAlone (rename d name e other) = false
+storeAlone (renameNew d name e other) = false
 
 abbrev pub guardsOf : Call → World → Guard
 guardsOf c w = pick (storeAlone c) (guardOf (w .store)) (threeGuards (w .store) (w .image) (w .desk))
@@ -82,7 +83,7 @@ guardsOf c w = pick (storeAlone c) (guardOf (w .store)) (threeGuards (w .store) 
 unfoldable pub decision : Call → World → Planned
 decision c w = onGuard (guardsOf c w) (λ n b. unlessBusy (w .desk) (planned c (w .store) n b)) refused
 
--- the store's bytes, then the image's entries and the marks, by what is taken out and made
+-- the store's bytes, then the image's entries and the marks, by what is taken out and made; marks are cleared first, since a replacing move may fill the slot that it takes from
 abbrev pub leavesIn : World → Planned → Outcome
 leavesIn w (does x) =
     let n = inodesIn (w .store) in

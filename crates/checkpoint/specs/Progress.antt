@@ -20,7 +20,7 @@ use Rattle.sound.specs.Place.{filled, naming}
 use Rattle.content.specs.declared.NumberPlan.the-variants.{To}
 use Rattle.entries.specs.declared.Kind.{Kind}
 use Rattle.entries.specs.Plan.{lookUpPlan}
-use Rattle.files.specs.Effect.{Call, create, write, shorten, link, unlink, rename, given}
+use Rattle.files.specs.Effect.{Call, create, write, shorten, link, unlink, rename, renameNew, given}
 use Rattle.files.specs.Plain.{plain}
 use Rattle.checkpoint.specs.Fit.{isRunning, imageAllowed, imageLong}
 use Rattle.checkpoint.specs.Live.{World, outOf}
@@ -64,6 +64,11 @@ pub record Timing (w : World) : Type 0 where
   pub question : next asks w ≡ w
 
 -- ---- it is out of the way
+-- a rename of name in d to other in e: the phone app's, or the lap recorder's
+pub data Renaming (d : ℕ) (name : List ℕ) (e : ℕ) (other : List ℕ) : Call → Type 0 where
+  app : Renaming d name e other (rename d name e other)
+  recorder : Renaming d name e other (renameNew d name e other)
+
 -- the calls that 14 may answer, as the paper lists them; l is the locked inode, s the store
 pub data Hinders (s : List ℕ) (l : ℕ) : Call → Type 0 where
   -- "a write or shortening of the locked inode"
@@ -73,12 +78,15 @@ pub data Hinders (s : List ℕ) (l : ℕ) : Call → Type 0 where
   creates : {name : List ℕ} {k : Kind} → Hinders s l (create l name k)
   links : {name : List ℕ} {i : ℕ} → Hinders s l (link l name i)
   unlinks : {name : List ℕ} → Hinders s l (unlink l name)
-  renames : {name other : List ℕ} {e : ℕ} → Hinders s l (rename l name e other)
-  renames-to : {name other : List ℕ} {d : ℕ} → Hinders s l (rename d name l other)
+  renames : {c : Call} {name other : List ℕ} {e : ℕ} → Renaming l name e other c → Hinders s l c
+  renames-to : {c : Call} {name other : List ℕ} {d : ℕ} → Renaming d name l other c → Hinders s l c
   -- "a link to, unlink or move of the locked inode"
   links-it : {d : ℕ} {name : List ℕ} → Hinders s l (link d name l)
   unlinks-it : {d : ℕ} {name : List ℕ} → lookUpPlan s (inodesIn s) d name ≡ To l → Hinders s l (unlink d name)
-  moves-it : {d e : ℕ} {name other : List ℕ} → (d ≡ e → ⊥) → lookUpPlan s (inodesIn s) d name ≡ To l → Hinders s l (rename d name e other)
+  moves-it : {c : Call} {d e : ℕ} {name other : List ℕ} → Renaming d name e other c → (d ≡ e → ⊥) → lookUpPlan s (inodesIn s) d name ≡ To l → Hinders s l c
+  -- F-3: "A locked holder that would be replaced is busy": the new name stands for it, and the old one for another
+  replaces-it : {d e i : ℕ} {name other : List ℕ} → lookUpPlan s (inodesIn s) d name ≡ To i → (i ≡ l → ⊥) → lookUpPlan s (inodesIn s) e other ≡ To l
+      → Hinders s l (rename d name e other)
 
 -- 14 comes only while an inode is locked, to such a call that the plain store would accept
 pub record OnlyBusy (c : Call) (w : World) : Type 0 where
@@ -117,9 +125,15 @@ pub record Refusals (e : Event) (w : World) : Type 0 where
   pub keeps : (refusalOf e w ≡ 0 → ⊥) → (refusalOf e w ≡ refusalNumber ImageFull → ⊥) → next e w ≡ w
   pub stops : refusalOf e w ≡ refusalNumber ImageFull → Stopped w (next e w)
 
--- an entry is taken, when and only when the event empties its slot; all others stand for the same inode. p is a place
+-- the slot p of an entry that e takes: it is empty or, where a rename replaced the entry (F-3: "being replaced is being unlinked"), it stands for what was renamed
+pub data Lost (w : World) (p : ℕ) : Event → Type 0 where
+  emptied : {e : Event} → filled (next e w .store) (countOf w) p ≡ false → Lost w p e
+  refilled : {d e i : ℕ} {name other : List ℕ} → lookUpPlan (w .store) (countOf w) d name ≡ To i → (naming (w .store) (countOf w) p ≡ i → ⊥)
+      → naming (next (call (rename d name e other)) w .store) (countOf w) p ≡ i → Lost w p (call (rename d name e other))
+
+-- an entry that is taken stood, and is lost; all others stand for the same inode. p is a place
 pub record Takes (e : Event) (w : World) (p : ℕ) : Type 0 where
-  pub taken : takes e w p ≡ true → (filled (w .store) (countOf w) p ≡ true) × (filled (next e w .store) (countOf w) p ≡ false)
+  pub taken : takes e w p ≡ true → (filled (w .store) (countOf w) p ≡ true) × Lost w p e
   pub stands : takes e w p ≡ false → filled (w .store) (countOf w) p ≡ true
       → (filled (next e w .store) (countOf w) p ≡ true) × (naming (next e w .store) (countOf w) p ≡ naming (w .store) (countOf w) p)
 

@@ -18,9 +18,10 @@ use Rattle.names.specs.Name.{legalName}
 use Rattle.directory.specs.Slot.{findSlot, emptySlot, inodeAt}
 use Rattle.desk.specs.Desk.{deskOf}
 use Rattle.sound.specs.Sound.{inodesIn, blocksIn}
-use Rattle.answers.specs.declared.Refusal.the-variants.{BadBuffer, IllegalName, WrongInode, NameAbsent, NameTaken, NotEmpty, PastEnd, IntoItself, NoInode, NoBlocks, NoSlot, Busy, WrongState, ImageFull, BadCount}
+use Rattle.answers.specs.declared.Refusal.the-variants.{BadBuffer, IllegalName, WrongInode, NameAbsent, NameTaken, NotEmpty, PastEnd, IntoItself, KindsDiffer, NoInode, NoBlocks, NoSlot, Busy, WrongState, ImageFull, BadCount}
 use Rattle.answers.specs.Order.{Row, row}
 use Rattle.entries.specs.Plan.{holdsNone, isBelow}
+use Rattle.files.specs.Effect.{watched}
 use Rattle.checkpoint.specs.Fit.{isRunning, bothFramed, allFramed}
 use Rattle.checkpoint.specs.Busy.{anyLocked}
 use Rattle.checkpoint.specs.Live.{guardRows}
@@ -121,20 +122,44 @@ unlinkTable s m desk e name =
     ∷ row (anyLocked desk (e ∷ i ∷ [])) Busy
     ∷ [])
 
--- "7 new name taken by another entry": 10, 12 and 13 are for a move alone
+-- the new name in f is taken by another entry than the one renamed
+abbrev pub takenFor : List ℕ → ℕ → List ℕ → ℕ → List ℕ → Bool
+takenFor s e name f other = found (findSlot s (inodesIn s) f other) && (not (eqb e f) || not (eqb (slotFor s f other) (slotFor s e name)))
+
+-- F-3: 8 and 18 are for a name that another entry has, its inode h. "Blocks and slots are judged as they are once the old holder is gone": its slot is
+-- empty then, so 12 and 13 are for a move to a name that none has. "A locked holder that would be replaced is busy."
 unfoldable pub renameTable : List ℕ → List ℕ → List ℕ → ℕ → List ℕ → ℕ → List ℕ → List Row
 renameTable s m desk e name f other =
+    let i = inodeFor s e name in
+    let h = inodeFor s f other in
+    let moves = not (eqb e f) in
+    let taken = takenFor s e name f other in
+    liveRows s m desk
+    ++ (row (not (legalName name && legalName other)) IllegalName
+    ∷ row (not (isDirectory s (inodesIn s) e && isDirectory s (inodesIn s) f)) WrongInode
+    ∷ row (not (found (findSlot s (inodesIn s) e name))) NameAbsent
+    ∷ row (taken && (eqb (kindOf s h) directoryKind && not (holdsNone s (inodesIn s) h))) NotEmpty
+    ∷ row (moves && isBelow s (inodesIn s) i f) IntoItself
+    ∷ row (taken && not (eqb (kindOf s i) (kindOf s h))) KindsDiffer
+    ∷ row (not taken && (moves && noBlock s f)) NoBlocks
+    ∷ row (not taken && (moves && noSlot s f)) NoSlot
+    ∷ row (anyLocked desk (pick (taken && not (eqb i h)) (f ∷ h ∷ watched e f i) (watched e f i))) Busy
+    ∷ [])
+
+-- the lap recorder's, "with the old rule": "7 new name taken by another entry"; 10, 12 and 13 are for a move alone
+unfoldable pub renameNewTable : List ℕ → List ℕ → List ℕ → ℕ → List ℕ → ℕ → List ℕ → List Row
+renameNewTable s m desk e name f other =
     let i = inodeFor s e name in
     let moves = not (eqb e f) in
     liveRows s m desk
     ++ (row (not (legalName name && legalName other)) IllegalName
     ∷ row (not (isDirectory s (inodesIn s) e && isDirectory s (inodesIn s) f)) WrongInode
     ∷ row (not (found (findSlot s (inodesIn s) e name))) NameAbsent
-    ∷ row (found (findSlot s (inodesIn s) f other) && (moves || not (eqb (slotFor s f other) (slotFor s e name)))) NameTaken
+    ∷ row (takenFor s e name f other) NameTaken
     ∷ row (moves && isBelow s (inodesIn s) i f) IntoItself
     ∷ row (moves && noBlock s f) NoBlocks
     ∷ row (moves && noSlot s f) NoSlot
-    ∷ row (anyLocked desk (pick moves (e ∷ f ∷ i ∷ []) (e ∷ []))) Busy
+    ∷ row (anyLocked desk (watched e f i)) Busy
     ∷ [])
 
 unfoldable pub startTable : List ℕ → List ℕ → List ℕ → List Row

@@ -3,6 +3,7 @@ pub mod EnterLaws
 pub mod EntryPlanLaws
 pub mod LinkKeeps
 pub mod MoveKeeps
+pub mod OverKeeps
 pub mod ParentLaws
 pub mod PlanFacts
 pub mod PlanKeeps

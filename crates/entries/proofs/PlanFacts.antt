@@ -5,7 +5,7 @@ use mathlib.Core.Bool.{Bool, true, false, not, _&&_}
 use mathlib.Core.Logic.{_⊎_, inl, inr}
 use mathlib.Core.List.{List}
 use native.Mathlib.Omega.{arith}
-use borrow.Author.Tests.{eq-eqb, eqb-true, eqb-false}
+use borrow.Author.Tests.{eq-eqb, ne-eqb, eqb-true, eqb-false}
 use lib.Dec.{eqb}
 use Rattle.bounded.specs.Search.{pick, onFound}
 use Rattle.bounded.specs.declared.Found.{Found}
@@ -20,13 +20,18 @@ use Rattle.answers.specs.declared.Refusal.the-variants.{NameTaken, IntoItself}
 use Rattle.entries.specs.declared.Room.{Room}
 use Rattle.entries.specs.declared.RoomPlan.{RoomPlan}
 use Rattle.entries.specs.declared.RoomPlan.the-variants.{Has, NoRoom}
+use Rattle.content.specs.declared.NumberPlan.{NumberPlan}
+use Rattle.content.specs.declared.NumberPlan.the-variants.{To, NoNumber}
 use Rattle.entries.specs.declared.CreatePlan.the-variants.{Make, NoCreate}
 use Rattle.entries.specs.declared.LinkPlan.the-variants.{Add, NoLink}
+use Rattle.entries.specs.declared.UnlinkPlan.{UnlinkPlan}
 use Rattle.entries.specs.declared.UnlinkPlan.the-variants.{Take, NoUnlink}
+use Rattle.entries.specs.declared.OverPlan.{OverPlan}
+use Rattle.entries.specs.declared.OverPlan.the-variants.{Over, Same, NoOver}
 use Rattle.entries.specs.declared.RenamePlan.{RenamePlan}
 use Rattle.entries.specs.declared.RenamePlan.the-variants.{Rename, Move, NoRename}
 use Rattle.entries.specs.Room.{roomIn, onRoom}
-use Rattle.entries.specs.Plan.{createPlan, linkPlan, holdsNone, unlinkPlan, isBelow, renameWithin, moveTo, renameTo, renamePlan}
+use Rattle.entries.specs.Plan.{lookUpPlan, createPlan, linkPlan, holdsNone, unlinkPlan, isBelow, renameWithin, moveTo, renameTo, renameNewPlan, overOf, onNumber, onUnlink, overPlan}
 
 -- ---- a room that was looked for, where the outcome is no refusal
 module _ {A : Type 0} where
@@ -51,6 +56,25 @@ pub record FoundIn (s : List ℕ) (n d : ℕ) (name : List ℕ) (t i : ℕ) : Ty
   pub directory : isDirectory s n d ≡ true
   pub found : findSlot s n d name ≡ At t
   pub inode : i ≡ inodeAt s n d t
+
+-- ---- look up
+no-number : (e : Refusal) (i : ℕ) → NoNumber e ≡ To i → ⊥
+no-number e i h = let z : _≡_ {A = ℕ} 0 1 = cc in absurd (omega arith)
+
+pub looks : (s : List ℕ) (n d : ℕ) (name : List ℕ) (i : ℕ) → lookUpPlan s n d name ≡ To i → (t : ℕ) × FoundIn s n d name t i
+unfolding lookUpPlan
+looks s n d name i e =
+    let z = To i in
+    let a = pick-not (legalName name) (NoNumber _) _ z e (no-number _ i) in
+    let c = pick-not (isDirectory s n d) (NoNumber _) _ z (a .1) (no-number _ i) in
+    let f = found-at (findSlot s n d name) _ _ z (c .1) (no-number _ i) in
+    let q : inodeAt s n d (f .0) ≡ i = cc (f .2) in
+    (f .0, record { legal = a .0; directory = c .0; found = f .1; inode = sym q })
+
+-- and back
+pub looks-up : (s : List ℕ) (n d : ℕ) (name : List ℕ) (t i : ℕ) → FoundIn s n d name t i → lookUpPlan s n d name ≡ To i
+unfolding lookUpPlan
+looks-up s n d name t i f = rw (f .legal, f .directory, f .found) (ap To (sym (f .inode)))
 
 -- ---- create
 no-make : (e : Refusal) (i : ℕ) (r : Room) → NoCreate e ≡ Make i r → ⊥
@@ -214,8 +238,8 @@ module _ (s : List ℕ) (n b d : ℕ) (name : List ℕ) (e : ℕ) (other : List 
     legal : legalName name && legalName other ≡ true
     directories : isDirectory s n d && isDirectory s n e ≡ true
 
-  renames-there : (z : RenamePlan) → ((w : Refusal) → NoRename w ≡ z → ⊥) → renamePlan s n b d name e other ≡ z → There z
-  unfolding renamePlan
+  renames-there : (z : RenamePlan) → ((w : Refusal) → NoRename w ≡ z → ⊥) → renameNewPlan s n b d name e other ≡ z → There z
+  unfolding renameNewPlan
   renames-there z never h =
       let a = pick-not (legalName name && legalName other) (NoRename _) _ z h (never _) in
       let c = pick-not (isDirectory s n d && isDirectory s n e) (NoRename _) _ z (a .1) (never _) in
@@ -230,7 +254,7 @@ module _ (s : List ℕ) (n b d : ℕ) (name : List ℕ) (e : ℕ) (other : List 
     inode = sym q ∙ ap (inodeAt s n d) p;
   }
 
-  pub renames : (t i : ℕ) → renamePlan s n b d name e other ≡ Rename t i → Renames s n d name other t i × (d ≡ e)
+  pub renames : (t i : ℕ) → renameNewPlan s n b d name e other ≡ Rename t i → Renames s n d name other t i × (d ≡ e)
   renames t i h =
       let a = renames-there (Rename t i) (λ w. no-rename w t i) h in
       let c = to-renames s n b d (a .at) (inodeAt s n d (a .at)) e other t i (a .to) in (
@@ -242,7 +266,7 @@ module _ (s : List ℕ) (n b d : ℕ) (name : List ℕ) (e : ℕ) (other : List 
         c .0,
       )
 
-  pub moves : (t i : ℕ) (r : Room) → renamePlan s n b d name e other ≡ Move t i r → Leaves s n d name e other t i × Moves s n b d e i r
+  pub moves : (t i : ℕ) (r : Room) → renameNewPlan s n b d name e other ≡ Move t i r → Leaves s n d name e other t i × Moves s n b d e i r
   moves t i r h =
       let a = renames-there (Move t i r) (λ w. no-move w t i r) h in
       let c = to-moves s n b d (a .at) (inodeAt s n d (a .at)) e other t i r (a .to) in (
@@ -252,3 +276,80 @@ module _ (s : List ℕ) (n b d : ℕ) (name : List ℕ) (e : ℕ) (other : List 
         },
         subst (λ (j : ℕ). Moves s n b d e j r) (c .3) (c .0),
       )
+
+-- ---- rename onto a name that another entry has: i is renamed, h has the name
+pub record Onto (s : List ℕ) (n d : ℕ) (name : List ℕ) (e : ℕ) (other : List ℕ) (i h : ℕ) : Type 0 where
+  pub slot : ℕ
+  pub entry : FoundIn s n d name slot i
+  pub held : ℕ
+  pub goes : unlinkPlan s n e other ≡ Take held h
+  pub outside : (d ≡ e → ⊥) → isBelow s n i e ≡ false
+  pub alike : kindOf s i ≡ kindOf s h
+
+no-over : (e : Refusal) (i h : ℕ) → NoOver e ≡ Over i h → ⊥
+no-over e i h q = let z : _≡_ {A = ℕ} 0 1 = cc in absurd (omega arith)
+
+no-same : (e : Refusal) (i : ℕ) → NoOver e ≡ Same i → ⊥
+no-same e i q = let z : _≡_ {A = ℕ} 0 1 = cc in absurd (omega arith)
+
+over-not-same : (j k i : ℕ) → Over j k ≡ Same i → ⊥
+over-not-same j k i q = let z : _≡_ {A = ℕ} 0 1 = cc in absurd (omega arith)
+
+same-not-over : (j i h : ℕ) → Same j ≡ Over i h → ⊥
+same-not-over j i h q = let z : _≡_ {A = ℕ} 0 1 = cc in absurd (omega arith)
+
+module _ (s : List ℕ) (n d : ℕ) (name : List ℕ) (e : ℕ) (other : List ℕ) where
+  -- a plan z that is no refusal
+  record Passed (z : OverPlan) : Type 0 where
+    mover : ℕ
+    holder : ℕ
+    onto : Onto s n d name e other mover holder
+    plan : pick (eqb mover holder) (Same mover) (Over mover holder) ≡ z
+
+  passed : (z : OverPlan) → ((w : Refusal) → NoOver w ≡ z → ⊥) → overPlan s n d name e other ≡ z → Passed z
+  unfolding overPlan overOf
+  passed z never q = go (lookUpPlan s n d name) refl (unlinkPlan s n e other) refl q
+    where
+      go : (p : NumberPlan) → lookUpPlan s n d name ≡ p → (u : UnlinkPlan) → unlinkPlan s n e other ≡ u
+          → onNumber p (λ i. onUnlink u (λ t h. overOf s n d i e h) NoOver) NoOver ≡ z → Passed z
+      go (NoNumber f) a u c g = absurd (never f g)
+      go (To i) a (NoUnlink f) c g = absurd (never f g)
+      go (To i) a (Take t h) c g =
+          let x = looks s n d name i a in
+          let y = pick-else (not (eqb d e) && isBelow s n i e) (NoOver _) _ z g (never _) in
+          let w = pick-not (eqb (kindOf s i) (kindOf s h)) (NoOver _) _ z (y .1) (never _) in
+          record {
+            mover = i;
+            holder = h;
+            onto = record {
+              slot = x .0;
+              entry = x .1;
+              held = t;
+              goes = c;
+              outside = λ o. sym (ap (λ (v : Bool). not v && isBelow s n i e) (ne-eqb d e o)) ∙ y .0;
+              alike = eqb-true (kindOf s i) (kindOf s h) (w .0);
+            };
+            plan = w .1;
+          }
+
+  pub replaces : (i h : ℕ) → overPlan s n d name e other ≡ Over i h → Onto s n d name e other i h × (i ≡ h → ⊥)
+  replaces i h q = go (passed (Over i h) (λ w. no-over w i h) q)
+    where
+      go : Passed (Over i h) → Onto s n d name e other i h × (i ≡ h → ⊥)
+      go p =
+          let a = pick-else (eqb (p .mover) (p .holder)) (Same (p .mover)) (Over (p .mover) (p .holder)) (Over i h) (p .plan) (same-not-over (p .mover) i h) in
+          let x : p .mover ≡ i = cc (a .1) in
+          let y : p .holder ≡ h = cc (a .1) in
+          (subst (λ (j : ℕ). Onto s n d name e other j h) x (subst (Onto s n d name e other (p .mover)) y (p .onto)), λ z. eqb-false (p .mover) (p .holder) (a .0) (x ∙ z ∙ sym y))
+
+  pub both-names : (i : ℕ) → overPlan s n d name e other ≡ Same i → Onto s n d name e other i i
+  both-names i q = go (passed (Same i) (λ w. no-same w i) q)
+    where
+      at : (j k : ℕ) (c : Bool) → eqb j k ≡ c → pick c (Same j) (Over j k) ≡ Same i → (j ≡ i) × (k ≡ i)
+      at j k true z g = let x : j ≡ i = cc g in (x, sym (eqb-true j k z) ∙ x)
+      at j k false z g = absurd (over-not-same j k i g)
+
+      go : Passed (Same i) → Onto s n d name e other i i
+      go p =
+          let a = at (p .mover) (p .holder) (eqb (p .mover) (p .holder)) refl (p .plan) in
+          subst (λ (j : ℕ). Onto s n d name e other j i) (a .0) (subst (Onto s n d name e other (p .mover)) (a .1) (p .onto))

@@ -22,7 +22,7 @@ use Rattle.entries.specs.declared.LinkPlan.the-variants.{Add}
 use Rattle.entries.specs.declared.UnlinkPlan.the-variants.{Take}
 use Rattle.entries.specs.declared.RenamePlan.the-variants.{Rename, Move}
 use Rattle.entries.specs.Room.{roomIn, makeRoom}
-use Rattle.entries.specs.Plan.{createPlan, linkPlan, unlinkPlan, renamePlan}
+use Rattle.entries.specs.Plan.{createPlan, linkPlan, unlinkPlan, renameNewPlan}
 use Rattle.entries.specs.Apply.{enter, created, linked, unlinked, renamed, moved}
 use Rattle.entries.proofs.PlanFacts.{NewIn, creates, links, unlinks, renames, moves}
 use Rattle.entries.proofs.RoomLaws.{Roomed, make-room, same-kind, same-free-inode, same-find}
@@ -75,14 +75,14 @@ module _ (s : List ℕ) (n b : ℕ) (h : SoundStore s n b) where
       let w = c .entry in
       unlink-sound s n d t i h (w .directory) (find-below s n d name t (w .found)) (found-full s n d name t (w .legal) (w .found)) (w .inode) (c .empty)
 
-  pub renamed-sound : (d : ℕ) (name : List ℕ) (e : ℕ) (other : List ℕ) (t i : ℕ) → renamePlan s n b d name e other ≡ Rename t i → Sound Store (renamed s n d other t i)
+  pub renamed-sound : (d : ℕ) (name : List ℕ) (e : ℕ) (other : List ℕ) (t i : ℕ) → renameNewPlan s n b d name e other ≡ Rename t i → Sound Store (renamed s n d other t i)
   renamed-sound d name e other t i q =
       let c = renames s n b d name e other t i q in
       let w = c .0 .entry in
       rename-sound s n d t i other h (w .directory) (find-below s n d name t (w .found)) (found-full s n d name t (w .legal) (w .found)) (w .inode)
       (c .0 .legal) (c .0 .free)
 
-  pub moved-sound : (d : ℕ) (name : List ℕ) (e : ℕ) (other : List ℕ) (t i : ℕ) (r : Room) → renamePlan s n b d name e other ≡ Move t i r → Sound Store (moved s n d e other t i r)
+  pub moved-sound : (d : ℕ) (name : List ℕ) (e : ℕ) (other : List ℕ) (t i : ℕ) (r : Room) → renameNewPlan s n b d name e other ≡ Move t i r → Sound Store (moved s n d e other t i r)
   unfolding moved slotEmpty
   moved-sound d name e other t i r q =
       let c = moves s n b d name e other t i r q in

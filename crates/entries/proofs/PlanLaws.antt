@@ -13,14 +13,14 @@ use Rattle.directory.specs.Slot.{slots, entryOf, findSlot, inodeAt}
 use Rattle.directory.proofs.SlotLaws.{slot-fits, few-slots, entry-put}
 use Rattle.directory.specs.Fits.{DirFits}
 use Rattle.entries.specs.declared.RenamePlan.the-variants.{Rename}
-use Rattle.entries.specs.Plan.{renameTo, renamePlan}
+use Rattle.entries.specs.Plan.{renameTo, renameNewPlan}
 use Rattle.entries.specs.Apply.{renamed}
 
 -- ---- "A rename within a directory keeps its slot"
 module _ (s : List ℕ) (n b d t : ℕ) (name other : List ℕ) where
   pub rename-keeps : legalName name ≡ true → legalName other ≡ true → isDirectory s n d ≡ true → findSlot s n d name ≡ At t → findSlot s n d other ≡ Absent
-      → renamePlan s n b d name d other ≡ Rename t (inodeAt s n d t)
-  unfolding renamePlan renameTo
+      → renameNewPlan s n b d name d other ≡ Rename t (inodeAt s n d t)
+  unfolding renameNewPlan renameTo
   rename-keeps l m f g h = rw (l, m, f, g, eq-eqb d d refl, h)
 
   -- the slot then holds the new name for the same inode

@@ -18,15 +18,18 @@ use Rattle.names.specs.Name.{legalName}
 use Rattle.names.specs.Entry.{isEmpty}
 use Rattle.directory.specs.Slot.{slots, slotAt, slotEmpty, entryOf, findSlot, inodeAt}
 use Rattle.answers.specs.declared.Refusal.{Refusal}
-use Rattle.answers.specs.declared.Refusal.the-variants.{IllegalName, WrongInode, NameAbsent, NameTaken, NotEmpty, IntoItself}
+use Rattle.answers.specs.declared.Refusal.the-variants.{IllegalName, WrongInode, NameAbsent, NameTaken, NotEmpty, IntoItself, KindsDiffer}
+use Rattle.content.specs.declared.NumberPlan.the-variants.{To, NoNumber}
 use Rattle.entries.specs.declared.Room.{Room}
 use Rattle.entries.specs.declared.RoomPlan.the-variants.{Has, NoRoom}
 use Rattle.entries.specs.declared.UnlinkPlan.{UnlinkPlan}
 use Rattle.entries.specs.declared.UnlinkPlan.the-variants.{Take, NoUnlink}
 use Rattle.entries.specs.declared.RenamePlan.{RenamePlan}
 use Rattle.entries.specs.declared.RenamePlan.the-variants.{Rename, Move, NoRename}
+use Rattle.entries.specs.declared.OverPlan.{OverPlan}
+use Rattle.entries.specs.declared.OverPlan.the-variants.{Over, Same, NoOver}
 use Rattle.entries.specs.Room.{roomIn}
-use Rattle.entries.specs.Plan.{holdsNone, unlinkPlan, isBelow, renameWithin, moveTo, renameTo, renamePlan}
+use Rattle.entries.specs.Plan.{lookUpPlan, holdsNone, unlinkPlan, isBelow, renameWithin, moveTo, renameTo, renameNewPlan, overOf, overPlan}
 
 -- the test of slot t's bytes, as the code cuts them out at o
 pub empty-read : (s : List ℕ) (n d t o : ℕ) (r : Bool) → o ≡ slotAt s n d t → r ≡ isEmpty (take (o + 16 - o) (drop o s)) → r ≡ slotEmpty s n d t
@@ -129,39 +132,79 @@ module _ (s : List ℕ) (n b t i e : ℕ) (other : List ℕ) where
 
 -- ---- rename
 module _ (s : List ℕ) (n b d e : ℕ) (name other : List ℕ) where
-  pub rename-illegal : legalName name ≡ false → NoRename IllegalName ≡ renamePlan s n b d name e other
-  unfolding renamePlan
+  pub rename-illegal : legalName name ≡ false → NoRename IllegalName ≡ renameNewPlan s n b d name e other
+  unfolding renameNewPlan
   rename-illegal l = rw l
 
   module _ (l : legalName name ≡ true) where
-    pub rename-illegal-new : legalName other ≡ false → NoRename IllegalName ≡ renamePlan s n b d name e other
-    unfolding renamePlan
+    pub rename-illegal-new : legalName other ≡ false → NoRename IllegalName ≡ renameNewPlan s n b d name e other
+    unfolding renameNewPlan
     rename-illegal-new m = rw (l, m)
 
     module _ (m : legalName other ≡ true) where
-      pub rename-wrong : isDirectory s n d ≡ false → NoRename WrongInode ≡ renamePlan s n b d name e other
-      unfolding renamePlan
+      pub rename-wrong : isDirectory s n d ≡ false → NoRename WrongInode ≡ renameNewPlan s n b d name e other
+      unfolding renameNewPlan
       rename-wrong k = rw (l, m, k)
 
       module _ (k : isDirectory s n d ≡ true) where
-        pub rename-wrong-new : isDirectory s n e ≡ false → NoRename WrongInode ≡ renamePlan s n b d name e other
-        unfolding renamePlan
+        pub rename-wrong-new : isDirectory s n e ≡ false → NoRename WrongInode ≡ renameNewPlan s n b d name e other
+        unfolding renameNewPlan
         rename-wrong-new j = rw (l, m, k, j)
 
         module _ (j : isDirectory s n e ≡ true) where
-          pub rename-absent : findSlot s n d name ≡ Absent → NoRename NameAbsent ≡ renamePlan s n b d name e other
-          unfolding renamePlan
+          pub rename-absent : findSlot s n d name ≡ Absent → NoRename NameAbsent ≡ renameNewPlan s n b d name e other
+          unfolding renameNewPlan
           rename-absent f = rw (l, m, k, j, f)
 
           module _ (t i : ℕ) (r : RenamePlan) (f : findSlot s n d name ≡ At t) (q : i ≡ inodeAt s n d t) where
-            rename-there : r ≡ renameTo s n b d t i e other → r ≡ renamePlan s n b d name e other
-            unfolding renamePlan
+            rename-there : r ≡ renameTo s n b d t i e other → r ≡ renameNewPlan s n b d name e other
+            unfolding renameNewPlan
             rename-there h = rw (l, m, k, j, f) (h ∙ ap (λ (x : ℕ). renameTo s n b d t x e other) q)
 
-            pub rename-here : d ≡ e → r ≡ renameWithin s n t i e other → r ≡ renamePlan s n b d name e other
+            pub rename-here : d ≡ e → r ≡ renameWithin s n t i e other → r ≡ renameNewPlan s n b d name e other
             unfolding renameTo
             rename-here g h = rename-there (rw (eq-eqb d e g) h)
 
-            pub rename-away : (d ≡ e → ⊥) → r ≡ moveTo s n b t i e other → r ≡ renamePlan s n b d name e other
+            pub rename-away : (d ≡ e → ⊥) → r ≡ moveTo s n b t i e other → r ≡ renameNewPlan s n b d name e other
             unfolding renameTo
             rename-away g h = rename-there (rw (ne-eqb d e g) h)
+
+-- ---- rename onto a name that another entry has: i is renamed, h has the name
+module _ (s : List ℕ) (n d i e h : ℕ) where
+  pub below-within : d ≡ e → false ≡ not (eqb d e) && isBelow s n i e
+  below-within g = rw (eq-eqb d e g)
+
+  pub below-away : (r : Bool) → (d ≡ e → ⊥) → r ≡ isBelow s n i e → r ≡ not (eqb d e) && isBelow s n i e
+  below-away r g q = rw (ne-eqb d e g) q
+
+  pub over-itself : not (eqb d e) && isBelow s n i e ≡ true → NoOver IntoItself ≡ overOf s n d i e h
+  unfolding overOf
+  over-itself g = rw g
+
+  module _ (g : not (eqb d e) && isBelow s n i e ≡ false) where
+    pub over-kinds : (kindOf s i ≡ kindOf s h → ⊥) → NoOver KindsDiffer ≡ overOf s n d i e h
+    unfolding overOf
+    over-kinds k = rw (g, ne-eqb (kindOf s i) (kindOf s h) k)
+
+    module _ (k : kindOf s i ≡ kindOf s h) where
+      pub over-same : i ≡ h → Same i ≡ overOf s n d i e h
+      unfolding overOf
+      over-same q = rw (g, eq-eqb (kindOf s i) (kindOf s h) k, eq-eqb i h q)
+
+      pub over-other : (i ≡ h → ⊥) → Over i h ≡ overOf s n d i e h
+      unfolding overOf
+      over-other q = rw (g, eq-eqb (kindOf s i) (kindOf s h) k, ne-eqb i h q)
+
+module _ (s : List ℕ) (n d e : ℕ) (name other : List ℕ) where
+  pub over-unknown : (w : Refusal) → lookUpPlan s n d name ≡ NoNumber w → NoOver w ≡ overPlan s n d name e other
+  unfolding overPlan
+  over-unknown w f = rw f
+
+  module _ (i : ℕ) (f : lookUpPlan s n d name ≡ To i) where
+    pub over-held : (w : Refusal) → unlinkPlan s n e other ≡ NoUnlink w → NoOver w ≡ overPlan s n d name e other
+    unfolding overPlan
+    over-held w g = rw (f, g)
+
+    pub over-onto : (u h : ℕ) (r : OverPlan) → unlinkPlan s n e other ≡ Take u h → r ≡ overOf s n d i e h → r ≡ overPlan s n d name e other
+    unfolding overPlan
+    over-onto u h r g q = rw (f, g) q

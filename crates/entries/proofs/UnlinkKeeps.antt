@@ -25,7 +25,7 @@ use Rattle.sound.specs.Sound.{Sound}
 use Rattle.sound.specs.Counted.{SoundStore}
 use Rattle.sound.proofs.PlaceLaws.{slot-is, filled-is}
 use Rattle.sound.specs.declared.Form.the-variants.{Store}
-use Rattle.preservation.proofs.SameLaws.{OtherInodes, SameBody, same-body, body-then, links-new, links-parent, NewInode, frame-then, inode-then, InCounts, more-free}
+use Rattle.preservation.proofs.SameLaws.{OtherInodes, SameFrame, SameBody, same-body, body-then, links-new, links-parent, NewInode, frame-then, inode-then, InCounts, more-free}
 use Rattle.preservation.proofs.KeepLaws.{body-of}
 use Rattle.preservation.proofs.StoreLaws.{fits}
 use Rattle.preservation.proofs.RecordLaws.{header-inode}
@@ -214,6 +214,9 @@ module _ (s : List ℕ) (n d t i : ℕ) {b : ℕ} (h : SoundStore s n b)
 
   pub unlink-last : linksOf s i ≤ 1 → NewInode (unlinked s n d t i) i zeroInode
   unlink-last last = by-links (λ (w : List ℕ). NewInode w i zeroInode) (λ o. let e = links in absurd (omega arith)) (λ o. bared o .new)
+
+  pub unlink-frame : SameFrame s (unlinked s n d t i)
+  unlink-frame = by-links (SameFrame s) (λ o. frame-then (alone .frame) (relinked o .inode .frame)) (λ o. frame-then (alone .frame) (bared o .frame))
 
   pub unlink-sound : Sound Store (unlinked s n d t i)
   unlink-sound = by-links (Sound Store) less-sound last-sound

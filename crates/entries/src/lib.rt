@@ -47,6 +47,13 @@ pub enum RenamePlan {
     NoRename(Refusal),
 }
 
+// Rename onto a name that another entry has: the holder's entry goes, and inode has the name; or both names stand for inode already.
+pub enum OverPlan {
+    Over { inode: usize, holder: usize },
+    Same { inode: usize },
+    NoOver(Refusal),
+}
+
 // What a created inode is to be.
 pub enum Kind {
     File,

@@ -1,6 +1,7 @@
 // What look up, create, link, unlink and rename are to do on a sound store, decided before any byte changes. n and b are the store's counts.
 ghost use mathlib.Core.Path.{_≡_};
-ghost use mathlib.Core.Bool.{true};
+ghost use mathlib.Core.Bool.{true, not, _&&_};
+ghost use lib.Dec.{eqb};
 ghost use Prim.Native.Nat.{_≤_};
 ghost use lib.ListN.{length};
 ghost use Rattle.directory.specs.Fits.{DirFits};
@@ -10,9 +11,10 @@ ghost use Rattle.names.specs.Name.{nameBytes};
 ghost use Rattle.sound.specs.Sound.{blocksIn};
 ghost use Rattle.sound.specs.Counted.{SoundStore};
 ghost use Rattle.entries.specs.Room.{roomIn};
-ghost use Rattle.entries.specs.Plan.{lookUpPlan, createPlan, linkPlan, holdsNone, unlinkPlan, isBelow, renameWithin, moveTo, renamePlan};
+ghost use Rattle.entries.specs.Plan.{lookUpPlan, createPlan, linkPlan, holdsNone, unlinkPlan, isBelow, renameWithin, moveTo, renameNewPlan, overOf, overPlan};
 use crate::CreatePlan;
 use crate::LinkPlan;
+use crate::OverPlan;
 use crate::RenamePlan;
 use crate::Room;
 use crate::RoomPlan;
@@ -208,7 +210,8 @@ fn move_to(s: &[u8], n: usize, b: usize, t: usize, i: usize, e: usize, other: &[
     }
 }
 
-pub fn rename_plan(
+// The lap recorder's rename, which keeps what has the new name.
+pub fn rename_new_plan(
     s: &[u8],
     n: usize,
     b: usize,
@@ -218,7 +221,7 @@ pub fn rename_plan(
     other: &[u8],
 ) -> RenamePlan
     requires { ⌜ SoundStore (now s) n b ⌝ }
-    ensures { λ r. ⌜ r ≡ renamePlan (now (s .entry)) n b d (now (name .entry)) e (now (other .entry)) ⌝ }
+    ensures { λ r. ⌜ r ≡ renameNewPlan (now (s .entry)) n b d (now (name .entry)) e (now (other .entry)) ⌝ }
 {
     if !names::legal_name(name) {
         return RenamePlan::NoRename(Refusal::IllegalName);
@@ -240,4 +243,49 @@ pub fn rename_plan(
         return rename_within(s, n, t, i, e, other);
     }
     move_to(s, n, b, t, i, e, other)
+}
+
+// It would go to another directory, which is i or below it.
+fn moves_below(s: &[u8], n: usize, d: usize, i: usize, e: usize) -> bool
+    requires { ⌜ SoundStore (now s) n (blocksIn (now s)) × (isDirectory (now s) n e ≡ true) × (1 ≤ i) × (i ≤ n) ⌝ }
+    ensures { λ r. ⌜ r ≡ not (eqb d e) && isBelow (now (s .entry)) n i e ⌝ }
+{
+    if d == e {
+        return false;
+    }
+    is_below(s, n, i, e)
+}
+
+// Inode i, of directory d, is to have a name in e that stands for h.
+fn over_of(s: &[u8], n: usize, d: usize, i: usize, e: usize, h: usize) -> OverPlan
+    requires { ⌜ SoundStore (now s) n (blocksIn (now s)) × (isDirectory (now s) n e ≡ true) × (1 ≤ i) × (i ≤ n) × (1 ≤ h) × (h ≤ n) ⌝ }
+    ensures { λ r. ⌜ r ≡ overOf (now (s .entry)) n d i e h ⌝ }
+{
+    if moves_below(s, n, d, i, e) {
+        return OverPlan::NoOver(Refusal::IntoItself);
+    }
+    if inode::kind(s, n, i) != inode::kind(s, n, h) {
+        return OverPlan::NoOver(Refusal::KindsDiffer);
+    }
+    if i == h {
+        return OverPlan::Same { inode: i };
+    }
+    OverPlan::Over {
+        inode: i,
+        holder: h,
+    }
+}
+
+// Rename onto a name that another entry has: what the lap recorder's refuses with 7.
+pub fn over_plan(s: &[u8], n: usize, d: usize, name: &[u8], e: usize, other: &[u8]) -> OverPlan
+    requires { ⌜ SoundStore (now s) n (blocksIn (now s)) ⌝ }
+    ensures { λ r. ⌜ r ≡ overPlan (now (s .entry)) n d (now (name .entry)) e (now (other .entry)) ⌝ }
+{
+    match look_up_plan(s, n, d, name) {
+        NumberPlan::NoNumber(why) => OverPlan::NoOver(why),
+        NumberPlan::To(i) => match unlink_plan(s, n, e, other) {
+            UnlinkPlan::NoUnlink(why) => OverPlan::NoOver(why),
+            UnlinkPlan::Take { slot: _, inode: h } => over_of(s, n, d, i, e, h),
+        },
+    }
 }

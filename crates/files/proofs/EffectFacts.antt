@@ -54,7 +54,7 @@ names-filled s n q j l e = naming-filled s n q (omega arith)
 names-used : (s : List ℕ) (n b q j : ℕ) → Body s n b → q < mostSlots * n → 1 ≤ j → naming s n q ≡ j → kindOf s j ≢ freeKind
 names-used s n b q j h l m e = λ z. h .entries q l (names-filled s n q j m e) .used (ap (kindOf s) e ∙ z)
 
-stands-below : (s : List ℕ) (n : ℕ) (y : Entry) → Stands s n y → placeIn y < mostSlots * n
+pub stands-below : (s : List ℕ) (n : ℕ) (y : Entry) → Stands s n y → placeIn y < mostSlots * n
 stands-below s n y k = let a = k .low in let b = k .high in let l = k .small in omega arith
 
 -- ---- what an effect leaves

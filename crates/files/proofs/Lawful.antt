@@ -3,8 +3,7 @@ use Prim.Native.Nat.{ℕ, _*_, _≤_, _<_}
 use mathlib.Core.Path.{_≡_}
 use mathlib.Core.Logic.{_≢_, _⊎_}
 use mathlib.Core.Bool.{true, false}
-use mathlib.Core.List.{List}
-use lib.ListN.{length}
+use mathlib.Core.List.{List, [], _∷_}
 use Rattle.bounded.proofs.EachLaws.{All}
 use Rattle.layout.specs.Inode.{kindOf, sizeOf, freeKind, fileKind}
 use Rattle.blocks.specs.Block.{blocksUsed, kthBlock}
@@ -21,6 +20,11 @@ Apart j is = All (λ i. j ≢ i) is
 
 abbrev pub Away : ℕ → List Entry → Type 0
 Away q ys = All (λ y. q ≢ placeIn y) ys
+
+-- no two of them stand at one place
+abbrev pub Distinct : List Entry → Type 0
+Distinct [] = Unit {0}
+Distinct (y ∷ ys) = Away (placeIn y) ys × Distinct ys
 
 -- the entry stands in s
 pub record Stands (s : List ℕ) (n : ℕ) (y : Entry) : Type 0 where
@@ -56,10 +60,9 @@ pub record Lawful (s : List ℕ) (n : ℕ) (x : Effect) : Type 0 where
   pub gone : All (λ y. Away (placeIn y) (x .made) → filled (x .store) n (placeIn y) ≡ false) (x .taken)
   pub stands : All (Stands (x .store) n) (x .made)
   pub bare : All (λ y. Away (placeIn y) (x .taken) → filled s n (placeIn y) ≡ false) (x .made)
-  -- at most one entry is taken and one made; where both are it is a move, and they name one inode
-  pub one-taken : length (x .taken) ≤ 1
-  pub one-made : length (x .made) ≤ 1
-  pub moves : All (λ y. All (λ z. z .inode ≡ y .inode) (x .made)) (x .taken)
+  -- no two entries are taken from one place, and a place that is filled anew names another inode
+  pub distinct : Distinct (x .taken)
+  pub swaps : All (λ y. All (λ z. placeIn y ≡ placeIn z → z .inode ≢ y .inode) (x .made)) (x .taken)
   -- all other places name what they named
   pub others : (q : ℕ) → q < mostSlots * n → Away q (x .taken) → Away q (x .made) → SameNaming s (x .store) n q
   -- an inode in use keeps its kind or is freed

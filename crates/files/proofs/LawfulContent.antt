@@ -37,9 +37,8 @@ file-lawful s t n i z h f p q g =
       gone = tt;
       stands = tt;
       bare = tt;
-      one-taken = omega arith;
-      one-made = omega arith;
-      moves = tt;
+      distinct = tt;
+      swaps = tt;
       others = λ q l _ _. let p = tree .places q l in record { stands = p .stands; names = p .names };
       kinds = λ j l m _. inl (tree .kinds j l m);
       untouched = λ j l m _ z. record { inode = g .others j l m (z .0); bytes = λ k u. g .bytes j k l m (z .0) u };

@@ -4,7 +4,6 @@ use mathlib.Core.Path.{_≡_, refl, sym, ap, _∙_}
 use mathlib.Core.Logic.{_≢_, inl}
 use mathlib.Core.Bool.{true, false}
 use mathlib.Core.List.{List, [], _∷_}
-use native.Mathlib.Omega.{arith}
 use Rattle.layout.specs.Inode.{linksOf, fileKind, isFile, freeInode}
 use Rattle.blocks.proofs.ViewLaws.{inode-fits}
 use Rattle.directory.specs.Slot.{mostSlots, slotEmpty, findSlot}
@@ -30,7 +29,7 @@ use Rattle.entries.specs.declared.CreatePlan.{CreatePlan}
 use Rattle.entries.specs.declared.LinkPlan.{LinkPlan}
 use Rattle.entries.specs.declared.CreatePlan.the-variants.{Make, NoCreate}
 use Rattle.entries.specs.declared.LinkPlan.the-variants.{Add, NoLink}
-use Rattle.entries.proofs.PlanFacts.{NewIn, moves, links, creates}
+use Rattle.entries.proofs.PlanFacts.{NewIn, links, creates}
 use Rattle.entries.proofs.RoomLaws.{slot, Roomed, same-kind, same-find, same-free-inode}
 use Rattle.entries.proofs.LinkKeeps.{link-filled}
 use Rattle.entries.proofs.CreateKeeps.{create-filled, new-addresses}
@@ -91,9 +90,8 @@ module _ (s : List ℕ) (n b d : ℕ) (name : List ℕ) (r : Room) (h : SoundSto
         gone = tt;
         stands = (made-stands m w n d (r .slot) i name there o, tt);
         bare = (λ _. was-bare, tt);
-        one-taken = omega arith;
-        one-made = omega arith;
-        moves = tt;
+        distinct = tt;
+        swaps = tt;
         others = λ q l _ z. made-others w i o q l (z .0);
         kinds = λ j l k z. inl (a .kinds j l k z);
         untouched = a .stays;

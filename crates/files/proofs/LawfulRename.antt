@@ -1,10 +1,9 @@
--- The laws of rename's effects: within a directory, and a move. n and b are the counts of inodes and blocks.
+-- The laws of the renames' effects: within a directory, a move, and one that replaces. n and b are the counts of inodes and blocks.
 use Prim.Native.Nat.{ℕ, _<_}
 use mathlib.Core.Path.{_≡_, refl, sym, ap, _∙_, subst}
 use mathlib.Core.Logic.{inl}
 use mathlib.Core.Bool.{Bool, true, false}
 use mathlib.Core.List.{List, [], _∷_}
-use native.Mathlib.Omega.{arith}
 use lib.Dec.{eqb}
 use Rattle.bounded.specs.Search.{pick}
 use Rattle.layout.specs.Inode.{kindOf, spareOf, inodeOf, putAttributes, directoryKind, isKind, isDirectory, withParent}
@@ -15,10 +14,13 @@ use Rattle.directory.specs.Slot.{slots, slotEmpty, findSlot, putEntry, clearEnt
 use Rattle.directory.proofs.SlotLaws.{find-below}
 use Rattle.bounded.specs.declared.Found.the-variants.{Absent}
 use Rattle.bounded.proofs.CaseLaws.{each-else}
+use Rattle.bounded.proofs.EachLaws.{all-map}
+use Rattle.bounded.proofs.SearchLaws.{by-pick}
 use Rattle.names.specs.Name.{legalName}
 use Rattle.names.specs.Entry.{isEmpty, entryInode}
-use Rattle.sound.specs.Place.{placeOf}
+use Rattle.sound.specs.Place.{placeOf, dirOf}
 use Rattle.sound.specs.Counted.{SoundStore}
+use Rattle.sound.proofs.PlaceLaws.{place-dir}
 use Rattle.preservation.proofs.SameLaws.{SameInode, frame-stays, inode-stays, same-body}
 use Rattle.preservation.proofs.StoreLaws.{is-dir, fits}
 use Rattle.preservation.proofs.EntryWriteLaws.{SlotIn, slot-in, place-below}
@@ -27,20 +29,27 @@ use Rattle.preservation.proofs.SlotPlaceLaws.{entry-here, found-full, place-fil
 use Rattle.preservation.proofs.KeepLaws.{same-slots, body-of}
 use Rattle.entries.specs.declared.Room.{Room}
 use Rattle.entries.specs.Room.{makeRoom}
-use Rattle.entries.specs.Plan.{renamePlan}
-use Rattle.entries.specs.Apply.{renamed, setParent, moved}
+use Rattle.entries.specs.Plan.{renameNewPlan, overPlan}
+use Rattle.entries.specs.Apply.{unlinked, renamed, setParent, moved}
 use Rattle.entries.specs.declared.RenamePlan.{RenamePlan}
 use Rattle.entries.specs.declared.RenamePlan.the-variants.{Rename, Move, NoRename}
+use Rattle.entries.specs.declared.OverPlan.{OverPlan}
+use Rattle.entries.specs.declared.OverPlan.the-variants.{Over, Same, NoOver}
 use Rattle.entries.proofs.PlanFacts.{FreeFor, renames, moves}
 use Rattle.entries.proofs.RoomLaws.{slot, same-kind}
 use Rattle.entries.proofs.PlanKeeps.{moved-sound}
 use Rattle.entries.proofs.MoveKeeps.{not-below, below-kept, move-emptied, move-filled}
 use Rattle.entries.proofs.RenameKeeps.{rename-filled, rename-sound}
-use Rattle.files.specs.Effect.{entry, changes, doRename, planned, rename}
+use Rattle.answers.specs.declared.Refusal.the-variants.{NameTaken}
+use Rattle.answers.specs.Refusal.{refusalNumber}
+use Rattle.files.specs.Effect.{entry, changes, Planned, refused, does, ifTaken, watched, doRename, doRenameNew, doOver, planned, rename, renameNew}
 use Rattle.files.proofs.Lawful.{SameNaming, Lawful, Each}
 use Rattle.files.proofs.LawfulSteady.{store-blocks, blocks-same, put-slot, clear-slot, Steady, steady-then, put-steady, clear-steady, roomed, room-steady, room-sound, room-slot}
 use Rattle.files.proofs.LawfulEnter.{still, was-bare}
 use Rattle.files.proofs.LawfulStays.{same-store}
+use Rattle.files.proofs.LawfulUnlink.{lawful-unlink}
+use Rattle.files.proofs.LawfulThen.{lawful-then}
+use Rattle.files.proofs.OverLaws.{replaced, over-does}
 
 -- ---- rename within a directory
 module _ (s : List ℕ) (n d t i : ℕ) (other : List ℕ) {b : ℕ} (h : SoundStore s n b)
@@ -59,9 +68,8 @@ module _ (s : List ℕ) (n d t i : ℕ) (other : List ℕ) {b : ℕ} (h : SoundS
         gone = tt;
         stands = tt;
         bare = tt;
-        one-taken = omega arith;
-        one-made = omega arith;
-        moves = tt;
+        distinct = tt;
+        swaps = tt;
         others = λ q l _ _.
             each-else (SameNaming s (putEntry s n d t i other) n) (placeOf d t) q (record { stands = o .stands ∙ sym f; names = o .names ∙ sym (y .names) })
             (λ z. let p = o .others q l z in record { stands = p .stands; names = p .names });
@@ -96,7 +104,7 @@ slot-same : (s t : List ℕ) (n d u : ℕ) → SameInode s t n d → SlotIn s n 
 slot-same s t n d u a y = record { low = y .low; high = y .high; dir = a .kind ∙ y .dir; inside = subst (λ (z : ℕ). u < z) (sym (same-slots a)) (y .inside); small = y .small }
 
 module _ (s : List ℕ) (n b d : ℕ) (name : List ℕ) (e : ℕ) (other : List ℕ) (t i : ℕ) (r : Room) (h : SoundStore s n b)
-    (q : renamePlan s n b d name e other ≡ Move t i r) where
+    (q : renameNewPlan s n b d name e other ≡ Move t i r) where
   move-lawful : Lawful s n (changes 0 (moved s n d e other t i r) (d ∷ e ∷ i ∷ []) (entry d t i ∷ []) (entry e (r .slot) i ∷ []))
   unfolding moved slotEmpty
   move-lawful =
@@ -143,9 +151,8 @@ module _ (s : List ℕ) (n b d : ℕ) (name : List ℕ) (e : ℕ) (other : List 
         gone = (λ z. filling .others (placeOf d t) (place-below (old .slot)) (z .0) .stands ∙ emptied .stands, tt);
         stands = (record { low = there .low; high = there .high; small = there .small; stands = filling .stands; names = filling .names }, tt);
         bare = (λ _. was-bare s n b e other r h v (o .room), tt);
-        one-taken = omega arith;
-        one-made = omega arith;
-        moves = ((refl, tt), tt);
+        distinct = (tt, tt);
+        swaps = ((λ z. absurd (o .other (sym (place-dir d t (old .slot .low) (old .slot .small)) ∙ ap dirOf z ∙ place-dir e (r .slot) (there .low) (there .small))), tt), tt);
         others = λ k l z u.
             let j = filling .others k l (u .0) in
             let j′ = emptied .others k l (z .0) in
@@ -157,10 +164,11 @@ module _ (s : List ℕ) (n b d : ℕ) (name : List ℕ) (e : ℕ) (other : List 
         apart = λ j z. (((z .0, z .1 .1 .0), tt), (z .1 .0, tt));
       }
 
-pub lawful-rename : (s : List ℕ) (n b d : ℕ) (name : List ℕ) (e : ℕ) (other : List ℕ) → SoundStore s n b → Each (Lawful s n) (planned (rename d name e other) s n b)
-lawful-rename s n b d name e other h = go (renamePlan s n b d name e other) refl
+-- ---- the lap recorder's
+pub lawful-rename-new : (s : List ℕ) (n b d : ℕ) (name : List ℕ) (e : ℕ) (other : List ℕ) → SoundStore s n b → Each (Lawful s n) (planned (renameNew d name e other) s n b)
+lawful-rename-new s n b d name e other h = go (renameNewPlan s n b d name e other) refl
   where
-    go : (p : RenamePlan) → renamePlan s n b d name e other ≡ p → Each (Lawful s n) (doRename s n d e other p)
+    go : (p : RenamePlan) → renameNewPlan s n b d name e other ≡ p → Each (Lawful s n) (doRename s n d e other p)
     go (NoRename w) q = tt
     go (Rename t i) q =
         let c = renames s n b d name e other t i q in
@@ -168,3 +176,25 @@ lawful-rename s n b d name e other h = go (renamePlan s n b d name e other) refl
         rename-lawful s n d t i other h (w .directory) (find-below s n d name t (w .found)) (found-full s n d name t (w .legal) (w .found)) (w .inode)
         (c .0 .legal) (c .0 .free)
     go (Move t i r) q = move-lawful s n b d name e other t i r h q
+
+-- ---- onto a name that another entry has: an unlink, and then that rename
+module _ (s : List ℕ) (n b d : ℕ) (name : List ℕ) (e : ℕ) (other : List ℕ) (k : SoundStore s n b) where
+  lawful-over : (p : OverPlan) → overPlan s n d name e other ≡ p → Each (Lawful s n) (doOver s n b d name e other (overPlan s n d name e other))
+  lawful-over (NoOver f) q = subst (λ (p : OverPlan). Each (Lawful s n) (doOver s n b d name e other p)) (sym q) tt
+  lawful-over (Same i) q = subst (λ (p : OverPlan). Each (Lawful s n) (doOver s n b d name e other p)) (sym q) (same-store s n 0 [] (watched d e i) (k .sound))
+  lawful-over (Over i h) q =
+      let r = replaced s n b d name e other i h k q in
+      let y = r .renames in
+      subst (Each (Lawful s n)) (sym (over-does s n b d name e other i h k q))
+      (lawful-then (k .sound) (k .inodes) 0 (unlinked s n e (r .slot) h) (e ∷ h ∷ []) (entry e (r .slot) h ∷ []) (y .effect)
+      (subst (Each (Lawful s n)) (r .unlinks) (lawful-unlink s n b e other k))
+      (subst (Each (Lawful (unlinked s n e (r .slot) h) n)) (y .done) (lawful-rename-new (unlinked s n e (r .slot) h) n b d name e other (r .sound)))
+      (all-map _ _ (y .effect .made) (λ z m. ((λ x. r .differ (sym m ∙ x)), tt)) (y .mover))
+      (all-map _ _ (y .effect .made) (λ z m x. r .used (ap (kindOf (unlinked s n e (r .slot) h)) (sym m) ∙ x)) (y .mover)))
+
+  pub lawful-rename : Each (Lawful s n) (planned (rename d name e other) s n b)
+  lawful-rename = go (doRenameNew s n b d name e other) (lawful-rename-new s n b d name e other k)
+    where
+      go : (p : Planned) → Each (Lawful s n) p → Each (Lawful s n) (ifTaken p (doOver s n b d name e other (overPlan s n d name e other)))
+      go (does x) l = l
+      go (refused f) l = by-pick (Each (Lawful s n)) (eqb (refusalNumber f) (refusalNumber NameTaken)) (lawful-over (overPlan s n d name e other) refl) tt

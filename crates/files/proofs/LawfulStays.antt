@@ -3,7 +3,6 @@ use Prim.Native.Nat.{ℕ}
 use mathlib.Core.Path.{refl}
 use mathlib.Core.Logic.{inl}
 use mathlib.Core.List.{List, []}
-use native.Mathlib.Omega.{arith}
 use lib.ListN.{length}
 use Rattle.sound.specs.Sound.{Sound}
 use Rattle.sound.specs.declared.Form.the-variants.{Store}
@@ -12,7 +11,6 @@ use Rattle.content.specs.Plan.{readPlan}
 use Rattle.content.specs.declared.NumberPlan.{NumberPlan}
 use Rattle.content.specs.declared.NumberPlan.the-variants.{To, NoNumber}
 use Rattle.entries.specs.Plan.{lookUpPlan}
-use Rattle.entries.proofs.PlanFacts.{moves}
 use Rattle.files.specs.Effect.{doLookUp, doRead, planned, lookUp, read}
 use Rattle.files.proofs.Lawful.{SameNaming, Lawful, Each}
 
@@ -29,9 +27,8 @@ same-store s n a out is h = record {
   gone = tt;
   stands = tt;
   bare = tt;
-  one-taken = omega arith;
-  one-made = omega arith;
-  moves = tt;
+  distinct = tt;
+  swaps = tt;
   others = λ q l _ _. naming-stays s n q;
   kinds = λ j _ _ _. inl refl;
   untouched = λ j _ _ _ _. record { inode = inode-stays s n j; bytes = λ k l. refl };

@@ -104,7 +104,7 @@ pub record Steady (s t : List ℕ) (n : ℕ) (is : List ℕ) : Type 0 where
 no-directory : (s : List ℕ) (j d : ℕ) → kindOf s d ≡ directoryKind → kindOf s j ≡ fileKind → j ≢ d
 no-directory s j d e f z = let a = sym (ap (kindOf s) z) ∙ f in omega arith
 
-keeps-then : {s t u : List ℕ} {n j : ℕ} → blocksUsed (sizeOf s j) ≤ mostBlocks → Keeps s t n j → Keeps t u n j → Keeps s u n j
+pub keeps-then : {s t u : List ℕ} {n j : ℕ} → blocksUsed (sizeOf s j) ≤ mostBlocks → Keeps s t n j → Keeps t u n j → Keeps s u n j
 keeps-then {s} {t} {u} {n} {j} few a b = record {
   body = body-then (a .body) (b .body);
   bytes = λ k l.
@@ -112,7 +112,7 @@ keeps-then {s} {t} {u} {n} {j} few a b = record {
       ap (blockOf u n) (sym e) ∙ b .bytes k (subst (λ (z : ℕ). k < blocksUsed z) (sym (a .body .size)) l) ∙ ap (blockOf t n) e ∙ a .bytes k l;
 }
 
-stays-then : {s t u : List ℕ} {n j : ℕ} → blocksUsed (sizeOf s j) ≤ mostBlocks → Stays s t n j → Stays t u n j → Stays s u n j
+pub stays-then : {s t u : List ℕ} {n j : ℕ} → blocksUsed (sizeOf s j) ≤ mostBlocks → Stays s t n j → Stays t u n j → Stays s u n j
 stays-then few a b = record { inode = inode-then (a .inode) (b .inode); bytes = keeps-then few (stays-keeps a) (stays-keeps b) .bytes }
 
 module _ {s t u : List ℕ} {n : ℕ} {is js ks : List ℕ} (c : Blocks s n)

@@ -29,7 +29,7 @@ use Rattle.entries.specs.Plan.{holdsNone, unlinkPlan}
 use Rattle.entries.specs.Apply.{dropLink, unlinked}
 use Rattle.entries.specs.declared.UnlinkPlan.{UnlinkPlan}
 use Rattle.entries.specs.declared.UnlinkPlan.the-variants.{Take, NoUnlink}
-use Rattle.entries.proofs.PlanFacts.{unlinks, moves}
+use Rattle.entries.proofs.PlanFacts.{unlinks}
 use Rattle.entries.proofs.RoomLaws.{slot}
 use Rattle.entries.proofs.UnlinkKeeps.{unlink-emptied, unlink-others, unlink-less, unlink-last, unlink-sound}
 use Rattle.files.specs.Effect.{entry, changes, doUnlink, planned, unlink}
@@ -97,9 +97,8 @@ module _ (s : List ℕ) (n d t i : ℕ) {b : ℕ} (h : SoundStore s n b)
         gone = (λ _. o .stands, tt);
         stands = tt;
         bare = tt;
-        one-taken = omega arith;
-        one-made = omega arith;
-        moves = (tt, tt);
+        distinct = (tt, tt);
+        swaps = (tt, tt);
         others = λ q l z _. let p = o .others q l (z .0) in record { stands = p .stands; names = p .names };
         kinds = λ j l k u. elim (ℕ-discrete j i) as (λ _. (kindOf (unlinked s n d t i) j ≡ kindOf s j) ⊎ (kindOf (unlinked s n d t i) j ≡ freeKind)) [
           | yes e ↦ subst (λ (a : ℕ). (kindOf (unlinked s n d t i) a ≡ kindOf s a) ⊎ (kindOf (unlinked s n d t i) a ≡ freeKind)) (sym e) kind-after

@@ -6,7 +6,10 @@ pub mod LawfulEnter
 pub mod LawfulRename
 pub mod LawfulStays
 pub mod LawfulSteady
+pub mod LawfulThen
 pub mod LawfulUnlink
+pub mod OverLaws
+pub mod RefillLaws
 pub mod CallLaws
 pub mod PlainKeeps
 pub mod PlainLaws

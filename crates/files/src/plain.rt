@@ -1,13 +1,13 @@
-// The eight file calls on a store alone. Any bytes may be lent and any numbers handed in; a refused call changes nothing.
+// The nine file calls on a store alone. Any bytes may be lent and any numbers handed in; a refused call changes nothing.
 ghost use mathlib.Core.Path.{_≡_};
 ghost use mathlib.Core.List.{[]};
 ghost use lib.ListN.{length};
 ghost use Rattle.sound.specs.Sound.{blocksIn};
 ghost use Rattle.sound.specs.Counted.{SoundStore};
 ghost use Rattle.content.specs.Plan.{readPlan, writePlan, shortenPlan};
-ghost use Rattle.entries.specs.Plan.{lookUpPlan, createPlan, linkPlan, unlinkPlan, renamePlan};
+ghost use Rattle.entries.specs.Plan.{lookUpPlan, createPlan, linkPlan, unlinkPlan, overPlan};
 ghost use Rattle.files.specs.Guard.{guardOf};
-ghost use Rattle.files.specs.Effect.{lookUp, read, create, write, shorten, link, unlink, rename, doLookUp, doRead, doCreate, doWrite, doShorten, doLink, doUnlink, doRename};
+ghost use Rattle.files.specs.Effect.{lookUp, read, create, write, shorten, link, unlink, rename, renameNew, doLookUp, doRead, doCreate, doWrite, doShorten, doLink, doUnlink, doRenameNew, doOver, planned};
 ghost use Rattle.files.specs.Plain.{plainLeft, leaves, plain};
 use crate::Guard;
 use answers::Answer;
@@ -16,6 +16,7 @@ use content::NumberPlan;
 use entries::CreatePlan;
 use entries::Kind;
 use entries::LinkPlan;
+use entries::OverPlan;
 use entries::RenamePlan;
 use entries::UnlinkPlan;
 use layout::header::Header;
@@ -204,7 +205,8 @@ pub fn unlink(store: &mut [u8], dir: usize, name: &[u8]) -> Answer
 }
 
 // ---- rename
-fn do_rename(
+// The lap recorder's, which keeps what has the new name.
+fn do_rename_new(
     s: &mut [u8],
     n: usize,
     b: usize,
@@ -215,9 +217,9 @@ fn do_rename(
 ) -> Answer
     requires { ⌜ SoundStore (now s) n b ⌝ }
     ensures { λ r. ⌜ plainLeft r (now (s .exit)) []
-        ≡ leaves (now (s .entry)) [] (doRename (now (s .entry)) n d e (now (other .entry)) (renamePlan (now (s .entry)) n b d (now (name .entry)) e (now (other .entry)))) ⌝ }
+        ≡ leaves (now (s .entry)) [] (doRenameNew (now (s .entry)) n b d (now (name .entry)) e (now (other .entry))) ⌝ }
 {
-    match entries::plan::rename_plan(s, n, b, d, name, e, other) {
+    match entries::plan::rename_new_plan(s, n, b, d, name, e, other) {
         RenamePlan::Rename { slot: t, inode: i } => {
             entries::apply::rename(&mut *s, n, d, other, t, i);
             Answer::Done(0)
@@ -234,12 +236,76 @@ fn do_rename(
     }
 }
 
+// Onto a name that another entry has: the old holder goes, and then the entry is renamed.
+fn do_over(
+    s: &mut [u8],
+    n: usize,
+    b: usize,
+    d: usize,
+    name: &[u8],
+    e: usize,
+    other: &[u8],
+) -> Answer
+    requires { ⌜ SoundStore (now s) n b ⌝ }
+    ensures { λ r. ⌜ plainLeft r (now (s .exit)) []
+        ≡ leaves (now (s .entry)) [] (doOver (now (s .entry)) n b d (now (name .entry)) e (now (other .entry)) (overPlan (now (s .entry)) n d (now (name .entry)) e (now (other .entry)))) ⌝ }
+{
+    match entries::plan::over_plan(s, n, d, name, e, other) {
+        OverPlan::Over {
+            inode: _,
+            holder: _,
+        } => {
+            do_unlink(&mut *s, n, e, other);
+            do_rename_new(&mut *s, n, b, d, name, e, other)
+        }
+        OverPlan::Same { inode: _ } => Answer::Done(0),
+        OverPlan::NoOver(why) => Answer::Refused(why),
+    }
+}
+
+// The phone app's, which replaces.
+fn do_rename(
+    s: &mut [u8],
+    n: usize,
+    b: usize,
+    d: usize,
+    name: &[u8],
+    e: usize,
+    other: &[u8],
+) -> Answer
+    requires { ⌜ SoundStore (now s) n b ⌝ }
+    ensures { λ r. ⌜ plainLeft r (now (s .exit)) []
+        ≡ leaves (now (s .entry)) [] (planned (rename d (now (name .entry)) e (now (other .entry))) (now (s .entry)) n b) ⌝ }
+{
+    let answer = do_rename_new(&mut *s, n, b, d, name, e, other);
+    if answers::refused_with(answer, Refusal::NameTaken) {
+        return do_over(&mut *s, n, b, d, name, e, other);
+    }
+    answer
+}
+
 pub fn rename(store: &mut [u8], dir: usize, name: &[u8], to_dir: usize, to_name: &[u8]) -> Answer
     ensures { λ r. ⌜ plainLeft r (now (store .exit)) []
         ≡ plain (rename dir (now (name .entry)) «to_dir» (now («to_name» .entry))) (now (store .entry)) ⌝ }
 {
     match guard(store) {
         Guard::Pass(n, b) => do_rename(&mut *store, n, b, dir, name, to_dir, to_name),
+        Guard::Stop(why) => Answer::Refused(why),
+    }
+}
+
+pub fn rename_new(
+    store: &mut [u8],
+    dir: usize,
+    name: &[u8],
+    to_dir: usize,
+    to_name: &[u8],
+) -> Answer
+    ensures { λ r. ⌜ plainLeft r (now (store .exit)) []
+        ≡ plain (renameNew dir (now (name .entry)) «to_dir» (now («to_name» .entry))) (now (store .entry)) ⌝ }
+{
+    match guard(store) {
+        Guard::Pass(n, b) => do_rename_new(&mut *store, n, b, dir, name, to_dir, to_name),
         Guard::Stop(why) => Answer::Refused(why),
     }
 }

@@ -1,3 +1,4 @@
 pub mod NoteLaws
 pub mod CallLaws
+pub mod OverLaws
 pub mod ReturnLaws

@@ -4,7 +4,7 @@ mod notes;
 mod work;
 
 ghost use mathlib.Core.Path.{_≡_};
-ghost use Rattle.files.specs.Effect.{create, write, shorten, link, unlink, rename};
+ghost use Rattle.files.specs.Effect.{create, write, shorten, link, unlink, rename, renameNew};
 ghost use Rattle.checkpoint.specs.Live.{left, live, world};
 use answers::Answer;
 use entries::Kind;
@@ -102,6 +102,7 @@ pub fn unlink(
     }
 }
 
+// The phone app's rename, which replaces.
 pub fn rename(
     store: &mut [u8],
     image: &mut [u8],
@@ -116,6 +117,36 @@ pub fn rename(
 {
     match three_guards(store, image, desk) {
         Watched::Open(n, b, h) => work::rename(
+            &mut *store,
+            &mut *image,
+            &mut *desk,
+            h,
+            n,
+            b,
+            dir,
+            name,
+            to_dir,
+            to_name,
+        ),
+        Watched::Shut(why) => Answer::Refused(why),
+    }
+}
+
+// The lap recorder's rename, which keeps what has the new name.
+pub fn rename_new(
+    store: &mut [u8],
+    image: &mut [u8],
+    desk: &mut [u8],
+    dir: usize,
+    name: &[u8],
+    to_dir: usize,
+    to_name: &[u8],
+) -> Answer
+    ensures { λ r. ⌜ left r (now (store .exit)) (now (image .exit)) (now (desk .exit))
+        ≡ live (renameNew dir (now (name .entry)) «to_dir» (now («to_name» .entry))) (world (now (store .entry)) (now (image .entry)) (now (desk .entry))) ⌝ }
+{
+    match three_guards(store, image, desk) {
+        Watched::Open(n, b, h) => work::rename_new(
             &mut *store,
             &mut *image,
             &mut *desk,

@@ -5,11 +5,12 @@ ghost use mathlib.Core.List.{List};
 ghost use Prim.Native.Nat.{ℕ};
 ghost use lib.ListN.{length};
 ghost use Rattle.desk.specs.Desk.{deskOf};
+ghost use Rattle.desk.specs.Next.{locksAny};
 ghost use Rattle.sound.specs.Sound.{blocksIn};
 ghost use Rattle.sound.specs.Counted.{SoundStore};
 ghost use Rattle.content.specs.Plan.{writePlan, shortenPlan};
-ghost use Rattle.entries.specs.Plan.{createPlan, linkPlan, unlinkPlan, renamePlan};
-ghost use Rattle.files.specs.Effect.{doCreate, doWrite, doShorten, doLink, doUnlink, doRename};
+ghost use Rattle.entries.specs.Plan.{createPlan, linkPlan, unlinkPlan, overPlan};
+ghost use Rattle.files.specs.Effect.{rename, doCreate, doWrite, doShorten, doLink, doUnlink, doRenameNew, watched, doOver, planned};
 ghost use Rattle.checkpoint.specs.Busy.{unlessBusy};
 ghost use Rattle.checkpoint.specs.Live.{left, leavesIn, world};
 ghost use Rattle.image.specs.Addressed.{Readable};
@@ -22,6 +23,7 @@ use desk::Desk;
 use entries::CreatePlan;
 use entries::Kind;
 use entries::LinkPlan;
+use entries::OverPlan;
 use entries::RenamePlan;
 use entries::UnlinkPlan;
 use image::cut::cut_image;
@@ -146,7 +148,8 @@ pub fn unlink(
     }
 }
 
-pub fn rename(
+// The lap recorder's, which keeps what has the new name.
+pub fn rename_new(
     s: &mut [u8],
     m: &mut [u8],
     d: &mut [u8],
@@ -160,9 +163,9 @@ pub fn rename(
 ) -> Answer
     requires { ⌜ Fits (now s) (now d) h n b × Readable (now m) h n ⌝ }
     ensures { λ r. ⌜ left r (now (s .exit)) (now (m .exit)) (now (d .exit))
-        ≡ leavesIn (world (now (s .entry)) (now (m .entry)) (now (d .entry))) (unlessBusy (now (d .entry)) (doRename (now (s .entry)) n from to (now (other .entry)) (renamePlan (now (s .entry)) n b from (now (name .entry)) to (now (other .entry))))) ⌝ }
+        ≡ leavesIn (world (now (s .entry)) (now (m .entry)) (now (d .entry))) (unlessBusy (now (d .entry)) (doRenameNew (now (s .entry)) n b from (now (name .entry)) to (now (other .entry)))) ⌝ }
 {
-    match entries::plan::rename_plan(s, n, b, from, name, to, other) {
+    match entries::plan::rename_new_plan(s, n, b, from, name, to, other) {
         RenamePlan::Rename { slot: t, inode: i } => {
             let touched = [from];
             if h.locks_any(&touched) {
@@ -189,4 +192,82 @@ pub fn rename(
         }
         RenamePlan::NoRename(why) => Answer::Refused(why),
     }
+}
+
+// 14, as for any rename of i.
+fn rename_locked(h: Desk, from: usize, to: usize, i: usize) -> bool
+    ensures { λ r. ⌜ r ≡ locksAny h (watched from to i) ⌝ }
+{
+    if from == to {
+        let touched = [from];
+        return h.locks_any(&touched);
+    }
+    let touched = [from, to, i];
+    h.locks_any(&touched)
+}
+
+// Onto a name that another entry has: the old holder goes as an unlink takes it, and then the entry is renamed.
+fn over(
+    s: &mut [u8],
+    m: &mut [u8],
+    d: &mut [u8],
+    h: Desk,
+    n: usize,
+    b: usize,
+    from: usize,
+    name: &[u8],
+    to: usize,
+    other: &[u8],
+) -> Answer
+    requires { ⌜ Fits (now s) (now d) h n b × Readable (now m) h n ⌝ }
+    ensures { λ r. ⌜ left r (now (s .exit)) (now (m .exit)) (now (d .exit))
+        ≡ leavesIn (world (now (s .entry)) (now (m .entry)) (now (d .entry))) (unlessBusy (now (d .entry)) (doOver (now (s .entry)) n b from (now (name .entry)) to (now (other .entry)) (overPlan (now (s .entry)) n from (now (name .entry)) to (now (other .entry))))) ⌝ }
+{
+    match entries::plan::over_plan(s, n, from, name, to, other) {
+        OverPlan::Over {
+            inode: i,
+            holder: o,
+        } => {
+            let touched = [to, o];
+            if h.locks_any(&touched) {
+                return Answer::Refused(Refusal::Busy);
+            }
+            if rename_locked(h, from, to, i) {
+                return Answer::Refused(Refusal::Busy);
+            }
+            unlink(&mut *s, &mut *m, &mut *d, h, n, to, other);
+            rename_new(&mut *s, &mut *m, &mut *d, h, n, b, from, name, to, other)
+        }
+        OverPlan::Same { inode: i } => {
+            if rename_locked(h, from, to, i) {
+                return Answer::Refused(Refusal::Busy);
+            }
+            Answer::Done(0)
+        }
+        OverPlan::NoOver(why) => Answer::Refused(why),
+    }
+}
+
+// The phone app's, which replaces.
+pub fn rename(
+    s: &mut [u8],
+    m: &mut [u8],
+    d: &mut [u8],
+    h: Desk,
+    n: usize,
+    b: usize,
+    from: usize,
+    name: &[u8],
+    to: usize,
+    other: &[u8],
+) -> Answer
+    requires { ⌜ Fits (now s) (now d) h n b × Readable (now m) h n ⌝ }
+    ensures { λ r. ⌜ left r (now (s .exit)) (now (m .exit)) (now (d .exit))
+        ≡ leavesIn (world (now (s .entry)) (now (m .entry)) (now (d .entry))) (unlessBusy (now (d .entry)) (planned (rename from (now (name .entry)) to (now (other .entry))) (now (s .entry)) n b)) ⌝ }
+{
+    let answer = rename_new(&mut *s, &mut *m, &mut *d, h, n, b, from, name, to, other);
+    if answers::refused_with(answer, Refusal::NameTaken) {
+        return over(&mut *s, &mut *m, &mut *d, h, n, b, from, name, to, other);
+    }
+    answer
 }

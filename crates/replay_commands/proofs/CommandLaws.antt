@@ -104,9 +104,9 @@ past [] j a b c d l = refl
 past (f ∷ fs) zero a b c d l = absurd (omega arith)
 past (f ∷ fs) (suc j) a b c d l = past fs j a b c d (omega arith)
 
-pub asked-no : (j a b c d : ℕ) → NoneBelow 21 j → Bad ≡ asked j a b c d
+pub asked-no : (j a b c d : ℕ) → NoneBelow 22 j → Bad ≡ asked j a b c d
 unfolding asked forms
-asked-no j a b c d h = past forms j a b c d (above 21 j h)
+asked-no j a b c d h = past forms j a b c d (above 22 j h)
 
 pub asked-all : (j : ℕ) (form cmd : List ℕ) (a b x y z w : ℕ) (r : Command) → x ≡ worth form cmd a b 1 → y ≡ worth form cmd a b 2 → z ≡ worth form cmd a b 3 → w ≡ worth form cmd a b 4 → r ≡ asked j x y z w → r ≡ askedBy j form cmd a b
 unfolding askedBy

@@ -17,7 +17,7 @@ use Rattle.text.specs.declared.Number.{Number}
 use Rattle.text.specs.declared.Number.the-variants.{Value, NoNumber}
 use Rattle.replay_commands.specs.declared.Command.{Command}
 use Rattle.replay_commands.specs.declared.Command.the-variants.{New, PokeStore, PokeImage, PokeDesk, LayStore, LayDesk, CheckStore, CheckImage, Read, File, Start, Step, Burst, Ask, Bad}
-use Rattle.replay_commands.specs.declared.Call.the-variants.{LookUp, CreateFile, CreateDirectory, Write, Shorten, Link, Unlink, Rename}
+use Rattle.replay_commands.specs.declared.Call.the-variants.{LookUp, CreateFile, CreateDirectory, Write, Shorten, Link, Unlink, Rename, RenameNew}
 
 -- ---- The forms: `#` is a number, `*` and `+` are bytes in hex, for the first and the second of two buffers; any other field is itself
 pub record Form : Type 0 where
@@ -47,6 +47,7 @@ forms =
     ∷ form "ln # * #" (λ dir name inode _. File (Link dir name inode))
     ∷ form "rm # *" (λ dir name _ _. File (Unlink dir name))
     ∷ form "mv # * # +" (λ dir name to new. File (Rename dir name to new))
+    ∷ form "mvo # * # +" (λ dir name to new. File (RenameNew dir name to new))
     ∷ form "go" (λ _ _ _ _. Start)
     ∷ form "st" (λ _ _ _ _. Step)
     ∷ form "bu #" (λ count _ _ _. Burst count)

@@ -12,6 +12,7 @@ pub enum Call {
     Link(usize, usize, usize),
     Unlink(usize, usize),
     Rename(usize, usize, usize, usize),
+    RenameNew(usize, usize, usize, usize),
 }
 
 // What a command asks for. `Bad` is no command.

@@ -120,10 +120,11 @@ fn asked(j: usize, a: usize, b: usize, c: usize, d: usize) -> Command
         14 => Command::File(Call::Link(a, b, c)),
         15 => Command::File(Call::Unlink(a, b)),
         16 => Command::File(Call::Rename(a, b, c, d)),
-        17 => Command::Start,
-        18 => Command::Step,
-        19 => Command::Burst(a),
-        20 => Command::Ask,
+        17 => Command::File(Call::RenameNew(a, b, c, d)),
+        18 => Command::Start,
+        19 => Command::Step,
+        20 => Command::Burst(a),
+        21 => Command::Ask,
         _ => Command::Bad,
     }
 }
@@ -134,7 +135,7 @@ pub fn parse(cmd: &[u8], name: &mut [u8], other: &mut [u8]) -> Command
         ≡ parseCommand (now (cmd .entry)) (now (name .entry)) (now (other .entry)) ⌝ }
 {
     let forms: &[u8] =
-        b"new # # #\npoke store # #\npoke image # #\npoke desk # #\nlay store # #\nlay desk #\nchk store\nchk image\nlk # *\nmk # * f\nmk # * d\nrd # # #\nwr # # *\nsh # #\nln # * #\nrm # *\nmv # * # +\ngo\nst\nbu #\nask";
+        b"new # # #\npoke store # #\npoke image # #\npoke desk # #\nlay store # #\nlay desk #\nchk store\nchk image\nlk # *\nmk # * f\nmk # * d\nrd # # #\nwr # # *\nsh # #\nln # * #\nrm # *\nmv # * # +\nmvo # * # +\ngo\nst\nbu #\nask";
     let a = name.len();
     let b = other.len();
     let Found::At(j) = form_of(forms, cmd, a, b) else {

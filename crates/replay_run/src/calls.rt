@@ -49,5 +49,8 @@ pub fn call(
         Call::Rename(d, n, t, m) => {
             watch::rename(store, image, desk, d, front(name, n), t, front(other, m))
         }
+        Call::RenameNew(d, n, t, m) => {
+            watch::rename_new(store, image, desk, d, front(name, n), t, front(other, m))
+        }
     }
 }

@@ -8,6 +8,7 @@ use text::pieces::front;
 use trial_events::print::difference;
 use trial_record::copy::MOMENTS_BYTES;
 use trial_record::list::run;
+use trial_record::tried::COUNTS;
 
 // Word k, or the number given where there is none.
 fn word(k: usize, given: usize) -> usize {
@@ -23,7 +24,7 @@ fn main() {
     let seed = word(1, 1) as u64;
     let lists = word(2, 1000) as u64;
     let mut moments = [0u8; MOMENTS_BYTES];
-    let mut tried = [0u64; 30];
+    let mut tried = [0u64; COUNTS];
     for l in 0..lists {
         let wrong = run(seed, l, &mut moments, &mut tried);
         if wrong != 0 {

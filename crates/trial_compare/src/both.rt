@@ -56,14 +56,14 @@ fn plain_differs(
     }
 }
 
-// The entries that an accepted unlink or move took out are noted, from the stores before and after it.
+// The entries that an accepted unlink or rename took out are noted, from the stores before and after it.
 fn note(e: Event, a: Got, n: usize, before: &[u8], after: &[u8], taken: &mut [u8; SLOTS])
     requires { ⌜ n ≤ 8 ⌝ }
 {
     if a.number != 0 {
         return;
     }
-    if e.what == event::UNLINK || e.what == event::RENAME {
+    if event::UNLINK <= e.what && e.what <= event::RENAME_NEW {
         note_taken(before, after, n, taken);
     }
 }

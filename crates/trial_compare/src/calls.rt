@@ -90,6 +90,7 @@ pub fn call(e: Event, f: usize, g: usize) -> Call {
         event::LINK => Call::Link(e.dir, f, e.inode),
         event::UNLINK => Call::Unlink(e.dir, f),
         event::RENAME => Call::Rename(e.dir, f, e.to, g),
+        event::RENAME_NEW => Call::RenameNew(e.dir, f, e.to, g),
         _ => Call::LookUp(e.dir, f),
     }
 }
@@ -116,5 +117,8 @@ pub fn plainly(call: Call, store: &mut [u8], name: &[u8], other: &[u8]) -> Answe
         Call::Link(d, n, i) => plain::link(store, d, front(name, n), i),
         Call::Unlink(d, n) => plain::unlink(store, d, front(name, n)),
         Call::Rename(d, n, t, m) => plain::rename(store, d, front(name, n), t, front(other, m)),
+        Call::RenameNew(d, n, t, m) => {
+            plain::rename_new(store, d, front(name, n), t, front(other, m))
+        }
     }
 }

@@ -18,17 +18,19 @@ pub const UNLINK: usize = 5;
 
 pub const RENAME: usize = 6;
 
-pub const LOOK_UP: usize = 7;
+pub const RENAME_NEW: usize = 7;
 
-pub const READ: usize = 8;
+pub const LOOK_UP: usize = 8;
 
-pub const START: usize = 9;
+pub const READ: usize = 9;
 
-pub const ASK: usize = 10;
+pub const START: usize = 10;
 
-pub const STEP: usize = 11;
+pub const ASK: usize = 11;
 
-pub const BURST: usize = 12;
+pub const STEP: usize = 12;
+
+pub const BURST: usize = 13;
 
 // Names by number: the first 64 in small letters, the next 64 the same with a capital letter, and then one that no entry may have.
 const NAMES: usize = 64;
@@ -169,7 +171,8 @@ fn kind_of(w: usize) -> usize {
         23..=25 => SHORTEN,
         26..=29 => LINK,
         30..=41 => UNLINK,
-        42..=56 => RENAME,
+        42..=52 => RENAME,
+        53..=56 => RENAME_NEW,
         57..=58 => LOOK_UP,
         59..=60 => READ,
         61..=67 => START,

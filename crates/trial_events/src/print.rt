@@ -46,6 +46,12 @@ fn entry_call(verb: &[u8], e: Event) {
     name(e.name);
 }
 
+fn rename_call(verb: &[u8], e: Event) {
+    entry_call(verb, e);
+    number(e.to);
+    name(e.other);
+}
+
 fn content_call(verb: &[u8], e: Event) {
     word(verb);
     number(e.inode);
@@ -73,11 +79,8 @@ fn call(e: Event, fill: u64) {
             number(e.inode);
         }
         event::UNLINK => entry_call(b"rm", e),
-        event::RENAME => {
-            entry_call(b"mv", e);
-            number(e.to);
-            name(e.other);
-        }
+        event::RENAME => rename_call(b"mv", e),
+        event::RENAME_NEW => rename_call(b"mvo", e),
         event::LOOK_UP => entry_call(b"lk", e),
         event::READ => {
             content_call(b"rd", e);

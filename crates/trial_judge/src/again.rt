@@ -1,10 +1,13 @@
-// Blocks that another inode has in a later store, and files above 768 bytes: what a trial tells of, and no part of the judgement.
-ghost use Prim.Native.Nat.{_≤_};
+// Places and blocks that another inode has in a later store, and files above 768 bytes: what a trial tells of, and no part of the judgement.
+ghost use Prim.Native.Nat.{_*_, _≤_};
+use crate::copy::is_taken;
 use crate::fields::BLOCKS;
 use crate::fields::FILE;
+use crate::fields::SLOTS;
 use crate::fields::is_long;
 use crate::fields::kind;
 use crate::fields::kth_block;
+use crate::fields::names;
 use crate::fields::one_if;
 
 // Block q, counted through all inodes, is noted with its inode at its number; numbers from 64 on are left out.
@@ -31,6 +34,30 @@ fn changed(x: usize, y: usize) -> usize
     ensures { λ r. ⌜ r ≤ 1 ⌝ }
 {
     one_if(x != 0 && y != 0 && x != y)
+}
+
+// Entries taken out from one store to the next.
+pub fn entries_taken(before: &[u8], after: &[u8], n: usize) -> usize
+    requires { ⌜ n ≤ 256 ⌝ }
+    ensures { λ r. ⌜ r ≤ 48 * n ⌝ }
+{
+    let mut entries = 0;
+    for p in 0..SLOTS * n {
+        entries += one_if(is_taken(before, after, n, p));
+    }
+    entries
+}
+
+// Those of them whose places another inode has at once.
+pub fn places_again(before: &[u8], after: &[u8], n: usize) -> usize
+    requires { ⌜ n ≤ 256 ⌝ }
+    ensures { λ r. ⌜ r ≤ 48 * n ⌝ }
+{
+    let mut places = 0;
+    for p in 0..SLOTS * n {
+        places += changed(names(before, n, p), names(after, n, p));
+    }
+    places
 }
 
 pub fn blocks_again(first: &[u8], last: &[u8], n: usize) -> usize

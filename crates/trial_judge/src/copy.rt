@@ -217,16 +217,24 @@ pub fn strange_entry(moments: &[u8], m: usize, copy: &[u8], n: usize) -> usize
     0
 }
 
-// One place, if it was emptied.
+// The entry at place p was taken out: the place names another inode now, or none. Being replaced is being unlinked.
+pub fn is_taken(before: &[u8], after: &[u8], n: usize, p: usize) -> bool
+    requires { ⌜ (n ≤ 256) × (p ≤ 20000) ⌝ }
+{
+    let i = names(before, n, p);
+    i != 0 && names(after, n, p) != i
+}
+
 fn note_place(before: &[u8], after: &[u8], n: usize, p: usize, taken: &mut [u8])
     requires { ⌜ (n ≤ 256) × (p ≤ 20000) ⌝ }
 {
-    if p < taken.len() && names(before, n, p) != 0 && names(after, n, p) == 0 {
+    if p < taken.len() && is_taken(before, after, n, p) {
         taken[p] = 1;
     }
 }
 
-// An accepted unlink or move led from one store to the next: the places that it emptied are noted.
+// An accepted unlink or rename led from one store to the next: the places whose entries it took out are noted, also one that it filled
+// at once.
 pub fn note_taken(before: &[u8], after: &[u8], n: usize, taken: &mut [u8])
     requires { ⌜ n ≤ 256 ⌝ }
 {

@@ -6,6 +6,7 @@ use crate::tried::BLOCKS;
 use crate::tried::BURST_FINISHES;
 use crate::tried::BURST_STEPS;
 use crate::tried::BURST_STOPS;
+use crate::tried::COUNTS;
 use crate::tried::CROSSED;
 use crate::tried::ENTRIES;
 use crate::tried::FINISHES;
@@ -24,6 +25,10 @@ use trial_judge::copy::MOMENT_BYTES;
 use trial_judge::copy::moment;
 use trial_judge::fields::byte;
 
+const NAME_TAKEN: usize = 7;
+
+const NOT_EMPTY: usize = 8;
+
 const BUSY: usize = 14;
 
 const UNTIMELY: usize = 15;
@@ -31,6 +36,8 @@ const UNTIMELY: usize = 15;
 const FULL: usize = 16;
 
 const BAD_COUNT: usize = 17;
+
+const KINDS_DIFFER: usize = 18;
 
 const MOST_MOMENTS: usize = 512;
 
@@ -76,7 +83,7 @@ fn remember(store: &[u8], moments: &mut [u8; MOMENTS_BYTES], m: usize) {
 }
 
 // What has become of blocks and files since the first moment, counted at a finish.
-fn count_changes(first: &[u8], store: &[u8], image: &[u8], n: usize, tried: &mut [u64; 30])
+fn count_changes(first: &[u8], store: &[u8], image: &[u8], n: usize, tried: &mut [u64; COUNTS])
     requires { ⌜ n ≤ 8 ⌝ }
 {
     tally(&mut *tried, BLOCKS, blocks_again(first, store, n));
@@ -92,7 +99,7 @@ fn finish_right(
     image: &[u8],
     moments: &[u8; MOMENTS_BYTES],
     taken: &[u8; SLOTS],
-    tried: &mut [u64; 30],
+    tried: &mut [u64; COUNTS],
 ) -> bool
     requires { ⌜ n ≤ 8 ⌝ }
 {
@@ -132,7 +139,7 @@ fn is_stopped(e: Event, value: usize) -> bool {
 }
 
 // What a burst did, and whether it finished the copy.
-fn count_burst(e: Event, value: usize, finished: bool, tried: &mut [u64; 30]) {
+fn count_burst(e: Event, value: usize, finished: bool, tried: &mut [u64; COUNTS]) {
     if e.what != event::BURST {
         return;
     }
@@ -157,7 +164,7 @@ fn stepped(
     image: &[u8],
     moments: &[u8; MOMENTS_BYTES],
     taken: &[u8; SLOTS],
-    tried: &mut [u64; 30],
+    tried: &mut [u64; COUNTS],
 ) -> Next
     requires { ⌜ n ≤ 8 ⌝ }
 {
@@ -209,11 +216,24 @@ fn called(copy: Copy, store: &[u8], moments: &mut [u8; MOMENTS_BYTES]) -> Copy {
     }
 }
 
-// 1 to 3 never come, 4 to 13 to file calls; 14 to those that change something and 16 to steps,
-// while a copy runs; 15 to a start then and to steps at other times; 17 to a burst at any.
+// A call that makes a new name, and replaces none.
+fn is_new(what: usize) -> bool {
+    what <= event::CREATE_DIRECTORY || what == event::LINK || what == event::RENAME_NEW
+}
+
+// A call that takes out what has a name.
+fn is_removal(what: usize) -> bool {
+    what == event::UNLINK || what == event::RENAME
+}
+
+// 1 to 3 never come, 4 to 13 to file calls, of which 7 to those that make a new name and replace none, and 8 to those that take out
+// what has it; 14 to those that change something and 16 to steps, while a copy runs; 15 to a start then and to steps at other times;
+// 17 to a burst at any, 18 to a rename that replaces.
 fn refusal_right(what: usize, number: usize, running: bool) -> bool {
     match number {
         0..=3 => false,
+        NAME_TAKEN => is_new(what),
+        NOT_EMPTY => is_removal(what),
         4..=13 => what <= event::READ,
         BUSY => running && what < event::LOOK_UP,
         UNTIMELY => {
@@ -225,6 +245,7 @@ fn refusal_right(what: usize, number: usize, running: bool) -> bool {
         }
         FULL => running && event::STEP <= what,
         BAD_COUNT => what == event::BURST,
+        KINDS_DIFFER => what == event::RENAME,
         _ => false,
     }
 }
@@ -252,7 +273,7 @@ pub fn follow(
     image: &[u8],
     moments: &mut [u8; MOMENTS_BYTES],
     taken: &mut [u8; SLOTS],
-    tried: &mut [u64; 30],
+    tried: &mut [u64; COUNTS],
 ) -> Next
     requires { ⌜ n ≤ 8 ⌝ }
 {

@@ -6,10 +6,13 @@ use crate::copy::Copy;
 use crate::copy::MOMENTS_BYTES;
 use crate::copy::Next;
 use crate::copy::follow;
+use crate::tried::COUNTS;
 use crate::tried::EVENTS;
 use crate::tried::INODES;
 use crate::tried::LISTS;
 use crate::tried::MOVES;
+use crate::tried::REFILLED;
+use crate::tried::REPLACED;
 use crate::tried::tally;
 use trial_compare::both::do_both;
 use trial_compare::calls::ALIKE;
@@ -21,6 +24,8 @@ use trial_events::event::IMAGE_BYTES;
 use trial_events::event::SLOTS;
 use trial_events::event::STORE_BYTES;
 use trial_events::event::Shape;
+use trial_judge::again::entries_taken;
+use trial_judge::again::places_again;
 use trial_judge::copy::moment;
 use trial_judge::fields::kind;
 
@@ -39,21 +44,61 @@ fn made_again(e: Event, a: Got, first: &[u8]) -> bool {
     kind(first, i) != 0
 }
 
-// An accepted call during a copy.
-fn count_live(e: Event, a: Got, first: &[u8], tried: &mut [u64; 30]) {
+// An accepted rename during a copy, from the stores before and after it: a move takes out its own entry, and what else is taken out was
+// replaced.
+fn count_rename(e: Event, n: usize, before: &[u8], after: &[u8], tried: &mut [u64; COUNTS])
+    requires { ⌜ n ≤ 8 ⌝ }
+{
+    let out = entries_taken(before, after, n);
+    if out == 0 {
+        return;
+    }
+    tally(&mut *tried, REFILLED, places_again(before, after, n));
+    if e.dir == e.to {
+        tally(&mut *tried, REPLACED, out);
+        return;
+    }
+    tally(&mut *tried, MOVES, 1);
+    tally(&mut *tried, REPLACED, out - 1);
+}
+
+// An accepted call during a copy; the stores at its start, before the call and after it.
+fn count_live(
+    e: Event,
+    a: Got,
+    n: usize,
+    first: &[u8],
+    before: &[u8],
+    after: &[u8],
+    tried: &mut [u64; COUNTS],
+)
+    requires { ⌜ n ≤ 8 ⌝ }
+{
     if made_again(e, a, first) {
         tally(&mut *tried, INODES, 1);
-    } else if e.what == event::RENAME && e.dir != e.to {
-        tally(&mut *tried, MOVES, 1);
+    } else if e.what == event::RENAME || e.what == event::RENAME_NEW {
+        count_rename(e, n, before, after, tried);
     }
 }
 
-// What is told of the trial at its end.
-fn count(e: Event, a: Got, running: bool, first: &[u8], tried: &mut [u64; 30]) {
+// What is told of the trial at its end. The last moment is the store before the event.
+fn count(
+    e: Event,
+    a: Got,
+    m: usize,
+    n: usize,
+    store: &[u8],
+    moments: &[u8; MOMENTS_BYTES],
+    tried: &mut [u64; COUNTS],
+)
+    requires { ⌜ n ≤ 8 ⌝ }
+{
     tally(&mut *tried, EVENTS, 1);
     tally(&mut *tried, a.number, 1);
-    if running && a.number == 0 {
-        count_live(e, a, first, tried);
+    if 0 < m && a.number == 0 {
+        let first = moment(moments, 0);
+        let before = moment(moments, m - 1);
+        count_live(e, a, n, first, before, store, tried);
     }
 }
 
@@ -69,7 +114,7 @@ pub fn turn(
     beside: &mut [u8],
     moments: &mut [u8; MOMENTS_BYTES],
     taken: &mut [u8; SLOTS],
-    tried: &mut [u64; 30],
+    tried: &mut [u64; COUNTS],
 ) -> Next
     requires { ⌜ n ≤ 8 ⌝ }
 {
@@ -90,7 +135,7 @@ pub fn turn(
             wrong: b.differs,
         };
     }
-    count(e, a, 0 < copy.moments, moment(moments, 0), &mut *tried);
+    count(e, a, copy.moments, n, &*store, &*moments, &mut *tried);
     follow(e, a, copy, n, store, image, moments, taken, tried)
 }
 
@@ -106,7 +151,7 @@ fn run_events(
     beside: &mut [u8],
     moments: &mut [u8; MOMENTS_BYTES],
     taken: &mut [u8; SLOTS],
-    tried: &mut [u64; 30],
+    tried: &mut [u64; COUNTS],
 ) -> u64
     requires { ⌜ Small shape ⌝ }
 {
@@ -155,7 +200,7 @@ fn run_fresh(
     beside: &mut [u8],
     moments: &mut [u8; MOMENTS_BYTES],
     taken: &mut [u8; SLOTS],
-    tried: &mut [u64; 30],
+    tried: &mut [u64; COUNTS],
 ) -> u64
     requires { ⌜ Small shape ⌝ }
 {
@@ -180,7 +225,12 @@ fn run_fresh(
 }
 
 // Runs a list, and answers as above.
-pub fn run(seed: u64, list: u64, moments: &mut [u8; MOMENTS_BYTES], tried: &mut [u64; 30]) -> u64 {
+pub fn run(
+    seed: u64,
+    list: u64,
+    moments: &mut [u8; MOMENTS_BYTES],
+    tried: &mut [u64; COUNTS],
+) -> u64 {
     let shape = event::shape_of(seed, list);
     let n = shape.inodes;
     let s = length_of(n, shape.blocks);

@@ -11,15 +11,16 @@ use Rattle.answers.specs.Refusal.{refusalNumber}
 use Rattle.answers.specs.Told.{Told, told}
 use Rattle.answers.proofs.RefusalLaws.{known}
 use Rattle.answers.specs.Order.{Row, inOrder, lookedAt, among}
-use Rattle.files.specs.Effect.{lookUp, read, create, write, shorten, link, unlink, rename}
+use Rattle.files.specs.Effect.{lookUp, read, create, write, shorten, link, unlink, rename, renameNew}
 use Rattle.checkpoint.specs.Live.{World, Outcome}
 use Rattle.checkpoint.specs.List.{call, advances, asks, starts, outcome}
 use Rattle.checkpoint.specs.Burst.{Act, one, bursts}
 use Rattle.checkpoint.proofs.ConditionLaws.{firstOf}
-use Rattle.checkpoint.proofs.TableLaws.{look-up-table, read-table, create-table, write-table, shorten-table, link-table, unlink-table, rename-table, look-up-alone, read-alone}
+use Rattle.checkpoint.proofs.TableLaws.{look-up-table, read-table, create-table, write-table, shorten-table, link-table, unlink-table, rename-new-table, look-up-alone, read-alone}
+use Rattle.checkpoint.proofs.ReplaceTable.{rename-table}
 use Rattle.checkpoint.proofs.CopierTables.{start-table, step-table, status-table}
 use Rattle.checkpoint.proofs.BurstTables.{burst-table}
-use Rattle.checkpoint.proofs.RowLaws.{look-up-in-order, read-in-order, create-in-order, write-in-order, shorten-in-order, link-in-order, unlink-in-order, rename-in-order, start-in-order, step-in-order, status-in-order, burst-in-order}
+use Rattle.checkpoint.proofs.RowLaws.{look-up-in-order, read-in-order, create-in-order, write-in-order, shorten-in-order, link-in-order, unlink-in-order, rename-in-order, rename-new-in-order, start-in-order, step-in-order, status-in-order, burst-in-order}
 use Rattle.watch.specs.Answered.{ByTable, result, holds, passes, Answered, tableOf, resultOf}
 use Rattle.watch.specs.Received.{outcomeOf}
 
@@ -53,6 +54,7 @@ module _ (w : World) where
   by-table (one (call (link d name i))) = by-answer _ _ _ (link-table w d name i)
   by-table (one (call (unlink d name))) = by-answer _ _ _ (unlink-table w d name)
   by-table (one (call (rename d name e other))) = by-answer _ _ _ (rename-table w d name e other)
+  by-table (one (call (renameNew d name e other))) = by-answer _ _ _ (rename-new-table w d name e other)
   by-table (one starts) = by-answer _ _ _ (start-table (w .store) (w .image) (w .desk))
   by-table (one advances) = by-answer _ _ _ (step-table (w .store) (w .image) (w .desk))
   by-table (one asks) = by-answer _ _ _ (status-table (w .store) (w .image) (w .desk))
@@ -68,6 +70,7 @@ module _ (w : World) where
   table-in-order (one (call (link d name i))) = link-in-order (w .store) (w .image) (w .desk) d name i
   table-in-order (one (call (unlink d name))) = unlink-in-order (w .store) (w .image) (w .desk) d name
   table-in-order (one (call (rename d name e other))) = rename-in-order (w .store) (w .image) (w .desk) d name e other
+  table-in-order (one (call (renameNew d name e other))) = rename-new-in-order (w .store) (w .image) (w .desk) d name e other
   table-in-order (one starts) = start-in-order (w .store) (w .image) (w .desk)
   table-in-order (one advances) = step-in-order (w .store) (w .image) (w .desk)
   table-in-order (one asks) = status-in-order (w .store) (w .image) (w .desk)

@@ -10,7 +10,7 @@ use borrow.Fn.Kinds.{PK, RK, Out, Dens, resT, endedOf}
 use Rattle.sound.specs.Test.{isSound}
 use Rattle.answers.specs.Told.{told}
 use Rattle.format.specs.Format.{laidOut, layOutStore, layOutDesk}
-use Rattle.files.specs.Effect.{lookUp, read, create, write, shorten, link, unlink, rename}
+use Rattle.files.specs.Effect.{lookUp, read, create, write, shorten, link, unlink, rename, renameNew}
 use Rattle.files.specs.Plain.{got}
 use Rattle.checkpoint.specs.Live.{world, toldStatus}
 use Rattle.checkpoint.specs.List.{call, advances, asks, starts}
@@ -35,6 +35,8 @@ use Rattle.live.proofs.unlink.Kinds as unlink-kinds
 use Rattle.live.proofs.unlink.Reads as unlink-reads
 use Rattle.live.proofs.rename.Kinds as rename-kinds
 use Rattle.live.proofs.rename.Reads as rename-reads
+use Rattle.live.proofs.rename_new.Kinds as rename-new-kinds
+use Rattle.live.proofs.rename_new.Reads as rename-new-reads
 use Rattle.copier.proofs.start.Kinds as start-kinds
 use Rattle.copier.proofs.start.Reads as start-reads
 use Rattle.copier.proofs.step.Kinds as step-kinds
@@ -91,6 +93,10 @@ unlink-made κs a z e h = on-three (told z) refl h
 pub rename-made : Gives 5 rename-kinds.ps rename-kinds.r rename-reads.Learnt (λ κs a z e.
     Did (one (call (rename (a .1 .1 .1 .0) (now (a .1 .1 .1 .1 .0)) (a .1 .1 .1 .1 .1 .0) (now (a .1 .1 .1 .1 .1 .1 .0))))) (world (now (a .0)) (now (a .1 .0)) (now (a .1 .1 .0))) (got (told z) []) (world (now (e .0)) (now (e .1 .0)) (now (e .1 .1 .0))))
 rename-made κs a z e h = on-three (told z) refl h
+
+pub rename-new-made : Gives 5 rename-new-kinds.ps rename-new-kinds.r rename-new-reads.Learnt (λ κs a z e.
+    Did (one (call (renameNew (a .1 .1 .1 .0) (now (a .1 .1 .1 .1 .0)) (a .1 .1 .1 .1 .1 .0) (now (a .1 .1 .1 .1 .1 .1 .0))))) (world (now (a .0)) (now (a .1 .0)) (now (a .1 .1 .0))) (got (told z) []) (world (now (e .0)) (now (e .1 .0)) (now (e .1 .1 .0))))
+rename-new-made κs a z e h = on-three (told z) refl h
 
 -- ---- start, step, burst and state
 pub start-made : Gives 3 start-kinds.ps start-kinds.r start-reads.Learnt (λ κs a z e.

@@ -18,10 +18,10 @@ use Rattle.answers.specs.declared.Refusal.the-variants.{ImageFull}
 use Rattle.answers.specs.Refusal.{refusalNumber}
 use Rattle.answers.specs.Told.{Told}
 use Rattle.answers.specs.Order.{Row}
-use Rattle.files.specs.Effect.{lookUp, read, create, write, shorten, link, unlink, rename}
+use Rattle.files.specs.Effect.{lookUp, read, create, write, shorten, link, unlink, rename, renameNew}
 use Rattle.checkpoint.specs.Fit.{deskFramed}
 use Rattle.checkpoint.specs.Live.{World, Outcome, step, world}
-use Rattle.checkpoint.specs.Table.{liveRows, lookUpTable, readTable, createTable, writeTable, shortenTable, linkTable, unlinkTable, renameTable, startTable, stepTable}
+use Rattle.checkpoint.specs.Table.{liveRows, lookUpTable, readTable, createTable, writeTable, shortenTable, linkTable, unlinkTable, renameTable, renameNewTable, startTable, stepTable}
 use Rattle.checkpoint.specs.List.{call, advances, asks, starts, outcome, next, refusalOf}
 use Rattle.checkpoint.specs.Burst.{burst, Act, one, bursts}
 use Rattle.checkpoint.specs.Progress.{Stopped}
@@ -51,7 +51,7 @@ data Tries : Act → Type 0 where
   a-burst : {k : ℕ} → Tries (bursts k)
 
 step-alone : (w : World) (x : Act) → Tries x ⊎ (lacksFull (tableOf x w) ≡ true)
-unfolding tableOf lookUpTable readTable createTable writeTable shortenTable linkTable unlinkTable renameTable startTable
+unfolding tableOf lookUpTable readTable createTable writeTable shortenTable linkTable unlinkTable renameTable renameNewTable startTable
 step-alone w (one (call (lookUp d name))) = inr refl
 step-alone w (one (call (read i o out))) = inr refl
 step-alone w (one (call (create d name k))) = inr refl
@@ -60,6 +60,7 @@ step-alone w (one (call (shorten i z))) = inr refl
 step-alone w (one (call (link d name i))) = inr refl
 step-alone w (one (call (unlink d name))) = inr refl
 step-alone w (one (call (rename d name e other))) = inr refl
+step-alone w (one (call (renameNew d name e other))) = inr refl
 step-alone w (one starts) = inr refl
 step-alone w (one advances) = inl a-step
 step-alone w (one asks) = inr refl

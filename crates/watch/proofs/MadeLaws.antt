@@ -4,7 +4,7 @@ use mathlib.Core.Path.{_≡_, refl, sym, ap, ap₂, _∙_}
 use mathlib.Core.Bool.{true, true≢false}
 use mathlib.Core.List.{List, [], _∷_}
 use Rattle.answers.specs.Told.{Told}
-use Rattle.files.specs.Effect.{Call, lookUp, read, create, write, shorten, link, unlink, rename}
+use Rattle.files.specs.Effect.{Call, lookUp, read, create, write, shorten, link, unlink, rename, renameNew}
 use Rattle.files.specs.Plain.{Received, got, PlainOutcome, plain}
 use Rattle.checkpoint.specs.Live.{World, Outcome, tells, worldIn, storeAlone, live, outOf}
 use Rattle.checkpoint.specs.List.{call, advances, starts, outcome, run}
@@ -34,6 +34,7 @@ module _ (w : World) where
   alone (link d name i) h = absurd (true≢false (sym h))
   alone (unlink d name) h = absurd (true≢false (sym h))
   alone (rename d name e other) h = absurd (true≢false (sym h))
+  alone (renameNew d name e other) h = absurd (true≢false (sym h))
 
 pub did : {x : Act} {w v : World} {a : Received} → Did x w a v → AsDefined x w a v
 unfolding outcome

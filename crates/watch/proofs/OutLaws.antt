@@ -3,10 +3,13 @@ use Prim.Native.Nat.{ℕ}
 use mathlib.Core.Path.{_≡_, refl}
 use mathlib.Core.Bool.{Bool, true, false, true≢false}
 use mathlib.Core.List.{List, []}
+use lib.Dec.{eqb}
 use lib.ListN.{length}
 use Rattle.desk.specs.Next.{locksAny}
 use Rattle.bounded.specs.Search.{pick}
-use Rattle.answers.specs.declared.Refusal.the-variants.{Busy}
+use Rattle.bounded.proofs.SearchLaws.{by-pick}
+use Rattle.answers.specs.declared.Refusal.the-variants.{NameTaken, Busy}
+use Rattle.answers.specs.Refusal.{refusalNumber}
 use Rattle.content.specs.declared.NumberPlan.{NumberPlan}
 use Rattle.content.specs.declared.NumberPlan.the-variants.{To, NoNumber}
 use Rattle.content.specs.Plan.{readPlan, writePlan, shortenPlan}
@@ -18,11 +21,13 @@ use Rattle.entries.specs.declared.UnlinkPlan.{UnlinkPlan}
 use Rattle.entries.specs.declared.UnlinkPlan.the-variants.{Take, NoUnlink}
 use Rattle.entries.specs.declared.RenamePlan.{RenamePlan}
 use Rattle.entries.specs.declared.RenamePlan.the-variants.{Rename, Move, NoRename}
-use Rattle.entries.specs.Plan.{lookUpPlan, createPlan, linkPlan, unlinkPlan, renamePlan}
+use Rattle.entries.specs.declared.OverPlan.{OverPlan}
+use Rattle.entries.specs.declared.OverPlan.the-variants.{Over, Same, NoOver}
+use Rattle.entries.specs.Plan.{lookUpPlan, createPlan, linkPlan, unlinkPlan, renameNewPlan, overPlan}
 use Rattle.files.specs.declared.Guard.{Guard}
 use Rattle.files.specs.declared.Guard.the-variants.{Pass, Stop}
 use Rattle.files.specs.Guard.{guardOf, onGuard}
-use Rattle.files.specs.Effect.{Call, lookUp, read, create, write, shorten, link, unlink, rename, Planned, refused, does, onPlanned, planned, plainDecision, given, doLookUp, doRead, doCreate, doWrite, doShorten, doLink, doUnlink, doRename}
+use Rattle.files.specs.Effect.{Call, lookUp, read, create, write, shorten, link, unlink, rename, renameNew, Planned, refused, does, onPlanned, andThen, planThen, ifTaken, planned, plainDecision, given, doLookUp, doRead, doCreate, doWrite, doShorten, doLink, doUnlink, doRename, doRenameNew, doOver}
 use Rattle.files.specs.Plain.{leaves, plain}
 use Rattle.checkpoint.specs.Busy.{anyLocked, unlessBusy}
 use Rattle.checkpoint.specs.Live.{World, storeAlone, guardsOf, decision, outOf}
@@ -43,6 +48,32 @@ module _ (w : World) where
   outless-guarded : (g : Guard) (f : ℕ → ℕ → Planned) → ((n b : ℕ) → Outless (f n b)) → Outless (onGuard g (λ n b. unlessBusy (w .desk) (f n b)) refused)
   outless-guarded (Pass n b) f h = outless-busy (f n b) (h n b)
   outless-guarded (Stop e) f h = refl
+
+  -- renames
+  outless-rename : (s : List ℕ) (n b d : ℕ) (name : List ℕ) (e : ℕ) (other : List ℕ) → Outless (doRenameNew s n b d name e other)
+  outless-rename s n b d name e other = go (renameNewPlan s n b d name e other)
+    where
+      go : (p : RenamePlan) → Outless (doRename s n d e other p)
+      go (Rename t i) = refl
+      go (Move t i r) = refl
+      go (NoRename f) = refl
+
+  outless-taken : (p : Planned) → Outless p → (q : Planned) → Outless q → Outless (ifTaken p q)
+  outless-taken (does x) h q k = h
+  outless-taken (refused e) h q k = by-pick Outless (eqb (refusalNumber e) (refusalNumber NameTaken)) k refl
+
+  outless-then : (p : Planned) (f : List ℕ → Planned) → ((t : List ℕ) → Outless (f t)) → Outless (planThen p f)
+  outless-then (refused e) f h = refl
+  outless-then (does x) f h = go (f (x .store)) (h (x .store))
+    where
+      go : (q : Planned) → Outless q → Outless (onPlanned q (λ y. does (andThen x y)) refused)
+      go (does y) k = k
+      go (refused e) k = refl
+
+  outless-over : (n b d : ℕ) (name : List ℕ) (e : ℕ) (other : List ℕ) (p : OverPlan) → Outless (doOver (w .store) n b d name e other p)
+  outless-over n b d name e other (Over i h) = outless-then (doUnlink (w .store) n e (unlinkPlan (w .store) n e other)) (λ t. doRenameNew t n b d name e other) (λ t. outless-rename t n b d name e other)
+  outless-over n b d name e other (Same i) = refl
+  outless-over n b d name e other (NoOver f) = refl
 
   by-plan : (c : Call) → storeAlone c ≡ false → (n b : ℕ) → Outless (planned c (w .store) n b)
   by-plan (lookUp d name) h n b = absurd (true≢false h)
@@ -72,12 +103,8 @@ module _ (w : World) where
       go : (p : UnlinkPlan) → Outless (doUnlink (w .store) n d p)
       go (Take t i) = refl
       go (NoUnlink e) = refl
-  by-plan (rename d name e other) h n b = go (renamePlan (w .store) n b d name e other)
-    where
-      go : (p : RenamePlan) → Outless (doRename (w .store) n d e other p)
-      go (Rename t i) = refl
-      go (Move t i r) = refl
-      go (NoRename f) = refl
+  by-plan (rename d name e other) h n b = outless-taken (doRenameNew (w .store) n b d name e other) (outless-rename (w .store) n b d name e other) _ (outless-over n b d name e other (overPlan (w .store) n d name e other))
+  by-plan (renameNew d name e other) h n b = outless-rename (w .store) n b d name e other
 
   given-none : (c : Call) → storeAlone c ≡ false → given c ≡ []
   given-none (lookUp d name) h = refl
@@ -88,6 +115,7 @@ module _ (w : World) where
   given-none (link d name i) h = refl
   given-none (unlink d name) h = refl
   given-none (rename d name e other) h = refl
+  given-none (renameNew d name e other) h = refl
 
   -- the calls over the three buffers
   pub no-out : (c : Call) → storeAlone c ≡ false → outOf c w ≡ []

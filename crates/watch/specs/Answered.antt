@@ -1,6 +1,6 @@
 -- Demand 1, of the calls' code: "The answer of each public call, for all bytes and numbers handed to
 -- it, is its result or one of the sixteen refusals of document 01", and which. F-2: "Demand 1's
--- refusals take in 17 and the numbers that later requests add": here 21, 23 to 25 and 26.
+-- refusals take in 17 and the numbers that later requests add": here 18, 21, 23 to 25 and 26.
 -- "A refusal changes no lent buffer, save that 16 marks the copy stopped and unlocks what was being copied."
 use Prim.Native.Nat.{ℕ, _+_, _-_, min, max}
 use mathlib.Core.Path.{_≡_}
@@ -24,10 +24,10 @@ use Rattle.answers.specs.Refusal.{refusalNumber}
 use Rattle.answers.specs.Told.{Told, told}
 use Rattle.answers.specs.Order.{Row, row, order, lookedAt, numbers, among, inOrder}
 use Rattle.format.specs.Format.{laidOut, freshStore, freshDesk, layOutStore, layOutDesk}
-use Rattle.files.specs.Effect.{lookUp, read, create, write, shorten, link, unlink, rename, given}
+use Rattle.files.specs.Effect.{lookUp, read, create, write, shorten, link, unlink, rename, renameNew, given}
 use Rattle.files.specs.Plain.{Received}
 use Rattle.checkpoint.specs.Live.{World}
-use Rattle.checkpoint.specs.Table.{orZero, inodeFor, lookUpTable, readTable, createTable, writeTable, shortenTable, linkTable, unlinkTable, renameTable, startTable, stepTable, liveRows, burstTable}
+use Rattle.checkpoint.specs.Table.{orZero, inodeFor, lookUpTable, readTable, createTable, writeTable, shortenTable, linkTable, unlinkTable, renameTable, renameNewTable, startTable, stepTable, liveRows, burstTable}
 use Rattle.checkpoint.specs.List.{call, advances, asks, starts, refusalOf, acceptedSteps}
 use Rattle.checkpoint.specs.Burst.{triesOf, Act, one, bursts}
 use Rattle.checkpoint.specs.Progress.{Stopped}
@@ -64,6 +64,7 @@ tableOf (one (call (shorten i z))) w = shortenTable (w .store) (w .image) (w .de
 tableOf (one (call (link d name i))) w = linkTable (w .store) (w .image) (w .desk) d name i
 tableOf (one (call (unlink d name))) w = unlinkTable (w .store) (w .image) (w .desk) d name
 tableOf (one (call (rename d name e other))) w = renameTable (w .store) (w .image) (w .desk) d name e other
+tableOf (one (call (renameNew d name e other))) w = renameNewTable (w .store) (w .image) (w .desk) d name e other
 tableOf (one starts) w = startTable (w .store) (w .image) (w .desk)
 tableOf (one advances) w = stepTable (w .store) (w .image) (w .desk)
 tableOf (one asks) w = liveRows (w .store) (w .image) (w .desk)
@@ -79,6 +80,7 @@ resultOf (one (call (shorten i z))) w = z ∷ []
 resultOf (one (call (link d name i))) w = 0 ∷ []
 resultOf (one (call (unlink d name))) w = 0 ∷ []
 resultOf (one (call (rename d name e other))) w = 0 ∷ []
+resultOf (one (call (renameNew d name e other))) w = 0 ∷ []
 resultOf (one starts) w = 0 ∷ []
 resultOf (one advances) w = (deskOf (w .desk) .steps + 1) ∷ []
 resultOf (one asks) w = deskOf (w .desk) .state ∷ deskOf (w .desk) .locked ∷ deskOf (w .desk) .steps ∷ []
@@ -142,8 +144,8 @@ pub record KeepAnswers (copies terms : List ℕ) (asked : ℕ) (out : List ℕ) 
 
 -- ---- demand 1: each call as its contract promises it. The check refuses nothing: it "takes any bytes and answers yes or no"; demand 2: "The soundness check says yes to a store that meets its conditions and no to every other."
 pub record FirstDemand : Type 0 where
-  -- "looked at lowest first"; 17 "comes right after 1"; 21 and 26 are "looked at first", each by its own call; 23 to 25 come after 1, "in that order"
-  pub looked-at : numbers order ≡ 21 ∷ 26 ∷ 1 ∷ 17 ∷ 2 ∷ 3 ∷ 4 ∷ 5 ∷ 6 ∷ 7 ∷ 8 ∷ 9 ∷ 10 ∷ 11 ∷ 12 ∷ 13 ∷ 14 ∷ 15 ∷ 16 ∷ 23 ∷ 24 ∷ 25 ∷ []
+  -- "looked at lowest first"; 17 "comes right after 1", 18 "comes after 10"; 21 and 26 are "looked at first", each by its own call; 23 to 25 come after 1, "in that order"
+  pub looked-at : numbers order ≡ 21 ∷ 26 ∷ 1 ∷ 17 ∷ 2 ∷ 3 ∷ 4 ∷ 5 ∷ 6 ∷ 7 ∷ 8 ∷ 9 ∷ 10 ∷ 18 ∷ 11 ∷ 12 ∷ 13 ∷ 14 ∷ 15 ∷ 16 ∷ 23 ∷ 24 ∷ 25 ∷ []
   pub calls : {x : Act} {w v : World} {a : Received} → Did x w a v → Answers x w a v
   pub lays-store : {s t : List ℕ} (r : Answer) (inodes blocks : ℕ) → laidOut r t ≡ layOutStore s inodes blocks → LayAnswers (storeLayTable s inodes blocks) s (freshStore inodes blocks) r t
   pub lays-desk : {desk t : List ℕ} (r : Answer) (inodes : ℕ) → laidOut r t ≡ layOutDesk desk inodes → LayAnswers (deskLayTable desk inodes) desk (freshDesk inodes) r t

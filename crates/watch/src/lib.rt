@@ -39,6 +39,7 @@ pub use keeping::keep;
 pub use live::create;
 pub use live::link;
 pub use live::rename;
+pub use live::rename_new;
 pub use live::shorten;
 pub use live::unlink;
 pub use live::write;

@@ -25,6 +25,7 @@ use trial_record::copy::MOMENTS_BYTES;
 use trial_record::copy::follow;
 use trial_record::finished::find;
 use trial_record::list::turn;
+use trial_record::tried::COUNTS;
 
 const SPACE: u8 = 32;
 
@@ -76,7 +77,7 @@ pub fn copy(
     let mut wrong = [0u8; 4368];
     let mut image = [0u8; 16];
     let mut desk = [0u8; DESK_BYTES];
-    let mut tried = [0u64; 30];
+    let mut tried = [0u64; COUNTS];
     refill(&mut wrong, whole);
     watch::lay_out_desk(&mut desk, INODES);
     alter(commands, &mut wrong, &mut image, &mut desk);
@@ -107,7 +108,7 @@ fn beside_wrong(e: Event, commands: &[u8], store: &[u8], moments: &mut [u8; MOME
     let mut image = [0u8; 16];
     let mut desk = [0u8; DESK_BYTES];
     let mut taken = [0u8; SLOTS];
-    let mut tried = [0u64; 30];
+    let mut tried = [0u64; COUNTS];
     refill(&mut right, store);
     refill(&mut wrong, store);
     watch::lay_out_desk(&mut desk, INODES);
@@ -199,7 +200,7 @@ pub fn answer(
     moments: &mut [u8; MOMENTS_BYTES],
     taken: &mut [u8; SLOTS],
 ) {
-    let mut tried = [0u64; 30];
+    let mut tried = [0u64; COUNTS];
     let a = Got {
         number: nth_number(numbers, 1),
         value: nth_number(numbers, 2),

@@ -11,12 +11,13 @@ use trial_events::print::word;
 use trial_record::copy::Copy;
 use trial_record::copy::MOMENTS_BYTES;
 use trial_record::list::turn;
+use trial_record::tried::COUNTS;
 
 pub const INODES: usize = 8;
 
 pub const BLOCKS: usize = 59;
 
-const EVENTS: usize = 23;
+const EVENTS: usize = 26;
 
 // A call on an entry; a link has an inode.
 pub fn on_entry(what: usize, dir: usize, name: usize, inode: usize) -> Event {
@@ -79,7 +80,9 @@ pub fn steps(count: usize) -> Event {
 // Names 0 to 4 are `a`, `ab`, `ac`, `ad` and `ae`. Inode 2 is a directory with the long file 4, a
 // second link to the file 3, and the directory 7, which has the file 8 and is moved to the root
 // when that is copied, so that neither is in the copy; 5 is an empty file; 6 is a file that is
-// unlinked when the root is copied, and its number goes to another file, in directory 2.
+// unlinked when the root is copied, and its number goes to another file, in directory 2. There a
+// third link to the file 3 is replaced by file 8, which gets its slot, when the directory is copied
+// and the file is not.
 fn nth(k: usize) -> Event {
     match k {
         0 => on_entry(event::CREATE_DIRECTORY, 1, 0, 0),
@@ -94,17 +97,20 @@ fn nth(k: usize) -> Event {
         9 => on_file(event::WRITE, 6, 0, 10),
         10 => on_entry(event::CREATE_DIRECTORY, 2, 3, 0),
         11 => on_entry(event::CREATE_FILE, 7, 0, 0),
-        12 => on_entry(event::START, 0, 0, 0),
-        13 => steps(3),
-        14 => on_entry(event::UNLINK, 1, 3, 0),
-        15 => rename(2, 3, 1, 3),
-        16 => on_entry(event::CREATE_FILE, 2, 2, 0),
-        17 => on_file(event::WRITE, 6, 0, 20),
-        18 => rename(1, 2, 1, 4),
-        19 => steps(7),
-        20 => on_file(event::WRITE, 3, 0, 5),
-        21 => on_file(event::WRITE, 3, 70, 5),
-        22 => steps(10),
+        12 => on_entry(event::LINK, 2, 4, 3),
+        13 => on_entry(event::START, 0, 0, 0),
+        14 => steps(3),
+        15 => on_entry(event::UNLINK, 1, 3, 0),
+        16 => rename(2, 3, 1, 3),
+        17 => on_entry(event::CREATE_FILE, 2, 2, 0),
+        18 => on_file(event::WRITE, 6, 0, 20),
+        19 => rename(1, 2, 1, 4),
+        20 => steps(3),
+        21 => rename(7, 0, 2, 4),
+        22 => steps(4),
+        23 => on_file(event::WRITE, 3, 0, 5),
+        24 => on_file(event::WRITE, 3, 70, 5),
+        25 => steps(10),
         _ => steps(64),
     }
 }
@@ -117,7 +123,7 @@ fn run_events(
     beside: &mut [u8],
     moments: &mut [u8; MOMENTS_BYTES],
     taken: &mut [u8; SLOTS],
-    tried: &mut [u64; 30],
+    tried: &mut [u64; COUNTS],
 ) -> Copy {
     let mut copy = Copy {
         moments: 0,
@@ -167,7 +173,7 @@ fn finish(
     beside: &mut [u8],
     moments: &mut [u8; MOMENTS_BYTES],
     taken: &mut [u8; SLOTS],
-    tried: &mut [u64; 30],
+    tried: &mut [u64; COUNTS],
 ) -> usize {
     let mut desk = [0u8; DESK_BYTES];
     refill(&mut desk, notes);
@@ -199,7 +205,7 @@ pub fn run(
     taken: &mut [u8; SLOTS],
 ) -> Copy {
     let mut beside = [0u8; STORE_BYTES];
-    let mut tried = [0u64; 30];
+    let mut tried = [0u64; COUNTS];
     watch::lay_out_store(&mut beside, INODES, BLOCKS);
     let copy = run_events(
         &mut *store,

@@ -13,10 +13,10 @@ use trial_events::event::STORE_BYTES;
 use trial_events::print::difference;
 use trial_record::copy::MOMENTS_BYTES;
 
-// The list that a difference is printed of, up to an event that is a burst.
-const LIST: u64 = 19;
+// The list that a difference is printed of, with renames of both kinds, up to an event that is a burst.
+const LIST: u64 = 5473;
 
-const EVENT: u64 = 11;
+const EVENT: u64 = 15;
 
 fn main() {
     let mut store = [0u8; STORE_BYTES];

@@ -15,6 +15,8 @@ pub enum Call {
     Link(usize, Name, usize),
     Unlink(usize, Name),
     Rename(usize, Name, usize, Name),
+    /// The lap recorder's.
+    RenameNew(usize, Name, usize, Name),
     Start,
     Step,
     Burst(usize),
@@ -60,6 +62,7 @@ impl fmt::Display for Call {
             Call::Link(d, name, i) => write!(f, "ln {d} {} {i}", Hex(name)),
             Call::Unlink(d, name) => write!(f, "rm {d} {}", Hex(name)),
             Call::Rename(d, name, e, to) => write!(f, "mv {d} {} {e} {}", Hex(name), Hex(to)),
+            Call::RenameNew(d, name, e, to) => write!(f, "mvo {d} {} {e} {}", Hex(name), Hex(to)),
             Call::Start => f.write_str("go"),
             Call::Step => f.write_str("st"),
             Call::Burst(count) => write!(f, "bu {count}"),

@@ -120,7 +120,7 @@ impl Copier {
             return false;
         }
         let mut changed = false;
-        if let Some(taken) = done.taken {
+        for taken in &done.taken {
             self.marks.remove(&(taken.directory, taken.slot));
             if self.copied.contains(&taken.directory)
                 && !self.copied.contains(&taken.inode)

@@ -124,7 +124,7 @@ fn aimed(random: &mut Random, aim: &Aim, session: &Session) -> Call {
         let all = store.nodes.iter().filter(|(_, node)| node.kind() == Kind::Directory).map(|(&i, _)| i);
         all.filter(|i| copied.contains(i) == copied_ones).collect()
     };
-    let call = match (random.below(8), session.copier.locked) {
+    let call = match (random.below(11), session.copier.locked) {
         // what is locked, in every way that 14 names
         (0, Some(locked)) => match random.below(6) {
             0 => Some(Call::Write(locked, 0, vec![1; random.between(0, 70)])),
@@ -132,15 +132,15 @@ fn aimed(random: &mut Random, aim: &Aim, session: &Session) -> Call {
             2 => Some(Call::Create(locked, name(random, aim), Kind::File)),
             3 => Some(Call::Link(number(random, store, Kind::Directory), name(random, aim), locked)),
             4 => entry(random, store, |d, e| d == locked || e.inode == locked).map(|(d, n, _)| Call::Unlink(d, n)),
-            _ => entry(random, store, |d, e| d == locked || e.inode == locked)
-                .map(|(d, n, _)| Call::Rename(d, n, number(random, store, Kind::Directory), name(random, aim))),
+            _ => entry(random, store, |d, e| d == locked || e.inode == locked).map(|from| anywhere(random, aim, store, from)),
         },
         // out of a copied directory into an uncopied one, and back
         (1 | 2, _) => {
             let from_copied = random.percent(50);
             let to = random.pick(&directories(!from_copied));
             let from = entry(random, store, |d, _| copied.contains(&d) == from_copied);
-            from.zip(to).map(|((d, n, _), to)| Call::Rename(d, n, to, name(random, aim)))
+            let to_name = name(random, aim);
+            from.zip(to).map(|(from, to)| renaming(random, from, to, to_name))
         }
         // an uncopied inode out of a copied directory
         (3, _) => {
@@ -153,6 +153,25 @@ fn aimed(random: &mut Random, aim: &Aim, session: &Session) -> Call {
             Some(Call::Create(to, name(random, aim), kind(random)))
         }
         (6, _) => entry(random, store, |_, e| store.bytes(e.inode).is_ok()).map(|(_, _, i)| across(random, store, i)),
+        // onto what is locked, or with it
+        (7, Some(locked)) => {
+            let is_it = random.percent(70);
+            let from = entry(random, store, |_, e| (e.inode == locked) != is_it);
+            let onto = entry(random, store, |_, e| (e.inode == locked) == is_it);
+            from.zip(onto).map(|(from, onto)| replacing(random, from, onto))
+        }
+        // onto an entry on the other side of the copy, or one that the image has and whose inode is still to be copied
+        (8, _) => {
+            let to_copied = random.percent(50);
+            let from = entry(random, store, |d, _| copied.contains(&d) != to_copied);
+            let onto = entry(random, store, |d, _| copied.contains(&d) == to_copied);
+            from.zip(onto).map(|(from, onto)| replacing(random, from, onto))
+        }
+        (9, _) => {
+            let onto = entry(random, store, |d, e| copied.contains(&d) && !copied.contains(&e.inode));
+            let from = entry(random, store, |_, _| true);
+            from.zip(onto).map(|(from, onto)| replacing(random, from, onto))
+        }
         // a copied file linked into what is not copied yet
         _ => {
             let to = random.pick(&directories(false)).unwrap_or(1);
@@ -160,6 +179,44 @@ fn aimed(random: &mut Random, aim: &Aim, session: &Session) -> Call {
         }
     };
     call.unwrap_or_else(|| file_call(random, aim, store))
+}
+
+/// An entry under another name, at times by the recorder's call.
+fn renaming(random: &mut Random, (directory, name, _): (usize, Name, usize), to: usize, to_name: Name) -> Call {
+    if random.percent(20) { Call::RenameNew(directory, name, to, to_name) } else { Call::Rename(directory, name, to, to_name) }
+}
+
+/// An entry under any name in any directory.
+fn anywhere(random: &mut Random, aim: &Aim, store: &Store, from: (usize, Name, usize)) -> Call {
+    let (to, to_name) = (number(random, store, Kind::Directory), name(random, aim));
+    renaming(random, from, to, to_name)
+}
+
+/// An entry under another's name, at times in another spelling.
+fn replacing(random: &mut Random, from: (usize, Name, usize), (to, mut to_name, _): (usize, Name, usize)) -> Call {
+    if random.percent(25) {
+        to_name.make_ascii_uppercase();
+    }
+    renaming(random, from, to, to_name)
+}
+
+/// A rename onto another entry's name, of those that suit each other or of any.
+fn onto(random: &mut Random, store: &Store) -> Option<Call> {
+    let file = |_: usize, e: &Entry| store.bytes(e.inode).is_ok();
+    let directory = |_: usize, e: &Entry| store.slots(e.inode).is_ok();
+    let empty = |_: usize, e: &Entry| store.slots(e.inode).is_ok_and(|slots| slots.iter().all(Option::is_none));
+    let (from, onto) = match random.below(6) {
+        0 | 1 => (entry(random, store, file)?, entry(random, store, file)?),
+        2 => (entry(random, store, directory)?, entry(random, store, empty)?),
+        // two names of one file, or one that has others
+        3 => {
+            let (d, n, inode) = entry(random, store, |_, e| store.nodes[&e.inode].links > 1)?;
+            ((d, n, inode), entry(random, store, |_, e| e.inode == inode)?)
+        }
+        4 => (entry(random, store, file)?, entry(random, store, |_, e| store.nodes[&e.inode].links > 1)?),
+        _ => (entry(random, store, |_, _| true)?, entry(random, store, |_, _| true)?),
+    };
+    Some(replacing(random, from, onto))
 }
 
 /// A file grown or cut across 768 bytes.
@@ -209,9 +266,16 @@ fn file_call(random: &mut Random, aim: &Aim, store: &Store) -> Call {
             Some((d, n, _)) if random.percent(90) => Call::Unlink(d, n),
             _ => Call::Unlink(directory, name(random, aim)),
         },
+        n if n < writes + 31 => match onto(random, store) {
+            Some(call) => call,
+            None => Call::LookUp(directory, name(random, aim)),
+        },
         n if n < writes + 40 => match entry(random, store, |_, e| aim.mood != Mood::Moves || store.slots(e.inode).is_ok()) {
-            Some((d, n, _)) if random.percent(90) => Call::Rename(d, n, directory, name(random, aim)),
-            _ => Call::Rename(directory, name(random, aim), number(random, store, Kind::Directory), name(random, aim)),
+            Some(from) if random.percent(90) => anywhere(random, aim, store, from),
+            _ => {
+                let from = (directory, name(random, aim), 0);
+                anywhere(random, aim, store, from)
+            }
         },
         n if n < writes + 46 => {
             let file = number(random, store, Kind::File);

@@ -12,7 +12,7 @@ struct Stood {
     kind: Kind,
     /// The names that the slot held.
     names: Vec<Name>,
-    /// Unlinked or moved.
+    /// Unlinked or moved; "being replaced is being unlinked".
     gone: bool,
 }
 
@@ -48,8 +48,10 @@ impl History {
 
     /// An accepted file call, and the store that it left.
     pub fn note(&mut self, done: &Done, store: &Store) {
-        if let Some(stood) = done.taken.and_then(|t| self.entries.get_mut(&(t.directory, t.slot))) {
-            stood.gone = true;
+        for taken in &done.taken {
+            if let Some(stood) = self.entries.get_mut(&(taken.directory, taken.slot)) {
+                stood.gone = true;
+            }
         }
         if let Some((directory, slot)) = done.renamed
             && let Some(stood) = self.entries.get_mut(&(directory, slot))
@@ -65,8 +67,10 @@ impl History {
         }
     }
 
-    fn untouched(&self, place: (usize, usize)) -> bool {
-        !self.entries[&place].gone && (place.0 == 1 || self.untouched(self.above[&place.0]))
+    /// The entry there stood at the start, and neither it nor any above it was taken out since.
+    pub fn untouched(&self, place: (usize, usize)) -> bool {
+        let stands = self.entries.get(&place).is_some_and(|stood| !stood.gone);
+        stands && (place.0 == 1 || self.untouched(self.above[&place.0]))
     }
 
     /// How many entries the claim is about, or which one is not in the copy as it says.

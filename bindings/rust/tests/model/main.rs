@@ -14,6 +14,7 @@ mod generate;
 mod history;
 mod laid;
 mod random;
+mod replaced;
 mod seen;
 mod session;
 mod shrink;
@@ -83,7 +84,7 @@ fn calls_at_random() {
     println!("{lists} lists from seed {seed}: {tally:?}");
     // the lists reach what they aim at
     if calls >= CALLS {
-        assert!((4..=17).all(|number| tally.refused[number] > 0), "a refusal never came: {:?}", tally.refused);
+        assert!((4..=18).all(|number| tally.refused[number] > 0), "a refusal never came: {:?}", tally.refused);
         assert_eq!(tally.refused[1..4], [0; 3], "1 to 3 never come on buffers that only the library writes");
         let aims = [
             tally.finishes,
@@ -101,6 +102,7 @@ fn calls_at_random() {
             tally.burst_finishes,
             tally.burst_stops,
         ];
+        let aims = aims.into_iter().chain(tally.replaced.all());
         assert!(aims.into_iter().all(|count| count > 100), "the lists miss their aim: {tally:?}");
     }
 }

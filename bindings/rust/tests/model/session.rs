@@ -5,6 +5,7 @@ use honecerise::{CopyState, Files, Inode, Refusal, Watch, desk_len, enough_image
 use crate::call::{Answer, Call, Kind, Sizes};
 use crate::copier::{Copier, State};
 use crate::history::History;
+use crate::replaced::Replaced;
 use crate::store::{Body, EDGE, Store};
 use crate::{laid, seen};
 
@@ -38,7 +39,7 @@ impl Buffers {
 pub struct Tally {
     pub calls: usize,
     /// By number of the refusal.
-    pub refused: [usize; 18],
+    pub refused: [usize; 19],
     pub finishes: usize,
     /// Entries that the claim about a finished copy was about.
     pub claimed: usize,
@@ -59,6 +60,7 @@ pub struct Tally {
     pub burst_steps: usize,
     pub burst_finishes: usize,
     pub burst_stops: usize,
+    pub replaced: Replaced,
 }
 
 impl Tally {
@@ -78,6 +80,7 @@ impl Tally {
         self.burst_steps += other.burst_steps;
         self.burst_finishes += other.burst_finishes;
         self.burst_stops += other.burst_stops;
+        self.replaced.add(&other.replaced);
         self.refused.iter_mut().zip(other.refused).for_each(|(sum, count)| *sum += count);
     }
 }
@@ -115,6 +118,7 @@ fn make(watch: &mut Watch, call: &Call) -> (Answer, Vec<u8>) {
         Call::Link(d, name, i) => nothing(watch.link(Inode(*d), name, Inode(*i))),
         Call::Unlink(d, name) => nothing(watch.unlink(Inode(*d), name)),
         Call::Rename(d, name, e, to) => nothing(watch.rename(Inode(*d), name, Inode(*e), to)),
+        Call::RenameNew(d, name, e, to) => nothing(watch.rename_new(Inode(*d), name, Inode(*e), to)),
         Call::Start => nothing(watch.start()),
         Call::Step => watch.step(),
         Call::Burst(count) => watch.burst(*count),
@@ -250,7 +254,9 @@ impl Session {
         let size = changed(call).and_then(|inode| self.store.bytes(inode).ok()).map_or(0, Vec::len);
         let expected = self.store.call(call, self.copier.locked);
         agree("answer", answer, expected.as_ref().map(|done| done.answer).map_err(|&number| number))?;
-        if answer != Err(14) {
+        if answer == Err(14) {
+            self.tally.replaced.note_busy(call, &self.store, self.copier.locked);
+        } else {
             let plainly = make(&mut self.plain.watch(), call);
             agree("answer of a plain store", (answer, &out), (plainly.0, &plainly.1))?;
         }
@@ -266,6 +272,7 @@ impl Session {
         }
         if let Ok(done) = expected {
             image_changed = self.copier.learn(&done);
+            self.tally.replaced.note(&done, self.history.as_ref());
             if let Some(inode) = done.written
                 && (size > EDGE) != (done.answer > EDGE)
             {

@@ -73,20 +73,33 @@ pub struct Taken {
     pub inode: usize,
 }
 
+/// What had the new name of a rename.
+#[derive(Clone, Copy, Debug)]
+pub enum Held {
+    /// Another entry of the same file.
+    Same,
+    /// An entry of another file, its last one or one of several, or of an empty directory: it was unlinked.
+    Freed,
+    Linked,
+    Directory,
+}
+
 /// What an accepted file call did, beside changing the store.
 #[derive(Clone, Debug, Default)]
 pub struct Done {
     pub answer: usize,
     /// Bytes that a read puts at the front of its out-buffer.
     pub out: Vec<u8>,
-    /// The entry that an unlink or a move emptied.
-    pub taken: Option<Taken>,
+    /// The entries that an unlink or a move emptied, in this order.
+    pub taken: Vec<Taken>,
     /// Directory and slot of the entry that a create, a link or a move made.
     pub made: Option<(usize, usize)>,
     /// Directory and slot of an entry with a new name.
     pub renamed: Option<(usize, usize)>,
     /// The file that a write or a shortening changed.
     pub written: Option<usize>,
+    /// Of a rename onto another entry's name.
+    pub held: Option<Held>,
 }
 
 #[derive(Clone, Debug)]
@@ -147,6 +160,11 @@ impl Store {
         let slots = self.slots(directory).ok()?;
         let slot = slots.iter().position(|entry| entry.as_ref().is_some_and(|e| e.name.eq_ignore_ascii_case(name)))?;
         Some((slot, slots[slot].as_ref()?.inode))
+    }
+
+    /// The inode that a name stands for.
+    pub fn named(&self, directory: usize, name: &[u8]) -> Option<usize> {
+        self.find(directory, name).map(|(_, inode)| inode)
     }
 
     /// 12: no empty slot, fewer than twelve blocks, no free block. 13: no empty slot and twelve blocks.
@@ -221,6 +239,7 @@ impl Store {
             Call::Link(directory, name, inode) => self.link(*directory, name, *inode, locked),
             Call::Unlink(directory, name) => self.unlink(*directory, name, locked),
             Call::Rename(directory, name, to, to_name) => self.rename(*directory, name, *to, to_name, locked),
+            Call::RenameNew(directory, name, to, to_name) => self.rename_new(*directory, name, *to, to_name, locked),
             Call::Start | Call::Step | Call::Burst(_) | Call::Ask => unreachable!("no file call"),
         }
     }
@@ -306,7 +325,7 @@ impl Store {
         legal(name)?;
         self.slots(directory)?;
         let (slot, inode) = self.find(directory, name).ok_or(6)?;
-        refuse(8, self.slots(inode).is_ok_and(|slots| slots.iter().any(Option::is_some)))?;
+        self.empty(inode)?;
         busy(locked, &[directory, inode])?;
         self.slots_mut(directory)[slot] = None;
         self.node(inode).links -= 1;
@@ -314,10 +333,64 @@ impl Store {
             self.free_blocks_from(inode, 0);
             self.nodes.remove(&inode);
         }
-        Ok(Done { taken: Some(Taken { directory, slot, inode }), ..Done::default() })
+        Ok(Done { taken: vec![Taken { directory, slot, inode }], ..Done::default() })
     }
 
+    /// 8, if it is a directory with entries.
+    fn empty(&self, inode: usize) -> Result<(), u8> {
+        refuse(8, self.slots(inode).is_ok_and(|slots| slots.iter().any(Option::is_some)))
+    }
+
+    /// 10, if it is a directory that would move into itself or below.
+    fn apart(&self, directory: usize, inode: usize, to: usize) -> Result<(), u8> {
+        refuse(10, directory != to && self.slots(inode).is_ok() && self.within(to, inode))
+    }
+
+    /// "a rename onto a name taken by another entry unlinks this old holder and then renames"
     fn rename(&mut self, directory: usize, name: &[u8], to: usize, to_name: &[u8], locked: Option<usize>) -> Result<Done, u8> {
+        legal(name)?;
+        legal(to_name)?;
+        self.slots(directory)?;
+        self.slots(to)?;
+        let (slot, inode) = self.find(directory, name).ok_or(6)?;
+        let Some((_, holder)) = self.find(to, to_name).filter(|(held, _)| (to, *held) != (directory, slot)) else {
+            return self.rename_new(directory, name, to, to_name, locked);
+        };
+        // "an old holder that is a directory and not empty gives 8, whichever kind comes"
+        self.empty(holder)?;
+        self.apart(directory, inode, to)?;
+        let (comes, goes) = (&self.nodes[&inode], &self.nodes[&holder]);
+        refuse(18, comes.kind() != goes.kind())?;
+        if inode == holder {
+            // "nothing changes, but refusals come as for any rename"
+            let moved = if directory == to { directory } else { inode };
+            busy(locked, &[directory, to, moved])?;
+            return Ok(Done { held: Some(Held::Same), ..Done::default() });
+        }
+        let held = match (goes.kind(), goes.links) {
+            (Kind::Directory, _) => Held::Directory,
+            (Kind::File, 1) => Held::Freed,
+            (Kind::File, _) => Held::Linked,
+        };
+        // "Blocks and slots are judged as they are once the old holder is gone."
+        let mut gone = self.clone();
+        let unlinked = gone.unlink(to, to_name, None)?;
+        let renamed = gone.rename_new(directory, name, to, to_name, locked)?;
+        // "A locked holder that would be replaced is busy."
+        busy(locked, &[to, holder])?;
+        *self = gone;
+        Ok(Done { taken: [unlinked.taken, renamed.taken].concat(), held: Some(held), ..renamed })
+    }
+
+    /// The lap recorder's, "with the old rule".
+    fn rename_new(
+        &mut self,
+        directory: usize,
+        name: &[u8],
+        to: usize,
+        to_name: &[u8],
+        locked: Option<usize>,
+    ) -> Result<Done, u8> {
         legal(name)?;
         legal(to_name)?;
         self.slots(directory)?;
@@ -331,15 +404,14 @@ impl Store {
             self.slots_mut(directory)[slot] = Some(entry);
             return Ok(Done { renamed: Some((directory, slot)), ..Done::default() });
         }
-        let a_directory = self.slots(inode).is_ok();
-        refuse(10, a_directory && self.within(to, inode))?;
+        self.apart(directory, inode, to)?;
         self.room(to)?;
         busy(locked, &[directory, to, inode])?;
         self.slots_mut(directory)[slot] = None;
         let made = self.put_entry(to, entry);
-        if a_directory {
+        if self.slots(inode).is_ok() {
             self.node(inode).parent = to;
         }
-        Ok(Done { taken: Some(Taken { directory, slot, inode }), made: Some((to, made)), ..Done::default() })
+        Ok(Done { taken: vec![Taken { directory, slot, inode }], made: Some((to, made)), ..Done::default() })
     }
 }

@@ -50,7 +50,7 @@ pub record MarksAlone (n : ℕ) (d e : List ℕ) : Type 0 where
 notes-stay : (n : ℕ) (d : List ℕ) → MarksAlone n d d
 notes-stay n d = record { long = refl; head = refl; reserved = refl; copied = λ i l m. refl }
 
-notes-then : {n : ℕ} {d e f : List ℕ} → MarksAlone n d e → MarksAlone n e f → MarksAlone n d f
+pub notes-then : {n : ℕ} {d e f : List ℕ} → MarksAlone n d e → MarksAlone n e f → MarksAlone n d f
 notes-then a b = record {
   long = b .long ∙ a .long;
   head = b .head ∙ a .head;

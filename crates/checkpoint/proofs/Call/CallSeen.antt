@@ -31,13 +31,12 @@ use Rattle.files.specs.Effect.{Entry, placeIn, Effect}
 use Rattle.files.proofs.Lawful.{Away, Stands, Lawful}
 use Rattle.files.proofs.EffectFacts.{away-or}
 use Rattle.copy_theory.specs.View.{View}
-use Rattle.copy_theory.specs.Deed.{Alike, Cut, cut, kept, Turn, stays, goes, comes, Called}
+use Rattle.copy_theory.specs.Deed.{Alike, Cut, cut, kept, Turn, stays, goes, comes, swaps, Called}
 use Rattle.checkpoint.specs.Busy.{anyLocked}
 use Rattle.checkpoint.specs.Notes.{cutEntries, clearMarks, setMarks}
 use Rattle.checkpoint.proofs.Copy.Seen.{shelfOf, markedAt, seen}
 use Rattle.checkpoint.proofs.Copy.Laid.{Laid}
 use Rattle.checkpoint.proofs.Copy.NamingLaws.{used-sound}
-use Rattle.checkpoint.proofs.Call.PartedLaws.{Parted}
 use Rattle.checkpoint.proofs.DecisionLaws.{apart-locked}
 use Rattle.checkpoint.proofs.Call.CallNotes.{same-copied, call-notes, mark-away, mark-made}
 use Rattle.checkpoint.proofs.Call.CutEntries.{CutAt, gone, left, Cuts, cut-by}
@@ -54,7 +53,7 @@ file-same : (m v : List ℕ) (n i : ℕ) → sizeOf v i ≡ sizeOf m i → ((o :
 unfolding fileBytes
 file-same m v n i e f = ap (table (λ j. fileByte v n i (0 + j))) e ∙ table-ext (λ j. fileByte v n i (0 + j)) (λ j. fileByte m n i (0 + j)) (sizeOf m i) (λ j l. f (0 + j) (omega arith))
 
-module _ {n b : ℕ} {s m d : List ℕ} (k : Sound Store s) (e : n ≡ inodesIn s) (h : Laid n b s m d) (x : Effect) (f : Lawful s n x) (apart : Parted x) (a : anyLocked d (x .touches) ≡ false) where
+module _ {n b : ℕ} {s m d : List ℕ} (k : Sound Store s) (e : n ≡ inodesIn s) (h : Laid n b s m d) (x : Effect) (f : Lawful s n x) (a : anyLocked d (x .touches) ≡ false) where
   abbrev image : List ℕ
   image = cutEntries m d n (x .taken)
 
@@ -68,22 +67,23 @@ module _ {n b : ℕ} {s m d : List ℕ} (k : Sound Store s) (e : n ≡ inodesIn 
   new = seen n (x .store) image noted
 
   cuts : Cuts n m image d (x .taken)
-  cuts = cut-by h (runs k e h x f) (x .taken) (f .one-taken) (taken-whole k e h x f)
+  cuts = cut-by k e h (runs k e h x f) (x .taken) (f .distinct) (taken-whole k e h x f)
 
   -- an entry that is taken
   record Taken (y : Entry) : Type 0 where
     stood : Stands s n y
     some : 1 ≤ y .inode
     free : deskOf d .locked ≢ y .inode
-    gone : filled (x .store) n (placeIn y) ≡ false
+    gone : Away (placeIn y) (x .made) → filled (x .store) n (placeIn y) ≡ false
+    others : All (λ z. placeIn y ≡ placeIn z → z .inode ≢ y .inode) (x .made)
     cut : CutAt n m image d y
 
   all-taken : All Taken (x .taken)
   all-taken =
       let ys = x .taken in
       let p = f .apart (deskOf d .locked) (apart-locked d (x .touches) (runs k e h x f) a) .0 in
-      all-map _ _ ys (λ y r. record { stood = r .0; some = r .1 .0 .some; free = r .1 .1 .0 .1; gone = r .1 .1 .1 .0 .0 (r .1 .1 .1 .0 .1); cut = r .1 .1 .1 .1 })
-      (all-both _ _ ys (f .stood) (all-both _ _ ys (taken-whole k e h x f) (all-both _ _ ys p (all-both _ _ ys (all-both _ _ ys (f .gone) apart) (cuts .at)))))
+      all-map _ _ ys (λ y r. record { stood = r .0; some = r .1 .0 .some; free = r .1 .1 .0 .1; gone = r .1 .1 .1 .0; others = r .1 .1 .1 .1 .0; cut = r .1 .1 .1 .1 .1 })
+      (all-both _ _ ys (f .stood) (all-both _ _ ys (taken-whole k e h x f) (all-both _ _ ys p (all-both _ _ ys (f .gone) (all-both _ _ ys (f .swaps) (cuts .at))))))
 
   -- ---- a place
   module _ (q : ℕ) (l : q < mostSlots * n) where
@@ -116,12 +116,20 @@ module _ {n b : ℕ} {s m d : List ℕ} (k : Sound Store s) (e : n ≡ inodesIn 
         let v : shelfOf n m .names q ≡ naming m n (placeIn y) = names-in n m q l ∙ ap (naming m n) z in
         kept (names-in n image q l ∙ ap (naming image n) z ∙ p ∙ sym v) (λ i c. u (sym v ∙ i ∙ w) (ap (isCopied d n) (sym w) ∙ c))
 
+    -- it goes, or another comes in its place
     taken-turn : (y : Entry) → Taken y → q ≡ placeIn y → Turn old new q
     unfolding seen
     taken-turn y r z =
         let w : shelfOf n s .names q ≡ y .inode = names-in n s q l ∙ ap (naming s n) z ∙ r .stood .names in
         let o = r .some in
-        goes (λ v. omega arith) (λ v. r .free (sym v ∙ w)) (names-in n (x .store) q l ∙ naming-none (x .store) n q (ap (filled (x .store) n) z ∙ r .gone)) (taken-cut y (r .stood) (r .cut) z)
+        let c = taken-cut y (r .stood) (r .cut) z in
+        ⊎-elim
+        (λ p. goes (λ v. omega arith) (λ v. r .free (sym v ∙ w)) (names-in n (x .store) q l ∙ naming-none (x .store) n q (ap (filled (x .store) n) z ∙ r .gone (subst (λ (v : ℕ). Away v (x .made)) z p))) c)
+        (λ p.
+        let g = some-get _ (x .made) p in
+        let u : shelfOf n (x .store) .names q ≡ g .0 .inode = names-in n (x .store) q l ∙ ap (naming (x .store) n) (g .1 .1) ∙ g .1 .0 .0 .names in
+        swaps (λ v. omega arith) (λ v. r .free (sym v ∙ w)) (λ v. g .1 .0 .1 (sym z ∙ g .1 .1) (sym u ∙ v ∙ w)) (mark-comes (some-map _ _ (x .made) (λ y i. i .1) p)) c)
+        (away-or _ q (x .made) (all-both _ _ (x .made) (f .stands) (r .others)))
 
     -- an entry is made
     made-turn : Away q (x .taken) → Some (λ y. (Away (placeIn y) (x .taken) → filled s n (placeIn y) ≡ false) × (q ≡ placeIn y)) (x .made) → Turn old new q

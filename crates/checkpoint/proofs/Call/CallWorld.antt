@@ -38,4 +38,4 @@ module _ (c : Call) (w : World) (x : Effect) (k : Does c w x) where
     pub next-called : Called (seen (inodesIn (w .store)) (w .store) (w .image) (w .desk)) (seen (inodesIn (w .store)) (next (call c) w .store) (next (call c) w .image) (next (call c) w .desk))
     next-called =
         subst (λ (v : World). Called (seen (inodesIn (w .store)) (w .store) (w .image) (w .desk)) (seen (inodesIn (w .store)) (v .store) (v .image) (v .desk))) (sym (k .after))
-        (call-called (ready-sound w r) refl h x (k .laws) (k .parted) (k .free))
+        (call-called (ready-sound w r) refl h x (k .laws) (k .free))

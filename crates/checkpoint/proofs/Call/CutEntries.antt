@@ -1,29 +1,29 @@
 -- The image after the entries that a call takes are cut by the rule. s is the store, m the image, d the desk, n and b the counts of inodes and image blocks.
 use Prim.Native.Nat.{ℕ, _*_, _≤_, _<_}
-use mathlib.Core.Path.{_≡_, refl, sym, ap, ap₂, _∙_}
-use mathlib.Core.Logic.{_≢_}
+use mathlib.Core.Path.{_≡_, refl, sym, ap, ap₂, _∙_, subst}
+use mathlib.Core.Logic.{_≢_, ⊎-elim}
 use mathlib.Core.Bool.{Bool, true, false, not, _&&_}
 use mathlib.Core.List.{List, [], _∷_}
 use native.Mathlib.Decide.{ℕ-discrete}
 use native.Mathlib.Omega.{arith}
 use borrow.Author.Tests.{not-true, eqb-true, eq-eqb}
 use lib.Dec.{eqb}
-use lib.ListN.{length}
 use Rattle.bounded.specs.Search.{pick}
 use Rattle.bounded.proofs.BoolLaws.{clash, holds, and-left, and-right}
-use Rattle.bounded.proofs.EachLaws.{All}
+use Rattle.bounded.proofs.EachLaws.{All, all-map, all-both, some-get}
 use Rattle.layout.specs.Sizes.{mostBlocks}
 use Rattle.layout.specs.Inode.{kindOf, sizeOf, fileKind}
-use Rattle.blocks.specs.Block.{blocksUsed, kthBlock}
+use Rattle.blocks.specs.Block.{blockOf, blocksUsed, kthBlock}
 use Rattle.directory.specs.Slot.{mostSlots, clearEntry}
 use Rattle.sound.specs.Place.{entryAt, naming}
 use Rattle.sound.specs.Sound.{Sound, inodesIn}
 use Rattle.sound.proofs.PlaceLaws.{naming-slot, naming-filled, place-dir, place-slot, slot-place}
 use Rattle.sound.specs.declared.Form.the-variants.{Store}
-use Rattle.preservation.proofs.SameLaws.{SameInode, SameBlock, inode-stays}
+use Rattle.preservation.proofs.SameLaws.{SameInode, SameBlock, inode-then, inode-stays}
 use Rattle.preservation.proofs.EntryWriteLaws.{SlotIn}
 use Rattle.files.specs.Effect.{Entry, placeIn}
-use Rattle.files.proofs.Lawful.{Away}
+use Rattle.files.proofs.Lawful.{Away, Distinct}
+use Rattle.files.proofs.EffectFacts.{away-or}
 use Rattle.desk.specs.Desk.{isCopied}
 use Rattle.checkpoint.specs.Fit.{isRunning}
 use Rattle.checkpoint.specs.Image.{slotNames}
@@ -39,17 +39,17 @@ pub record Whole (n : ℕ) (y : Entry) : Type 0 where
   pub ranged : Ranged n y
   pub some : 1 ≤ y .inode
 
+whole-below : {n : ℕ} (y : Entry) → Whole n y → placeIn y < mostSlots * n
+whole-below y r = let k = r .ranged in let l = k .low in let o = k .high in let u = k .small in omega arith
+
 -- ---- one entry
 module _ {n b : ℕ} {s m d : List ℕ} (h : Laid n b s m d) (y : Entry) (r : Whole n y) where
-  below : placeIn y < mostSlots * n
-  below = let k = r .ranged in let l = k .low in let o = k .high in let u = k .small in omega arith
-
   -- what the image's slot names is what its place names
   slot-names : slotNames m n (y .directory) (y .slot) ≡ naming m n (placeIn y)
   slot-names =
       let k = r .ranged in
       sym (ap₂ (slotNames m n) (place-dir (y .directory) (y .slot) (k .low) (k .small)) (place-slot (y .directory) (y .slot) (k .low) (k .small)))
-      ∙ same-naming h (placeIn y) below
+      ∙ same-naming h (placeIn y) (whole-below y r)
 
   slot-of : naming m n (placeIn y) ≡ y .inode → SlotIn m n (y .directory) (y .slot)
   slot-of e =
@@ -144,18 +144,56 @@ module _ {n b : ℕ} {s m d : List ℕ} (h : Laid n b s m d) (g : isRunning d �
     at = (left refl (λ p c. clash (test h y r) (cut-holds h y r g p c) e), tt);
   }
 
-pub cut-by : {n b : ℕ} {s m d : List ℕ} → Laid n b s m d → isRunning d ≡ true → (ys : List Entry) → length ys ≤ 1 → All (Whole n) ys → Cuts n m (cutEntries m d n ys) d ys
-unfolding cutEntries cutImage
-cut-by {n} {b} {s} {m} {d} h g [] l r = record {
+  -- and whichever of them it is
+  cut-first : Cuts n m (cutImage m d n (y .directory) (y .slot) (y .inode)) d (y ∷ [])
+  unfolding cutImage
+  cut-first = go (test h y r) refl
+    where
+      go : (c : Bool) → test h y r ≡ c → Cuts n m (pick c (clearEntry m n (y .directory) (y .slot)) m) d (y ∷ [])
+      go true e = cut-one e
+      go false e = keep-one e
+
+-- ---- one after another. v is the image m after the first, w after the others
+-- a place that names an inode names what it named
+still-named : {n : ℕ} {m v d : List ℕ} {ys : List Entry} → Cuts n m v d ys → (q : ℕ) → q < mostSlots * n → naming v n q ≢ 0 → naming v n q ≡ naming m n q
+still-named {n} {m} {v} {d} {ys} a q l z = ⊎-elim (a .away q l) (λ y. let g = some-get _ ys y in go (g .0) (g .1 .0) (g .1 .1)) (away-or _ q ys (a .at))
+  where
+    go : (y : Entry) → CutAt n m v d y → q ≡ placeIn y → naming v n q ≡ naming m n q
+    go y (gone p c) e = absurd (z (ap (naming v n) e ∙ p))
+    go y (left p c) e = ap (naming v n) e ∙ p ∙ ap (naming m n) (sym e)
+
+-- the place of y before and after cuts elsewhere
+at-after : {n : ℕ} {m v w d : List ℕ} (y : Entry) → naming w n (placeIn y) ≡ naming v n (placeIn y) → CutAt n m v d y → CutAt n m w d y
+at-after y e (gone p c) = gone (e ∙ p) c
+at-after y e (left p c) = left (e ∙ p) c
+
+at-before : {n : ℕ} {m v w d : List ℕ} (y : Entry) → naming v n (placeIn y) ≡ naming m n (placeIn y) → CutAt n v w d y → CutAt n m w d y
+at-before {n} {m} {v} {w} {d} y e (gone p c) = gone p (ap (isCopied d n) (sym e) ∙ c)
+at-before y e (left p c) = left (p ∙ e) (λ i u. c (e ∙ i) u)
+
+cuts-then : {n : ℕ} {m v w d : List ℕ} (y : Entry) (ys : List Entry) → Whole n y → All (Whole n) ys → Away (placeIn y) ys → Cuts n m v d (y ∷ []) → Cuts n v w d ys → Cuts n m w d (y ∷ ys)
+cuts-then {n} {m} {v} {w} {d} y ys r rs apart a b = record {
+  inodes = λ j l o. inode-then (a .inodes j l o) (b .inodes j l o);
+  files = λ j k l o f u z.
+      let i = a .inodes j l o in
+      let c : kthBlock v n j k ≡ kthBlock m n j k = i .blocks k u in
+      ap (blockOf w n) (sym c) ∙ b .files j k l o (i .kind ∙ f) u (subst (λ (x : ℕ). k < blocksUsed x) (sym (i .size)) z) ∙ ap (blockOf v n) c ∙ a .files j k l o f u z;
+  entries = λ q l z. b .entries q l z ∙ a .entries q l (λ x. z (still-named b q l z ∙ x));
+  away = λ q l z. b .away q l (z .1) ∙ a .away q l (z .0, tt);
+  at = (
+    at-after y (b .away (placeIn y) (whole-below y r) apart) (a .at .0),
+    all-map _ _ ys (λ x z. at-before x (a .away (placeIn x) (whole-below x (z .0)) (λ e. z .1 .0 (sym e), tt)) (z .1 .1)) (all-both _ _ ys rs (all-both _ _ ys apart (b .at))),
+  );
+}
+
+-- all entries of a list of which no two stand at one place
+pub cut-by : {n b : ℕ} {s m d : List ℕ} → Sound Store s → n ≡ inodesIn s → Laid n b s m d → isRunning d ≡ true → (ys : List Entry) → Distinct ys → All (Whole n) ys → Cuts n m (cutEntries m d n ys) d ys
+unfolding cutEntries
+cut-by {n} {b} {s} {m} {d} k x h g [] apart r = record {
   inodes = λ j l o. inode-stays m n j;
   files = λ j k l o f u v. refl;
   entries = λ q l z. refl;
   away = λ q l a. refl;
   at = tt;
 }
-cut-by {n} {b} {s} {m} {d} h g (y ∷ []) l r = go (test h y (r .0)) refl
-  where
-    go : (c : Bool) → test h y (r .0) ≡ c → Cuts n m (pick c (clearEntry m n (y .directory) (y .slot)) m) d (y ∷ [])
-    go true e = cut-one h g y (r .0) e
-    go false e = keep-one h g y (r .0) e
-cut-by h g (y ∷ (z ∷ zs)) l r = absurd (omega arith)
+cut-by k x h g (y ∷ ys) apart r = cuts-then y ys (r .0) (r .1) (apart .0) (cut-first h g y (r .0)) (cut-by k x (image-laid h y (r .0) k x) g ys (apart .1) (r .1))

@@ -25,12 +25,12 @@ use Rattle.files.specs.Guard.{guardOf, onGuard}
 use Rattle.files.specs.Effect.{Call, Entry, placeIn, Effect, Planned, refused, does, onPlanned, planned, plainDecision}
 use Rattle.files.proofs.Lawful.{Away, Lawful, Each}
 use Rattle.files.proofs.LawfulCalls.{lawful}
+use Rattle.files.proofs.RefillLaws.{Refilling, refilling}
 use Rattle.files.proofs.EffectFacts.{away-or}
 use Rattle.checkpoint.specs.Busy.{anyLocked, unlessBusy}
 use Rattle.checkpoint.specs.Notes.{cutEntries, clearMarks, setMarks}
 use Rattle.checkpoint.specs.Live.{World, Outcome, threeGuards, storeAlone, decision, leavesIn, live}
 use Rattle.checkpoint.specs.List.{Ready, call, outcome, next, accepted, takenFrom, anyAt, takes}
-use Rattle.checkpoint.proofs.Call.PartedLaws.{Parted, taken-made-apart}
 
 pub ready-sound : (w : World) → Ready w → Sound Store (w .store)
 ready-sound w r = is-sound Store (w .store) .to (r .sound)
@@ -86,13 +86,13 @@ pub record Does (c : Call) (w : World) (x : Effect) : Type 0 where
   pub decided : decision c w ≡ does x
   pub plain : plainDecision c (w .store) ≡ does x
   pub laws : Lawful (w .store) (inodesIn (w .store)) x
-  pub parted : Parted x
+  pub refills : Refilling c (w .store) (inodesIn (w .store)) x
   pub free : anyLocked (w .desk) (x .touches) ≡ false
   pub after : next (call c) w ≡ afterIn w x
 
 pub live-accepted : (c : Call) (w : World) → Ready w → accepted (call c) w ≡ true → (x : Effect) × Does c w x
 live-accepted c w r a =
-    go (planned c s n b) refl (lawful c (sound-store h refl)) (taken-made-apart c (sound-store h refl))
+    go (planned c s n b) refl (lawful c (sound-store h refl)) (refilling s n b (sound-store h refl) c)
     (ap (done w) (sym (ready-decides c w r)) ∙ sym (accepted-is c w) ∙ a)
   where
     s : List ℕ
@@ -111,12 +111,12 @@ live-accepted c w r a =
     free x true e d = absurd (clash false d refl)
     free x false e d = refl
 
-    go : (p : Planned) → planned c s n b ≡ p → Each (Lawful s n) p → Each Parted p → done w (unlessBusy (w .desk) p) ≡ true → (x : Effect) × Does c w x
-    go (refused e) q l o d = absurd (clash (eqb (refusalNumber e) 0) d (not-none e))
-    go (does x) q l o d =
+    go : (p : Planned) → planned c s n b ≡ p → Each (Lawful s n) p → Each (Refilling c s n) p → done w (unlessBusy (w .desk) p) ≡ true → (x : Effect) × Does c w x
+    go (refused e) q l m d = absurd (clash (eqb (refusalNumber e) 0) d (not-none e))
+    go (does x) q l m d =
         let f = free x (anyLocked (w .desk) (x .touches)) refl d in
         let g : decision c w ≡ does x = ready-decides c w r ∙ ap (unlessBusy (w .desk)) q ∙ ap (λ (z : Bool). pick z (refused Busy) (does x)) f in
-        (x, record { decided = g; plain = ready-plain c w r ∙ q; laws = l; parted = o; free = f; after = next-is c w ∙ ap (λ (z : Planned). buffers (leavesIn w z)) g })
+        (x, record { decided = g; plain = ready-plain c w r ∙ q; laws = l; refills = m; free = f; after = next-is c w ∙ ap (λ (z : Planned). buffers (leavesIn w z)) g })
 
 pub live-refused : (c : Call) (w : World) → accepted (call c) w ≡ false → next (call c) w ≡ w
 live-refused c w a = go (decision c w) refl (sym (accepted-is c w) ∙ a)

@@ -44,7 +44,7 @@ module _ (c : Call) (w : World) (r : Ready w) where
       go false e k = absurd (omega arith)
       go true e k =
           let o = locked-one (w .desk) (x .touches) e in
-          let k = subst (Each (λ y. (l : ℕ) → Some (λ i. l ≡ i) (y .touches) → (1 ≤ l) × Hinders (w .store) l c)) h (hinders (w .store) (blocksIn (w .store)) (ready-sound w r) c) (deskOf (w .desk) .locked) (o .1) in
+          let k = subst (Each (λ y. (l : ℕ) → Some (λ i. l ≡ i) (y .touches) → (1 ≤ l) × Hinders (w .store) l c)) h (hinders (w .store) (ready-sound w r) c) (deskOf (w .desk) .locked) (o .1) in
           record { runs = o .0; locked = k .0; hinders = k .1; would = would x h }
 
   only-busy : refusalOf (call c) w ≡ refusalNumber Busy → OnlyBusy c w

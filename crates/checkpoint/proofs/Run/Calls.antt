@@ -23,7 +23,6 @@ use Rattle.checkpoint.specs.Live.{World, refuse, decision, leavesIn, liv
 use Rattle.checkpoint.specs.List.{call, asks, starts, outcome, next}
 use Rattle.checkpoint.proofs.DecisionLaws.{Unhindered, each-decided}
 use Rattle.checkpoint.proofs.Copy.Seen.{seen}
-use Rattle.checkpoint.proofs.Call.PartedLaws.{Parted, taken-made-apart}
 use Rattle.checkpoint.proofs.Copy.TidyLaws.{store-tidy}
 use Rattle.checkpoint.proofs.Call.CallLaid.{call-laid}
 use Rattle.checkpoint.proofs.Call.CallSeen.{call-called}
@@ -38,10 +37,6 @@ blocks-told n b k e = omega arith
 
 pub image-allowed : (n b k : ℕ) → Allowed mostImageBlocks n b k → imageAllowed n k ≡ true
 image-allowed n b k h = image-allowed-is n k .from (rw (blocks-told n b k (h .long)) h)
-
-each-both : (P Q : Effect → Type 0) (q : Planned) → Each P q → Each Q q → Each (λ x. P x × Q x) q
-each-both P Q (refused e) a b = tt
-each-both P Q (does x) a b = (a, b)
 
 -- the state question changes nothing
 pub asks-same : (w : World) → next asks w ≡ w
@@ -67,10 +62,10 @@ module _ (n b : ℕ) (w : World) (r : Running n b w) where
   unfolding seen
   made-tidy x c h = store-tidy (x .store) n h c
 
-  made-goes : (x : Effect) → Lawful (w .store) n x → Parted x → anyLocked (w .desk) (x .touches) ≡ false → Goes n b w (made x)
-  made-goes x y p a =
+  made-goes : (x : Effect) → Lawful (w .store) n x → anyLocked (w .desk) (x .touches) ≡ false → Goes n b w (made x)
+  made-goes x y a =
       let c : n ≡ inodesIn (x .store) = r .count ∙ sym (y .frame .inodes) in
-      let d = called (call-called (r .sound) (r .count) (r .laid) x y p a) in
+      let d = called (call-called (r .sound) (r .count) (r .laid) x y a) in
       record {
         still = record {
           count = c;
@@ -81,19 +76,18 @@ module _ (n b : ℕ) (w : World) (r : Running n b w) where
         deed = d;
       }
 
-  decided : (c : Call) (q : Planned) → decision c w ≡ q → Each (Unhindered (λ x. Lawful (w .store) n x × Parted x) w) q → Goes n b w (leftIn (leavesIn w q))
+  decided : (c : Call) (q : Planned) → decision c w ≡ q → Each (Unhindered (Lawful (w .store) n) w) q → Goes n b w (leftIn (leavesIn w q))
   decided c (refused e) h k = same-goes w refl
   decided c (does x) h k =
       subst (λ (i : ℕ). Goes n b w (record { store = x .store; image = cutEntries (w .image) (w .desk) i (x .taken); desk = setMarks (clearMarks (w .desk) i (x .taken)) i (x .made) }))
-      (r .count) (made-goes x (k .0 .0) (k .0 .1) (k .1))
+      (r .count) (made-goes x (k .0) (k .1))
 
   pub call-goes : (c : Call) → Goes n b w (next (call c) w)
   unfolding next outcome live
   call-goes c =
       let h = lawful c (sound-store (r .sound) refl) in
-      let p = taken-made-apart c (sound-store (r .sound) refl) in
       let k = subst (λ (i : ℕ). Each (Lawful (w .store) i) (planned c (w .store) (inodesIn (w .store)) (blocksIn (w .store)))) (sym (r .count)) h in
-      decided c (decision c w) refl (each-decided (λ x. Lawful (w .store) n x × Parted x) c w (each-both _ _ (planned c (w .store) (inodesIn (w .store)) (blocksIn (w .store))) k p))
+      decided c (decision c w) refl (each-decided (Lawful (w .store) n) c w k)
 
   pub asks-goes : Goes n b w (next asks w)
   asks-goes = same-goes (next asks w) (asks-same w)

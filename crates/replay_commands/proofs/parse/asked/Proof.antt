@@ -89,7 +89,11 @@ unfolding asked forms
 returns-21 c = asked-is 20 (c .before .args .j) _ _ _ _ (omega arith)
 
 returns-22 : tie.Need-returns-22
-returns-22 c = asked-no (c .before .args .j) _ _ _ _ (c .match .rest)
+unfolding asked forms
+returns-22 c = asked-is 21 (c .before .args .j) _ _ _ _ (omega arith)
+
+returns-23 : tie.Need-returns-23
+returns-23 c = asked-no (c .before .args .j) _ _ _ _ (c .match .rest)
 
 pub asked-spec : {M : Type 1} → statement M
 asked-spec =
@@ -116,4 +120,5 @@ asked-spec =
     returns-19
     returns-20
     returns-21
-    returns-22)
+    returns-22
+    returns-23)

@@ -4,10 +4,10 @@ use Rattle.trial.proofs.print.refused.Statement.{statement}
 use Rattle.trial.proofs.print.refused.Tie as tie
 
 abbrev Inv-loop : tie.InvT-loop
-Inv-loop tried k₀ t3 t4 k = (1 ≤ k) × (k ≤ 18)
+Inv-loop tried k₀ t3 t4 k = (1 ≤ k) × (k ≤ 19)
 
 abbrev μ-loop : tie.MeasureT-loop
-μ-loop tried k₀ t3 t4 k = 18 - k
+μ-loop tried k₀ t3 t4 k = 19 - k
 
 loop-holds : tie.Need-loop-holds Inv-loop μ-loop
 loop-holds c = search needs

@@ -20,14 +20,11 @@ same-length-4 c = search needs
 returns : tie.Need-returns
 returns c = search needs
 
-moment-requires : tie.Need-moment-requires
-moment-requires c κs = search needs
-
 count-requires : tie.Need-count-requires
 count-requires c κs = search needs
 
 follow-requires : tie.Need-follow-requires
-follow-requires c κs = c .before .before .before .before .before .before .before .before .before .before .before .before .before .before .before .before .before .before .before .before .before .before .before .before .before .before .before .before .before .before .before .before .pre
+follow-requires c κs = c .before .before .before .before .before .before .before .before .before .before .before .before .before .before .before .before .before .before .before .before .before .before .before .before .before .before .before .before .before .before .pre
 
 same-length-5 : tie.Need-same-length-5
 same-length-5 c = search needs
@@ -54,7 +51,6 @@ turn-spec =
     same-length-3
     same-length-4
     returns
-    moment-requires
     count-requires
     follow-requires
     same-length-5

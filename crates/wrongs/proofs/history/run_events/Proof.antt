@@ -6,10 +6,10 @@ use Rattle.wrongs.proofs.history.run_events.Statement.{statement}
 use Rattle.wrongs.proofs.history.run_events.Tie as tie
 
 abbrev Inv-loop : tie.InvT-loop
-Inv-loop store₀ image₀ desk₀ beside₀ moments₀ taken₀ tried₀ copy₀ k₀ store image desk beside moments taken tried copy k = (k ≤ 23) × (length store ≡ length store₀) × (length image ≡ length image₀) × (length desk ≡ length desk₀) × (length beside ≡ length beside₀)
+Inv-loop store₀ image₀ desk₀ beside₀ moments₀ taken₀ tried₀ copy₀ k₀ store image desk beside moments taken tried copy k = (k ≤ 26) × (length store ≡ length store₀) × (length image ≡ length image₀) × (length desk ≡ length desk₀) × (length beside ≡ length beside₀)
 
 abbrev μ-loop : tie.MeasureT-loop
-μ-loop store₀ image₀ desk₀ beside₀ moments₀ taken₀ tried₀ copy₀ k₀ store image desk beside moments taken tried copy k = 23 - k
+μ-loop store₀ image₀ desk₀ beside₀ moments₀ taken₀ tried₀ copy₀ k₀ store image desk beside moments taken tried copy k = 26 - k
 
 loop-holds : tie.Need-loop-holds Inv-loop μ-loop
 loop-holds c = search needs

@@ -13,8 +13,8 @@ use Rattle.preservation.proofs.StoreLaws.{kind-dir}
 use Rattle.preservation.proofs.SlotPlaceLaws.{found-here}
 use Rattle.entries.proofs.TakePlanLaws.{rename-illegal, rename-illegal-new, rename-wrong, rename-wrong-new, rename-absent, rename-here, rename-away}
 use borrow.Author.Needs.{needs}
-use Rattle.entries.proofs.plan.rename_plan.Statement.{statement}
-use Rattle.entries.proofs.plan.rename_plan.Tie as tie
+use Rattle.entries.proofs.plan.rename_new_plan.Statement.{statement}
+use Rattle.entries.proofs.plan.rename_new_plan.Tie as tie
 
 -- what the tests that passed say
 is-legal : (c : tie.Else1) → legalName (now (c .before .before .before .before .before .args .name)) ≡ true
@@ -97,8 +97,8 @@ returns-7 c =
     rename-away _ _ _ _ _ _ _ (is-legal (c .before .before .before .before .before .before .before .before .before .before .before .before .before)) (is-legal-new (c .before .before .before .before .before .before .before .before .before .before .before)) (is-dir (c .before .before .before .before .before .before .before .before .before)) (is-dir-new (c .before .before .before .before .before .before .before)) _ _ _
     (is-at (c .before .before .before)) (c .before .before .slot-inode .ensures) (c .before .if5 .left) (c .move-to .ensures)
 
-pub rename-plan-spec : {M : Type 1} → statement M
-rename-plan-spec =
+pub rename-new-plan-spec : {M : Type 1} → statement M
+rename-new-plan-spec =
     tie.close
     (tie.spec
     legal-name-requires
