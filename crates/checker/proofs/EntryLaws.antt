@@ -19,7 +19,8 @@ use Rattle.bounded.proofs.BelowLaws.{all-none, all-at, all-of, all-fail, all-st
 use Rattle.bounded.proofs.CountLaws.{tally-start, tally-skip, tally-one, tally-skips}
 use Rattle.bounded.proofs.TableLaws.{filled-none, filled-more}
 use Rattle.bounded.proofs.ReflectLaws.{r-eq, r-le, r-true, r-and, r-not, r-imp, r-same, r-says, r-fails, reflects-ext}
-use Rattle.octets.specs.Octets.{Octets, part}
+use Rattle.octets.specs.Octets.{Octets, part, numAt}
+use Rattle.octets.proofs.NumLaws.{zero-num}
 use Rattle.octets.proofs.PartLaws.{cut, getD-part, octets-part}
 use Rattle.layout.specs.Sizes.{rootInode, mostInodes}
 use Rattle.layout.specs.Inode.{kindOf, parentOf, freeKind, directoryKind}
@@ -30,7 +31,7 @@ use Rattle.names.specs.Entry.{entryInode, isEmpty, nameAt, sameName, entryName,
 use Rattle.names.proofs.NameLaws.{legal-bounds, legal-nonzero}
 use Rattle.names.proofs.EntryLaws.{named, spelled-is, same-words-two, empty-all, empty-inode, entry-legal}
 use Rattle.names.proofs.FoldLaws.{folded-zero}
-use Rattle.names.specs.Words.{wordsAt, sameWords}
+use Rattle.names.specs.Words.{folds, wordsAt, sameWords}
 use Rattle.directory.specs.Slot.{mostSlots, slots, slotAt, entryOf}
 use Rattle.directory.proofs.SlotLaws.{few-slots, slot-fits}
 use Rattle.directory.specs.Fits.{DirFits}
@@ -230,6 +231,14 @@ module _ (s : List ℕ) (n d t : ℕ) (h : Octets s) (f : DirFits s n d) (k : ki
       ∙ ap₂ (λ (q j : ℕ). allBelow (λ u. not (filled s n (mostSlots * q + u)) || not (sameNames s n (mostSlots * q + u) p)) j) a b
 
 -- ---- slot_right
+-- the words of an empty entry
+pub no-words : (e : List ℕ) → isEmpty e ≡ true → record { low = 0; high = 0 } ≡ wordsAt e 2
+unfolding wordsAt folds folded
+no-words e h =
+    let a : numAt 8 e 2 ≡ 0 = zero-num 8 e 2 (λ j l. empty-all e h (2 + j) (omega arith)) in
+    let b : numAt 6 e (2 + 8) ≡ 0 = zero-num 6 e (2 + 8) (λ j l. empty-all e h (2 + 8 + j) (omega arith)) in
+    sym (ap₂ (λ (x y : ℕ). record { low = folds 8 x; high = folds 8 y }) a b)
+
 module _ (s : List ℕ) (n d t o : ℕ) (x : Here s n d t o) (low high counts : List ℕ) (y : Passed s n d t (placeOf d t) low high counts)
     (w : Name) (e : w ≡ wordsAt (cutAt s o) 2) where
   -- what low and high hold then

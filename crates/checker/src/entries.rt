@@ -82,12 +82,14 @@ fn slot_right(
     ensures { λ r. ⌜ (r ≡ entryB (now (s .entry)) n (placeOf d t)) × (r ≡ true → Passed (now (s .entry)) n d (t + 1) (placeOf d t + 1) (now (low .exit)) (now (high .exit)) (now (counts .exit))) ⌝ }
 {
     let e = &s[o..o + ENTRY_BYTES];
+    if names::is_empty(e) {
+        low[t] = 0;
+        high[t] = 0;
+        return true;
+    }
     let words = Name::in_entry(e);
     low[t] = words.low;
     high[t] = words.high;
-    if names::is_empty(e) {
-        return true;
-    }
     if !entry_named(s, n, d, t, o) {
         return false;
     }
