@@ -8,11 +8,11 @@ ghost use Rattle.layout.specs.Fits.{InodeFits};
 ghost use Rattle.blocks.specs.Block.{blockAt, furtherOf, kthBy};
 ghost use Rattle.blocks.specs.Free.{longBut, lowestBy};
 ghost use Rattle.blocks.specs.Fits.{RowsFit, Reaches};
-ghost use Rattle.blocks.specs.Map.{Maps, Notes};
+ghost use Rattle.blocks.specs.Map.{mapWords, Maps, Notes};
 use crate::further;
 use crate::is_long;
 use crate::map;
-use crate::map::BLOCK_PLACES;
+use crate::map::MAP_WORDS;
 use bounded::Found;
 use layout::inode::address;
 use layout::inode::addresses_zero;
@@ -21,8 +21,8 @@ use layout::sizes::ADDRESS_PLACE;
 use layout::sizes::FURTHER_COUNT;
 
 // The twelve addresses of inode i are noted in the map.
-fn note_direct(s: &[u8], n: usize, i: usize, map: &mut [u8])
-    requires { ⌜ InodeFits (now s) n i × (length (now map) ≡ mostImageBlocks + 1) × ((k : ℕ) → k < addressCount → addressOf (now s) n (addressIndex i k) ≤ mostImageBlocks) ⌝ }
+fn note_direct(s: &[u8], n: usize, i: usize, map: &mut [u16])
+    requires { ⌜ InodeFits (now s) n i × (length (now map) ≡ mapWords) × ((k : ℕ) → k < addressCount → addressOf (now s) n (addressIndex i k) ≤ mostImageBlocks) ⌝ }
     ensures { λ _. ⌜ Notes (λ k. addressOf (now (s .entry)) n (addressIndex i k)) addressCount (now (map .entry)) (now (map .exit)) ⌝ }
 {
     let x = ADDRESS_COUNT * (i - 1);
@@ -32,8 +32,8 @@ fn note_direct(s: &[u8], n: usize, i: usize, map: &mut [u8])
 }
 
 // The 32 of the address block a.
-fn note_further(s: &[u8], n: usize, a: usize, map: &mut [u8])
-    requires { ⌜ (n ≤ mostInodes) × (1 ≤ a) × (a ≤ mostImageBlocks) × (blockAt n a + blockBytes ≤ length (now s)) × (length (now map) ≡ mostImageBlocks + 1) × ((j : ℕ) → j < furtherCount → furtherOf (now s) n a j ≤ mostImageBlocks) ⌝ }
+fn note_further(s: &[u8], n: usize, a: usize, map: &mut [u16])
+    requires { ⌜ (n ≤ mostInodes) × (1 ≤ a) × (a ≤ mostImageBlocks) × (blockAt n a + blockBytes ≤ length (now s)) × (length (now map) ≡ mapWords) × ((j : ℕ) → j < furtherCount → furtherOf (now s) n a j ≤ mostImageBlocks) ⌝ }
     ensures { λ _. ⌜ Notes (furtherOf (now (s .entry)) n a) furtherCount (now (map .entry)) (now (map .exit)) ⌝ }
 {
     for j in 0..FURTHER_COUNT {
@@ -42,8 +42,8 @@ fn note_further(s: &[u8], n: usize, a: usize, map: &mut [u8])
 }
 
 // The blocks of inode i. Most inodes have none.
-fn note_blocks(s: &[u8], n: usize, i: usize, long: bool, map: &mut [u8])
-    requires { ⌜ InodeFits (now s) n i × (length (now map) ≡ mostImageBlocks + 1) × ((k : ℕ) → k < mostBlocks → kthBy long (now s) n i k ≤ mostImageBlocks) × Reaches long (now s) n i ⌝ }
+fn note_blocks(s: &[u8], n: usize, i: usize, long: bool, map: &mut [u16])
+    requires { ⌜ InodeFits (now s) n i × (length (now map) ≡ mapWords) × ((k : ℕ) → k < mostBlocks → kthBy long (now s) n i k ≤ mostImageBlocks) × Reaches long (now s) n i ⌝ }
     ensures { λ _. ⌜ Notes (kthBy long (now (s .entry)) n i) mostBlocks (now (map .entry)) (now (map .exit)) ⌝ }
 {
     if addresses_zero(s, n, i) {
@@ -72,11 +72,11 @@ pub fn long_but(s: &[u8], n: usize, l: usize, long: bool, i: usize) -> bool
 }
 
 // The map of all blocks that an inode has: one pass over the inodes.
-pub fn named_blocks(s: &[u8], n: usize, l: usize, long: bool) -> [u8; BLOCK_PLACES]
+pub fn named_blocks(s: &[u8], n: usize, l: usize, long: bool) -> [u16; MAP_WORDS]
     requires { ⌜ RowsFit (longBut (now s) l long) (now s) n ⌝ }
     ensures { λ r. ⌜ Maps (longBut (now (s .entry)) l long) (now (s .entry)) n (mostBlocks * n) r ⌝ }
 {
-    let mut map = [0u8; BLOCK_PLACES];
+    let mut map = [0u16; MAP_WORDS];
     for k in 0..n {
         note_blocks(s, n, k + 1, long_but(s, n, l, long, k + 1), &mut map);
     }

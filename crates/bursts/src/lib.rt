@@ -13,7 +13,7 @@ ghost use Rattle.checkpoint.specs.Burst.{mostBurst, countAllowed, burstFrom, bu
 ghost use Rattle.bursts.specs.Turn.{stoppedAt, Kept, Took};
 use answers::Answer;
 use answers::Refusal;
-use blocks::map::BLOCK_PLACES;
+use blocks::map::MAP_WORDS;
 use desk::Desk;
 use desk::STEPS_AN_INODE;
 use guards::Watched;
@@ -37,7 +37,7 @@ fn take_one(
     m: &mut [u8],
     d: &mut [u8],
     n: usize,
-    map: &mut [u8; BLOCK_PLACES],
+    map: &mut [u16; MAP_WORDS],
     counts: &mut [u16; INODE_PLACES],
 ) -> Turn
     requires { ⌜ Kept (world (now s) (now m) (now d)) n (now map) (now counts) ⌝ }

@@ -84,7 +84,7 @@ pub fn finish(
     d: &mut [u8],
     h: Desk,
     n: usize,
-    map: &[u8],
+    map: &[u16],
     counts: &[u16; INODE_PLACES],
 ) -> Answer
     requires { ⌜ Held (now d) n h × Addressed (now m) n × (h .blocks ≤ mostImageBlocks) × Maps (isLong (now m)) (now m) n (mostBlocks * n) (now map) × Tallied (imageNaming (now m) n) 1 (mostInodes + 1) (mostSlots * n) (now counts) ⌝ }

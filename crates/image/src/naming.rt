@@ -112,7 +112,7 @@ fn put_counts(m: &mut [u8], n: usize, counts: &[u16; INODE_PLACES])
 }
 
 // The finished image: everything is counted before a byte is written. Nothing is locked any more, so an inode is long by its own size.
-pub fn finish_image(m: &mut [u8], n: usize, b: usize, map: &[u8], counts: &[u16; INODE_PLACES])
+pub fn finish_image(m: &mut [u8], n: usize, b: usize, map: &[u16], counts: &[u16; INODE_PLACES])
     requires { ⌜ Addressed (now m) n × (b ≤ mostImageBlocks) × Maps (isLong (now m)) (now m) n (mostBlocks * n) (now map) × Tallied (imageNaming (now m) n) 1 (mostInodes + 1) (mostSlots * n) (now counts) ⌝ }
     ensures { λ _. ⌜ now (m .exit) ≡ finishImage (now (m .entry)) n b ⌝ }
 {

@@ -25,7 +25,7 @@ abbrev μ-loop : tie.MeasureT-loop
 
 -- src/free.rt:81:5
 loop-holds : tie.Need-loop-holds Inv-loop μ-loop
-loop-holds c = (omega arith, map-none _ _ _)
+loop-holds c = (omega arith, map-none _)
 
 -- src/free.rt:82:27
 add-note-blocks : tie.Need-add-note-blocks Inv-loop μ-loop

@@ -12,7 +12,7 @@ note-requires : tie.Need-note-requires
 note-requires c κs = search needs
 
 returns-2 : tie.Need-returns-2
-returns-2 c = search needs
+returns-2 c = ((λ _. c .note .ensures), (λ q. absurd (q (c .before .before .if1 .left))))
 
 pub renew-spec : {M : Type 1} → statement M
 renew-spec = tie.close (tie.spec map-of-requires returns note-requires returns-2)

@@ -74,7 +74,7 @@ next-requires c κs =
     let m = c .before .before .before .before .before .named-blocks .ensures in
     let g = sized-at (p .0) .blocks in
     let r = p .5 in
-    (omega arith, omega (arith, g, m .long), next-some _ _ (lacks (c .before .before .before .before .before .named-blocks .result)) (l .j) (map-own (p .0) _ m) _ (l .inv .1) (nth-counted (p .0) (l .j) (omega arith)))
+    (omega arith, g, m .long, next-some _ _ (lacks (c .before .before .before .before .before .named-blocks .result)) (l .j) (map-own (p .0) _ m) _ (l .inv .1) (nth-counted (p .0) (l .j) (omega arith)))
 
 zero-block-requires : tie.Need-zero-block-requires Inv-loop μ-loop
 zero-block-requires c κs = let r = bound (c .before) in let l = c .before .before .before .before .loop in (sized-same _ _ _ _ (ap length (l .inv .2) ∙ length-zeros _ _ _ _) (sized-at (c .before .before .before .before .before .before .before .before .before .before .pre .0)), r .0, r .1)
