@@ -41,25 +41,6 @@ fn note_further(s: &[u8], n: usize, a: usize, map: &mut [u16])
     }
 }
 
-// The blocks of inode i. Most inodes have none.
-fn note_blocks(s: &[u8], n: usize, i: usize, long: bool, map: &mut [u16])
-    requires { ⌜ InodeFits (now s) n i × (length (now map) ≡ mapWords) × ((k : ℕ) → k < mostBlocks → kthBy long (now s) n i k ≤ mostImageBlocks) × Reaches long (now s) n i ⌝ }
-    ensures { λ _. ⌜ Notes (kthBy long (now (s .entry)) n i) mostBlocks (now (map .entry)) (now (map .exit)) ⌝ }
-{
-    if addresses_zero(s, n, i) {
-        return;
-    }
-    note_direct(s, n, i, &mut *map);
-    if !long {
-        return;
-    }
-    let a = address(s, n, ADDRESS_COUNT * (i - 1) + ADDRESS_PLACE) as usize;
-    if a < 1 {
-        return;
-    }
-    note_further(s, n, a, &mut *map);
-}
-
 // Inode i has an address block: inode l as told, every other by its own size.
 pub fn long_but(s: &[u8], n: usize, l: usize, long: bool, i: usize) -> bool
     requires { ⌜ InodeFits (now s) n i ⌝ }
@@ -71,6 +52,25 @@ pub fn long_but(s: &[u8], n: usize, l: usize, long: bool, i: usize) -> bool
     is_long(s, n, i)
 }
 
+// The blocks of inode i. Most inodes have none, which is asked first.
+fn note_blocks(s: &[u8], n: usize, i: usize, l: usize, long: bool, map: &mut [u16])
+    requires { ⌜ InodeFits (now s) n i × (length (now map) ≡ mapWords) × ((k : ℕ) → k < mostBlocks → kthBy (longBut (now s) l long i) (now s) n i k ≤ mostImageBlocks) × Reaches (longBut (now s) l long i) (now s) n i ⌝ }
+    ensures { λ _. ⌜ Notes (kthBy (longBut (now (s .entry)) l long i) (now (s .entry)) n i) mostBlocks (now (map .entry)) (now (map .exit)) ⌝ }
+{
+    if addresses_zero(s, n, i) {
+        return;
+    }
+    note_direct(s, n, i, &mut *map);
+    if !long_but(s, n, l, long, i) {
+        return;
+    }
+    let a = address(s, n, ADDRESS_COUNT * (i - 1) + ADDRESS_PLACE) as usize;
+    if a < 1 {
+        return;
+    }
+    note_further(s, n, a, &mut *map);
+}
+
 // The map of all blocks that an inode has: one pass over the inodes.
 pub fn named_blocks(s: &[u8], n: usize, l: usize, long: bool) -> [u16; MAP_WORDS]
     requires { ⌜ RowsFit (longBut (now s) l long) (now s) n ⌝ }
@@ -78,7 +78,7 @@ pub fn named_blocks(s: &[u8], n: usize, l: usize, long: bool) -> [u16; MAP_WORDS
 {
     let mut map = [0u16; MAP_WORDS];
     for k in 0..n {
-        note_blocks(s, n, k + 1, long_but(s, n, l, long, k + 1), &mut map);
+        note_blocks(s, n, k + 1, l, long, &mut map);
     }
     map
 }

@@ -57,7 +57,8 @@ pub fn copy(s: &[u8], m: &mut [u8], d: &mut [u8], h: Desk, n: usize, c: usize) -
     let o = blocks::block_at(n, c);
     transfer::copy_block(&mut m[o..o + BLOCK_BYTES], s, &*d, n, i, k);
     blocks::put_kth(&mut *m, n, i, k, c as u16);
-    let grown = h.copied_one_more();
+    // the header as it stands in the desk: h as a whole would be loaded from where its fields were just put one by one
+    let grown = Desk::read(&*d).copied_one_more();
     grown.write(&mut *d);
     Answer::Done(grown.steps as usize)
 }
