@@ -15,7 +15,7 @@ use Rattle.blocks.specs.Block.{rowBy}
 abbrev pub mapWords : ℕ
 mapWords = 256
 
--- the map has block b
+-- the map has block b, from 1 on
 unfoldable pub hasBlock : List ℕ → ℕ → Bool
 hasBlock map b = marked (getD map ((b - 1) % mapWords) 0) ((b - 1) / mapWords)
 

@@ -71,22 +71,22 @@ fn note_blocks(s: &[u8], n: usize, i: usize, l: usize, long: bool, map: &mut [u1
     note_further(s, n, a, &mut *map);
 }
 
-// The map of all blocks that an inode has: one pass over the inodes.
-pub fn named_blocks(s: &[u8], n: usize, l: usize, long: bool) -> [u16; MAP_WORDS]
+// The map of all blocks that an inode has, whatever it was before: one pass over the inodes. It is lent, since one that is handed back is held twice.
+pub fn named_blocks(s: &[u8], n: usize, l: usize, long: bool, map: &mut [u16; MAP_WORDS])
     requires { ⌜ RowsFit (longBut (now s) l long) (now s) n ⌝ }
-    ensures { λ r. ⌜ Maps (longBut (now (s .entry)) l long) (now (s .entry)) n (mostBlocks * n) r ⌝ }
+    ensures { λ _. ⌜ Maps (longBut (now (s .entry)) l long) (now (s .entry)) n (mostBlocks * n) (now (map .exit)) ⌝ }
 {
-    let mut map = [0u16; MAP_WORDS];
+    *map = [0u16; MAP_WORDS];
     for k in 0..n {
-        note_blocks(s, n, k + 1, l, long, &mut map);
+        note_blocks(s, n, k + 1, l, long, &mut *map);
     }
-    map
 }
 
 pub fn free_block(s: &[u8], n: usize, l: usize, long: bool, count: usize) -> Found
     requires { ⌜ RowsFit (longBut (now s) l long) (now s) n × (count ≤ mostImageBlocks) ⌝ }
     ensures { λ r. ⌜ r ≡ lowestBy (longBut (now (s .entry)) l long) (now (s .entry)) n count ⌝ }
 {
-    let map = named_blocks(s, n, l, long);
+    let mut map = [0u16; MAP_WORDS];
+    named_blocks(s, n, l, long, &mut map);
     map::lowest(&map, count)
 }

@@ -69,11 +69,11 @@ fn place(map: &[u16], b: usize, c: usize) -> Found
 }
 
 // The map of an image whose locked inode is l, or 0.
-pub fn map_of(s: &[u8], m: &[u8], n: usize, l: usize) -> [u16; MAP_WORDS]
+pub fn map_of(s: &[u8], m: &[u8], n: usize, l: usize, map: &mut [u16; MAP_WORDS])
     requires { ⌜ RowsFit (longBut (now m) l (isLong (now s) l)) (now m) n × (headerBytes + inodeBytes * n ≤ length (now s)) × (l ≤ n) ⌝ }
-    ensures { λ r. ⌜ Maps (longBut (now (m .entry)) l (isLong (now (s .entry)) l)) (now (m .entry)) n (mostBlocks * n) r ⌝ }
+    ensures { λ _. ⌜ Maps (longBut (now (m .entry)) l (isLong (now (s .entry)) l)) (now (m .entry)) n (mostBlocks * n) (now (map .exit)) ⌝ }
 {
-    free::named_blocks(m, n, l, fit::locked_long(s, n, l))
+    free::named_blocks(m, n, l, fit::locked_long(s, n, l), &mut *map);
 }
 
 // The k-th block of inode i, which is long if k is not below twelve.
@@ -94,7 +94,7 @@ fn renew(s: &[u8], m: &[u8], n: usize, i: usize, old: u16, c: usize, map: &mut [
     ensures { λ _. ⌜ (old ≡ 0 → now (map .exit) ≡ noted (now (map .entry)) c) × (old ≢ 0 → Maps (longBut (now (m .entry)) i (isLong (now (s .entry)) i)) (now (m .entry)) n (mostBlocks * n) (now (map .exit))) ⌝ }
 {
     if old != 0 {
-        *map = map_of(s, m, n, i);
+        map_of(s, m, n, i, &mut *map);
         return;
     }
     map::note(&mut *map, c);
@@ -155,7 +155,7 @@ fn close_step(
     let stay = names_stay(s, &*m, n, h.locked as usize);
     five::close(s, &mut *m, &mut *d, h, n);
     if !stay {
-        *counts = naming::count_names(&*m, n);
+        naming::count_names(&*m, n, &mut *counts);
     }
     Turn::Goes
 }
@@ -215,7 +215,7 @@ fn may_hold(s: &[u8], m: &[u8], n: usize, b: usize, i: usize, map: &mut [u16; MA
     if !further_fit(s, m, n, b, i, a) {
         return false;
     }
-    *map = map_of(s, m, n, i);
+    map_of(s, m, n, i, &mut *map);
     true
 }
 

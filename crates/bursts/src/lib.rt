@@ -69,8 +69,10 @@ fn turns(s: &[u8], m: &mut [u8], d: &mut [u8], h: Desk, n: usize, count: usize) 
     ensures { λ r. ⌜ left r (now (s .entry)) (now (m .exit)) (now (d .exit))
         ≡ burstFrom count 0 (world (now (s .entry)) (now (m .entry)) (now (d .entry))) ⌝ }
 {
-    let mut map = kept::map_of(s, &*m, n, h.locked as usize);
-    let mut counts = naming::count_names(&*m, n);
+    let mut map = [0u16; MAP_WORDS];
+    let mut counts = [0u16; INODE_PLACES];
+    kept::map_of(s, &*m, n, h.locked as usize, &mut map);
+    naming::count_names(&*m, n, &mut counts);
     for k in 0..count {
         match take_one(s, &mut *m, &mut *d, n, &mut map, &mut counts) {
             Turn::Goes => {}

@@ -25,6 +25,7 @@ ghost use Rattle.copier.specs.Held.{Held, Locked, Target, FreeImage, Ope
 use answers::Answer;
 use answers::Refusal;
 use blocks::free;
+use blocks::map::MAP_WORDS;
 use bounded::Found;
 use content::apply::kth_used;
 use desk::Desk;
@@ -114,9 +115,11 @@ fn free_step(m: &mut [u8], d: &mut [u8], h: Desk, n: usize) -> Answer
     if !desk::is_copied(&*d, n, ROOT) {
         return lock(&mut *d, h, ROOT);
     }
-    let counts = naming::count_names(&*m, n);
+    let mut counts = [0u16; INODE_PLACES];
+    naming::count_names(&*m, n, &mut counts);
     let Found::At(i) = naming::lowest_named(&counts, &*d, n) else {
-        let map = free::named_blocks(&*m, n, 0, false);
+        let mut map = [0u16; MAP_WORDS];
+        free::named_blocks(&*m, n, 0, false, &mut map);
         return finish(&mut *m, &mut *d, h, n, &map, &counts);
     };
     lock(&mut *d, h, i)

@@ -74,16 +74,15 @@ fn count_directory(m: &[u8], n: usize, e: usize, counts: &mut [u16])
     }
 }
 
-// How often each inode is named by the image's directories: one pass over their slots.
-pub fn count_names(m: &[u8], n: usize) -> [u16; INODE_PLACES]
+// How often each inode is named by the image's directories, whatever the counts were before: one pass over their slots.
+pub fn count_names(m: &[u8], n: usize, counts: &mut [u16; INODE_PLACES])
     requires { ⌜ Addressed (now m) n ⌝ }
-    ensures { λ r. ⌜ Tallied (imageNaming (now (m .entry)) n) 1 (mostInodes + 1) (mostSlots * n) r ⌝ }
+    ensures { λ _. ⌜ Tallied (imageNaming (now (m .entry)) n) 1 (mostInodes + 1) (mostSlots * n) (now (counts .exit)) ⌝ }
 {
-    let mut counts = [0u16; INODE_PLACES];
+    *counts = [0u16; INODE_PLACES];
     for k in 0..n {
-        count_directory(m, n, k + 1, &mut counts);
+        count_directory(m, n, k + 1, &mut *counts);
     }
-    counts
 }
 
 // The lowest uncopied inode that the counts have.

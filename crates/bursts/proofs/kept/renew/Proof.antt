@@ -6,7 +6,7 @@ map-of-requires : tie.Need-map-of-requires
 map-of-requires c κs = search needs
 
 returns : tie.Need-returns
-returns c = ((λ q. absurd (c .before .if1 .taken q)), (λ _. c .map-of .ensures))
+returns c = ((λ q. absurd (c .before .before .if1 .taken q)), (λ _. c .map-of .ensures))
 
 note-requires : tie.Need-note-requires
 note-requires c κs = search needs
