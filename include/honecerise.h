@@ -89,19 +89,19 @@ typedef char honecerise_size_has_64_bits[sizeof(honecerise_size) == 8 ? 1 : -1];
  * targets/run/stack.c on the others).
  */
 #if defined(__ARM_ARCH_6M__)        /* Cortex-M0+ */
-#define HONECERISE_STACK         5000u /* by frames 4,880, painted 4,924 */
+#define HONECERISE_STACK         4200u /* by frames 3,912, painted 3,964 */
 #elif defined(__ARM_ARCH_8M_MAIN__) /* Cortex-M33 */
-#define HONECERISE_STACK         5000u /* by frames 4,152, painted 4,208 */
+#define HONECERISE_STACK         4200u /* by frames 3,672, painted 3,728 */
 #elif defined(__arm__)              /* Cortex-M4; 32-bit Arm Linux */
-#define HONECERISE_STACK         5000u /* by frames 4,224, painted 4,296 */
+#define HONECERISE_STACK         4200u /* by frames 3,704, painted 3,800 */
 #elif defined(__riscv)              /* RISC-V, 32 bits */
-#define HONECERISE_STACK         5000u /* by frames 4,656, painted 4,668 */
+#define HONECERISE_STACK         4200u /* by frames 3,712, painted 3,736 */
 #elif defined(__aarch64__)
-#define HONECERISE_STACK         5000u /* by frames 4,208, painted 4,248 */
+#define HONECERISE_STACK         4200u /* by frames 3,696, painted 3,752 */
 #elif defined(__wasm__)             /* of its linear memory; what the engine takes beside it is not in it */
-#define HONECERISE_STACK         5000u /* by frames 3,744, painted 3,682 */
+#define HONECERISE_STACK         4200u /* by frames 3,264, painted 3,202 */
 #else                               /* x86-64 */
-#define HONECERISE_STACK         5000u /* painted 3,992 */
+#define HONECERISE_STACK         4200u /* painted 3,960 */
 #endif
 
 /* ---- lengths in bytes: exact, and constant where the arguments are ------------------------- */
