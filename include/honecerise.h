@@ -39,7 +39,7 @@
  * Stack
  *     No call takes more than HONECERISE_STACK bytes.
  *
- * To link: libapi.a on x86-64 Linux, and memcpy, memset and strlen from any C library; elsewhere the
+ * To link: libapi.a on x86-64 Linux, and memcpy and memset from any C library; elsewhere the
  * libhonecerise.a that targets/build writes, which says what it wants from outside.
  */
 #ifndef HONECERISE_H
@@ -89,19 +89,19 @@ typedef char honecerise_size_has_64_bits[sizeof(honecerise_size) == 8 ? 1 : -1];
  * targets/run/stack.c on the others).
  */
 #if defined(__ARM_ARCH_6M__)        /* Cortex-M0+ */
-#define HONECERISE_STACK        12288u /* by frames 10,888, painted 11,036 */
+#define HONECERISE_STACK         4200u /* by frames 3,912, painted 3,964 */
 #elif defined(__ARM_ARCH_8M_MAIN__) /* Cortex-M33 */
-#define HONECERISE_STACK        12288u /* by frames 10,696, painted 10,816 */
+#define HONECERISE_STACK         4200u /* by frames 3,672, painted 3,728 */
 #elif defined(__arm__)              /* Cortex-M4; 32-bit Arm Linux */
-#define HONECERISE_STACK        12288u /* by frames 10,704, painted 10,856 */
+#define HONECERISE_STACK         4200u /* by frames 3,704, painted 3,800 */
 #elif defined(__riscv)              /* RISC-V, 32 bits */
-#define HONECERISE_STACK        12288u /* by frames 10,736, painted 10,848 */
+#define HONECERISE_STACK         4200u /* by frames 3,712, painted 3,736 */
 #elif defined(__aarch64__)
-#define HONECERISE_STACK        12288u /* by frames 10,688, painted 10,816 */
+#define HONECERISE_STACK         4200u /* by frames 3,696, painted 3,752 */
 #elif defined(__wasm__)             /* of its linear memory; what the engine takes beside it is not in it */
-#define HONECERISE_STACK        12288u /* by frames 10,352, painted 10,324 */
+#define HONECERISE_STACK         4200u /* by frames 3,264, painted 3,202 */
 #else                               /* x86-64 */
-#define HONECERISE_STACK        12288u /* painted 10,776 */
+#define HONECERISE_STACK         4200u /* painted 3,960 */
 #endif
 
 /* ---- lengths in bytes: exact, and constant where the arguments are ------------------------- */

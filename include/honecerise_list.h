@@ -1,15 +1,14 @@
 /*
  * Reading a store or a finished image by its layout: what stands in a directory, and the bytes of
  * an image's files (honecerise_read takes stores of at most 1,024 blocks). Plain C, in this header
- * alone, and not proved.
+ * alone, and not proved. It takes nothing from a C library but stddef.h and stdint.h.
  *
  * Hand in only bytes that honecerise_check has said yes to: these functions look at numbers in them
- * without asking again. A store stays sound through every call of the library.
+ * without asking again. A store stays sound through every call of the library. A honecerise_size that
+ * is handed in may be any number: none is cut, also where size_t has 32 bits.
  */
 #ifndef HONECERISE_LIST_H
 #define HONECERISE_LIST_H
-
-#include <string.h>
 
 #include "honecerise.h"
 
@@ -54,20 +53,21 @@ static inline unsigned honecerise_free_blocks(const uint8_t *bytes)
     return honecerise_number(bytes + 6);
 }
 
-/* An inode's 8 attribute bytes: kind, 0, links (2), size (2), parent (2). */
+/* The 8 attribute bytes of an inode, 1 to the inode count: kind, 0, links (2), size (2), parent (2). */
 static inline const uint8_t *honecerise_attributes(const uint8_t *bytes, unsigned inode)
 {
     return bytes + 16 + 8 * (size_t)(inode - 1);
 }
 
-static inline unsigned honecerise_kind_of(const uint8_t *bytes, size_t inode)
+/* A number that is no inode's counts as free. */
+static inline unsigned honecerise_kind_of(const uint8_t *bytes, honecerise_size inode)
 {
     if (inode < 1 || inode > honecerise_inodes(bytes))
         return HONECERISE_FREE;
     return honecerise_attributes(bytes, (unsigned)inode)[0];
 }
 
-static inline unsigned honecerise_size_of(const uint8_t *bytes, size_t inode)
+static inline unsigned honecerise_size_of(const uint8_t *bytes, honecerise_size inode)
 {
     if (honecerise_kind_of(bytes, inode) == HONECERISE_FREE)
         return 0;
@@ -81,10 +81,10 @@ static inline const uint8_t *honecerise_block_named(const uint8_t *bytes, const 
     return bytes + 16 + 32 * inodes + 64 * (size_t)(honecerise_number(address) - 1);
 }
 
-/* The 64 bytes of a file's or directory's block at place 0 to 42; the place lies inside its size. A
+/* The 64 bytes of a block of an inode in use, at place 0 to 42; the place lies inside its size. A
  * file above 768 bytes has eleven addresses of its own, and the block that its twelfth names has the
  * others. */
-static inline const uint8_t *honecerise_block(const uint8_t *bytes, unsigned inode, size_t place)
+static inline const uint8_t *honecerise_block(const uint8_t *bytes, unsigned inode, unsigned place)
 {
     const size_t inodes = honecerise_inodes(bytes);
     const uint8_t *addresses = bytes + 16 + 8 * inodes + 24 * (size_t)(inode - 1), *further;
@@ -95,7 +95,7 @@ static inline const uint8_t *honecerise_block(const uint8_t *bytes, unsigned ino
 }
 
 /* Slots are counted from 0 up to this number; 0 if it is no directory. */
-static inline unsigned honecerise_slots(const uint8_t *bytes, size_t directory)
+static inline unsigned honecerise_slots(const uint8_t *bytes, honecerise_size directory)
 {
     if (honecerise_kind_of(bytes, directory) != HONECERISE_DIRECTORY)
         return 0;
@@ -103,13 +103,14 @@ static inline unsigned honecerise_slots(const uint8_t *bytes, size_t directory)
 }
 
 /* The entry in a slot: 1, or 0 if the slot is empty or there is none; then entry stays. */
-static inline int honecerise_entry_at(const uint8_t *bytes, size_t directory, size_t slot,
-                                      struct honecerise_entry *entry)
+static inline int honecerise_entry_at(const uint8_t *bytes, honecerise_size directory,
+                                      honecerise_size slot, struct honecerise_entry *entry)
 {
     const uint8_t *at, *attributes;
+    unsigned k;
     if (slot >= honecerise_slots(bytes, directory))
         return 0;
-    at = honecerise_block(bytes, (unsigned)directory, slot / 4) + 16 * (slot % 4);
+    at = honecerise_block(bytes, (unsigned)directory, (unsigned)slot / 4) + 16 * ((unsigned)slot % 4);
     if (honecerise_number(at) == 0)
         return 0;
     entry->inode = honecerise_number(at);
@@ -117,29 +118,28 @@ static inline int honecerise_entry_at(const uint8_t *bytes, size_t directory, si
     entry->kind = attributes[0];
     entry->links = honecerise_number(attributes + 2);
     entry->size = honecerise_number(attributes + 4);
-    memcpy(entry->name, at + 2, HONECERISE_MAX_NAME);
+    for (k = 0; k < HONECERISE_MAX_NAME; k++)
+        entry->name[k] = (char)at[2 + k];
     entry->name[HONECERISE_MAX_NAME] = 0;
     return 1;
 }
 
 /* Bytes of a file from offset on, as many as there are and fit: answers how many; 0 if it is no
  * file. */
-static inline size_t honecerise_file_bytes(const uint8_t *bytes, size_t inode, size_t offset,
-                                           uint8_t *out, size_t out_length)
+static inline size_t honecerise_file_bytes(const uint8_t *bytes, honecerise_size inode,
+                                           honecerise_size offset,
+                                           uint8_t *out, honecerise_size out_length)
 {
-    size_t done = 0, size;
-    if (honecerise_kind_of(bytes, inode) != HONECERISE_FILE)
+    const unsigned size = honecerise_size_of(bytes, inode);
+    const uint8_t *block = NULL;
+    unsigned at;
+    size_t done = 0;
+    if (honecerise_kind_of(bytes, inode) != HONECERISE_FILE || offset >= size)
         return 0;
-    size = honecerise_size_of(bytes, inode);
-    while (done < out_length && offset + done < size) {
-        const size_t at = offset + done, within = at % 64;
-        size_t part = 64 - within;
-        if (part > size - at)
-            part = size - at;
-        if (part > out_length - done)
-            part = out_length - done;
-        memcpy(out + done, honecerise_block(bytes, (unsigned)inode, at / 64) + within, part);
-        done += part;
+    for (at = (unsigned)offset; at < size && done < out_length; at++) {
+        if (done == 0 || at % 64 == 0)
+            block = honecerise_block(bytes, (unsigned)inode, at / 64);
+        out[done++] = block[at % 64];
     }
     return done;
 }

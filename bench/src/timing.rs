@@ -2,7 +2,9 @@
 use std::time::Instant;
 
 /// Of a proved call or copy to the plain Rust one.
-pub const TO_RUST: f64 = 1.1;
+pub const TO_RUST: f64 = 0.95;
+/// The same of the check of an image.
+pub const IMAGE_TO_RUST: f64 = 1.05;
 /// Of a copy to the checks that its calls must make.
 pub const TO_CHECKS: f64 = 1.3;
 /// The same of a copy by bursts of 64 steps.

@@ -1,6 +1,7 @@
 /*
  * What include/honecerise.h says of buffers, tried on the library.
  *
+ * - The names of refusals and limits stand for the paper's numbers (paper.h, when it is compiled).
  * - A buffer of length 0 may be NULL: each slice of each call in turn, with no copy running and
  *   with one.
  * - Nothing outside of a buffer is touched: buffers that begin or end at a page that may not be
@@ -21,6 +22,7 @@
 #include <unistd.h>
 
 #include "honecerise.h"
+#include "paper.h"
 
 static uint8_t *store, *image, *desk;
 static size_t store_length, image_length, desk_length;

@@ -1,6 +1,7 @@
 /*
  * include/honecerise_list.h against the library: every entry that it lists is the one that look up
- * finds, every file has the bytes that read gives, on a store and on its finished image.
+ * finds, every file has the bytes that read gives, on a store and on its finished image; and numbers
+ * beyond 32 bits are none of either.
  */
 #include <stdio.h>
 #include <stdlib.h>
@@ -14,6 +15,9 @@ enum { INODES = 40, BLOCKS = 900, IMAGE_BLOCKS = HONECERISE_ENOUGH_IMAGE(INODES)
 static uint8_t store[HONECERISE_STORE_LENGTH(INODES, BLOCKS)];
 static uint8_t image[HONECERISE_IMAGE_LENGTH(INODES, IMAGE_BLOCKS)];
 static uint8_t desk[HONECERISE_DESK_LENGTH(INODES)];
+
+/* What a number of 32 bits would cut to 0. */
+#define BEYOND (UINT64_C(1) << 32)
 
 #define WATCH store, sizeof store, image, sizeof image, desk, sizeof desk
 
@@ -86,6 +90,30 @@ static unsigned compare(const uint8_t *bytes)
     return (unsigned)count;
 }
 
+/* Inode 1 is a directory with an entry in slot 0, inode 3 a file: no other number may stand for them. */
+static void wide_numbers(const uint8_t *bytes)
+{
+    const honecerise_size past[3] = { BEYOND, BEYOND << 16, UINT64_MAX - UINT32_MAX };
+    struct honecerise_entry e;
+    uint8_t out[9];
+    size_t k;
+    e.inode = 77;
+    expect("inode 1 is a directory", honecerise_slots(bytes, 1) > 0);
+    expect("inode 3 is a file", honecerise_file_bytes(bytes, 3, 0, out, sizeof out) == sizeof out);
+    for (k = 0; k < 3; k++) {
+        expect("a wide number has a kind", honecerise_kind_of(bytes, past[k] + 1) == HONECERISE_FREE);
+        expect("a wide number has a size", honecerise_size_of(bytes, past[k] + 3) == 0);
+        expect("a wide number has slots", honecerise_slots(bytes, past[k] + 1) == 0);
+        expect("a wide number has an entry", !honecerise_entry_at(bytes, past[k] + 1, 0, &e));
+        expect("a wide slot has an entry", !honecerise_entry_at(bytes, 1, past[k], &e));
+        expect("a wide number has bytes", honecerise_file_bytes(bytes, past[k] + 3, 0, out, sizeof out) == 0);
+        expect("bytes from a wide offset", honecerise_file_bytes(bytes, 3, past[k], out, sizeof out) == 0);
+    }
+    expect("bytes from the last offset", honecerise_file_bytes(bytes, 3, UINT64_MAX, out, sizeof out) == 0);
+    expect("the last number has a kind", honecerise_kind_of(bytes, UINT64_MAX) == HONECERISE_FREE);
+    expect("an entry that is none was written", e.inode == 77);
+}
+
 int main(void)
 {
     unsigned count;
@@ -97,6 +125,8 @@ int main(void)
     expect("the image is not sound", honecerise_check(1, image, sizeof image));
     expect("blocks", honecerise_blocks(store) == BLOCKS && honecerise_blocks(image) == IMAGE_BLOCKS);
     count = compare(store) + compare(image);
+    wide_numbers(store);
+    wide_numbers(image);
     printf("list: %u entries as looked up and read\n", count);
     return 0;
 }

@@ -26,7 +26,7 @@ const sameName = (a, b) => a.length === b.length && a.every((byte, k) => folded(
 export class Files {
     #bytes;
 
-    /** @param {Uint8Array} bytes its own, of a sound store or finished image */
+    /** @param {Uint8Array} bytes its own, of a sound store or finished image; a plain one, whose `slice` copies */
     constructor(bytes, token) {
         if (token !== CHECKED) throw new TypeError('the library makes it, of bytes that it has checked');
         this.#bytes = bytes;

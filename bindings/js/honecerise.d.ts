@@ -119,12 +119,15 @@ export class Files {
     read(inode: Count, offset?: Count, length?: Count): Uint8Array;
 }
 
-/** A store, the image that copies of it go to, and the copier's desk, in the library's memory. */
+/**
+ * A store, the image that copies of it go to, and the copier's desk, in the library's memory. Every call on them, from `lookUp`
+ * on, also refuses with `BadBuffer`, `UnsoundStore` and `BadDesk`; `lookUp` and `read` take no desk.
+ */
 export class Watch {
     private constructor();
     /** Gives the memory back; every other call throws from then on. A watch that nothing holds any more does it by itself. */
     free(): void;
-    /** A copy of the bytes. */
+    /** A copy of the bytes, as are the image's and the desk's. */
     store(): Uint8Array;
     image(): Uint8Array;
     desk(): Uint8Array;
@@ -140,6 +143,7 @@ export class Watch {
 
     /** The new inode. Refuses with `IllegalName`, `WrongInode`, `NameTaken`, `NoInode`, `NoBlocks`, `NoSlot`, `Busy`. */
     createFile(directory: Count, name: Bytes): number;
+    /** The new inode. Refuses with `IllegalName`, `WrongInode`, `NameTaken`, `NoInode`, `NoBlocks`, `NoSlot`, `Busy`. */
     createDirectory(directory: Count, name: Bytes): number;
     /** The new size. Refuses with `WrongInode`, `PastEnd`, `NoBlocks`, `Busy`. */
     write(inode: Count, offset: Count, bytes: Bytes): number;
@@ -164,7 +168,7 @@ export class Watch {
     start(): void;
     /** The steps so far. Refuses with `WrongState`, and with `ImageFull`, which stops the copy. */
     step(): number;
-    /** How many of 1 to 64 steps were accepted. Refuses with `BadCount`, and as `step` does. */
+    /** How many of 1 to 64 steps were accepted. Refuses with `BadCount`, `WrongState`, and with `ImageFull`, which stops it. */
     burst(count: Count): number;
     status(): Status;
 }
@@ -207,13 +211,16 @@ export class Honecerise {
     private constructor();
     /** How many bytes of the memory watches take. */
     readonly used: number;
-    /** An empty store, an idle desk, and room for an image of so many blocks (none: no copy can be started). */
+    /**
+     * An empty store, an idle desk, and room for an image of so many blocks (none: no copy can be started). Refuses with
+     * `BadBuffer`.
+     */
     layOut(counts: { inodes: Count; blocks: Count; imageBlocks?: Count }): Watch;
     /** A watch over bytes as they stand; they are copied. */
     over(buffers: { store: Uint8Array; image?: Uint8Array; desk: Uint8Array }): Watch;
-    /** The files of a sound store, else null. */
+    /** The files of a sound store, else null. The bytes are copied. */
     filesOfStore(bytes: Uint8Array): Files | null;
-    /** The files of a sound finished image, else null: for what came over the air. */
+    /** The files of a sound finished image, else null: for what came over the air. The bytes are copied. */
     filesOfImage(bytes: Uint8Array): Files | null;
     /** Sixteen flags, bay 0 first. Refuses with `BadTurn`. */
     deal(running: Iterable<boolean>, steps: Count, last: Count): Turn;

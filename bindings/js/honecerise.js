@@ -58,7 +58,7 @@ export class Honecerise {
 
     #files(form, bytes) {
         const { c, heap } = this.#shared;
-        const own = bytes.slice();
+        const own = new Uint8Array(bytes); // a Buffer's own slice would be a view of the caller's bytes
         return heap.during([own.length], (at) => {
             heap.bytes(at, own.length).set(own);
             return c.honecerise_check(form, at, BigInt(own.length)) === 1 ? new Files(own, CHECKED) : null;

@@ -153,6 +153,7 @@ static int32_t shorten(void) { return honecerise_shorten(WATCH, 3, 10); }
 static int32_t link_run(void) { return honecerise_link(WATCH, 1, NAME("link"), 3); }
 static int32_t unlink_run(void) { return honecerise_unlink(WATCH, 2, NAME("run 00")); }
 static int32_t rename_within(void) { return honecerise_rename(WATCH, 2, NAME("run 00"), 2, NAME("best")); }
+static int32_t rename_new(void) { return honecerise_rename_new(WATCH, 2, NAME("run 00"), 2, NAME("best")); }
 static int32_t move_run(void) { return honecerise_rename(WATCH, 2, NAME("run 00"), 1, NAME("best")); }
 static int32_t replace_run(void) { return honecerise_rename(WATCH, 2, NAME("run 00"), 2, NAME("run 01")); }
 static int32_t start(void) { return honecerise_start(WATCH); }
@@ -216,6 +217,7 @@ static const struct row rows[] = {
     { "link", link_run, 1, 1, 0 },
     { "unlink, which frees the file", unlink_run, 1, 1, 0 },
     { "rename within a directory", rename_within, 1, 1, 0 },
+    { "the recorder's rename within a directory", rename_new, 1, 1, 0 },
     { "move to another directory", move_run, 1, 1, 0 },
     { "rename onto another run, which is freed", replace_run, 1, 1, 0 },
     { "state", state, 1, 1, 0 },

@@ -1,6 +1,6 @@
 /*
  * What a test program has of the machine that it runs on: input and output in large pieces, and
- * main's answer as its exit status. One of semihosting.c, linux.c, hosted.c and wasm.mjs has them.
+ * main's answer as its exit status. One of semihosting_port.c, linux.c, hosted.c and wasm.mjs has them.
  */
 #ifndef PORT_H
 #define PORT_H

@@ -7,10 +7,14 @@ use mathlib.Core.List.{List}
 use native.Mathlib.Decide.{ℕ-discrete, decLt}
 use native.Mathlib.Omega.{arith}
 use borrow.Author.Tests.{eq-eqb, ne-eqb, lt-ltb, le-ltb}
+use lib.Dec.{eqb}
 use lib.ListN.{getD}
+use Rattle.bounded.specs.Below.{allBelow}
+use Rattle.bounded.proofs.BelowLaws.{all-ext}
 use Rattle.octets.specs.Octets.{part, numAt}
 use Rattle.octets.proofs.PartLaws.{getD-part}
 use Rattle.octets.proofs.NumLaws.{num-ext}
+use Rattle.octets.proofs.ZeroLaws.{numbers-zero}
 use Rattle.layout.specs.Sizes.{addressCount, furtherCount, mostBlocks}
 use Rattle.layout.specs.Inode.{addressIndex, addressOf}
 use Rattle.blocks.specs.Block.{blockAt, blockOf, addressBlock, furtherOf, kthBy, rowBy}
@@ -54,6 +58,15 @@ module _ (s : List ℕ) (n a j : ℕ) where
       ∙ num-ext 2 s (blockAt n a + 2 * j) (part s (blockAt n a) 64) (2 * j)
       (λ x m. let q : blockAt n a + 2 * j + x ≡ blockAt n a + (2 * j + x) = omega arith in
       ap (λ (y : ℕ). getD s y 0) q ∙ sym (getD-part s (blockAt n a) 64 (2 * j + x) (omega arith)))
+
+-- the w of them from the j-th on are 0 if their bytes are; o is where the block starts
+pub further-zeros : (s : List ℕ) (n a j w o : ℕ) → 1 ≤ a → o ≡ blockAt n a → allBelow (λ k. eqb (getD s (o + 2 * j + k) 0) 0) (2 * w) ≡ allBelow (λ k. eqb (furtherOf s n a (j + k)) 0) w
+further-zeros s n a j w o l e =
+    sym (numbers-zero 2 s (o + 2 * j) w)
+    ∙ all-ext (λ k. eqb (numAt 2 s (o + 2 * j + 2 * k)) 0) (λ k. eqb (furtherOf s n a (j + k)) 0) w
+    (λ k m.
+    let g : o + 2 * j + 2 * k ≡ blockAt n a + 2 * (j + k) = omega arith in
+    ap (λ (y : ℕ). eqb y 0) (ap (numAt 2 s) g ∙ sym (further-some s n a (j + k) (λ z. omega arith))))
 
 -- ---- the frame: what an inode's blocks depend on
 -- its twelve addresses stay

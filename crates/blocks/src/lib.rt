@@ -3,8 +3,10 @@ pub mod free;
 pub mod map;
 
 ghost use mathlib.Core.Path.{_≡_};
-ghost use Prim.Native.Nat.{_+_, _<_, _≤_};
+ghost use Prim.Native.Nat.{_+_, _-_, _<_, _≤_};
+ghost use lib.Dec.{eqb};
 ghost use lib.ListN.{length};
+ghost use Rattle.bounded.specs.Below.{allBelow};
 ghost use Rattle.layout.specs.Sizes.{addressCount, furtherCount, mostBlocks, blockBytes, mostInodes, mostImageBlocks};
 ghost use Rattle.blocks.specs.Block.{storeLength, allowed, blockAt, zeroBlock, blocksUsed, isLong, addressBlock, furtherOf, kthBlock, putKth};
 ghost use Rattle.layout.specs.Fits.{InodeFits};
@@ -16,6 +18,7 @@ use layout::sizes::ADDRESS_COUNT;
 use layout::sizes::ADDRESS_PLACE;
 use layout::sizes::BLOCK_BYTES;
 use layout::sizes::FILE;
+use layout::sizes::FURTHER_COUNT;
 use layout::sizes::HEADER_BYTES;
 use layout::sizes::INODE_BYTES;
 use layout::sizes::MOST_DIRECT_BYTES;
@@ -99,6 +102,14 @@ pub fn further(s: &[u8], n: usize, a: usize, j: usize) -> u16
     ensures { λ r. ⌜ r ≡ furtherOf (now (s .entry)) n a j ⌝ }
 {
     octets::get_16(s, block_at(n, a) + 2 * j)
+}
+
+// Those from the j-th on are 0.
+pub fn no_further(s: &[u8], n: usize, a: usize, j: usize) -> bool
+    requires { ⌜ (n ≤ mostInodes) × (1 ≤ a) × (a ≤ mostImageBlocks) × (blockAt n a + blockBytes ≤ length (now s)) × (j ≤ furtherCount) ⌝ }
+    ensures { λ r. ⌜ r ≡ allBelow (λ k. eqb (furtherOf (now (s .entry)) n a (j + k)) 0) (furtherCount - j) ⌝ }
+{
+    octets::all_zero(s, block_at(n, a) + 2 * j, 2 * (FURTHER_COUNT - j))
 }
 
 // Block c is the k-th of inode i: its address goes into the inode, or into its address block.

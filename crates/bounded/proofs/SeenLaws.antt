@@ -1,17 +1,14 @@
--- A loop that notes in a list each value it meets.
-use mathlib.Core.Path.{_≡_, refl, sym, ap, ap₂, _∙_, subst}
+-- A loop that notes each value it meets.
+use mathlib.Core.Path.{_≡_, sym, ap, ap₂, _∙_, subst}
 use mathlib.Core.Logic.{_≢_, _⊎_, inl, inr}
-use mathlib.Core.Bool.{Bool, true, false, not, _||_}
-use mathlib.Core.List.{List}
+use mathlib.Core.Bool.{Bool, true, false, _||_}
 use Prim.Native.Nat.{ℕ, zero, suc, _+_, _≤_, _<_}
 use native.Mathlib.Decide.{ℕ-discrete}
 use native.Mathlib.Omega.{arith}
 use borrow.Author.Tests.{eq-eqb, ne-eqb, eqb-true}
 use lib.Dec.{eqb}
-use lib.ListN.{getD, set, replicate, getD-replicate, length-replicate, length-set}
-use lib.Seq.{getD-set-same, getD-set-other}
 use Rattle.bounded.specs.Below.{someBelow}
-use Rattle.bounded.specs.Count.{one, tally, newAt}
+use Rattle.bounded.specs.Count.{tally, newAt}
 use Rattle.bounded.specs.Seen.{Seen}
 use Rattle.bounded.proofs.BoolLaws.{same-test, or-r}
 use Rattle.bounded.proofs.BelowLaws.{some-of, some-at, some-none, none-some}
@@ -39,102 +36,68 @@ some-skips p m (suc w) h =
     ap (someBelow p) e ∙ some-skip p (m + w) (h w (omega arith)) ∙ some-skips p m w (λ k l. h k (omega arith))
 
 module _ (f : ℕ → ℕ) (lo n : ℕ) where
-  pub seen-start : Seen f lo n 0 (replicate n 0)
-  seen-start = record {
-    long = length-replicate n 0;
-    each = λ v b h. getD-replicate n v 0 0 h ∙ sym (ap one (none-some (λ k. eqb (f k) v) 0 (λ k l. absurd (omega arith))));
-  }
-
-  pub seen-more : (m a : ℕ) (l : List ℕ) → a ≡ f m → a < n → Seen f lo n m l → Seen f lo n (m + 1) (set l a 1)
-  seen-more m a l e h s = record { long = length-set l a 1 ∙ s .long; each = λ v g b. at v g b (ℕ-discrete v a) }
-    where
-      at : (v : ℕ) → lo ≤ v → v < n → Dec (v ≡ a) → getD (set l a 1) v 0 ≡ one (someBelow (λ k. eqb (f k) v) (m + 1))
-      at v g b (yes q) =
-          ap (λ (j : ℕ). getD (set l a 1) j 0) q ∙ getD-set-same l a 1 0 (omega (arith, s .long))
-          ∙ sym (ap one (some-here (λ k. eqb (f k) v) m (eq-eqb (f m) v (sym e ∙ sym q))))
-      at v g b (no q) =
-          getD-set-other l a v 1 0 q ∙ s .each v g b ∙ sym (ap one (some-skip (λ k. eqb (f k) v) m (ne-eqb (f m) v (λ z. q (sym z ∙ sym e)))))
+  pub seen-start : (p : ℕ → Bool) → ((v : ℕ) → v < n → p v ≡ false) → Seen f lo n 0 p
+  seen-start p e v b h = e v h ∙ sym (none-some (λ k. eqb (f k) v) 0 (λ k l. absurd (omega arith)))
 
   -- the same turns, in other words
-  pub seen-as : (l : List ℕ) {m k : ℕ} → m ≡ k → Seen f lo n m l → Seen f lo n k l
-  seen-as l e h = subst (λ (x : ℕ). Seen f lo n x l) e h
+  pub seen-as : (p : ℕ → Bool) {m k : ℕ} → m ≡ k → Seen f lo n m p → Seen f lo n k p
+  seen-as p e h = subst (λ (x : ℕ). Seen f lo n x p) e h
 
   -- values below lo need no note
-  pub seen-pass : (m w : ℕ) (l : List ℕ) → ((k : ℕ) → k < w → f (m + k) < lo) → Seen f lo n m l → Seen f lo n (m + w) l
-  seen-pass m w l e s = record {
-    long = s .long;
-    each = λ v g b. s .each v g b ∙ sym (ap one (some-skips (λ k. eqb (f k) v) m w (λ k c. ne-eqb (f (m + k)) v (λ y. let z = e k c in omega arith))));
-  }
+  pub seen-pass : (m w : ℕ) (p : ℕ → Bool) → ((k : ℕ) → k < w → f (m + k) < lo) → Seen f lo n m p → Seen f lo n (m + w) p
+  seen-pass m w p e s v g b = s v g b ∙ sym (some-skips (λ k. eqb (f k) v) m w (λ k c. ne-eqb (f (m + k)) v (λ y. let z = e k c in omega arith)))
 
--- ---- another function
--- the same values
-pub seen-ext : (f g : ℕ → ℕ) (lo n m : ℕ) (l : List ℕ) → ((k : ℕ) → k < m → g k ≡ f k) → Seen f lo n m l → Seen g lo n m l
-seen-ext f g lo n m l e s = record {
-  long = s .long;
-  each = λ v b c. s .each v b c ∙ ap one (same-test (someBelow (λ k. eqb (f k) v) m) (someBelow (λ k. eqb (g k) v) m)
-      (λ h. let r = some-at (λ k. eqb (f k) v) m h in some-of (λ k. eqb (g k) v) m (r .0) (r .1) (ap (λ (y : ℕ). eqb y v) (e (r .0) (r .1)) ∙ r .2))
-      (λ h. let r = some-at (λ k. eqb (g k) v) m h in some-of (λ k. eqb (f k) v) m (r .0) (r .1) (ap (λ (y : ℕ). eqb y v) (sym (e (r .0) (r .1))) ∙ r .2)));
-}
-
--- at x, and perhaps elsewhere, a value that needed no note becomes a
-module _ (f g : ℕ → ℕ) (lo n m x a : ℕ) (l : List ℕ) (u : x < m) (new : g x ≡ a) (h : a < n) (e : (k : ℕ) → k < m → (g k ≡ f k) ⊎ ((f k < lo) × (g k ≡ a))) (s : Seen f lo n m l) where
-  there : (v : ℕ) → lo ≤ v → v ≢ a → someBelow (λ k. eqb (f k) v) m ≡ someBelow (λ k. eqb (g k) v) m
-  there v b q =
-      same-test (someBelow (λ k. eqb (f k) v) m) (someBelow (λ k. eqb (g k) v) m)
-      (λ t. let r = some-at (λ k. eqb (f k) v) m t in some-of (λ k. eqb (g k) v) m (r .0) (r .1) (on (r .0) (eqb-true (f (r .0)) v (r .2)) (e (r .0) (r .1))))
-      (λ t. let r = some-at (λ k. eqb (g k) v) m t in some-of (λ k. eqb (f k) v) m (r .0) (r .1) (back (r .0) (eqb-true (g (r .0)) v (r .2)) (e (r .0) (r .1))))
+-- ---- the value a is noted, and no other: p becomes q
+module _ (lo a : ℕ) (p q : ℕ → Bool) (here : q a ≡ true) (else : (v : ℕ) → lo ≤ v → v ≢ a → q v ≡ p v) where
+  -- it is the value of f at m
+  pub seen-more : (f : ℕ → ℕ) (n m : ℕ) → a ≡ f m → Seen f lo n m p → Seen f lo n (m + 1) q
+  seen-more f n m e s v g b = at (ℕ-discrete v a)
     where
-      on : (k : ℕ) → f k ≡ v → (g k ≡ f k) ⊎ ((f k < lo) × (g k ≡ a)) → eqb (g k) v ≡ true
-      on k z (inl y) = eq-eqb (g k) v (y ∙ z)
-      on k z (inr y) = let w = y .0 in absurd (omega arith)
+      at : Dec (v ≡ a) → q v ≡ someBelow (λ k. eqb (f k) v) (m + 1)
+      at (yes z) = ap q z ∙ here ∙ sym (some-here (λ k. eqb (f k) v) m (eq-eqb (f m) v (sym e ∙ sym z)))
+      at (no z) = else v g z ∙ s v g b ∙ sym (some-skip (λ k. eqb (f k) v) m (ne-eqb (f m) v (λ y. z (sym y ∙ sym e))))
 
-      back : (k : ℕ) → g k ≡ v → (g k ≡ f k) ⊎ ((f k < lo) × (g k ≡ a)) → eqb (f k) v ≡ true
-      back k z (inl y) = eq-eqb (f k) v (sym y ∙ z)
-      back k z (inr y) = absurd (q (sym z ∙ y .1))
+  -- or at x, and perhaps elsewhere, a value that needed no note becomes a
+  module _ (f g : ℕ → ℕ) (n m x : ℕ) (u : x < m) (new : g x ≡ a) (e : (k : ℕ) → k < m → (g k ≡ f k) ⊎ ((f k < lo) × (g k ≡ a))) (s : Seen f lo n m p) where
+    there : (v : ℕ) → lo ≤ v → v ≢ a → someBelow (λ k. eqb (f k) v) m ≡ someBelow (λ k. eqb (g k) v) m
+    there v b z =
+        same-test (someBelow (λ k. eqb (f k) v) m) (someBelow (λ k. eqb (g k) v) m)
+        (λ t. let r = some-at (λ k. eqb (f k) v) m t in some-of (λ k. eqb (g k) v) m (r .0) (r .1) (on (r .0) (eqb-true (f (r .0)) v (r .2)) (e (r .0) (r .1))))
+        (λ t. let r = some-at (λ k. eqb (g k) v) m t in some-of (λ k. eqb (f k) v) m (r .0) (r .1) (back (r .0) (eqb-true (g (r .0)) v (r .2)) (e (r .0) (r .1))))
+      where
+        on : (k : ℕ) → f k ≡ v → (g k ≡ f k) ⊎ ((f k < lo) × (g k ≡ a)) → eqb (g k) v ≡ true
+        on k y (inl w) = eq-eqb (g k) v (w ∙ y)
+        on k y (inr w) = let c = w .0 in absurd (omega arith)
 
-  pub seen-change : Seen g lo n m (set l a 1)
-  seen-change = record { long = length-set l a 1 ∙ s .long; each = λ v b c. at v b c (ℕ-discrete v a) }
-    where
-      at : (v : ℕ) → lo ≤ v → v < n → Dec (v ≡ a) → getD (set l a 1) v 0 ≡ one (someBelow (λ k. eqb (g k) v) m)
-      at v b c (yes q) =
-          ap (λ (j : ℕ). getD (set l a 1) j 0) q ∙ getD-set-same l a 1 0 (omega (arith, s .long))
-          ∙ sym (ap one (some-of (λ k. eqb (g k) v) m x u (eq-eqb (g x) v (new ∙ sym q))))
-      at v b c (no q) = getD-set-other l a v 1 0 q ∙ s .each v b c ∙ ap one (there v b q)
+        back : (k : ℕ) → g k ≡ v → (g k ≡ f k) ⊎ ((f k < lo) × (g k ≡ a)) → eqb (f k) v ≡ true
+        back k y (inl w) = eq-eqb (f k) v (sym w ∙ y)
+        back k y (inr w) = absurd (z (sym y ∙ w .1))
 
--- ---- what a place of the list says
-one-zero : (b : Bool) → one b ≡ 0 → b ≡ false
-one-zero true e = absurd (omega arith)
-one-zero false e = refl
+    pub seen-change : Seen g lo n m q
+    seen-change v b c = at (ℕ-discrete v a)
+      where
+        at : Dec (v ≡ a) → q v ≡ someBelow (λ k. eqb (g k) v) m
+        at (yes z) = ap q z ∙ here ∙ sym (some-of (λ k. eqb (g k) v) m x u (eq-eqb (g x) v (new ∙ sym z)))
+        at (no z) = else v b z ∙ s v b c ∙ there v b z
 
-one-not : (b : Bool) → (one b ≡ 0 → ⊥) → b ≡ true
-one-not true e = refl
-one-not false e = absurd (e refl)
+-- ---- another function with the same values
+pub seen-ext : (f g : ℕ → ℕ) (lo n m : ℕ) (p : ℕ → Bool) → ((k : ℕ) → k < m → g k ≡ f k) → Seen f lo n m p → Seen g lo n m p
+seen-ext f g lo n m p e s v b c =
+    s v b c
+    ∙ same-test (someBelow (λ k. eqb (f k) v) m) (someBelow (λ k. eqb (g k) v) m)
+    (λ h. let r = some-at (λ k. eqb (f k) v) m h in some-of (λ k. eqb (g k) v) m (r .0) (r .1) (ap (λ (y : ℕ). eqb y v) (e (r .0) (r .1)) ∙ r .2))
+    (λ h. let r = some-at (λ k. eqb (g k) v) m h in some-of (λ k. eqb (f k) v) m (r .0) (r .1) (ap (λ (y : ℕ). eqb y v) (sym (e (r .0) (r .1))) ∙ r .2))
 
-module _ (f : ℕ → ℕ) (lo n m v : ℕ) (l : List ℕ) (s : Seen f lo n m l) (g : lo ≤ v) (h : v < n) where
-  pub seen-not : getD l v 0 ≡ 0 → someBelow (λ k. eqb (f k) v) m ≡ false
-  seen-not e = one-zero _ (sym (s .each v g h) ∙ e)
-
-  pub seen-some : (getD l v 0 ≡ 0 → ⊥) → someBelow (λ k. eqb (f k) v) m ≡ true
-  seen-some e = one-not _ (λ z. e (s .each v g h ∙ z))
-
-  -- the test that the code makes, as the definition has it
-  pub seen-test : eqb (getD l v 0) 0 ≡ not (someBelow (λ k. eqb (f k) v) m)
-  seen-test = ap (λ (x : ℕ). eqb x 0) (s .each v g h) ∙ go (someBelow (λ k. eqb (f k) v) m)
-    where
-      go : (b : Bool) → eqb (one b) 0 ≡ not b
-      go true = refl
-      go false = refl
-
--- is the value a of f at m new
-module _ (f : ℕ → ℕ) (lo n m a : ℕ) (l : List ℕ) (e : a ≡ f m) (g : lo ≤ a) (h : a < n) (s : Seen f lo n m l) where
-  pub new-noted : getD l a 0 ≡ 0 → newAt f m ≡ true
+-- ---- is the value a of f at m new
+module _ (f : ℕ → ℕ) (lo n m a : ℕ) (p : ℕ → Bool) (e : a ≡ f m) (g : lo ≤ a) (h : a < n) (s : Seen f lo n m p) where
+  pub new-noted : p a ≡ false → newAt f m ≡ true
   new-noted z =
       or-r (eqb (f m) 0) (eqb (tally f m (f m)) 0)
-      (eq-eqb (tally f m (f m)) 0 (ap (tally f m) (sym e) ∙ count-none (λ k. eqb (f k) a) m (some-none (λ k. eqb (f k) a) m (seen-not f lo n m a l s g h z))))
+      (eq-eqb (tally f m (f m)) 0 (ap (tally f m) (sym e) ∙ count-none (λ k. eqb (f k) a) m (some-none (λ k. eqb (f k) a) m (sym (s a g h) ∙ z))))
 
-  pub again-noted : (getD l a 0 ≡ 0 → ⊥) → (a ≡ 0 → ⊥) → newAt f m ≡ false
-  again-noted z p =
-      let r = some-at (λ k. eqb (f k) a) m (seen-some f lo n m a l s g h z) in
+  pub again-noted : p a ≡ true → (a ≡ 0 → ⊥) → newAt f m ≡ false
+  again-noted z o =
+      let r = some-at (λ k. eqb (f k) a) m (sym (s a g h) ∙ z) in
       let u : 0 < tally f m a = count-pos (λ k. eqb (f k) a) m (r .0) (r .1) (r .2) in
       let v : 0 < tally f m (f m) = subst (λ (x : ℕ). 0 < tally f m x) e u in
-      ap₂ _||_ (ne-eqb (f m) 0 (λ q. p (e ∙ q))) (ne-eqb (tally f m (f m)) 0 (omega arith))
+      ap₂ _||_ (ne-eqb (f m) 0 (λ q. o (e ∙ q))) (ne-eqb (tally f m (f m)) 0 (omega arith))

@@ -13,15 +13,14 @@ use Rattle.bounded.specs.declared.Found.{Found}
 use Rattle.bounded.specs.declared.Found.the-variants.{At}
 use Rattle.bounded.proofs.BoolLaws.{and-left, and-right, and-false-l, chain-end}
 use Rattle.bounded.proofs.SearchLaws.{first-ext}
-use Rattle.bounded.proofs.SeenLaws.{seen-ext}
 use Rattle.layout.specs.Sizes.{addressCount, addressPlace, mostBlocks, mostImageBlocks}
 use Rattle.layout.specs.Inode.{kindOf, directoryKind}
 use Rattle.blocks.specs.Block.{isLong, addressBlock, furtherOf, kthBy, kthBlock, rowBy}
 use Rattle.blocks.specs.Free.{namedBy, lowestBy, longBut}
 use Rattle.blocks.specs.Fits.{RowsFit}
-use Rattle.blocks.specs.Map.{lacks, Maps}
+use Rattle.blocks.specs.Map.{hasBlock, lacks, Maps}
 use Rattle.blocks.proofs.KthLaws.{kth-direct, kth-further, few-alike}
-use Rattle.blocks.proofs.MapLaws.{map-free}
+use Rattle.blocks.proofs.MapLaws.{map-ext, map-free}
 use Rattle.blocks.proofs.LongLaws.{but-else}
 use Rattle.checkpoint.specs.Copier.{targetBlock}
 use Rattle.image.specs.Fit.{lockedLong}
@@ -37,12 +36,8 @@ module _ (map : List ℕ) (b c : ℕ) where
   pub open-high : 1 ≤ c → b < c → false ≡ leb 1 c && (leb c b && lacks map c)
   open-high l h = chain-end _ _ _ (le-leb 1 c l) (sym (and-false-l _ _ (lt-leb c b h)))
 
-  pub open-read : (r : Bool) → r ≡ not (lacks map c) → 1 ≤ c → c ≤ b → not r ≡ leb 1 c && (leb c b && lacks map c)
-  open-read r e l h = chain-end _ _ _ (le-leb 1 c l) (chain-end _ _ _ (le-leb c b h) (ap not e ∙ go (lacks map c)))
-    where
-      go : (x : Bool) → not (not x) ≡ x
-      go true = refl
-      go false = refl
+  pub open-read : (r : Bool) → r ≡ hasBlock map c → 1 ≤ c → c ≤ b → not r ≡ leb 1 c && (leb c b && lacks map c)
+  open-read r e l h = chain-end _ _ _ (le-leb 1 c l) (chain-end _ _ _ (le-leb c b h) (ap not e))
 
   module _ (few : b ≤ mostImageBlocks) (long : ℕ → Bool) (m : List ℕ) (n : ℕ) (k : Maps long m n (mostBlocks * n) map) where
     same-open : leb 1 c && (leb c b && lacks map c) ≡ leb 1 c && (leb c b && not (namedBy long m n c))
@@ -70,7 +65,7 @@ module _ (f g : ℕ → Bool) (m : List ℕ) (n : ℕ) (e : (i : ℕ) → 1 ≤ 
   rows-alike h = record { few = h .few; area = h .area; most = λ x u. rw (alike x) (h .most x u); inside = λ i a b. rw (e i a) (h .inside i a b) }
 
   pub maps-alike : (map : List ℕ) → Maps f m n (mostBlocks * n) map → Maps g m n (mostBlocks * n) map
-  maps-alike map h = seen-ext (rowBy f m n) (rowBy g m n) 1 (mostImageBlocks + 1) (mostBlocks * n) map (λ x _. alike x) h
+  maps-alike map h = map-ext (rowBy f m n) (rowBy g m n) (mostBlocks * n) map h (λ x _. alike x)
 
 -- the locked inode by the store, as the code has found it
 pub locked-told : (s m : List ℕ) (l : ℕ) (x : Bool) → x ≡ lockedLong s l → (i : ℕ) → 1 ≤ i → longBut m l x i ≡ longBut m l (isLong s l) i
@@ -93,7 +88,7 @@ module _ (s m : List ℕ) (n i : ℕ) where
   -- with no address block it changes nothing
   pub maps-bare : addressBlock m n i ≡ 0 → (map : List ℕ) → Maps (isLong m) m n (mostBlocks * n) map → Maps (longBut m i (isLong s i)) m n (mostBlocks * n) map
   unfolding rowBy
-  maps-bare z map h = seen-ext (rowBy (isLong m) m n) (rowBy (longBut m i (isLong s i)) m n) 1 (mostImageBlocks + 1) (mostBlocks * n) map (λ x _. go x (ℕ-discrete (x / 44 + 1) i)) h
+  maps-bare z map h = map-ext (rowBy (isLong m) m n) (rowBy (longBut m i (isLong s i)) m n) (mostBlocks * n) map h (λ x _. go x (ℕ-discrete (x / 44 + 1) i))
     where
       go : (x : ℕ) → Dec (x / 44 + 1 ≡ i) → kthBy (longBut m i (isLong s i) (x / 44 + 1)) m n (x / 44 + 1) (x % 44) ≡ kthBy (isLong m (x / 44 + 1)) m n (x / 44 + 1) (x % 44)
       go x (yes e) = few-alike m n (x / 44 + 1) (x % 44) (longBut m i (isLong s i) (x / 44 + 1)) (isLong m (x / 44 + 1)) (ap (addressBlock m n) e ∙ z) (omega arith)

@@ -12,7 +12,6 @@ use Rattle.bounded.specs.Search.{onFound}
 use Rattle.bounded.specs.declared.Found.{Found}
 use Rattle.bounded.specs.declared.Found.the-variants.{At, Absent}
 use Rattle.bounded.proofs.BoolLaws.{clash}
-use Rattle.bounded.proofs.SeenLaws.{seen-ext, seen-change}
 use Rattle.bounded.proofs.TallyLaws.{tallied-ext}
 use Rattle.layout.specs.Sizes.{headerBytes, inodeBytes, mostInodes, mostImageBlocks, mostBlocks, addressCount, addressPlace, notComplete}
 use Rattle.layout.specs.Header.{headerOf}
@@ -23,6 +22,7 @@ use Rattle.blocks.specs.Free.{longBut}
 use Rattle.blocks.specs.Fits.{Sized, BlockFits, RowsFit}
 use Rattle.blocks.specs.Map.{noted, Maps}
 use Rattle.blocks.proofs.KthLaws.{kth-direct}
+use Rattle.blocks.proofs.MapLaws.{map-ext, map-change}
 use Rattle.blocks.proofs.LongLaws.{but-here}
 use Rattle.directory.specs.Slot.{mostSlots}
 use Rattle.desk.specs.declared.Desk.{Desk}
@@ -195,9 +195,9 @@ module _ (s m d : List ℕ) (n : ℕ) (h : Desk) (g : Going (world s m d) n h) w
             let a = locked-low s m d steady n (g .inodes) on-desk in
             let b = locked-high s m d steady n (g .inodes) on-desk in
             let x = few-places s m d steady n (g .inodes) on-desk c more-desk goes in
-            let v = block-target .most in
-            seen-change (rowBy (imageLong s m d) m n) (rowBy (imageLong s after notes) after n) 1 (mostImageBlocks + 1) (mostBlocks * n) (mostBlocks * (l - 1) + q) c map (omega arith)
-            (copy-new s m d steady n (g .inodes) on-desk c more-desk goes) (omega arith) (copy-rows s m d steady n (g .inodes) on-desk c more-desk goes (stood ∙ y)) k
+            let v = block-target .block .low in
+            map-change (rowBy (imageLong s m d) m n) (rowBy (imageLong s after notes) after n) (mostBlocks * n) map k (mostBlocks * (l - 1) + q) c (omega arith)
+            (copy-new s m d steady n (g .inodes) on-desk c more-desk goes) (omega arith) (copy-rows s m d steady n (g .inodes) on-desk c more-desk goes (stood ∙ y))
 
         -- a short file that is no directory in the image changes no names
         copy-counted : (counts : List ℕ) → Counted (world s m d) n counts → Counted (world s after notes) n counts
@@ -294,7 +294,7 @@ module _ (s m d : List ℕ) (n : ℕ) (h : Desk) (g : Going (world s m d) n h) w
         record {
           inodes = g .inodes;
           steady = close-steady;
-          mapped = subst (λ (v : World). Mapped v n map) (sym close-left) (seen-ext (rowBy (imageLong s m d) m n) _ 1 (mostImageBlocks + 1) (mostBlocks * n) map (close-rows s m d steady n (g .inodes) on-desk) k);
+          mapped = subst (λ (v : World). Mapped v n map) (sym close-left) (map-ext (rowBy (imageLong s m d) m n) _ (mostBlocks * n) map k (close-rows s m d steady n (g .inodes) on-desk));
           counted = λ _. x;
         },
       )

@@ -16,7 +16,7 @@ ghost use Rattle.layout.specs.Fits.{InodeFits};
 ghost use Rattle.blocks.specs.Block.{blocksUsed, isLong, addressBlock, kthBy};
 ghost use Rattle.blocks.specs.Free.{longBut};
 ghost use Rattle.blocks.specs.Fits.{Sized, BlockFits, RowsFit};
-ghost use Rattle.blocks.specs.Map.{noted, lacks, Maps};
+ghost use Rattle.blocks.specs.Map.{mapWords, noted, lacks, Maps};
 ghost use Rattle.directory.specs.Slot.{mostSlots};
 ghost use Rattle.desk.specs.Sizes.{deskLength};
 ghost use Rattle.checkpoint.specs.Image.{imageNaming};
@@ -28,7 +28,7 @@ use crate::Turn;
 use answers::Refusal;
 use blocks::free;
 use blocks::map;
-use blocks::map::BLOCK_PLACES;
+use blocks::map::MAP_WORDS;
 use bounded::Found;
 use content::apply::kth_used;
 use copier::five;
@@ -44,8 +44,8 @@ use layout::sizes::ROOT;
 
 // ---- the map
 // Block c is one of the b blocks of the image, and the map does not have it.
-fn is_open(map: &[u8], b: usize, c: usize) -> bool
-    requires { ⌜ (length (now map) ≡ mostImageBlocks + 1) × (b ≤ mostImageBlocks) ⌝ }
+fn is_open(map: &[u16], b: usize, c: usize) -> bool
+    requires { ⌜ (length (now map) ≡ mapWords) × (b ≤ mostImageBlocks) ⌝ }
     ensures { λ r. ⌜ r ≡ leb 1 c && (leb c b && lacks (now (map .entry)) c) ⌝ }
 {
     if c < 1 {
@@ -58,8 +58,8 @@ fn is_open(map: &[u8], b: usize, c: usize) -> bool
 }
 
 // Where block c of the store goes in an image of b blocks.
-fn place(map: &[u8], b: usize, c: usize) -> Found
-    requires { ⌜ (length (now map) ≡ mostImageBlocks + 1) × (b ≤ mostImageBlocks) ⌝ }
+fn place(map: &[u16], b: usize, c: usize) -> Found
+    requires { ⌜ (length (now map) ≡ mapWords) × (b ≤ mostImageBlocks) ⌝ }
     ensures { λ r. ⌜ ((long : ℕ → Bool) (m : List ℕ) (n : ℕ) → Maps long m n (mostBlocks * n) (now (map .entry)) → r ≡ targetBlock long m n b c) ⌝ }
 {
     if is_open(map, b, c) {
@@ -69,11 +69,11 @@ fn place(map: &[u8], b: usize, c: usize) -> Found
 }
 
 // The map of an image whose locked inode is l, or 0.
-pub fn map_of(s: &[u8], m: &[u8], n: usize, l: usize) -> [u8; BLOCK_PLACES]
+pub fn map_of(s: &[u8], m: &[u8], n: usize, l: usize, map: &mut [u16; MAP_WORDS])
     requires { ⌜ RowsFit (longBut (now m) l (isLong (now s) l)) (now m) n × (headerBytes + inodeBytes * n ≤ length (now s)) × (l ≤ n) ⌝ }
-    ensures { λ r. ⌜ Maps (longBut (now (m .entry)) l (isLong (now (s .entry)) l)) (now (m .entry)) n (mostBlocks * n) r ⌝ }
+    ensures { λ _. ⌜ Maps (longBut (now (m .entry)) l (isLong (now (s .entry)) l)) (now (m .entry)) n (mostBlocks * n) (now (map .exit)) ⌝ }
 {
-    free::named_blocks(m, n, l, fit::locked_long(s, n, l))
+    free::named_blocks(m, n, l, fit::locked_long(s, n, l), &mut *map);
 }
 
 // The k-th block of inode i, which is long if k is not below twelve.
@@ -89,12 +89,12 @@ fn standing(m: &[u8], n: usize, i: usize, k: usize) -> u16
 }
 
 // An address of the locked inode i that was old is now c. In a run old is 0, and no block loses its name.
-fn renew(s: &[u8], m: &[u8], n: usize, i: usize, old: u16, c: usize, map: &mut [u8; BLOCK_PLACES])
+fn renew(s: &[u8], m: &[u8], n: usize, i: usize, old: u16, c: usize, map: &mut [u16; MAP_WORDS])
     requires { ⌜ RowsFit (longBut (now m) i (isLong (now s) i)) (now m) n × (headerBytes + inodeBytes * n ≤ length (now s)) × (i ≤ n) × (c ≤ mostImageBlocks) ⌝ }
     ensures { λ _. ⌜ (old ≡ 0 → now (map .exit) ≡ noted (now (map .entry)) c) × (old ≢ 0 → Maps (longBut (now (m .entry)) i (isLong (now (s .entry)) i)) (now (m .entry)) n (mostBlocks * n) (now (map .exit))) ⌝ }
 {
     if old != 0 {
-        *map = map_of(s, m, n, i);
+        map_of(s, m, n, i, &mut *map);
         return;
     }
     map::note(&mut *map, c);
@@ -108,7 +108,7 @@ fn block_step(
     d: &mut [u8],
     h: Desk,
     n: usize,
-    map: &mut [u8; BLOCK_PLACES],
+    map: &mut [u16; MAP_WORDS],
 ) -> Turn
     requires { ⌜ Going (world (now s) (now m) (now d)) n h × Mapped (world (now s) (now m) (now d)) n (now map) × (h .locked ≢ 0) × (h .transferred < blocksUsed (sizeOf (now s) (h .locked))) ⌝ }
     ensures { λ r. ⌜ ((counts : List ℕ) → Counted (world (now (s .entry)) (now (m .entry)) (now (d .entry))) n counts → Took r (world (now (s .entry)) (now (m .entry)) (now (d .entry))) n (now (m .exit)) (now (d .exit)) (now (map .exit)) counts) ⌝ }
@@ -155,7 +155,7 @@ fn close_step(
     let stay = names_stay(s, &*m, n, h.locked as usize);
     five::close(s, &mut *m, &mut *d, h, n);
     if !stay {
-        *counts = naming::count_names(&*m, n);
+        naming::count_names(&*m, n, &mut *counts);
     }
     Turn::Goes
 }
@@ -166,7 +166,7 @@ pub fn locked_step(
     d: &mut [u8],
     h: Desk,
     n: usize,
-    map: &mut [u8; BLOCK_PLACES],
+    map: &mut [u16; MAP_WORDS],
     counts: &mut [u16; INODE_PLACES],
 ) -> Turn
     requires { ⌜ Going (world (now s) (now m) (now d)) n h × Kept (world (now s) (now m) (now d)) n (now map) (now counts) × (h .locked ≢ 0) ⌝ }
@@ -204,7 +204,7 @@ fn further_fit(s: &[u8], m: &[u8], n: usize, b: usize, i: usize, a: usize) -> bo
 }
 
 // Inode i is to be locked: 3 stays away, by the 32 addresses that count from then on if it is long in the store. In a run its twelfth image address is 0, and there are none.
-fn may_hold(s: &[u8], m: &[u8], n: usize, b: usize, i: usize, map: &mut [u8; BLOCK_PLACES]) -> bool
+fn may_hold(s: &[u8], m: &[u8], n: usize, b: usize, i: usize, map: &mut [u16; MAP_WORDS]) -> bool
     requires { ⌜ InodeFits (now s) n i × Sized (now m) n b × (addressBlock (now m) n i ≤ b) × (furtherRightOf (isLong (now s) i) (now m) n b i ≡ true → RowsFit (longBut (now m) i (isLong (now s) i)) (now m) n) ⌝ }
     ensures { λ r. ⌜ (r ≡ furtherRightOf (isLong (now (s .entry)) i) (now (m .entry)) n b i) × (r ≡ true → Maps (isLong (now (m .entry))) (now (m .entry)) n (mostBlocks * n) (now (map .entry)) → Maps (longBut (now (m .entry)) i (isLong (now (s .entry)) i)) (now (m .entry)) n (mostBlocks * n) (now (map .exit))) ⌝ }
 {
@@ -215,7 +215,7 @@ fn may_hold(s: &[u8], m: &[u8], n: usize, b: usize, i: usize, map: &mut [u8; BLO
     if !further_fit(s, m, n, b, i, a) {
         return false;
     }
-    *map = map_of(s, m, n, i);
+    map_of(s, m, n, i, &mut *map);
     true
 }
 
@@ -225,7 +225,7 @@ pub fn free_step(
     d: &mut [u8],
     h: Desk,
     n: usize,
-    map: &mut [u8; BLOCK_PLACES],
+    map: &mut [u16; MAP_WORDS],
     counts: &[u16; INODE_PLACES],
 ) -> Turn
     requires { ⌜ Going (world (now s) (now m) (now d)) n h × Kept (world (now s) (now m) (now d)) n (now map) (now counts) × (h .locked ≡ 0) ⌝ }

@@ -13,7 +13,7 @@ ghost use Rattle.checkpoint.specs.Burst.{mostBurst, countAllowed, burstFrom, bu
 ghost use Rattle.bursts.specs.Turn.{stoppedAt, Kept, Took};
 use answers::Answer;
 use answers::Refusal;
-use blocks::map::BLOCK_PLACES;
+use blocks::map::MAP_WORDS;
 use desk::Desk;
 use desk::STEPS_AN_INODE;
 use guards::Watched;
@@ -37,7 +37,7 @@ fn take_one(
     m: &mut [u8],
     d: &mut [u8],
     n: usize,
-    map: &mut [u8; BLOCK_PLACES],
+    map: &mut [u16; MAP_WORDS],
     counts: &mut [u16; INODE_PLACES],
 ) -> Turn
     requires { ⌜ Kept (world (now s) (now m) (now d)) n (now map) (now counts) ⌝ }
@@ -69,8 +69,10 @@ fn turns(s: &[u8], m: &mut [u8], d: &mut [u8], h: Desk, n: usize, count: usize) 
     ensures { λ r. ⌜ left r (now (s .entry)) (now (m .exit)) (now (d .exit))
         ≡ burstFrom count 0 (world (now (s .entry)) (now (m .entry)) (now (d .entry))) ⌝ }
 {
-    let mut map = kept::map_of(s, &*m, n, h.locked as usize);
-    let mut counts = naming::count_names(&*m, n);
+    let mut map = [0u16; MAP_WORDS];
+    let mut counts = [0u16; INODE_PLACES];
+    kept::map_of(s, &*m, n, h.locked as usize, &mut map);
+    naming::count_names(&*m, n, &mut counts);
     for k in 0..count {
         match take_one(s, &mut *m, &mut *d, n, &mut map, &mut counts) {
             Turn::Goes => {}

@@ -1,12 +1,12 @@
 -- What the check of the inodes finds at each step, said of the definitions. n and b are the counts of inodes and blocks.
-use Prim.Native.Nat.{ℕ, _+_, _*_, _-_, _/_, _%_, _≤_, _<_}
+use Prim.Native.Nat.{ℕ, _+_, _*_, _-_, _/_, _%_, _^_, _≤_, _<_}
 use mathlib.Core.Path.{_≡_, refl, sym, ap, ap₂, _∙_}
 use mathlib.Core.Logic.{_≢_}
 use mathlib.Core.Bool.{Bool, true, false, not, _&&_, _||_, and-true as and-unit}
 use mathlib.Core.List.{List}
 use native.Mathlib.Decide.{decLt}
 use native.Mathlib.Omega.{arith}
-use borrow.Author.Tests.{not-true, not-false, eq-eqb, ne-eqb, eqb-true, eqb-false, le-leb, lt-leb, leb-true, lt-ltb, le-ltb}
+use borrow.Author.Tests.{not-true, not-false, eq-eqb, ne-eqb, eqb-true, le-leb, lt-leb, leb-true, lt-ltb, le-ltb}
 use lib.Dec.{eqb, leb, ltb}
 use lib.ListN.{getD}
 use Rattle.bounded.specs.Below.{allBelow, allTo}
@@ -22,15 +22,15 @@ use Rattle.layout.specs.Sizes.{addressCount, furtherCount, mostBlocks, addressP
 use Rattle.layout.specs.Inode.{kindOf, spareOf, linksOf, sizeOf, parentOf, addressOf, addressIndex, freeKind, fileKind, directoryKind, attributesZero, addressesZero}
 use Rattle.blocks.specs.Block.{blockAt, blockOf, blocksUsed, bytesPlace, isLong, addressBlock, furtherOf, kthBlock, bytesBlock, rowOf}
 use Rattle.blocks.specs.Free.{blockFree}
-use Rattle.blocks.specs.Map.{noted, lacks, Notes}
+use Rattle.blocks.specs.Map.{mapWords, hasBlock, lacks, noted, Notes}
 use Rattle.layout.proofs.InodeLaws.{addresses-none}
 use Rattle.blocks.proofs.KthLaws.{kth-direct, kth-none, kth-behind, bare-all, row-kth}
-use Rattle.blocks.proofs.MapLaws.{map-pass, map-as, map-free, notes-none, notes-more, notes-pass}
+use Rattle.blocks.proofs.MapLaws.{map-pass, map-as, map-free, notes-none, notes-more}
 use Rattle.ledger.proofs.BytesLaws.{bytesBlocks, place-used, place-short, place-high, used-limits}
 use Rattle.sound.specs.Inode.{tailByte}
 use Rattle.sound.proofs.SoundLaws.{most-any, any-most, most-file, most-directory, attributes}
 use Rattle.sound.specs.Test.{usedB, restB, tailB, attributesB, addressesB, zeroTailB, inodeB, blankBlockB}
-use Rattle.check_inodes.specs.Pass.{MapsOf, addressB, rowPlace, newBlockB, newBlocksB, kthB}
+use Rattle.check_inodes.specs.Pass.{MapsOf, usedAddressB, rowPlace, newBlockB, newBlocksB, kthB, blankIfFreeB}
 
 -- ---- the attributes of inode i
 module _ (s : List ℕ) (i : ℕ) where
@@ -89,36 +89,25 @@ module _ (s : List ℕ) (i : ℕ) where
   pub attr-small : attributesB s i ≡ true → sizeOf s i ≤ mostFileBytes
   attr-small h = most-any (kindOf s i) (sizeOf s i) ((attributes s i) .to h .1 .1 .1 .0)
 
--- ---- an address a, with the blocks met so far in the map m
-module _ (b a : ℕ) (m : List ℕ) where
-  pub address-spare : (u : Bool) → not u ≡ true → eqb a 0 ≡ addressB u b m a
-  unfolding addressB
-  address-spare u h = rw (not-true u h)
+-- ---- an address a that the size uses, with the blocks met so far in the map m; q is one less, and wraps at 0
+module _ (b a q : ℕ) (m : List ℕ) (few : b ≤ mostImageBlocks) (e : (q + 1) % 2 ^ 64 ≡ a) where
+  pub address-out : q < 2 ^ 64 → b ≤ q → false ≡ usedAddressB b m a
+  address-out l h = go (decLt a 1)
+    where
+      go : Dec (a < 1) → false ≡ usedAddressB b m a
+      go (yes z) = sym (and-false-l (leb 1 a) (leb a b && lacks m a) (lt-leb 1 a z))
+      go (no z) = sym (and-false-r (leb 1 a) (leb a b && lacks m a) (and-false-l (leb a b) (lacks m a) (lt-leb a b (omega arith))))
 
-  module _ (u : Bool) (h : not u ≡ false) where
-    used-is : addressB u b m a ≡ leb 1 a && (leb a b && lacks m a)
-    unfolding addressB
-    used-is = rw (not-false u h)
+  module _ (h : q < b) where
+    pub address-in : (1 ≤ a) × (a ≤ b)
+    address-in = (omega arith, omega arith)
 
-    pub address-none : a < 1 → false ≡ addressB u b m a
-    address-none l = sym (used-is ∙ and-false-l (leb 1 a) (leb a b && lacks m a) (lt-leb 1 a l))
+    pub address-new : (r : Bool) → r ≡ lacks m a → r ≡ usedAddressB b m a
+    address-new r z = chain-end r (leb 1 a) (leb a b && lacks m a) (le-leb 1 a (address-in .0)) (chain-end r (leb a b) (lacks m a) (le-leb a b (address-in .1)) z)
 
-    pub address-past : b < a → false ≡ addressB u b m a
-    address-past l = sym (used-is ∙ and-false-r (leb 1 a) (leb a b && lacks m a) (and-false-l (leb a b) (lacks m a) (lt-leb a b l)))
-
-    pub address-again : lacks m a ≡ false → false ≡ addressB u b m a
-    address-again z = sym (used-is ∙ and-false-r (leb 1 a) (leb a b && lacks m a) (and-false-r (leb a b) (lacks m a) z))
-
-    pub address-new : 1 ≤ a → a ≤ b → lacks m a ≡ true → true ≡ addressB u b m a
-    address-new p q z = sym (used-is ∙ and-true (leb 1 a) (leb a b && lacks m a) (le-leb 1 a p) (and-true (leb a b) (lacks m a) (le-leb a b q) z))
-
--- what is met is noted, and 0 needs no note
-module _ (a : ℕ) (m : List ℕ) where
-  pub address-passed : eqb a 0 ≡ true → Notes (λ _. a) 1 m m
-  address-passed z = notes-pass (λ _. a) 0 1 m m (λ k l. eqb-true a 0 z) (notes-none (λ _. a) m)
-
-  pub address-noted : a ≤ mostImageBlocks → Notes (λ _. a) 1 m (noted m a)
-  address-noted l = notes-more (λ _. a) 0 a m m refl l (notes-none (λ _. a) m)
+-- what is met is noted
+pub address-noted : (a : ℕ) (m : List ℕ) → Notes (λ _. a) 1 m (noted m a)
+address-noted a m = notes-more (λ _. a) 0 a m m refl (notes-none (λ _. a) m)
 
 -- ---- the k-th block a of inode i
 -- the map of what the row has before it, and then with it
@@ -154,16 +143,16 @@ module _ (s : List ℕ) (n b i k u a : ℕ) (eu : u ≡ blocksUsed (sizeOf s i))
 
     -- what is used is right if it is a block that the map lacks
     module _ (few : b ≤ mostImageBlocks) (m : List ℕ) (h : MapsOf s n (rowPlace i k) m) where
-      kth-used : k < u → leb 1 a && (leb a b && lacks m a) ≡ kthB s n b i k
+      pub kth-used : k < u → usedAddressB b m a ≡ kthB s n b i k
       unfolding kthB
       kth-used l =
-          same-test (leb 1 a && (leb a b && lacks m a)) (kthB s n b i k)
+          same-test (usedAddressB b m a) (kthB s n b i k)
           (λ t.
           let p : 1 ≤ a = leb-true 1 a (and-left (leb 1 a) (leb a b && lacks m a) t) in
           let y = and-right (leb 1 a) (leb a b && lacks m a) t in
           let q : a ≤ b = leb-true a b (and-left (leb a b) (lacks m a) y) in
           and-true (usedB s n b i k && restB s n i k) (newBlockB s n i k) (kth-is .from ((λ x. (p, q)), λ x. absurd (omega arith)))
-          (new-noted (rowOf s n) 1 (mostImageBlocks + 1) (rowPlace i k) a m here p (omega arith) h (eqb-true _ 0 (and-right (leb a b) (lacks m a) y))))
+          (new-noted (rowOf s n) 1 (mostImageBlocks + 1) (rowPlace i k) a (hasBlock m) here p (omega arith) (h .seen) (not-true _ (and-right (leb a b) (lacks m a) y))))
           (λ t.
           let r = kth-is .to (and-left (usedB s n b i k && restB s n i k) (newBlockB s n i k) t) .0 l in
           let p : 1 ≤ a = r .0 in
@@ -172,32 +161,37 @@ module _ (s : List ℕ) (n b i k u a : ℕ) (eu : u ≡ blocksUsed (sizeOf s i))
           (and-true (leb a b) (lacks m a) (le-leb a b q)
           (holds (lacks m a) (λ z.
           clash (newBlockB s n i k) (and-right (usedB s n b i k && restB s n i k) (newBlockB s n i k) t)
-          (again-noted (rowOf s n) 1 (mostImageBlocks + 1) (rowPlace i k) a m here p (omega arith) h (eqb-false _ 0 z) (omega arith))))))
+          (again-noted (rowOf s n) 1 (mostImageBlocks + 1) (rowPlace i k) a (hasBlock m) here p (omega arith) (h .seen) (not-false _ z) (omega arith))))))
 
-      -- so the code's test of a is the block's, if x < z tells whether it is used
-      kth-tested : (x z : ℕ) → (x < z → k < u) → (k < u → x < z) → addressB (ltb x z) b m a ≡ kthB s n b i k
-      unfolding addressB
-      kth-tested x z f g = go (decLt x z)
-        where
-          go : Dec (x < z) → addressB (ltb x z) b m a ≡ kthB s n b i k
-          go (yes l) = rw (lt-ltb x z l) (kth-used (f l))
-          go (no l) = rw (le-ltb x z (omega arith)) (kth-rest (none (decLt k u)))
-            where
-              none : Dec (k < u) → u ≤ k
-              none (yes c) = absurd (l (g c))
-              none (no c) = omega arith
+-- a pass over the places at 0, at 1, .. at c of inode i: the size uses the first t, and the values of the others are g 0, g 1, ..
+module _ (s : List ℕ) (n b i : ℕ) (at : ℕ → ℕ) (up : (x y : ℕ) → at (x + y) ≡ at x + y) (t c : ℕ) (low : 1 ≤ i) (few : at c ≤ mostBlocks) (l : t ≤ c) (u : t < c → blocksUsed (sizeOf s i) ≤ at t)
+    (g : ℕ → ℕ) (e : (j : ℕ) → j < c - t → g j ≡ kthBlock s n i (at (t + j))) where
+  place : (j : ℕ) → j < c - t → (at (t + j) < mostBlocks) × (blocksUsed (sizeOf s i) ≤ at (t + j))
+  place j h =
+      let x = up t j in
+      let y = up t (c - t) in
+      let z : t + (c - t) ≡ c = omega arith in
+      let w = ap at z in
+      let v = u (omega arith) in
+      (omega arith, omega arith)
 
--- the code tells it by the size z and where the bytes of the block start
-module _ (s : List ℕ) (n b i k z a : ℕ) (low : 1 ≤ i) (few : b ≤ mostImageBlocks) (m : List ℕ) (ez : z ≡ sizeOf s i) where
-  pub direct-tested : k < addressCount → a ≡ kthBlock s n i k → MapsOf s n (rowPlace i k) m → addressB (ltb (blockBytes * k) z) b m a ≡ kthB s n b i k
-  unfolding blocksUsed
-  direct-tested l ea h = kth-tested s n b i k (blocksUsed z) a (ap blocksUsed ez) ea low (omega arith) few m h (blockBytes * k) z (λ p. omega arith) (λ p. omega arith)
+  pub rest-tested : allBelow (λ x. kthB s n b i (at x)) t ≡ true → allBelow (λ j. eqb (g j) 0) (c - t) ≡ allBelow (λ x. kthB s n b i (at x)) c
+  rest-tested h =
+      sym
+      (all-from (λ x. kthB s n b i (at x)) (λ j. eqb (g j) 0) t c l (all-at (λ x. kthB s n b i (at x)) t h)
+      (λ j m. sym (kth-rest s n b i (at (t + j)) (blocksUsed (sizeOf s i)) (g j) refl (e j m) low (place j m .0) (place j m .1))))
 
-  pub further-tested : k < furtherCount → mostDirectBytes < z → a ≡ kthBlock s n i (addressCount + k) → MapsOf s n (rowPlace i (addressCount + k)) m
-      → addressB (ltb (blockBytes * (addressPlace + k)) z) b m a ≡ kthB s n b i (addressCount + k)
-  unfolding blocksUsed
-  further-tested l o ea h =
-      kth-tested s n b i (addressCount + k) (blocksUsed z) a (ap blocksUsed ez) ea low (omega arith) few m h (blockBytes * (addressPlace + k)) z (λ p. omega arith) (λ p. omega arith)
+  pub rest-passed : allBelow (λ j. eqb (g j) 0) (c - t) ≡ true → (m : List ℕ) → MapsOf s n (rowPlace i (at t)) m → MapsOf s n (rowPlace i (at c)) m
+  rest-passed h m q =
+      let y = up t (c - t) in
+      let z : t + (c - t) ≡ c = omega arith in
+      let w = ap at z in
+      map-as (rowOf s n) m (omega arith)
+      (map-pass (rowOf s n) (rowPlace i (at t)) (c - t) m
+      (λ j v.
+      let x = up t j in
+      let p : rowPlace i (at t) + j ≡ rowPlace i (at (t + j)) = omega arith in
+      ap (rowOf s n) p ∙ row-kth (isLong s) s n i (at (t + j)) low (place j v .0) ∙ sym (e j v) ∙ eqb-true (g j) 0 (all-at (λ j. eqb (g j) 0) (c - t) h j v)) q)
 
 -- ---- all blocks of inode i: the twelve addresses, and what is behind them
 module _ (s : List ℕ) (n b i : ℕ) where
@@ -241,8 +235,8 @@ module _ (s : List ℕ) (n b i : ℕ) where
 
     pub short-passed : (m : List ℕ) → MapsOf s n (rowPlace i addressCount) m → MapsOf s n (mostBlocks * i) m
     short-passed m h =
-        map-as (isLong s) s n m (omega arith)
-        (map-pass (isLong s) s n (rowPlace i addressCount) furtherCount m
+        map-as (rowOf s n) m (omega arith)
+        (map-pass (rowOf s n) (rowPlace i addressCount) furtherCount m
         (λ j l.
         let e : rowPlace i addressCount + j ≡ rowPlace i (12 + j) = omega arith in
         ap (rowOf s n) e ∙ row-kth (isLong s) s n i (12 + j) low (omega arith) ∙ behind (12 + j) (omega arith)) h)
@@ -260,6 +254,20 @@ long-is s i a l =
 -- address j of its address block c
 pub further-is : (s : List ℕ) (n i j z c a : ℕ) → attributesB s i ≡ true → z ≡ sizeOf s i → mostDirectBytes < z → c ≡ addressBlock s n i → a ≡ furtherOf s n c j → a ≡ kthBlock s n i (addressCount + j)
 further-is s n i j z c a t ez l ec ea = ea ∙ ap (λ (x : ℕ). furtherOf s n x j) ec ∙ sym (kth-behind (isLong s i) s n i j (long-is s i t (omega arith)))
+
+-- of which the size uses u
+pub further-few : (s : List ℕ) (i u : ℕ) → attributesB s i ≡ true → u ≡ blocksUsed (sizeOf s i) - addressCount → u ≤ furtherCount
+further-few s i u t e = let l = used-limits (sizeOf s i) .0 (attr-small s i t) in omega arith
+
+-- what the blocks that a size z uses say of it
+module _ (z u : ℕ) (e : u ≡ blocksUsed z) where
+  pub used-few : u ≤ addressCount → z ≤ mostDirectBytes
+  unfolding blocksUsed
+  used-few l = omega arith
+
+  pub used-many : addressCount < u → mostDirectBytes < z
+  unfolding blocksUsed
+  used-many l = omega arith
 
 -- ---- inode i
 module _ (s : List ℕ) (n b i : ℕ) where
@@ -381,12 +389,26 @@ module _ (s : List ℕ) (n k : ℕ) (map : List ℕ) (h : MapsOf s n (mostBlocks
   free : lacks map (k + 1) ≡ blockFree s n (k + 1)
   free = map-free (isLong s) s n map h (k + 1) (omega arith) (omega arith)
 
-  pub blank-named : lacks map (k + 1) ≡ false → not (blockFree s n (k + 1)) || blankBlockB s n (k + 1) ≡ true
-  blank-named z = or-l _ (blankBlockB s n (k + 1)) (ap not (sym free ∙ z))
+  pub blank-named : hasBlock map (k + 1) ≡ true → blankIfFreeB s n (k + 1) ≡ true
+  blank-named z = or-l _ (blankBlockB s n (k + 1)) (ap not (sym free ∙ ap not z))
 
-  pub blank-tested : (a : ℕ) → lacks map (k + 1) ≡ true → a ≡ blockAt n (k + 1) →
-      allBelow (λ j. eqb (getD s (a + j) 0) 0) blockBytes ≡ not (blockFree s n (k + 1)) || blankBlockB s n (k + 1)
-  blank-tested a z e = zero-block-is s n k a e ∙ sym (ap (λ (x : Bool). not x || blankBlockB s n (k + 1)) (sym free ∙ z))
+  pub blank-tested : (a : ℕ) → hasBlock map (k + 1) ≡ false → a ≡ blockAt n (k + 1) → allBelow (λ j. eqb (getD s (a + j) 0) 0) blockBytes ≡ blankIfFreeB s n (k + 1)
+  blank-tested a z e = zero-block-is s n k a e ∙ sym (ap (λ (x : Bool). not x || blankBlockB s n (k + 1)) (sym free ∙ ap not z))
+
+-- row by row
+module _ (p : ℕ → Bool) (n row m : ℕ) (h : allTo p (mapWords * row) ≡ true) where
+  pub rows-more : allBelow (λ k. p (mapWords * row + k + 1)) m ≡ true → allTo p (mapWords * row + m) ≡ true
+  rows-more e = all-split (λ k. p (k + 1)) (mapWords * row) m ∙ and-true (allTo p (mapWords * row)) _ h e
+
+  pub rows-stop : mapWords * row + m ≤ n → allBelow (λ k. p (mapWords * row + k + 1)) m ≡ false → false ≡ allTo p n
+  rows-stop l e =
+      let q : mapWords * row + m + (n - (mapWords * row + m)) ≡ n = omega arith in
+      sym
+      (ap (allTo p) (sym q) ∙ all-split (λ k. p (k + 1)) (mapWords * row + m) (n - (mapWords * row + m))
+      ∙ and-false-l (allTo p (mapWords * row + m)) _ (all-split (λ k. p (k + 1)) (mapWords * row) m ∙ and-false-r (allTo p (mapWords * row)) _ e))
+
+  pub rows-end : (r : Bool) → mapWords * row + m ≡ n → r ≡ allBelow (λ k. p (mapWords * row + k + 1)) m → r ≡ allTo p n
+  rows-end r q e = chain-end r _ _ h e ∙ sym (ap (allTo p) (sym q) ∙ all-split (λ k. p (k + 1)) (mapWords * row) m)
 
 -- ---- an inode that has no attributes: it is free, and right if it has no address
 module _ (s : List ℕ) (n b i : ℕ) (low : 1 ≤ i) (a : attributesZero s i ≡ true) where
@@ -414,8 +436,8 @@ module _ (s : List ℕ) (n b i : ℕ) (low : 1 ≤ i) (a : attributesZero s i �
 
     pub zero-passed : (map : List ℕ) → MapsOf s n (rowPlace i 0) map → MapsOf s n (mostBlocks * i) map
     zero-passed map g =
-        map-as (isLong s) s n map (omega arith)
-        (map-pass (isLong s) s n (rowPlace i 0) mostBlocks map
+        map-as (rowOf s n) map (omega arith)
+        (map-pass (rowOf s n) (rowPlace i 0) mostBlocks map
         (λ k l.
         let e : rowPlace i 0 + k ≡ rowPlace i k = omega arith in
         ap (rowOf s n) e ∙ row-kth (isLong s) s n i k low l ∙ zero-kth k l) g)

@@ -1,28 +1,27 @@
 // The inodes: one pass over attributes, addresses and the zero bytes after a file's end, in which every named block is noted; then the blocks that none of them names.
 ghost use mathlib.Core.Path.{_≡_};
 ghost use mathlib.Core.Logic.{_≢_};
-ghost use mathlib.Core.Bool.{true, false, not, _&&_, _||_};
-ghost use Prim.Native.Nat.{_+_, _*_, _/_, _%_, _<_, _≤_};
+ghost use mathlib.Core.Bool.{true, false, _&&_};
+ghost use Prim.Native.Nat.{_+_, _*_, _-_, _/_, _%_, _<_, _≤_, min};
 ghost use lib.ListN.{length};
 ghost use Rattle.bounded.specs.Below.{allBelow, allTo};
 ghost use Rattle.bounded.specs.Count.{differB};
 ghost use Rattle.layout.specs.Sizes.{mostImageBlocks, addressCount, furtherCount, mostBlocks, blockBytes, mostDirectBytes};
 ghost use Rattle.layout.specs.Inode.{sizeOf, attributesZero};
 ghost use Rattle.layout.specs.Fits.{InodeFits};
-ghost use Rattle.blocks.specs.Block.{addressBlock, bytesBlock, rowOf};
-ghost use Rattle.blocks.specs.Free.{blockFree};
+ghost use Rattle.blocks.specs.Block.{blocksUsed, addressBlock, bytesBlock, rowOf};
 ghost use Rattle.blocks.specs.Fits.{Sized};
-ghost use Rattle.blocks.specs.Map.{Notes};
-ghost use Rattle.sound.specs.Test.{attributesB, addressesB, zeroTailB, inodeB, blankBlockB};
-ghost use Rattle.check_inodes.specs.Pass.{MapsOf, addressB, rowPlace, kthB, newBlocksB};
+ghost use Rattle.blocks.specs.Map.{mapWords, Notes};
+ghost use Rattle.sound.specs.Test.{attributesB, addressesB, zeroTailB, inodeB};
+ghost use Rattle.check_inodes.specs.Pass.{MapsOf, usedAddressB, rowPlace, kthB, newBlocksB, blankIfFreeB};
 use blocks::map;
+use blocks::map::MAP_WORDS;
 use layout::inode;
 use layout::sizes::ADDRESS_COUNT;
 use layout::sizes::ADDRESS_PLACE;
 use layout::sizes::BLOCK_BYTES;
 use layout::sizes::DIRECTORY;
 use layout::sizes::FILE;
-use layout::sizes::FURTHER_COUNT;
 use layout::sizes::MOST_DIRECT_BYTES;
 use layout::sizes::MOST_DIRECTORY_BYTES;
 use layout::sizes::MOST_FILE_BYTES;
@@ -53,71 +52,69 @@ fn attributes_right(s: &[u8], n: usize, i: usize) -> bool
     false
 }
 
-// An address, used by its inode's size or not: one of b blocks that the map does not have, or 0. The block is noted in the map.
-fn address_right(address: u16, used: bool, b: usize, map: &mut [u8]) -> bool
-    requires { ⌜ (b ≤ mostImageBlocks) × (length (now map) ≡ mostImageBlocks + 1) ⌝ }
-    ensures { λ r. ⌜ (r ≡ addressB used b (now (map .entry)) address) × (r ≡ true → Notes (λ _. address) 1 (now (map .entry)) (now (map .exit))) ⌝ }
+// An address that the inode's size uses: one of b blocks that the map does not have, which is noted. Less one, address 0 is beyond them all.
+fn used_right(address: u16, b: usize, map: &mut [u16]) -> bool
+    requires { ⌜ (b ≤ mostImageBlocks) × (length (now map) ≡ mapWords) ⌝ }
+    ensures { λ r. ⌜ (r ≡ usedAddressB b (now (map .entry)) address) × (r ≡ true → Notes (λ _. address) 1 (now (map .entry)) (now (map .exit))) ⌝ }
 {
     let a = address as usize;
-    if !used {
-        return a == 0;
-    }
-    if a < 1 {
+    if b <= std::num::wrapping_sub_usize(a, 1) {
         return false;
     }
-    if b < a {
-        return false;
-    }
-    if map::has(&*map, a) {
-        return false;
-    }
-    map::note(&mut *map, a);
-    true
+    map::note_new(&mut *map, a)
 }
 
-// The twelve addresses of inode i. The k-th is used if the size goes past 64 k bytes: all are if there is an address block.
-fn direct_right(s: &[u8], n: usize, b: usize, i: usize, size: usize, map: &mut [u8]) -> bool
-    requires { ⌜ Sized (now s) n b × InodeFits (now s) n i × (size ≡ sizeOf (now s) i) × MapsOf (now s) n (rowPlace i 0) (now map) ⌝ }
+// How many of the twelve addresses are used, of so many blocks.
+fn direct_of(used: usize) -> usize
+    ensures { λ r. ⌜ r ≡ min addressCount used ⌝ }
+{
+    if ADDRESS_COUNT < used {
+        return ADDRESS_COUNT;
+    }
+    used
+}
+
+// The twelve addresses of inode i: those that the size uses, then the others, which are 0.
+fn direct_right(s: &[u8], n: usize, b: usize, i: usize, used: usize, map: &mut [u16]) -> bool
+    requires { ⌜ Sized (now s) n b × InodeFits (now s) n i × (used ≡ min addressCount (blocksUsed (sizeOf (now s) i))) × MapsOf (now s) n (rowPlace i 0) (now map) ⌝ }
     ensures { λ r. ⌜ (r ≡ allBelow (kthB (now (s .entry)) n b i) addressCount) × (r ≡ true → MapsOf (now (s .entry)) n (rowPlace i addressCount) (now (map .exit))) ⌝ }
 {
-    for k in 0..ADDRESS_COUNT {
-        let a = blocks::kth_block(s, n, i, k);
-        if !address_right(a, BLOCK_BYTES * k < size, b, &mut *map) {
+    for k in 0..used {
+        if !used_right(blocks::kth_block(s, n, i, k), b, &mut *map) {
             return false;
         }
     }
-    true
+    inode::no_addresses(s, n, ADDRESS_COUNT * (i - 1) + used, ADDRESS_COUNT - used)
 }
 
-// The 32 in the address block of file i. The j-th is for the bytes from 64 (11 + j) on, behind eleven direct blocks.
-fn further_right(s: &[u8], n: usize, b: usize, i: usize, size: usize, map: &mut [u8]) -> bool
-    requires { ⌜ Sized (now s) n b × InodeFits (now s) n i × (size ≡ sizeOf (now s) i) × MapsOf (now s) n (rowPlace i addressCount) (now map) ⌝ }
-    requires { ⌜ (attributesB (now s) i ≡ true) × (mostDirectBytes < size) × (1 ≤ addressBlock (now s) n i) × (addressBlock (now s) n i ≤ b) ⌝ }
+// The 32 in the address block of file i in the same way.
+fn further_right(s: &[u8], n: usize, b: usize, i: usize, used: usize, map: &mut [u16]) -> bool
+    requires { ⌜ Sized (now s) n b × InodeFits (now s) n i × (used ≡ blocksUsed (sizeOf (now s) i) - addressCount) × MapsOf (now s) n (rowPlace i addressCount) (now map) ⌝ }
+    requires { ⌜ (attributesB (now s) i ≡ true) × (mostDirectBytes < sizeOf (now s) i) × (1 ≤ addressBlock (now s) n i) × (addressBlock (now s) n i ≤ b) ⌝ }
     ensures { λ r. ⌜ (r ≡ allBelow (λ j. kthB (now (s .entry)) n b i (addressCount + j)) furtherCount) × (r ≡ true → MapsOf (now (s .entry)) n (rowPlace i mostBlocks) (now (map .exit))) ⌝ }
 {
-    let address_block = blocks::kth_block(s, n, i, ADDRESS_PLACE) as usize;
-    for j in 0..FURTHER_COUNT {
-        let a = blocks::further(s, n, address_block, j);
-        if !address_right(a, BLOCK_BYTES * (ADDRESS_PLACE + j) < size, b, &mut *map) {
+    let a = blocks::kth_block(s, n, i, ADDRESS_PLACE) as usize;
+    for j in 0..used {
+        if !used_right(blocks::further(s, n, a, j), b, &mut *map) {
             return false;
         }
     }
-    true
+    blocks::no_further(s, n, a, used)
 }
 
 // All blocks of inode i. Only a file of more than 768 bytes has any behind the twelve addresses.
-fn addresses_right(s: &[u8], n: usize, b: usize, i: usize, map: &mut [u8]) -> bool
+fn addresses_right(s: &[u8], n: usize, b: usize, i: usize, map: &mut [u16]) -> bool
     requires { ⌜ Sized (now s) n b × InodeFits (now s) n i × (attributesB (now s) i ≡ true) × MapsOf (now s) n (rowPlace i 0) (now map) ⌝ }
     ensures { λ r. ⌜ (r ≡ addressesB (now (s .entry)) n b i && newBlocksB (now (s .entry)) n i) × (r ≡ true → MapsOf (now (s .entry)) n (mostBlocks * i) (now (map .exit))) ⌝ }
 {
-    let size = inode::size(s, n, i) as usize;
-    if !direct_right(s, n, b, i, size, &mut *map) {
+    let used = blocks::blocks_used(inode::size(s, n, i) as usize);
+    if !direct_right(s, n, b, i, direct_of(used), &mut *map) {
         return false;
     }
-    if size <= MOST_DIRECT_BYTES {
+    if used <= ADDRESS_COUNT {
         return true;
     }
-    further_right(s, n, b, i, size, &mut *map)
+    further_right(s, n, b, i, used - ADDRESS_COUNT, &mut *map)
 }
 
 // The block that the size of file i ends in.
@@ -152,7 +149,7 @@ fn zero_tail(s: &[u8], n: usize, b: usize, i: usize) -> bool
 }
 
 // Inode i. What has no attributes is free, and has no address: four words.
-fn inode_right(s: &[u8], n: usize, b: usize, i: usize, map: &mut [u8]) -> bool
+fn inode_right(s: &[u8], n: usize, b: usize, i: usize, map: &mut [u16]) -> bool
     requires { ⌜ Sized (now s) n b × InodeFits (now s) n i × MapsOf (now s) n (rowPlace i 0) (now map) ⌝ }
     ensures { λ r. ⌜ (r ≡ inodeB (now (s .entry)) n b i && newBlocksB (now (s .entry)) n i) × (r ≡ true → MapsOf (now (s .entry)) n (mostBlocks * i) (now (map .exit))) ⌝ }
 {
@@ -169,7 +166,7 @@ fn inode_right(s: &[u8], n: usize, b: usize, i: usize, map: &mut [u8]) -> bool
 }
 
 // Every inode is right, and no block is named twice; the map, which comes in empty, then has the blocks that are named.
-pub fn inodes_right(s: &[u8], n: usize, b: usize, map: &mut [u8]) -> bool
+pub fn inodes_right(s: &[u8], n: usize, b: usize, map: &mut [u16]) -> bool
     requires { ⌜ Sized (now s) n b × MapsOf (now s) n 0 (now map) ⌝ }
     ensures { λ r. ⌜ (r ≡ allTo (inodeB (now (s .entry)) n b) n && differB (rowOf (now (s .entry)) n) (mostBlocks * n)) × (r ≡ true → MapsOf (now (s .entry)) n (mostBlocks * n) (now (map .exit))) ⌝ }
 {
@@ -181,17 +178,31 @@ pub fn inodes_right(s: &[u8], n: usize, b: usize, map: &mut [u8]) -> bool
     true
 }
 
-// The blocks that the map does not have are zero.
-pub fn blanks_right(s: &[u8], n: usize, b: usize, map: &[u8]) -> bool
-    requires { ⌜ Sized (now s) n b × MapsOf (now s) n (mostBlocks * n) (now map) ⌝ }
-    ensures { λ r. ⌜ r ≡ allTo (λ c. not (blockFree (now (s .entry)) n c) || blankBlockB (now (s .entry)) n c) b ⌝ }
+// The first m blocks of the row that the map does not have are zero.
+fn row_blank(s: &[u8], n: usize, b: usize, map: &[u16], row: usize, m: usize) -> bool
+    requires { ⌜ Sized (now s) n b × MapsOf (now s) n (mostBlocks * n) (now map) × (mapWords * row + m ≤ b) × (m ≤ mapWords) ⌝ }
+    ensures { λ r. ⌜ r ≡ allBelow (λ k. blankIfFreeB (now (s .entry)) n (mapWords * row + k + 1)) m ⌝ }
 {
-    for k in 0..b {
-        if !map::has(map, k + 1) {
-            if !all_zero(s, blocks::block_at(n, k + 1), BLOCK_BYTES) {
+    for k in 0..m {
+        if !map::has_in(map, row, k) {
+            if !all_zero(s, blocks::block_at(n, MAP_WORDS * row + k + 1), BLOCK_BYTES) {
                 return false;
             }
         }
     }
     true
+}
+
+// The blocks that the map does not have are zero: row by row, so that the bit stays the same while the words go by.
+pub fn blanks_right(s: &[u8], n: usize, b: usize, map: &[u16]) -> bool
+    requires { ⌜ Sized (now s) n b × MapsOf (now s) n (mostBlocks * n) (now map) ⌝ }
+    ensures { λ r. ⌜ r ≡ allTo (blankIfFreeB (now (s .entry)) n) b ⌝ }
+{
+    let rows = b / MAP_WORDS;
+    for row in 0..rows {
+        if !row_blank(s, n, b, map, row, MAP_WORDS) {
+            return false;
+        }
+    }
+    row_blank(s, n, b, map, rows, b % MAP_WORDS)
 }

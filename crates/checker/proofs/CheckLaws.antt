@@ -29,8 +29,8 @@ use Rattle.sound.specs.Place.{IsDir}
 use Rattle.sound.specs.Sound.{inodesIn, blocksIn, Framed, limitOf, blankOf}
 use Rattle.sound.proofs.FactLaws.{limit-few}
 use Rattle.sound.proofs.SoundLaws.{framed, inode-sound, size-directory, entry-sound, counted-is, climbs}
-use Rattle.sound.specs.Test.{inodeB, entryB, countedB, leadB, framedB, headerB, freeCountsB, blankBlockB, blanksB, bodyB, isSound}
-use Rattle.check_inodes.specs.Pass.{MapsOf}
+use Rattle.sound.specs.Test.{inodeB, entryB, countedB, leadB, framedB, headerB, freeCountsB, blanksB, bodyB, isSound}
+use Rattle.check_inodes.specs.Pass.{MapsOf, blankIfFreeB}
 use Rattle.sound.specs.declared.Form.the-variants.{Image}
 use Rattle.sound.specs.declared.Form.{Form}
 
@@ -99,7 +99,7 @@ linksRight s n = allTo (countedB s n) n
 
 -- what is left of the test after each pass
 abbrev pub afterCounts : Form → List ℕ → ℕ → ℕ → Bool
-afterCounts f s n b = not (blankOf f) || allTo (λ c. not (blockFree s n c) || blankBlockB s n c) b
+afterCounts f s n b = not (blankOf f) || allTo (blankIfFreeB s n) b
 
 abbrev pub afterParents : Form → List ℕ → ℕ → ℕ → Bool
 afterParents f s n b = freeCountsB s && afterCounts f s n b

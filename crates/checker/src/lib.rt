@@ -12,7 +12,7 @@ ghost use Rattle.check_inodes.specs.Pass.{MapsOf};
 ghost use Rattle.sound.specs.declared.Form.the-variants.{Image};
 use blocks::allowed;
 use blocks::map;
-use blocks::map::BLOCK_PLACES;
+use blocks::map::MAP_WORDS;
 use layout::header;
 use layout::header::Header;
 use layout::inode;
@@ -73,7 +73,7 @@ fn header_right(s: &[u8], n: usize) -> bool
 }
 
 // The free counts are true.
-fn counts_right(s: &[u8], n: usize, b: usize, map: &[u8]) -> bool
+fn counts_right(s: &[u8], n: usize, b: usize, map: &[u16]) -> bool
     requires { ⌜ Framed Image (now s) × (n ≡ inodesIn (now s)) × (b ≡ blocksIn (now s)) × MapsOf (now s) n (mostBlocks * n) (now map) ⌝ }
     ensures { λ r. ⌜ r ≡ freeCountsB (now (s .entry)) ⌝ }
 {
@@ -92,7 +92,7 @@ pub fn body_right(form: Form, s: &[u8], n: usize, b: usize) -> bool
     if !header_right(s, n) {
         return false;
     }
-    let mut map = [0u8; BLOCK_PLACES];
+    let mut map = [0u16; MAP_WORDS];
     if !check_inodes::inodes_right(s, n, b, &mut map) {
         return false;
     }

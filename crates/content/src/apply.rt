@@ -32,6 +32,7 @@ use blocks::further;
 use blocks::is_long;
 use blocks::kth_block;
 use blocks::map;
+use blocks::map::MAP_WORDS;
 use blocks::zero_block;
 use layout::header::less_free;
 use layout::header::more_free;
@@ -176,7 +177,8 @@ fn taken_row(
     requires { ⌜ SoundStore (now s) n b × (1 ≤ i) × (i ≤ n) × (used ≡ blocksUsed (sizeOf (now s) i)) × (used + m ≤ mostBlocks) × (m ≤ headerOf (now s) .«free_blocks») ⌝ }
     ensures { λ r. ⌜ (now (s .exit) ≡ zeroBlocks (now (s .entry)) n (nthFree (blockFree (now (s .entry)) n) b) m) × (r ≡ table (added (kthBlock (now (s .entry)) n i) used m (nthFree (blockFree (now (s .entry)) n) b)) mostBlocks) ⌝ }
 {
-    let map = named_blocks(s, n, 0, false);
+    let mut map = [0u16; MAP_WORDS];
+    named_blocks(s, n, 0, false, &mut map);
     let mut row = kept_row(s, n, i, false, used);
     let mut taken = 0;
     for j in 0..m {

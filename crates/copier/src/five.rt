@@ -25,6 +25,7 @@ ghost use Rattle.copier.specs.Held.{Held, Locked, Target, FreeImage, Ope
 use answers::Answer;
 use answers::Refusal;
 use blocks::free;
+use blocks::map::MAP_WORDS;
 use bounded::Found;
 use content::apply::kth_used;
 use desk::Desk;
@@ -57,7 +58,8 @@ pub fn copy(s: &[u8], m: &mut [u8], d: &mut [u8], h: Desk, n: usize, c: usize) -
     let o = blocks::block_at(n, c);
     transfer::copy_block(&mut m[o..o + BLOCK_BYTES], s, &*d, n, i, k);
     blocks::put_kth(&mut *m, n, i, k, c as u16);
-    let grown = h.copied_one_more();
+    // the header as it stands in the desk: h as a whole would be loaded from where its fields were just put one by one
+    let grown = Desk::read(&*d).copied_one_more();
     grown.write(&mut *d);
     Answer::Done(grown.steps as usize)
 }
@@ -84,7 +86,7 @@ pub fn finish(
     d: &mut [u8],
     h: Desk,
     n: usize,
-    map: &[u8],
+    map: &[u16],
     counts: &[u16; INODE_PLACES],
 ) -> Answer
     requires { ⌜ Held (now d) n h × Addressed (now m) n × (h .blocks ≤ mostImageBlocks) × Maps (isLong (now m)) (now m) n (mostBlocks * n) (now map) × Tallied (imageNaming (now m) n) 1 (mostInodes + 1) (mostSlots * n) (now counts) ⌝ }
@@ -113,9 +115,11 @@ fn free_step(m: &mut [u8], d: &mut [u8], h: Desk, n: usize) -> Answer
     if !desk::is_copied(&*d, n, ROOT) {
         return lock(&mut *d, h, ROOT);
     }
-    let counts = naming::count_names(&*m, n);
+    let mut counts = [0u16; INODE_PLACES];
+    naming::count_names(&*m, n, &mut counts);
     let Found::At(i) = naming::lowest_named(&counts, &*d, n) else {
-        let map = free::named_blocks(&*m, n, 0, false);
+        let mut map = [0u16; MAP_WORDS];
+        free::named_blocks(&*m, n, 0, false, &mut map);
         return finish(&mut *m, &mut *d, h, n, &map, &counts);
     };
     lock(&mut *d, h, i)

@@ -13,7 +13,6 @@ use Rattle.bounded.specs.Search.{pick, firstFrom}
 use Rattle.bounded.proofs.CountLaws.{tally-skip, tally-one, tally-skips, tally-past, count-some-is}
 use Rattle.bounded.proofs.ReflectLaws.{r-fails}
 use Rattle.bounded.proofs.SearchLaws.{first-ext}
-use Rattle.bounded.proofs.SeenLaws.{seen-ext}
 use Rattle.octets.specs.Octets.{part}
 use Rattle.octets.proofs.PartLaws.{cut}
 use Rattle.octets.proofs.NumLaws.{length-num}
@@ -25,7 +24,7 @@ use Rattle.blocks.specs.Free.{longBut}
 use Rattle.blocks.specs.Fits.{RowsFit}
 use Rattle.blocks.specs.Map.{lacks, Maps}
 use Rattle.blocks.proofs.KthLaws.{kth-direct}
-use Rattle.blocks.proofs.MapLaws.{map-count}
+use Rattle.blocks.proofs.MapLaws.{map-ext, map-count}
 use Rattle.blocks.proofs.LongLaws.{but-else, row-flags, fit-flags}
 use Rattle.names.specs.Entry.{entryInode}
 use Rattle.directory.specs.Slot.{mostSlots, slotAt, entryOf}
@@ -143,7 +142,7 @@ module _ (m : List ℕ) (n none : ℕ) (told : Bool) (e : none ≡ 0) where
   rows-free = fit-flags (isLong m) (longBut m none told) m n own
 
   pub maps-free : (map : List ℕ) → Maps (longBut m none told) m n (mostBlocks * n) map → Maps (isLong m) m n (mostBlocks * n) map
-  maps-free map h = seen-ext (rowBy (longBut m none told) m n) (rowOf m n) 1 4097 (mostBlocks * n) map (λ x _. sym (row-flags (isLong m) (longBut m none told) m n own x)) h
+  maps-free map h = map-ext (rowBy (longBut m none told) m n) (rowOf m n) (mostBlocks * n) map h (λ x _. sym (row-flags (isLong m) (longBut m none told) m n own x))
 
 pub finish-read : (m map t u v : List ℕ) (n b i k : ℕ) → b ≤ mostImageBlocks → Maps (isLong m) m n (mostBlocks * n) map
     → i ≡ countTo (inodeFree m) n → k ≡ countTo (lacks map) b → t ≡ putCounts m m n n → u ≡ putFree t i k → v ≡ putComplete u isComplete → v ≡ finishImage m n b

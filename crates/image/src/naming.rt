@@ -74,16 +74,15 @@ fn count_directory(m: &[u8], n: usize, e: usize, counts: &mut [u16])
     }
 }
 
-// How often each inode is named by the image's directories: one pass over their slots.
-pub fn count_names(m: &[u8], n: usize) -> [u16; INODE_PLACES]
+// How often each inode is named by the image's directories, whatever the counts were before: one pass over their slots.
+pub fn count_names(m: &[u8], n: usize, counts: &mut [u16; INODE_PLACES])
     requires { ⌜ Addressed (now m) n ⌝ }
-    ensures { λ r. ⌜ Tallied (imageNaming (now (m .entry)) n) 1 (mostInodes + 1) (mostSlots * n) r ⌝ }
+    ensures { λ _. ⌜ Tallied (imageNaming (now (m .entry)) n) 1 (mostInodes + 1) (mostSlots * n) (now (counts .exit)) ⌝ }
 {
-    let mut counts = [0u16; INODE_PLACES];
+    *counts = [0u16; INODE_PLACES];
     for k in 0..n {
-        count_directory(m, n, k + 1, &mut counts);
+        count_directory(m, n, k + 1, &mut *counts);
     }
-    counts
 }
 
 // The lowest uncopied inode that the counts have.
@@ -112,7 +111,7 @@ fn put_counts(m: &mut [u8], n: usize, counts: &[u16; INODE_PLACES])
 }
 
 // The finished image: everything is counted before a byte is written. Nothing is locked any more, so an inode is long by its own size.
-pub fn finish_image(m: &mut [u8], n: usize, b: usize, map: &[u8], counts: &[u16; INODE_PLACES])
+pub fn finish_image(m: &mut [u8], n: usize, b: usize, map: &[u16], counts: &[u16; INODE_PLACES])
     requires { ⌜ Addressed (now m) n × (b ≤ mostImageBlocks) × Maps (isLong (now m)) (now m) n (mostBlocks * n) (now map) × Tallied (imageNaming (now m) n) 1 (mostInodes + 1) (mostSlots * n) (now counts) ⌝ }
     ensures { λ _. ⌜ now (m .exit) ≡ finishImage (now (m .entry)) n b ⌝ }
 {

@@ -54,12 +54,17 @@ attributes-word s i o e =
     (r-and (r-eq (numAt 1 s (attributesAt i)) 0) (r-and (r-eq (numAt 1 s (attributesAt i + 1)) 0) (r-and (r-eq (numAt 2 s (attributesAt i + 2)) 0)
     (r-and (r-eq (numAt 2 s (attributesAt i + 4)) 0) (r-eq (numAt 2 s (attributesAt i + 6)) 0))))))
 
+-- the w addresses from x on, of all in a row
+pub addresses-bytes : (s : List ℕ) (n x w o : ℕ) → o ≡ addressAt n x → allBelow (λ j. eqb (getD s (o + j) 0) 0) (2 * w) ≡ allBelow (λ j. eqb (addressOf s n (x + j)) 0) w
+unfolding addressOf
+addresses-bytes s n x w o e =
+    sym (numbers-zero 2 s o w)
+    ∙ all-ext (λ j. eqb (numAt 2 s (o + 2 * j)) 0) (λ j. eqb (numAt 2 s (addressAt n (x + j))) 0) w
+    (λ j l. let g : o + 2 * j ≡ addressAt n (x + j) = omega arith in ap (λ (y : ℕ). eqb (numAt 2 s y) 0) g)
+
 pub addresses-words : (s : List ℕ) (n i o : ℕ) → o ≡ addressAt n (12 * (i - 1)) → allBelow (λ j. eqb (getD s (o + j) 0) 0) 24 ≡ addressesZero s n i
-unfolding addressesZero addressOf
-addresses-words s n i o e =
-    sym (numbers-zero 2 s o 12)
-    ∙ all-ext (λ k. eqb (numAt 2 s (o + 2 * k)) 0) (λ k. eqb (numAt 2 s (addressAt n (addressIndex i k))) 0) 12
-    (λ k l. let g : o + 2 * k ≡ addressAt n (addressIndex i k) = omega arith in ap (λ (x : ℕ). eqb (numAt 2 s x) 0) g)
+unfolding addressesZero
+addresses-words s n i o e = addresses-bytes s n (12 * (i - 1)) 12 o e
 
 pub addresses-none : (s : List ℕ) (n i : ℕ) → addressesZero s n i ≡ true → (k : ℕ) → k < 12 → addressOf s n (addressIndex i 0 + k) ≡ 0
 unfolding addressesZero

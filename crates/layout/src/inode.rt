@@ -1,7 +1,9 @@
 // Inodes: the record by value, and each field by itself.
 ghost use mathlib.Core.Path.{_≡_};
 ghost use Prim.Native.Nat.{_+_, _*_, _<_, _≤_};
+ghost use lib.Dec.{eqb};
 ghost use lib.ListN.{length};
+ghost use Rattle.bounded.specs.Below.{allBelow};
 ghost use Rattle.bounded.specs.Count.{countTo};
 ghost use Rattle.octets.specs.Octets.{splice, wordBytes};
 ghost use Rattle.layout.specs.Sizes.{headerBytes, inodeBytes, addressCount, addressBytes, mostInodes, mostFileBytes};
@@ -100,6 +102,14 @@ pub fn addresses_zero(s: &[u8], n: usize, i: usize) -> bool
     ensures { λ r. ⌜ r ≡ addressesZero (now (s .entry)) n i ⌝ }
 {
     octets::words_zero(s, address_at(n, ADDRESS_COUNT * (i - 1)), 3)
+}
+
+// The w addresses from x on, of all in a row, are 0.
+pub fn no_addresses(s: &[u8], n: usize, x: usize, w: usize) -> bool
+    requires { ⌜ (n ≤ mostInodes) × (headerBytes + inodeBytes * n ≤ length (now s)) × (x + w ≤ addressCount * n) ⌝ }
+    ensures { λ r. ⌜ r ≡ allBelow (λ j. eqb (addressOf (now (s .entry)) n (x + j)) 0) w ⌝ }
+{
+    octets::all_zero(s, address_at(n, x), 2 * w)
 }
 
 // The lowest free inode.

@@ -6,9 +6,10 @@ use native.Mathlib.Omega.{arith}
 use native.Mathlib.Nat.{add-zero, mul-assoc, pow-succ', one-le-pow, div-add-mod, mod-lt, mod-eq-of-lt, mul-add-mod-self-left, div-div-eq-div-mul}
 use native.Mathlib.Decide.{decLt}
 use lib.ListN.{getD, length}
+use lib.Seq.{ext-getD}
 use Rattle.bounded.proofs.CaseLaws.{each-suc}
-use Rattle.octets.specs.Octets.{part, splice, Apart, Octets, numAt, toBytes, putNum}
-use Rattle.octets.proofs.PartLaws.{length-splice, splice-out, splice-in, splice-twice, splice-comm, splice-append, part-apart}
+use Rattle.octets.specs.Octets.{part, splice, Apart, Octets, numAt, toBytes, putNum, pasted}
+use Rattle.octets.proofs.PartLaws.{length-splice, length-inside, getD-part, splice-out, splice-in, splice-twice, splice-comm, splice-append, part-apart, copied-join}
 
 -- a number of one byte more, whatever the width
 pub num-suc : (k : ℕ) (s : List ℕ) (o : ℕ) → numAt (suc k) s o ≡ getD s o 0 + 256 * numAt k s (o + 1)
@@ -170,6 +171,18 @@ byte-back (suc (suc k)) d o (suc j) h l =
   where
     more : (o j : ℕ) → o + 1 + j ≡ o + suc j
     more o j = omega arith
+
+pub bytes-back : (k : ℕ) (s : List ℕ) (o : ℕ) → Octets s → o + k ≤ length s → toBytes k (numAt k s o) ≡ part s o k
+bytes-back k s o h l =
+    ext-getD 0 _ _ (length-toBytes k (numAt k s o) ∙ sym (length-inside s o k l))
+    (λ i b. let e = length-toBytes k (numAt k s o) in byte-back k s o i h (omega arith) ∙ sym (getD-part s o k i (omega arith)))
+
+-- a number that is copied: its bytes are
+pub num-copied : (k : ℕ) (d : List ℕ) (o : ℕ) (s : List ℕ) (p j : ℕ) → Octets s → p + (j + k) ≤ length s → putNum k (pasted d o s p j) (o + j) (numAt k s (p + j)) ≡ pasted d o s p (j + k)
+unfolding putNum pasted
+num-copied k d o s p j h l =
+    ap (splice (pasted d o s p j) (o + j)) (bytes-back k s (p + j) h (omega arith))
+    ∙ copied-join d o s p j k (omega arith)
 
 -- byte x of a number that is written, of another one, and of one written as it was
 pub put-byte : (k : ℕ) (s : List ℕ) (o v x : ℕ) → Apart x 1 o k → getD (putNum k s o v) x 0 ≡ getD s x 0

@@ -220,6 +220,16 @@ unfolding pasted
 copied-more d o s p k h =
     splice-snoc d o (part s p k) k (getD s (p + k) 0) (length-inside s p k (omega arith)) ∙ ap (splice d o) (sym (part-more s p k h))
 
+-- k bytes, and then m more
+pub copied-join : (d : List ℕ) (o : ℕ) (s : List ℕ) (p k m : ℕ) → p + k ≤ length s → pasted (pasted d o s p k) (o + k) s (p + k) m ≡ pasted d o s p (k + m)
+unfolding pasted part
+copied-join d o s p k m h =
+    let l : k ≡ length (take k (drop p s)) = sym (length-inside s p k h) in
+    ap (λ (q : ℕ). splice (splice d o (take k (drop p s))) (o + q) (take m (drop (p + k) s))) l
+    ∙ splice-append d o (take k (drop p s)) (take m (drop (p + k) s))
+    ∙ ap (λ (t : List ℕ). splice d o (take k (drop p s) ++ take m t)) (sym (drop-drop k p s))
+    ∙ ap (splice d o) (sym (take-add k m (drop p s)))
+
 -- a whole list zeroed
 pub zeroed-all : (s : List ℕ) (k : ℕ) → length s ≡ k → zeroed s 0 k ≡ replicate k 0
 unfolding zeroed

@@ -108,14 +108,34 @@ pub fn zero_range(s: &mut [u8], o: usize, k: usize)
     }
 }
 
-// The k bytes of s from p on go to d, from o on.
-pub fn copy_range(d: &mut [u8], o: usize, s: &[u8], p: usize, k: usize)
+// ---- a range copied
+// The m words of eight bytes of s from p on go to d, from o on: each is read before it is written, so that no byte waits for another.
+fn copy_words(d: &mut [u8], o: usize, s: &[u8], p: usize, m: usize)
+    requires { ⌜ (o + 8 * m ≤ length (now d)) × (p + 8 * m ≤ length (now s)) ⌝ }
+    ensures { λ _. ⌜ now (d .exit) ≡ pasted (now (d .entry)) o (now (s .entry)) p (8 * m) ⌝ }
+{
+    for j in 0..m {
+        put_64(&mut *d, o + 8 * j, get_64(s, p + 8 * j));
+    }
+}
+
+// The k bytes of s from p on, one by one.
+fn copy_bytes(d: &mut [u8], o: usize, s: &[u8], p: usize, k: usize)
     requires { ⌜ (o + k ≤ length (now d)) × (p + k ≤ length (now s)) ⌝ }
     ensures { λ _. ⌜ now (d .exit) ≡ pasted (now (d .entry)) o (now (s .entry)) p k ⌝ }
 {
     for j in 0..k {
         d[o + j] = s[p + j];
     }
+}
+
+// The k bytes of s from p on go to d, from o on: as words, then those that are left.
+pub fn copy_range(d: &mut [u8], o: usize, s: &[u8], p: usize, k: usize)
+    requires { ⌜ (o + k ≤ length (now d)) × (p + k ≤ length (now s)) ⌝ }
+    ensures { λ _. ⌜ now (d .exit) ≡ pasted (now (d .entry)) o (now (s .entry)) p k ⌝ }
+{
+    copy_words(&mut *d, o, s, p, k / 8);
+    copy_bytes(&mut *d, o + 8 * (k / 8), s, p + 8 * (k / 8), k % 8);
 }
 
 // ---- zero bytes

@@ -23,24 +23,24 @@ cast-map-of c = search needs
 
 map-of-requires : tie.Need-map-of-requires Inv-loop μ-loop
 map-of-requires c κs =
-    let z = c .before .before .before .before .before in
+    let z = c .before .before .before .before .before .before in
     let a = z .args in
     let p = z .pre in
     first-asks (now (a .s)) (now (a .m)) (now (a .d)) (a .n) _ (record { ready = p .1; running = p .3; inodes = p .2; read = p .0 })
 
 count-names-requires : tie.Need-count-names-requires Inv-loop μ-loop
 count-names-requires c κs =
-    let z = c .before .before .before .before .before .before .before in
+    let z = c .before .before .before .before .before .before .before .before .before in
     let a = z .args in
     let p = z .pre in
     going-addressed (now (a .s)) (now (a .m)) (now (a .d)) (a .n) _ (record { ready = p .1; running = p .3; inodes = p .2; read = p .0 })
 
 loop-holds : tie.Need-loop-holds Inv-loop μ-loop
 loop-holds c =
-    let z = c .before .before .before .before .before .before .before .before in
+    let z = c .before .before .before .before .before .before .before .before .before .before in
     let a = z .args in
     let p = z .pre in
-    (omega arith, refl, refl, turns-begin _ _, first-kept (now (a .s)) (now (a .m)) (now (a .d)) (a .n) _ (record { ready = p .1; running = p .3; inodes = p .2; read = p .0 }) _ _ (c .before .before .map-of .ensures) (c .count-names .ensures))
+    (omega arith, refl, refl, turns-begin _ _, first-kept (now (a .s)) (now (a .m)) (now (a .d)) (a .n) _ (record { ready = p .1; running = p .3; inodes = p .2; read = p .0 }) _ _ (c .before .before .before .map-of .ensures) (c .count-names .ensures))
 
 take-one-requires : tie.Need-take-one-requires Inv-loop μ-loop
 take-one-requires c κs = c .before .before .before .before .before .loop .inv .4
@@ -51,8 +51,8 @@ enum-told c = search needs
 enum-told-2 : tie.Need-enum-told-2 Inv-loop μ-loop
 enum-told-2 c = search needs
 
-add-t26 : tie.Need-add-t26 Inv-loop μ-loop
-add-t26 c = omega (arith, c .before .before .before .before .before .before .before .before .before .before .before .before .before .before .before .before .before .before .before .before .before .pre .4)
+add-t27 : tie.Need-add-t27 Inv-loop μ-loop
+add-t27 c = omega (arith, c .before .before .before .before .before .before .before .before .before .before .before .before .before .before .before .before .before .before .before .before .before .before .before .pre .4)
 
 same-length : tie.Need-same-length Inv-loop μ-loop
 same-length c = search needs
@@ -79,7 +79,7 @@ returns-2 : tie.Need-returns-2 Inv-loop μ-loop
 returns-2 c = turns-stops _ _ _ _ _ _ _ _ _ (c .before .before .before .before .before .before .before .before .take-one .ensures) _ _ (c .before .before .before .before .before .before .before .before .before .before .before .before .before .loop-test .taken) _ (c .before .before .why .given .1) _ (c .stopped-at .ensures) ∙ c .before .before .before .before .before .before .before .before .before .before .before .before .before .before .loop .inv .3
 
 add-k : tie.Need-add-k Inv-loop μ-loop
-add-k c = omega (arith, c .before .before .before .before .before .before .before .before .before .before .before .before .before .before .before .before .before .before .before .before .before .pre .4)
+add-k c = omega (arith, c .before .before .before .before .before .before .before .before .before .before .before .before .before .before .before .before .before .before .before .before .before .before .before .pre .4)
 
 loop-less : tie.Need-loop-less Inv-loop μ-loop
 loop-less c = omega arith
@@ -109,7 +109,7 @@ turns-spec =
     take-one-requires
     enum-told
     enum-told-2
-    add-t26
+    add-t27
     same-length
     same-length-2
     returns

@@ -30,7 +30,7 @@ inode-right-requires : tie.Need-inode-right-requires Inv-loop μ-loop
 inode-right-requires c κs =
     let p = c .before .before .before .before .before .pre .0 in
     let l = p .long in
-    (p, record { low = omega arith; high = omega arith; few = p .inodes; area = omega arith }, map-as _ _ _ _ (omega arith) (c .before .before .loop .inv .2))
+    (p, record { low = omega arith; high = omega arith; few = p .inodes; area = omega arith }, map-as _ _ (omega arith) (c .before .before .loop .inv .2))
 
 same-length : tie.Need-same-length Inv-loop μ-loop
 same-length c =
@@ -57,7 +57,7 @@ same-length-2 c = c .before .loop .inv .2 .long ∙ sym (c .before .before .befo
 returns-2 : tie.Need-returns-2 Inv-loop μ-loop
 returns-2 c =
     let i = c .before .loop in
-    (all-done _ _ (i .k) (omega arith) (omega arith) (i .inv .1) ∙ inodes-are _ _ _, λ q. map-as _ _ _ _ (omega arith) (i .inv .2))
+    (all-done _ _ (i .k) (omega arith) (omega arith) (i .inv .1) ∙ inodes-are _ _ _, λ q. map-as _ _ (omega arith) (i .inv .2))
 
 pub inodes-right-spec : {M : Type 1} → statement M
 inodes-right-spec =

@@ -59,7 +59,7 @@ slice-aggregate-inodes-right : tie.Need-slice-aggregate-inodes-right
 slice-aggregate-inodes-right c = search needs
 
 inodes-right-requires : tie.Need-inodes-right-requires
-inodes-right-requires c κs = (sized (c .before .before .before .before), map-none _ _ _)
+inodes-right-requires c κs = (sized (c .before .before .before .before), map-none _)
 
 returns-2 : tie.Need-returns-2
 returns-2 c = past-header (c .before .before .before .before) _ (chain-stop _ _ _ (c .before .before .inodes-right .ensures .0) (c .if2 .taken))

@@ -1,63 +1,51 @@
-use Prim.Native.Nat.{_≤_, _-_}
-use mathlib.Core.Path.{_≡_, refl, _∙_, ap}
+use Prim.Native.Nat.{_+_, _*_, _/_, _%_}
+use mathlib.Core.Path.{_≡_, ap, _∙_}
 use native.Mathlib.Omega.{arith}
-use lib.ListN.{length, length-set}
 use denote.Ref.{now}
 use borrow.Author.Needs.{needs}
 use Rattle.octets.specs.Octets.{pasted}
-use Rattle.octets.proofs.PartLaws.{copied-none, copied-more}
+use Rattle.octets.proofs.PartLaws.{copied-join}
 use Rattle.octets.proofs.copy_range.Statement.{statement}
 use Rattle.octets.proofs.copy_range.Tie as tie
 
-abbrev Inv-loop : tie.InvT-loop
-Inv-loop d₀ o s p k j₀ d j = (j ≤ k) × (length d ≡ length d₀) × (d ≡ pasted d₀ o s p j)
+copy-words-requires : tie.Need-copy-words-requires
+copy-words-requires c κs = search needs
 
-abbrev μ-loop : tie.MeasureT-loop
-μ-loop d₀ o s p k j₀ d j = k - j
+mul-copy-bytes : tie.Need-mul-copy-bytes
+mul-copy-bytes c = search needs
 
-loop-holds : tie.Need-loop-holds Inv-loop μ-loop
-loop-holds c = (omega arith, refl, copied-none _ _ _ _)
+add-copy-bytes : tie.Need-add-copy-bytes
+add-copy-bytes c = search needs
 
-add-d : tie.Need-add-d Inv-loop μ-loop
-add-d c = search needs
+mul-copy-bytes-2 : tie.Need-mul-copy-bytes-2
+mul-copy-bytes-2 c = search needs
 
-shared-slice-read-d : tie.Need-shared-slice-read-d Inv-loop μ-loop
-shared-slice-read-d c = search needs
+add-copy-bytes-2 : tie.Need-add-copy-bytes-2
+add-copy-bytes-2 c = search needs
 
-add-d-2 : tie.Need-add-d-2 Inv-loop μ-loop
-add-d-2 c = search needs
+copy-bytes-requires : tie.Need-copy-bytes-requires
+copy-bytes-requires c κs = search needs
 
-slice-write-d : tie.Need-slice-write-d Inv-loop μ-loop
-slice-write-d c = search needs
-
-add-j : tie.Need-add-j Inv-loop μ-loop
-add-j c = search needs
-
-loop-less : tie.Need-loop-less Inv-loop μ-loop
-loop-less c = search needs
-
-loop-again : tie.Need-loop-again Inv-loop μ-loop
-loop-again c = let i = c .before .before .loop in let a = c .before .before .before .args in (omega arith, rw length-set (i .inv .1), rw (i .inv .2) (copied-more (now (a .d)) (a .o) (now (a .s)) (a .p) (i .j) (omega arith)))
-
-same-length : tie.Need-same-length Inv-loop μ-loop
+same-length : tie.Need-same-length
 same-length c = search needs
 
-returns : tie.Need-returns Inv-loop μ-loop
-returns c = let i = c .before .loop in let a = c .before .before .args in let e : i .j ≡ a .k = omega arith in i .inv .2 ∙ ap (pasted (now (a .d)) (a .o) (now (a .s)) (a .p)) e
+returns : tie.Need-returns
+returns c =
+    let a = c .before .before .before .before .before .before .before .before .before .before .args in
+    let e : 8 * (a .k / 8) + a .k % 8 ≡ a .k = omega arith in
+    c .before .before .copy-bytes .ensures
+    ∙ rw (c .before .before .before .before .before .before .copy-words .ensures) (copied-join (now (a .d)) (a .o) (now (a .s)) (a .p) (8 * (a .k / 8)) (a .k % 8) (omega arith))
+    ∙ ap (pasted (now (a .d)) (a .o) (now (a .s)) (a .p)) e
 
 pub copy-range-spec : {M : Type 1} → statement M
 copy-range-spec =
     tie.close
     (tie.spec
-    Inv-loop
-    μ-loop
-    loop-holds
-    add-d
-    shared-slice-read-d
-    add-d-2
-    slice-write-d
-    add-j
-    loop-less
-    loop-again
+    copy-words-requires
+    mul-copy-bytes
+    add-copy-bytes
+    mul-copy-bytes-2
+    add-copy-bytes-2
+    copy-bytes-requires
     same-length
     returns)

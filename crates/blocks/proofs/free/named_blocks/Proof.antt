@@ -1,21 +1,14 @@
 use Prim.Native.Nat.{ℕ, _+_, _*_, _≤_, _-_}
-use mathlib.Core.Path.{_≡_, sym, ap, _∙_, subst}
-use mathlib.Core.Bool.{Bool}
+use mathlib.Core.Path.{_≡_, refl, subst}
 use native.Mathlib.Omega.{arith}
 use denote.Ref.{now}
 use borrow.Author.Needs.{needs}
-use Rattle.blocks.specs.Block.{kthBy}
 use Rattle.blocks.specs.Free.{longBut}
-use Rattle.blocks.specs.Fits.{Reaches}
 use Rattle.blocks.specs.Map.{Maps}
 use Rattle.blocks.proofs.KthLaws.{row-next}
 use Rattle.blocks.proofs.MapLaws.{map-none, map-inode}
 use Rattle.blocks.proofs.free.named_blocks.Statement.{statement}
 use Rattle.blocks.proofs.free.named_blocks.Tie as tie
-use Rattle.blocks.proofs.free.named_blocks.Reads as reads
-use Rattle.blocks.proofs.free.named_blocks.Lts as lts
-use Rattle.blocks.proofs.free.long_but.Reads as long-but-reads
-use Rattle.blocks.proofs.free.note_blocks.Reads as note-blocks-reads
 
 abbrev Inv-loop : tie.InvT-loop
 Inv-loop s n l long map₀ k₀ map k = (k ≤ n) × Maps (longBut s l long) s n (44 * k) map
@@ -23,58 +16,38 @@ Inv-loop s n l long map₀ k₀ map k = (k ≤ n) × Maps (longBut s l long) s n
 abbrev μ-loop : tie.MeasureT-loop
 μ-loop s n l long map₀ k₀ map k = n - k
 
--- src/free.rt:81:5
 loop-holds : tie.Need-loop-holds Inv-loop μ-loop
-loop-holds c = (omega arith, map-none _ _ _)
+loop-holds c = (omega arith, map-none _)
 
--- src/free.rt:82:27
 add-note-blocks : tie.Need-add-note-blocks Inv-loop μ-loop
 add-note-blocks c = search needs
 
--- src/free.rt:82:58
-add-long-but : tie.Need-add-long-but Inv-loop μ-loop
-add-long-but c = search needs
-
--- src/free.rt:82:34
-long-but-requires : tie.Need-long-but-requires Inv-loop μ-loop
-long-but-requires c κs = record { low = omega arith; high = omega arith; few = c .before .before .before .pre .few; area = c .before .before .before .pre .area }
-
--- src/free.rt:82:66
-slice-aggregate-note-blocks : tie.Need-slice-aggregate-note-blocks Inv-loop μ-loop
-slice-aggregate-note-blocks c = sym (c .before .before .before .loop .inv .1 .long)
-
--- src/free.rt:82:9
 note-blocks-requires : tie.Need-note-blocks-requires Inv-loop μ-loop
 note-blocks-requires c κs =
     let b = c .before .before .before .before .before in
     let s = now (b .args .s) in
     let n = b .args .n in
-    let l = c .before .before .before .loop in
-    let e = c .before .long-but .ensures in (
-      record { low = omega arith; high = omega arith; few = c .before .before .before .before .before .pre .few; area = c .before .before .before .before .before .pre .area },
+    let l = c .before .before .loop in (
+      record { low = omega arith; high = omega arith; few = b .pre .few; area = b .pre .area },
       l .inv .1 .long,
-      λ u m. subst (λ (x : ℕ). x ≤ 4096) (row-next (longBut s (b .args .l) (b .args .long)) s n (l .k) u m ∙ ap (λ (x : Bool). kthBy x s n (l .k + 1) u) (sym e)) (b .pre .most (44 * l .k + u) (omega arith)),
-      subst (λ (x : Bool). Reaches x s n (l .k + 1)) (sym e) (b .pre .inside (l .k + 1) (omega arith) (omega arith)),
+      λ u m. subst (λ (x : ℕ). x ≤ 4096) (row-next (longBut s (b .args .l) (b .args .long)) s n (l .k) u m) (b .pre .most (44 * l .k + u) (omega arith)),
+      b .pre .inside (l .k + 1) (omega arith) (omega arith),
     )
 
--- src/free.rt:81:9
 add-k : tie.Need-add-k Inv-loop μ-loop
 add-k c = search needs
 
--- src/free.rt:81:5
 loop-less : tie.Need-loop-less Inv-loop μ-loop
 loop-less c = search needs
 
--- src/free.rt:81:5
 loop-again : tie.Need-loop-again Inv-loop μ-loop
 loop-again c =
-    let b = c .before .before .before .before .before .before .before in
-    let l = c .before .before .before .before .before .loop in
-    (omega arith, map-inode (longBut (now (b .args .s)) (b .args .l) (b .args .long)) (now (b .args .s)) (b .args .n) (l .k) _ _ _ (c .before .before .before .long-but .ensures) (c .before .note-blocks .ensures) (l .inv .1))
+    let b = c .before .before .before .before .before .before in
+    let l = c .before .before .before .loop in
+    (omega arith, map-inode (longBut (now (b .args .s)) (b .args .l) (b .args .long)) (now (b .args .s)) (b .args .n) (l .k) _ _ _ refl (c .note-blocks .ensures) (l .inv .1))
 
--- src/free.rt:76:1
 returns : tie.Need-returns Inv-loop μ-loop
-returns c = let e : c .before .loop .k ≡ c .before .before .before .args .n = omega arith in rw e at (c .before .loop .inv .1)
+returns c = let e : c .before .loop .k ≡ c .before .before .before .before .args .n = omega arith in rw e at (c .before .loop .inv .1)
 
 pub named-blocks-spec : {M : Type 1} → statement M
 named-blocks-spec =
@@ -84,9 +57,6 @@ named-blocks-spec =
     μ-loop
     loop-holds
     add-note-blocks
-    add-long-but
-    long-but-requires
-    slice-aggregate-note-blocks
     note-blocks-requires
     add-k
     loop-less

@@ -1,10 +1,10 @@
 use Prim.Native.Nat.{_*_, _≤_, _-_}
 use mathlib.Core.Path.{_≡_, refl, sym, ap, _∙_}
 use native.Mathlib.Omega.{arith}
-use lib.ListN.{length, length-set}
+use lib.ListN.{length}
 use borrow.Author.Needs.{needs}
 use Rattle.layout.specs.Inode.{addressOf, addressIndex}
-use Rattle.blocks.proofs.MapLaws.{notes-none, notes-more}
+use Rattle.blocks.proofs.MapLaws.{length-noted, notes-none, notes-more}
 use Rattle.blocks.specs.Map.{Notes}
 use Rattle.blocks.proofs.free.note_direct.Statement.{statement}
 use Rattle.blocks.proofs.free.note_direct.Tie as tie
@@ -14,7 +14,7 @@ use Rattle.blocks.proofs.map.note.Reads as note-reads
 use Rattle.layout.proofs.inode.address.Reads as address-reads
 
 abbrev Inv-loop : tie.InvT-loop
-Inv-loop s n i map₀ x k₀ map k = (k ≤ 12) × (x ≡ 12 * (i - 1)) × (length map ≡ 4097) × Notes (λ j. addressOf s n (addressIndex i j)) k map₀ map
+Inv-loop s n i map₀ x k₀ map k = (k ≤ 12) × (x ≡ 12 * (i - 1)) × (length map ≡ 256) × Notes (λ j. addressOf s n (addressIndex i j)) k map₀ map
 
 abbrev μ-loop : tie.MeasureT-loop
 μ-loop s n i map₀ x k₀ map k = 12 - k
@@ -61,12 +61,10 @@ loop-less c = search needs
 -- src/free.rt:29:5
 loop-again : tie.Need-loop-again Inv-loop μ-loop
 loop-again c =
-    let b = c .before .before .before .before .before .before .before .before .before in
     let l = c .before .before .before .before .before .before .loop in
     let a = c .before .before .before .address .ensures in
-    let y = b .pre .2 (l .k) (omega arith) in
     let e = c .before .before .note .ensures in
-    (omega arith, refl, ap length e ∙ simp length-set (l .inv .2), rw e (notes-more _ (l .k) _ _ _ a (omega (arith, a, y)) (l .inv .3)))
+    (omega arith, refl, ap length e ∙ length-noted _ _ ∙ l .inv .2, rw e (notes-more _ (l .k) _ _ _ a (l .inv .3)))
 
 -- src/free.rt:24:1
 same-length : tie.Need-same-length Inv-loop μ-loop

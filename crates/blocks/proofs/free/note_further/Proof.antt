@@ -1,10 +1,10 @@
 use Prim.Native.Nat.{_≤_, _-_}
 use mathlib.Core.Path.{_≡_, sym, ap, _∙_}
 use native.Mathlib.Omega.{arith}
-use lib.ListN.{length, length-set}
+use lib.ListN.{length}
 use borrow.Author.Needs.{needs}
 use Rattle.blocks.specs.Block.{furtherOf}
-use Rattle.blocks.proofs.MapLaws.{notes-none, notes-more}
+use Rattle.blocks.proofs.MapLaws.{length-noted, notes-none, notes-more}
 use Rattle.blocks.specs.Map.{Notes}
 use Rattle.blocks.proofs.free.note_further.Statement.{statement}
 use Rattle.blocks.proofs.free.note_further.Tie as tie
@@ -14,7 +14,7 @@ use Rattle.blocks.proofs.further.Reads as further-reads
 use Rattle.blocks.proofs.map.note.Reads as note-reads
 
 abbrev Inv-loop : tie.InvT-loop
-Inv-loop s n a map₀ j₀ map j = (j ≤ 32) × (length map ≡ 4097) × Notes (furtherOf s n a) j map₀ map
+Inv-loop s n a map₀ j₀ map j = (j ≤ 32) × (length map ≡ 256) × Notes (furtherOf s n a) j map₀ map
 
 abbrev μ-loop : tie.MeasureT-loop
 μ-loop s n a map₀ j₀ map j = 32 - j
@@ -49,12 +49,10 @@ loop-less c = search needs
 -- src/free.rt:39:5
 loop-again : tie.Need-loop-again Inv-loop μ-loop
 loop-again c =
-    let b = c .before .before .before .before .before .before .before .before .before in
     let l = c .before .before .before .before .before .before .loop in
     let a = c .before .before .before .further .ensures in
-    let y = b .pre .5 (l .j) (omega arith) in
     let e = c .before .before .note .ensures in
-    (omega arith, ap length e ∙ simp length-set (l .inv .1), rw e (notes-more _ (l .j) _ _ _ a (omega (arith, a, y)) (l .inv .2)))
+    (omega arith, ap length e ∙ length-noted _ _ ∙ l .inv .1, rw e (notes-more _ (l .j) _ _ _ a (l .inv .2)))
 
 -- src/free.rt:35:1
 same-length : tie.Need-same-length Inv-loop μ-loop

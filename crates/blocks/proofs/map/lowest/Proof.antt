@@ -1,5 +1,6 @@
 use Prim.Native.Nat.{_≤_, _-_, _+_}
-use mathlib.Core.Path.{_≡_, sym, _∙_}
+use mathlib.Core.Path.{_≡_, sym, ap, _∙_}
+use mathlib.Core.Bool.{not}
 use native.Mathlib.Omega.{arith}
 use borrow.Author.Tests.{not-true, not-false}
 use Rattle.bounded.specs.Search.{firstFrom}
@@ -25,7 +26,7 @@ has-requires : tie.Need-has-requires Inv-loop μ-loop
 has-requires c κs = omega arith
 
 returns : tie.Need-returns Inv-loop μ-loop
-returns c = let i = c .before .before .before .loop in sym (i .inv .2 ∙ first-found _ (i .b) _ (omega arith) (not-false _ (sym (c .before .has .ensures) ∙ not-true _ (c .if1 .taken))))
+returns c = let i = c .before .before .before .loop in sym (i .inv .2 ∙ first-found _ (i .b) _ (omega arith) (ap not (sym (c .before .has .ensures) ∙ not-true _ (c .if1 .taken))))
 
 add-b : tie.Need-add-b Inv-loop μ-loop
 add-b c = search needs
@@ -34,7 +35,7 @@ loop-less : tie.Need-loop-less Inv-loop μ-loop
 loop-less c = search needs
 
 loop-again : tie.Need-loop-again Inv-loop μ-loop
-loop-again c = let i = c .before .before .before .loop in (omega arith, omega arith, i .inv .2 ∙ first-turn _ (i .b) _ (omega arith) (not-true _ (sym (c .before .has .ensures) ∙ not-false _ (c .if1 .left))))
+loop-again c = let i = c .before .before .before .loop in (omega arith, omega arith, i .inv .2 ∙ first-turn _ (i .b) _ (omega arith) (ap not (sym (c .before .has .ensures) ∙ not-false _ (c .if1 .left))))
 
 returns-2 : tie.Need-returns-2 Inv-loop μ-loop
 returns-2 c = let i = c .before .loop in sym (i .inv .2 ∙ first-end _ (i .b) _ (omega arith))

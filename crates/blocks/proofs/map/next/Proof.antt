@@ -1,7 +1,7 @@
 use Prim.Native.Nat.{_-_, _+_, _≤_}
-use mathlib.Core.Path.{_≡_, refl, sym, _∙_}
+use mathlib.Core.Path.{_≡_, refl, sym, ap, _∙_}
+use mathlib.Core.Bool.{not}
 use native.Mathlib.Omega.{arith}
-use borrow.Author.Tests.{not-true, not-false}
 use Rattle.bounded.specs.Search.{firstFrom}
 use Rattle.bounded.proofs.SearchLaws.{first-turn, first-found, search-left}
 use Rattle.blocks.specs.Map.{lacks}
@@ -10,13 +10,13 @@ use Rattle.blocks.proofs.map.next.Statement.{statement}
 use Rattle.blocks.proofs.map.next.Tie as tie
 
 abbrev Inv-loop : tie.InvT-loop
-Inv-loop map first last c₀ c = (c ≤ last) × (firstFrom (lacks map) first (last + 1 - first) ≡ firstFrom (lacks map) c (last + 1 - c))
+Inv-loop map first last c₀ c = (1 ≤ c) × (c ≤ last) × (firstFrom (lacks map) first (last + 1 - first) ≡ firstFrom (lacks map) c (last + 1 - c))
 
 abbrev μ-loop : tie.MeasureT-loop
 μ-loop map first last c₀ c = last + 1 - c
 
 loop-holds : tie.Need-loop-holds Inv-loop μ-loop
-loop-holds c = (search-left _ _ _ (c .before .pre .2), refl)
+loop-holds c = (omega arith, search-left _ _ _ (c .before .pre .3), refl)
 
 has-requires : tie.Need-has-requires Inv-loop μ-loop
 has-requires c κs = omega arith
@@ -30,11 +30,11 @@ loop-less c = search needs
 loop-again : tie.Need-loop-again Inv-loop μ-loop
 loop-again c =
     let i = c .before .before .loop in
-    let e = i .inv .1 ∙ first-turn _ (i .c) _ (omega arith) (not-true _ (sym (c .before .has .ensures) ∙ c .if1 .taken)) in
-    (search-left _ _ _ (λ z. c .before .before .before .before .pre .2 (e ∙ z)), e)
+    let e = i .inv .2 ∙ first-turn _ (i .c) _ (omega arith) (ap not (sym (c .before .has .ensures) ∙ c .if1 .taken)) in
+    (omega arith, search-left _ _ _ (λ z. c .before .before .before .before .pre .3 (e ∙ z)), e)
 
 returns : tie.Need-returns Inv-loop μ-loop
-returns c = let i = c .before .before .loop in i .inv .1 ∙ first-found _ (i .c) _ (omega arith) (not-false _ (sym (c .before .has .ensures) ∙ c .if1 .left))
+returns c = let i = c .before .before .loop in i .inv .2 ∙ first-found _ (i .c) _ (omega arith) (ap not (sym (c .before .has .ensures) ∙ c .if1 .left))
 
 pub next-spec : {M : Type 1} → statement M
 next-spec =

@@ -24,9 +24,9 @@ close-requires c κs =
 
 count-names-requires : tie.Need-count-names-requires
 count-names-requires c κs =
-    let a = c .before .before .before .before .before .before .before .before .before .before .before .before .before .before .before .args in
-    let p = c .before .before .before .before .before .before .before .before .before .before .before .before .before .before .before .pre in
-    close-addressed (now (a .s)) (now (a .m)) (now (a .d)) (a .n) (a .h) (p .0) (p .2) (p .3) _ _ _ (c .before .before .before .before .before .before .close .ensures)
+    let a = c .before .before .before .before .before .before .before .before .before .before .before .before .before .before .before .before .args in
+    let p = c .before .before .before .before .before .before .before .before .before .before .before .before .before .before .before .before .pre in
+    close-addressed (now (a .s)) (now (a .m)) (now (a .d)) (a .n) (a .h) (p .0) (p .2) (p .3) _ _ _ (c .before .before .before .before .before .before .before .close .ensures)
 
 same-length : tie.Need-same-length
 same-length c = search needs
@@ -36,9 +36,9 @@ same-length-2 c = search needs
 
 returns : tie.Need-returns
 returns c =
-    let a = c .before .before .before .before .before .before .before .before .before .before .before .before .before .before .before .before .args in
-    let p = c .before .before .before .before .before .before .before .before .before .before .before .before .before .before .before .before .pre in
-    close-goes (now (a .s)) (now (a .m)) (now (a .d)) (a .n) (a .h) (p .0) (p .2) (p .3) _ _ _ (c .before .before .before .before .before .before .before .close .ensures) _ (c .count-names .ensures)
+    let a = c .before .before .before .before .before .before .before .before .before .before .before .before .before .before .before .before .before .args in
+    let p = c .before .before .before .before .before .before .before .before .before .before .before .before .before .before .before .before .before .pre in
+    close-goes (now (a .s)) (now (a .m)) (now (a .d)) (a .n) (a .h) (p .0) (p .2) (p .3) _ _ _ (c .before .before .before .before .before .before .before .before .close .ensures) _ (c .count-names .ensures)
 
 same-length-3 : tie.Need-same-length-3
 same-length-3 c = search needs

@@ -37,11 +37,11 @@ returns-2 c = (sym (not-true _ (c .if2 .taken)) ∙ c .before .further-fit .ensu
 
 map-of-requires : tie.Need-map-of-requires
 map-of-requires c κs =
-    let p = c .before .before .before .before .before .before .pre in
-    (p .3 (sym (c .before .further-fit .ensures) ∙ not-false _ (c .if2 .left)), p .0 .area, p .0 .high)
+    let p = c .before .before .before .before .before .before .before .pre in
+    (p .3 (sym (c .before .before .further-fit .ensures) ∙ not-false _ (c .before .if2 .left)), p .0 .area, p .0 .high)
 
 returns-3 : tie.Need-returns-3
-returns-3 c = (sym (not-false _ (c .before .if2 .left)) ∙ c .before .before .further-fit .ensures, λ _ _. c .map-of .ensures)
+returns-3 c = (sym (not-false _ (c .before .before .if2 .left)) ∙ c .before .before .before .further-fit .ensures, λ _ _. c .map-of .ensures)
 
 pub may-hold-spec : {M : Type 1} → statement M
 may-hold-spec =

@@ -1,9 +1,10 @@
 use Prim.Native.Nat.{ℕ}
-use mathlib.Core.Path.{ap, _∙_}
+use mathlib.Core.Path.{sym, ap, _∙_}
 use mathlib.Core.List.{List}
 use native.Mathlib.Omega.{arith}
 use denote.Ref.{now}
 use Rattle.blocks.specs.Block.{putKth}
+use Rattle.desk.specs.Next.{copyingOne}
 use Rattle.transfer.proofs.BlockLaws.{block-put, block-long}
 use Rattle.copier.proofs.FiveLaws.{copy-done, locked-few, address-fits, further-fits}
 use borrow.Author.Needs.{needs}
@@ -48,11 +49,18 @@ put-kth-requires c κs =
     let v = block-long (l .store) (a .h .locked) (l .low) (l .high) (a .h .transferred) (z .pre .2) (now (a .d)) in
     (address-fits t (l .low) (l .high) _ _ v w, locked-few l (z .pre .2), further-fits t (l .low) (l .high) _ _ v w)
 
+read-requires : tie.Need-read-requires
+read-requires c κs = omega (arith, c .before .before .before .before .before .before .before .before .before .before .before .before .before .before .before .before .pre .0 .long)
+
+-- what is read is the header that came in
 copied-one-more-requires : tie.Need-copied-one-more-requires
-copied-one-more-requires c κs = let z = c .before .before .before .before .before .before .before .before .before .before .before .before .before .before .before in let w = locked-few (z .pre .1) (z .pre .2) in (omega arith, z .pre .0 .steps)
+copied-one-more-requires c κs =
+    let z = c .before .before .before .before .before .before .before .before .before .before .before .before .before .before .before .before .before in
+    let w = locked-few (z .pre .1) (z .pre .2) in
+    rw (c .read .ensures ∙ sym (z .pre .0 .read)) (omega arith, z .pre .0 .steps)
 
 write-requires : tie.Need-write-requires
-write-requires c κs = search needs
+write-requires c κs = omega (arith, c .before .before .before .before .before .before .before .before .before .before .before .before .before .before .before .before .before .before .before .pre .0 .long)
 
 cast-t14 : tie.Need-cast-t14
 cast-t14 c = search needs
@@ -65,13 +73,13 @@ same-length-2 c = search needs
 
 returns : tie.Need-returns
 returns c =
-    let z = c .before .before .before .before .before .before .before .before .before .before .before .before .before .before .before .before .before .before .before .before .before in
+    let z = c .before .before .before .before .before .before .before .before .before .before .before .before .before .before .before .before .before .before .before .before .before .before .before in
     let a = z .args in
     let l = z .pre .1 in
     let t = z .pre .3 in
-    let o = c .before .before .before .before .before .before .before .before .before .before .before .before .before .before .before .block-at in
-    let w = block-put (l .store) (a .h .locked) (l .low) (l .high) (a .h .transferred) (z .pre .2) (now (a .m)) (now (a .d)) (a .c) (o .result) _ (o .ensures) (omega (arith, o .ensures, t .block .low, t .block .inside)) (c .before .before .before .before .before .before .before .before .before .before .before .before .copy-block .ensures) in
-    copy-done (now (a .d)) (a .h) _ (z .pre .0 .read) (now (a .m)) (a .n) _ (now (a .s)) _ (a .c) (c .before .before .before .before .before .before .before .before .put-kth .ensures ∙ ap (λ (x : List ℕ). putKth x (a .n) (a .h .locked) (a .h .transferred) (a .c)) w) (c .before .before .before .before .before .copied-one-more .ensures) (c .before .before .before .write .ensures)
+    let o = c .before .before .before .before .before .before .before .before .before .before .before .before .before .before .before .before .before .block-at in
+    let w = block-put (l .store) (a .h .locked) (l .low) (l .high) (a .h .transferred) (z .pre .2) (now (a .m)) (now (a .d)) (a .c) (o .result) _ (o .ensures) (omega (arith, o .ensures, t .block .low, t .block .inside)) (c .before .before .before .before .before .before .before .before .before .before .before .before .before .before .copy-block .ensures) in
+    copy-done (now (a .d)) (a .h) _ (z .pre .0 .read) (now (a .m)) (a .n) _ (now (a .s)) _ (a .c) (c .before .before .before .before .before .before .before .before .before .before .put-kth .ensures ∙ ap (λ (x : List ℕ). putKth x (a .n) (a .h .locked) (a .h .transferred) (a .c)) w) (c .before .before .before .before .before .copied-one-more .ensures ∙ ap copyingOne (c .before .before .before .before .before .before .read .ensures ∙ sym (z .pre .0 .read))) (c .before .before .before .write .ensures)
 
 pub copy-spec : {M : Type 1} → statement M
 copy-spec =
@@ -87,6 +95,7 @@ copy-spec =
     copy-block-requires
     cast-put-kth
     put-kth-requires
+    read-requires
     copied-one-more-requires
     write-requires
     cast-t14

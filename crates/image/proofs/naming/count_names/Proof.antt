@@ -20,14 +20,11 @@ loop-holds c = (omega arith, tally-start _ 1 257)
 add-count-directory : tie.Need-add-count-directory Inv-loop μ-loop
 add-count-directory c = search needs
 
-slice-aggregate-count-directory : tie.Need-slice-aggregate-count-directory Inv-loop μ-loop
-slice-aggregate-count-directory c = search needs
-
 count-directory-requires : tie.Need-count-directory-requires Inv-loop μ-loop
 count-directory-requires c κs =
     let k = c .before .before .loop .k in
     let w : 48 * k ≡ 48 * (k + 1 - 1) = omega arith in
-    (c .before .before .before .before .pre, omega arith, omega arith, tallied-as _ _ _ _ w (c .before .before .loop .inv .1))
+    (c .before .before .before .before .before .pre, omega arith, omega arith, tallied-as _ _ _ _ w (c .before .before .loop .inv .1))
 
 add-k : tie.Need-add-k Inv-loop μ-loop
 add-k c = search needs
@@ -36,11 +33,11 @@ loop-less : tie.Need-loop-less Inv-loop μ-loop
 loop-less c = search needs
 
 loop-again : tie.Need-loop-again Inv-loop μ-loop
-loop-again c = (omega arith, c .before .count-directory .ensures)
+loop-again c = (omega arith, c .count-directory .ensures)
 
 returns : tie.Need-returns Inv-loop μ-loop
 returns c =
-    let w : 48 * c .before .loop .k ≡ 48 * c .before .before .before .args .n = omega arith in
+    let w : 48 * c .before .loop .k ≡ 48 * c .before .before .before .before .args .n = omega arith in
     tallied-as _ _ _ _ w (c .before .loop .inv .1)
 
 pub count-names-spec : {M : Type 1} → statement M
@@ -51,7 +48,6 @@ count-names-spec =
     μ-loop
     loop-holds
     add-count-directory
-    slice-aggregate-count-directory
     count-directory-requires
     add-k
     loop-less
