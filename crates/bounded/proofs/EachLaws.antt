@@ -35,13 +35,16 @@ all_swap R xs [] a = tt
 all_swap R xs (y ∷ ys) a = (all_map _ _ xs (λ x r. r.0) a, all_swap R xs ys (all_map _ _ xs (λ x r. r.1) a))
 
 pub some_map : {A : Type 0} (P Q : A → Type 0) (xs : List A) → ((x : A) → P x → Q x) → Some P xs → Some Q xs
+some_map P Q [] f h = elim h [ ]
 some_map P Q (x ∷ xs) f (inl p) = inl (f x p)
 some_map P Q (x ∷ xs) f (inr p) = inr (some_map P Q xs f p)
 
 pub some_none : {A : Type 0} (P : A → Type 0) (xs : List A) → ((x : A) → P x → ⊥) → Some P xs → ⊥
+some_none P [] f h = elim h [ ]
 some_none P (x ∷ xs) f (inl p) = f x p
 some_none P (x ∷ xs) f (inr p) = some_none P xs f p
 
 pub some_get : {A : Type 0} (P : A → Type 0) (xs : List A) → Some P xs → (x : A) × P x
+some_get P [] h = elim h [ ]
 some_get P (x ∷ xs) (inl p) = (x, p)
 some_get P (x ∷ xs) (inr p) = some_get P xs p
