@@ -1,4 +1,6 @@
 // What calls answer.
+#![tactic(auto)]
+
 ghost use Rattle.std.specs.Prelude.{◌≡◌, eqb};
 ghost use Rattle.answers.specs.Refusal.{refusal_number};
 ghost use Rattle.answers.specs.Told.{told};

@@ -2,6 +2,8 @@
 // machine's size. A call answers 32 bits with a sign: its result, which is never negative, or minus the
 // number of its refusal; the check answers a byte. Any bytes and numbers may be handed in; a refused call
 // changes nothing, save that 16 writes the desk, and that 21 sets the dealer's counts to 0.
+#![tactic(auto)]
+
 mod code;
 mod mask;
 

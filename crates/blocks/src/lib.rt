@@ -1,4 +1,6 @@
 // Blocks: where they stand, how many a size uses, and which an inode uses.
+#![tactic(auto)]
+
 pub mod free;
 pub mod map;
 

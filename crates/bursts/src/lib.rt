@@ -1,4 +1,6 @@
 // Up to 64 steps of the copy in one call, with one set of guards. Any bytes may be lent.
+#![tactic(auto)]
+
 pub mod kept;
 
 ghost use Rattle.std.specs.Prelude.{◌≡◌, true, ◌≤◌};

@@ -1,4 +1,6 @@
 // Dates by the Gregorian rule, their day numbers, and weeks.
+#![tactic(auto)]
+
 mod starts;
 
 ghost use Rattle.std.specs.Prelude.{◌≡◌, ◌<◌, ◌≤◌};

@@ -1,4 +1,6 @@
 // The inodes: one pass over attributes, addresses and the zero bytes after a file's end, in which every named block is noted; then the blocks that none of them names.
+#![tactic(auto)]
+
 ghost use Rattle.std.specs.Prelude.{◌≡◌, ◌+◌, ◌-◌, ◌*◌, ◌/◌, ◌%◌, ◌<◌, ◌≤◌, min, true, false, ◌&&◌, ◌≢◌, length};
 ghost use Rattle.bounded.specs.Below.{all_below, all_to};
 ghost use Rattle.bounded.specs.Count.{differ_b};

@@ -1,4 +1,6 @@
 // The check: whether bytes, any bytes, are a sound store or a finished image.
+#![tactic(auto)]
+
 pub mod entries;
 pub mod links;
 

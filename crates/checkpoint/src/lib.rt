@@ -1,4 +1,6 @@
 // The copier is definitions here; of code there is what the state question answers.
+#![tactic(auto)]
+
 use answers::Refusal;
 
 // What the state question answers: state, locked inode and steps.

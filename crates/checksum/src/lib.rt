@@ -1,4 +1,6 @@
 // The 64-bit FNV-1a checksum.
+#![tactic(auto)]
+
 ghost use Rattle.std.specs.Prelude.{◌≡◌, ◌*◌, ◌%◌, ◌^◌};
 ghost use Rattle.checksum.specs.Checksum.{prime, mixed, checksum};
 

@@ -1,5 +1,7 @@
 // The calls of the copier: start, which opens a copy with a fresh image and a desk without notes, and step. Any bytes may be lent; a
 // refused call changes nothing, save that 16 writes the desk.
+#![tactic(auto)]
+
 pub mod five;
 
 ghost use Rattle.std.specs.Prelude.{◌≡◌, true, List, ℕ, ◌≤◌, length};

@@ -1,4 +1,6 @@
 // The desk: its header as a struct by value whose methods hand back the next state, its copied bytes and its mark words.
+#![tactic(auto)]
+
 ghost use Rattle.std.specs.Prelude.{◌≡◌, ◌+◌, ◌<◌, ◌≤◌, length};
 ghost use Rattle.marks.specs.Mark.{mark_bits};
 ghost use Rattle.desk.specs.Sizes.{desk_header_bytes, desk_length, desk_allowed};

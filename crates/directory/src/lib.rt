@@ -1,4 +1,6 @@
 // The slots of a directory: entries read, searched and written. The 16 bytes of a slot, starting mid-block, are handed to the entry's functions.
+#![tactic(auto)]
+
 ghost use Rattle.std.specs.Prelude.{◌≡◌, ◌+◌, ◌*◌, ◌<◌, ◌≤◌, length};
 ghost use Rattle.octets.specs.Octets.{part};
 ghost use Rattle.bounded.specs.Search.{first};

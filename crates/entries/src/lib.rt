@@ -1,4 +1,6 @@
 // The entries of directories, looked up, made, linked, unlinked and renamed: what a call is to do, decided before any byte changes, and the bytes that it leaves.
+#![tactic(auto)]
+
 pub mod apply;
 pub mod plan;
 

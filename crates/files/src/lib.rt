@@ -1,4 +1,6 @@
 // The plain store's file calls.
+#![tactic(auto)]
+
 pub mod plain;
 
 use answers::Refusal;

@@ -1,4 +1,6 @@
 // The two layout calls: a store with an empty root, and a desk that is idle.
+#![tactic(auto)]
+
 ghost use Rattle.std.specs.Prelude.{◌≡◌, ◌≤◌};
 ghost use Rattle.layout.specs.Sizes.{most_inodes, most_store_blocks};
 ghost use Rattle.format.specs.Format.{laid_out, fresh_header, lay_out_store, lay_out_desk};

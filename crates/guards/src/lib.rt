@@ -1,4 +1,6 @@
 // Refusals 1, 2 and 3, which come before all others of a call over store, image and desk, and the state question, which has no others.
+#![tactic(auto)]
+
 mod fit;
 
 ghost use Rattle.std.specs.Prelude.{◌≡◌, true};

@@ -1,4 +1,6 @@
 // Standard input, line by line.
+#![tactic(auto)]
+
 ghost use Rattle.std.specs.Prelude.{◌<◌, ◌≤◌};
 ghost use Rattle.input.specs.Within.{Within};
 

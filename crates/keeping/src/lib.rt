@@ -1,4 +1,6 @@
 // Which copies of a case to keep.
+#![tactic(auto)]
+
 mod dates;
 mod days;
 mod rule;

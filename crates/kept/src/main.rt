@@ -1,5 +1,7 @@
 // Says which copies to keep: reads commands from standard input, one a line, and prints for each a letter
 // for every copy, or the refusal.
+#![tactic(auto)]
+
 mod parse;
 mod print;
 

@@ -1,4 +1,6 @@
 // Lap times of a watch against those of the track's timing mat.
+#![tactic(auto)]
+
 ghost use Rattle.std.specs.Prelude.{◌≡◌, ◌&&◌, ◌+◌, ◌-◌, ◌<◌, ◌≤◌, ltb, length};
 ghost use Rattle.octets.specs.Octets.{pasted};
 ghost use Rattle.laps.specs.Times.{most_apart, rising, allowed};

@@ -1,5 +1,7 @@
 // The file calls over store, image and desk but look up and read: guards, then the call behind them and what it writes for a running
 // copy. Any bytes may be lent; a refused call changes nothing.
+#![tactic(auto)]
+
 mod notes;
 mod work;
 

@@ -1,4 +1,6 @@
 // The 64-bit mark word of a directory, by shift and mask: one bit for each slot.
+#![tactic(auto)]
+
 ghost use Rattle.std.specs.Prelude.{◌≡◌, ◌<◌};
 ghost use Rattle.marks.specs.Mark.{mark_bits, marked, with_mark, without_mark};
 

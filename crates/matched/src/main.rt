@@ -1,4 +1,6 @@
 // Matches laps: reads commands from standard input, one a line, and prints each one's report or refusal.
+#![tactic(auto)]
+
 mod parse;
 mod print;
 

@@ -1,5 +1,7 @@
 // Prints the first day of each month from January 2000 on, one a line, as the Gregorian rule gives it:
 // the numbers of the calendar's table.
+#![tactic(auto)]
+
 ghost use Rattle.std.specs.Prelude.{◌≤◌};
 
 use calendar::{FIRST_YEAR, MONTHS, month_length, month_start};

@@ -1,4 +1,6 @@
 // Names, and the 16 bytes of a directory entry.
+#![tactic(auto)]
+
 ghost use Rattle.std.specs.Prelude.{◌≡◌, ◌+◌, ◌≤◌, length};
 ghost use Rattle.names.specs.Name.{name_bytes, plain_byte, is_dots, legal_name};
 ghost use Rattle.bounded.specs.Below.{all_below};

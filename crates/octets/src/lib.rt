@@ -1,4 +1,6 @@
 // Bytes of a slice: numbers low byte first, ranges zeroed and copied, bytes tested eight at once.
+#![tactic(auto)]
+
 ghost use Rattle.std.specs.Prelude.{◌≡◌, not, ◌||◌, ◌+◌, ◌*◌, ◌<◌, ◌≤◌, eqb, length, get_or};
 ghost use Rattle.bounded.specs.Below.{all_below};
 ghost use Rattle.octets.specs.Octets.{num_at, put_num, zeroed, pasted};

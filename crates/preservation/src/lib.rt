@@ -1,1 +1,2 @@
 // What keeps a store sound: laws alone.
+#![tactic(auto)]

@@ -1,4 +1,6 @@
 // Replays the vectors: reads commands from standard input, one a line, and prints for each the answer and the checksums of store, image and desk.
+#![tactic(auto)]
+
 mod lengths;
 mod lines;
 

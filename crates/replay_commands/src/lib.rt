@@ -1,4 +1,6 @@
 // The command lines of the vectors: what a line asks for, and the line that answers it. All on slices; what comes from outside may be any bytes.
+#![tactic(auto)]
+
 pub mod answer;
 pub mod parse;
 

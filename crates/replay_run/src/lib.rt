@@ -1,4 +1,6 @@
 // What a command does to store, image and desk, and what it answers.
+#![tactic(auto)]
+
 mod buffers;
 mod calls;
 

@@ -1,4 +1,6 @@
 // Runs a script from standard input on a fresh store, and prints what each line is answered; the line in which a copy finishes is followed by its listing.
+#![tactic(auto)]
+
 mod lines_of;
 mod print;
 

@@ -1,4 +1,6 @@
 // The lines of a script: a reader that holds the script and a place in it, and what a line asks for. What comes from outside may be any bytes.
+#![tactic(auto)]
+
 pub mod forms;
 
 ghost use Rattle.std.specs.Prelude.{◌≡◌};

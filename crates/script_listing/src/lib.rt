@@ -1,4 +1,6 @@
 // The text that a line of a script prints: its answer, and the listing of a finished copy. m is the image, d the desk, n the count of inodes.
+#![tactic(auto)]
+
 ghost use Rattle.std.specs.Prelude.{◌≡◌, true, ◌+◌, ◌*◌, ◌<◌, ◌≤◌, length};
 ghost use Rattle.layout.specs.Sizes.{header_bytes};
 ghost use Rattle.layout.specs.Fits.{InodeFits};

@@ -1,4 +1,6 @@
 // A script's lines on the three buffers: what a line does, and what it is answered. Any bytes may be lent.
+#![tactic(auto)]
+
 mod calls;
 pub mod run;
 

@@ -1,4 +1,5 @@
 // What a sound store or finished image is.
+#![tactic(auto)]
 
 // Which of the two a check is told.
 #[derive(Drop)]

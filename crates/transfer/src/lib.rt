@@ -1,4 +1,6 @@
 // A block of the store on its way into the image: where it goes, and its bytes as they are copied. s is the store, m the image, d the desk, n the count of inodes.
+#![tactic(auto)]
+
 ghost use Rattle.std.specs.Prelude.{◌≡◌, not, ◌&&◌, ◌+◌, ◌*◌, ◌<◌, ◌≤◌, eqb, leb, length};
 ghost use Rattle.bounded.specs.Below.{some_below};
 ghost use Rattle.bounded.specs.Count.{tally};

@@ -1,5 +1,7 @@
 // Random lists of calls on the library, beside a plain store and a record of which entries were taken out: at the first difference it prints the list that shows it.
 // Words: a seed, and how many lists.
+#![tactic(auto)]
+
 mod print;
 
 use text::Number;

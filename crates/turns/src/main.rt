@@ -1,5 +1,7 @@
 // Deals turns by lines of text: reads commands from standard input, one a line, and prints for each what
 // the dealer answers.
+#![tactic(auto)]
+
 mod answer;
 mod flags;
 

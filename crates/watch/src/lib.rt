@@ -2,6 +2,7 @@
 // of the three: laps against the mat, and which copies to keep. Any bytes may be lent and any numbers
 // handed in, and no call asks anything of its caller. A refused call changes nothing, save that 16 writes
 // the desk.
+#![tactic(auto)]
 
 // What calls take and answer.
 pub use answers::{Answer, Refusal};

@@ -2,6 +2,8 @@
 // what the trial finds of each. A line of the input says what is wrong (`copy`, `plain`, `burst`,
 // `answer`), how it is called, and what makes it wrong: commands of `replay`, or numbers. The three
 // are parted by a `:`, commands by a `;`.
+#![tactic(auto)]
+
 mod cases;
 mod history;
 mod lines;

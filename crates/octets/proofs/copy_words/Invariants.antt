@@ -1,0 +1,14 @@
+use Prim.Native.Nat.{ℕ, ◌+◌, ◌*◌, ◌≤◌, ◌-◌}
+use mathlib.Core.Path.{◌≡◌, refl, ◌∙◌, ap}
+use native.Mathlib.Omega.{arith}
+use lib.ListN.{length}
+use Rattle.octets.specs.Octets.{pasted}
+use Rattle.octets.proofs.PartLaws.{copied_none}
+use Rattle.octets.proofs.NumLaws.{length_num, num_copied}
+use Rattle.octets.proofs.copy_words.Given as goal
+
+abbrev pub invariant-loop-j : goal.invariant-loop-j
+invariant-loop-j l = (l.j ≤ l.m) × (length l.d ≡ length l.initial.d) × (l.d ≡ pasted l.initial.d l.o l.s l.p (8 * l.j))
+
+abbrev pub decreases-loop-j : goal.decreases-loop-j
+decreases-loop-j l = l.m - l.j

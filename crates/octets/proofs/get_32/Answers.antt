@@ -1,0 +1,5 @@
+use Rattle.octets.proofs.NumLaws.{num_join}
+use Rattle.octets.proofs.get_32.Goals as goal
+
+pub returns : goal.returns
+returns c = let a = c.args in cc (num_join 2 2 a.s.now a.o)
