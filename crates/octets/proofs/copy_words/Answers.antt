@@ -15,7 +15,7 @@ loop-j-preserved c =
     let i = c.loop-j in
     let a = c.args in
     let e : 8 * i.j + 8 ≡ 8 * (i.j + 1) = omega arith in
-    let q : c.put_64.new.0 ≡ pasted a.d.now a.o a.s.now a.p (8 * i.j + 8) =
+    let q : c.put_64.new.s ≡ pasted a.d.now a.o a.s.now a.p (8 * i.j + 8) =
     c.put_64.ensures
     ∙ rw (i.invariant.2, c.get_64.ensures) (num_copied 8 a.d.now a.o a.s.now a.p (8 * i.j) (λ k. (c.type_inv.s k).fits) (omega arith)) in
     (omega arith, rw (c.put_64.ensures, length_num) i.invariant.1, q ∙ ap (pasted a.d.now a.o a.s.now a.p) e)

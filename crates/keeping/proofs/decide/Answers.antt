@@ -1,0 +1,15 @@
+use Rattle.keeping.proofs.MapLaws.{none_noted}
+use Rattle.keeping.proofs.RuleLaws.{walks}
+use Rattle.keeping.proofs.decide.Goals as goal
+
+pub look_at-requires : goal.look_at-requires
+look_at-requires c =
+    record { copies_fit = c.requires.copies_fit; none = none_noted c.args.days.now; room = c.requires.room }
+
+pub returns : goal.returns
+returns c =
+    let a = c.args in
+    let look = c.look_at.ensures in
+    let e = c.settle.ensures in
+    walks a.days.now a.terms.now a.today _ _ look.0 c.latest_days.ensures c.requires.terms_fit
+    a.out.now _ _ _ c.requires.room look.1 e.0 e.1

@@ -1,0 +1,13 @@
+use Prim.Native.Nat.{◌≤◌, ◌-◌}
+use mathlib.Core.Path.{◌≡◌, refl, ◌∙◌, ap}
+use native.Mathlib.Omega.{arith}
+use lib.ListN.{length, length-set}
+use Rattle.octets.specs.Octets.{pasted}
+use Rattle.octets.proofs.PartLaws.{copied_none, copied_more}
+use Rattle.laps.proofs.set_aside.Given as goal
+
+abbrev pub invariant-loop-k : goal.invariant-loop-k
+invariant-loop-k l = (l.k ≤ length l.times - l.from) × (length l.out ≡ length l.initial.out) × (l.out ≡ pasted l.initial.out l.to l.times l.from l.k)
+
+abbrev pub decreases-loop-k : goal.decreases-loop-k
+decreases-loop-k l = length l.times - l.from - l.k

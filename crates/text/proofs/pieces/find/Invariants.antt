@@ -1,0 +1,13 @@
+use Rattle.text.proofs.PieceLaws.{place_found, place_turn, place_end}
+use Rattle.text.specs.Pieces.{find_from}
+use borrow.Author.Tests.{eq-eqb, ne_eqb}
+use native.Mathlib.Omega.{arith}
+use Prim.Native.Nat.{◌-◌}
+use mathlib.Core.Path.{◌≡◌, refl, sym, ◌∙◌}
+use Rattle.text.proofs.pieces.find.Given as goal
+
+abbrev pub invariant-loop-k : goal.invariant-loop-k
+invariant-loop-k l = find_from l.s l.x l.o ≡ find_from l.s l.x l.k
+
+abbrev pub decreases-loop-k : goal.decreases-loop-k
+decreases-loop-k l = l.k-end - l.k

@@ -1,0 +1,12 @@
+use Rattle.text.proofs.PieceLaws.{start_none, start_more, rest_is, rest_none}
+use Rattle.text.specs.Pieces.{piece_start}
+use native.Mathlib.Omega.{arith}
+use Prim.Native.Nat.{◌-◌, ◌≤◌}
+use mathlib.Core.Path.{◌≡◌, refl, ap, ◌∙◌}
+use Rattle.text.proofs.pieces.rest.Given as goal
+
+abbrev pub invariant-loop-j : goal.invariant-loop-j
+invariant-loop-j l = (l.j ≤ l.k) × (l.o ≡ piece_start l.s l.x l.j)
+
+abbrev pub decreases-loop-j : goal.decreases-loop-j
+decreases-loop-j l = l.k - l.j
