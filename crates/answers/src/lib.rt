@@ -6,7 +6,7 @@ ghost use Rattle.answers.specs.Refusal.{refusal_number};
 ghost use Rattle.answers.specs.Told.{told};
 
 // The refusals of document 01, in the order of their numbers; those from 17 on are document 02's.
-#[derive(Drop)]
+#[derive(Clone, Copy)]
 pub enum Refusal {
     BadBuffer,
     UnsoundStore,
@@ -34,7 +34,7 @@ pub enum Refusal {
 }
 
 // What a call answers: the number that document 01 names for it, 0 where it names none, or a refusal.
-#[derive(Drop)]
+#[derive(Clone, Copy)]
 pub enum Answer {
     Done(usize),
     Refused(Refusal),

@@ -22,7 +22,7 @@ use layout::sizes::INODE_PLACES;
 pub const MOST_BURST: usize = 64;
 
 // What one turn came to: its step was accepted and the copy runs on; it was, and no step after it is; or it was refused.
-#[derive(Drop)]
+#[derive(Clone, Copy)]
 pub enum Turn {
     Goes,
     Ends,

@@ -15,7 +15,7 @@ pub const FIRST_YEAR: usize = 2000;
 const LAST_YEAR: usize = 2049;
 
 // What a number that stands for a date is found to be.
-#[derive(Drop)]
+#[derive(Clone, Copy)]
 pub enum Reckoned {
     Day(u16),
     NoDate,

@@ -4,7 +4,7 @@
 use answers::Refusal;
 
 // What the state question answers: state, locked inode and steps.
-#[derive(Drop)]
+#[derive(Clone, Copy)]
 pub enum Status {
     Is(u8, u16, u32),
     NoStatus(Refusal),

@@ -7,7 +7,7 @@ pub mod plan;
 use answers::Refusal;
 
 // Look up: the inode. Read: the count. Write and shorten: the new size.
-#[derive(Drop)]
+#[derive(Clone, Copy)]
 pub enum NumberPlan {
     To(usize),
     NoNumber(Refusal),

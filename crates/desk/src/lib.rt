@@ -39,7 +39,7 @@ pub fn allowed(n: usize, k: usize) -> bool
     k == DESK_HEADER_BYTES + DESK_INODE_BYTES * n
 }
 
-#[derive(Drop)]
+#[derive(Clone, Copy)]
 pub struct Desk {
     pub inodes: u16,
     pub blocks: u16,

@@ -18,7 +18,7 @@ use layout::header::Header;
 use sound::Form;
 
 // What the guards answer: the store's counts of inodes and blocks and the desk's header, for the call behind them; or a refusal.
-#[derive(Drop)]
+#[derive(Clone, Copy)]
 pub enum Watched {
     Open(usize, usize, Desk),
     Shut(Refusal),

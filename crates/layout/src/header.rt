@@ -3,7 +3,7 @@ ghost use Rattle.std.specs.Prelude.{◌≡◌, ◌+◌, ◌<◌, ◌≤◌, leng
 ghost use Rattle.layout.specs.Sizes.{header_bytes};
 ghost use Rattle.layout.specs.Header.{header_of, put_header, put_free, more_free, less_free, put_complete, header_rest_zero};
 
-#[derive(Drop)]
+#[derive(Clone, Copy)]
 pub struct Header {
     pub inodes: u16,
     pub blocks: u16,

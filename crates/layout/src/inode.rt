@@ -10,7 +10,7 @@ ghost use Rattle.layout.specs.Fits.{InodeFits};
 use crate::sizes::{ADDRESS_COUNT, ATTRIBUTE_BYTES, FREE, HEADER_BYTES};
 use bounded::Found;
 
-#[derive(Drop)]
+#[derive(Clone, Copy)]
 pub struct Inode {
     pub kind: u8,
     pub links: u16,

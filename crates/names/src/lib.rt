@@ -32,7 +32,7 @@ fn folded(w: u64) -> u64
 }
 
 // A name in 14 bytes, zero-filled and folded, as two words: names are compared word by word.
-#[derive(Drop)]
+#[derive(Clone, Copy)]
 pub struct Name {
     pub low: u64,
     pub high: u64,

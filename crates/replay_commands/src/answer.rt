@@ -22,7 +22,7 @@ const YES: usize = 2;
 const NO: usize = 3;
 
 // A reply in parts: its word, by its place, how many numbers it has, the numbers, and, if it shows the page, how many bytes of it.
-#[derive(Drop)]
+#[derive(Clone, Copy)]
 struct Said(usize, usize, [usize; 3], Found);
 
 // What a call answered.

@@ -5,7 +5,7 @@ pub mod answer;
 pub mod parse;
 
 // A file call but a read, with its numbers; a name or bytes stand in a lent buffer, here is their count.
-#[derive(Drop)]
+#[derive(Clone, Copy)]
 pub enum Call {
     LookUp(usize, usize),
     CreateFile(usize, usize),
@@ -19,7 +19,7 @@ pub enum Call {
 }
 
 // What a command asks for. `Bad` is no command.
-#[derive(Drop)]
+#[derive(Clone, Copy)]
 pub enum Command {
     New(usize, usize, usize),
     PokeStore(usize, usize),
@@ -40,7 +40,7 @@ pub enum Command {
 
 // What a command answers, in numbers. `Laid` has those of the two layout calls, `Shown` a read's count and how many bytes of its out-buffer are
 // shown, `Asked` state, locked inode and steps.
-#[derive(Drop)]
+#[derive(Clone, Copy)]
 pub enum Reply {
     Error,
     Plain,
@@ -54,7 +54,7 @@ pub enum Reply {
 }
 
 // The checksums of store, image and desk.
-#[derive(Drop)]
+#[derive(Clone, Copy)]
 pub struct Sums {
     pub store: u64,
     pub image: u64,

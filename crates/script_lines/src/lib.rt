@@ -10,7 +10,7 @@ use text::pieces::find;
 
 const NEWLINE: u8 = 10;
 
-#[derive(Drop)]
+#[derive(Clone, Copy)]
 pub struct Reader<'a> {
     pub script: &'a [u8],
     pub at: usize,

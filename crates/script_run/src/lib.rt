@@ -5,7 +5,7 @@ mod calls;
 pub mod run;
 
 // `ok` or `no`, its number, and whether a copy has finished in the line.
-#[derive(Drop)]
+#[derive(Clone, Copy)]
 pub struct Reply {
     pub ok: bool,
     pub number: usize,
@@ -13,7 +13,7 @@ pub struct Reply {
 }
 
 // One step: 0 or its refusal's number, and whether it finished the copy.
-#[derive(Drop)]
+#[derive(Clone, Copy)]
 pub struct Turn {
     pub number: usize,
     pub finished: bool,

@@ -2,7 +2,7 @@
 #![tactic(auto)]
 
 // Which of the two a check is told.
-#[derive(Drop)]
+#[derive(Clone, Copy)]
 pub enum Form {
     Store,
     Image,

@@ -7,7 +7,7 @@ pub mod pieces;
 pub mod put;
 
 // What a piece of text says: a number, or none.
-#[derive(Drop)]
+#[derive(Clone, Copy)]
 pub enum Number {
     Value(usize),
     NoNumber,

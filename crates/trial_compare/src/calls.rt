@@ -8,7 +8,7 @@ use trial_events::event;
 use trial_events::event::{Event, OUT_BYTES};
 
 // A refusal's number, 0 for none, and the value: of a state question the steps.
-#[derive(Drop)]
+#[derive(Clone, Copy)]
 pub struct Got {
     pub number: usize,
     pub value: usize,
@@ -28,7 +28,7 @@ pub const IMAGE: usize = 4;
 pub const DESK: usize = 5;
 
 // What the library answered, and what differs.
-#[derive(Drop)]
+#[derive(Clone, Copy)]
 pub struct Both {
     pub got: Got,
     pub differs: usize,

@@ -64,7 +64,7 @@ pub const OUT_BYTES: usize = 64;
 pub const MOST_BURST: usize = 64;
 
 // Counts of inodes, blocks and image blocks; whether the list fills a directory; how many directories it makes before all else.
-#[derive(Drop)]
+#[derive(Clone, Copy)]
 pub struct Shape {
     pub inodes: usize,
     pub blocks: usize,
@@ -74,7 +74,7 @@ pub struct Shape {
 }
 
 // What is asked for, and numbers for it, of which a call uses those that it has.
-#[derive(Drop)]
+#[derive(Clone, Copy)]
 pub struct Event {
     pub what: usize,
     pub dir: usize,

@@ -172,7 +172,7 @@ fn owed_at(s: &[u8], copy: &[u8], n: usize, taken: &[u8], p: usize) -> usize
 
 // How many entries the copy owes, and the first that is not in it, 0 for none; behind that one
 // nothing is counted.
-#[derive(Drop)]
+#[derive(Clone, Copy)]
 pub struct Owed {
     pub entries: usize,
     pub missing: usize,

@@ -35,7 +35,7 @@ pub const MOMENTS_BYTES: usize = MOMENT_BYTES * MOST_MOMENTS;
 const MOST_STEPS: usize = 1000;
 
 // From a start to the finish: how many moments there were, none where no copy is under way; and accepted steps since the latest start.
-#[derive(Drop)]
+#[derive(Clone, Copy)]
 pub struct Copy {
     pub moments: usize,
     pub steps: usize,
@@ -52,7 +52,7 @@ pub const STEPS: usize = 8;
 pub const FINISH: usize = 9;
 
 // The copy after an event, and what is wrong: `ALIKE` if nothing is.
-#[derive(Drop)]
+#[derive(Clone, Copy)]
 pub struct Next {
     pub copy: Copy,
     pub wrong: usize,

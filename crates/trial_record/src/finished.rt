@@ -10,7 +10,7 @@ use watch::Form;
 // and has not, the first entry and the first inode of no moment, the first inode with a wrong link
 // count, each 0 for none; and whether its free counts are true. An entry is told by 48 times its
 // directory, and its slot.
-#[derive(Drop)]
+#[derive(Clone, Copy)]
 pub struct Found {
     pub owed: usize,
     pub sound: bool,

@@ -1,0 +1,16 @@
+use Prim.Native.Nat.{ℕ, ◌≤◌, ◌-◌}
+use mathlib.Core.Path.{◌≡◌, refl, sym, ap, ◌∙◌}
+use mathlib.Core.Bool.{true}
+use native.Mathlib.Omega.{arith}
+use lib.ListN.{length, drop}
+use borrow.Author.Tests.{eq-eqb, ne_eqb}
+use Rattle.desk.specs.Sizes.{running}
+use Rattle.desk.specs.Next.{runs, locks_any}
+use Rattle.desk.proofs.LockLaws.{locks_none, locks_end, locks_here, locks_later}
+use Rattle.desk.proofs.Desk.locks_any.Given as goal
+
+abbrev pub invariant-loop-k : goal.invariant-loop-k
+invariant-loop-k l = (l.k ≤ length l.inodes) × (runs l.self ≡ true) × (locks_any l.self (drop l.k l.inodes) ≡ locks_any l.self l.inodes)
+
+abbrev pub decreases-loop-k : goal.decreases-loop-k
+decreases-loop-k l = length l.inodes - l.k

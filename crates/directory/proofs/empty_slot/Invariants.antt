@@ -1,0 +1,16 @@
+use Prim.Native.Nat.{◌-◌, ◌/◌}
+use mathlib.Core.Path.{◌≡◌, sym, ◌∙◌}
+use native.Mathlib.Omega.{arith}
+use Rattle.bounded.proofs.SearchLaws.{found_below}
+use Rattle.octets.proofs.PartLaws.{length_cut}
+use Rattle.names.specs.Entry.{is_empty}
+use Rattle.directory.specs.Slot.{empty_slot}
+use Rattle.directory.proofs.SlotLaws.{from_block, block_hit, block_skip, blocks_end, empty_blocks}
+use Rattle.directory.proofs.empty_slot.Given as goal
+
+-- the slots before block k do not pass the test
+abbrev pub invariant-loop-k : goal.invariant-loop-k
+invariant-loop-k l = empty_slot l.s l.n l.d ≡ from_block is_empty l.s l.n l.d l.k
+
+abbrev pub decreases-loop-k : goal.decreases-loop-k
+decreases-loop-k l = l.count / 4 - l.k

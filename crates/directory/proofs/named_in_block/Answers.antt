@@ -1,0 +1,28 @@
+use Prim.Native.Nat.{◌*◌, ◌-◌}
+use mathlib.Core.Path.{◌≡◌, sym, ◌∙◌}
+use native.Mathlib.Omega.{arith}
+use Rattle.bounded.specs.Search.{first, first_from}
+use Rattle.bounded.proofs.SearchLaws.{first_begin, first_turn, first_found, first_end}
+use Rattle.octets.specs.Octets.{part}
+use Rattle.octets.proofs.PartLaws.{cut_test}
+use Rattle.names.specs.Words.{words_at, same_words}
+use Rattle.directory.proofs.SlotLaws.{words_test}
+use Rattle.directory.proofs.named_in_block.Goals as goal
+
+pub loop-j-init : goal.loop-j-init
+loop-j-init c = first_begin _ 4
+
+pub returns-then-same_name : goal.returns-then-same_name
+returns-then-same_name c =
+    let i = c.loop-j in
+    let a = c.args in
+    sym (i.invariant ∙ first_found _ i.j 4 (omega arith) (cut_test (words_test a.name) a.block.now (16 * i.j) 16 c.same_name.ensures c.if-same_name.true))
+
+pub loop-j-preserved : goal.loop-j-preserved
+loop-j-preserved c =
+    let i = c.loop-j in
+    let a = c.args in
+    i.invariant ∙ first_turn _ i.j 4 (omega arith) (cut_test (words_test a.name) a.block.now (16 * i.j) 16 c.same_name.ensures c.if-same_name.false)
+
+pub returns : goal.returns
+returns c = let i = c.loop-j in sym (i.invariant ∙ first_end _ i.j 4 (omega arith))

@@ -1,0 +1,19 @@
+use Prim.Native.Nat.{◌*◌, ◌-◌}
+use mathlib.Core.Path.{◌≡◌, sym, ◌∙◌}
+use native.Mathlib.Omega.{arith}
+use Rattle.bounded.specs.Search.{first, first_from}
+use Rattle.bounded.proofs.SearchLaws.{first_begin, first_turn, first_found, first_end}
+use Rattle.octets.specs.Octets.{part}
+use Rattle.octets.proofs.PartLaws.{cut_test}
+use Rattle.names.specs.Words.{words_at, same_words}
+use Rattle.directory.proofs.SlotLaws.{words_test}
+use Rattle.directory.proofs.named_in_block.Given as goal
+
+-- the slots before j do not pass the test
+abbrev pub invariant-loop-j : goal.invariant-loop-j
+invariant-loop-j l =
+    first (λ i. same_words (words_at (part l.block (16 * i) 16) 2) l.name) 4
+    ≡ first_from (λ i. same_words (words_at (part l.block (16 * i) 16) 2) l.name) l.j (4 - l.j)
+
+abbrev pub decreases-loop-j : goal.decreases-loop-j
+decreases-loop-j l = 4 - l.j

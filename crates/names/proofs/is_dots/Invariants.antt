@@ -1,0 +1,18 @@
+use Prim.Native.Nat.{◌-◌, ◌≤◌}
+use mathlib.Core.Path.{◌≡◌, sym}
+use mathlib.Core.Bool.{true}
+use native.Mathlib.Omega.{arith}
+use borrow.Author.Tests.{eq-eqb, ne_eqb, lt-leb, le-leb}
+use lib.Dec.{eqb}
+use lib.ListN.{get_or}
+use Rattle.bounded.specs.Below.{all_below}
+use Rattle.bounded.proofs.BoolLaws.{and_false_l, chain_end}
+use Rattle.bounded.proofs.BelowLaws.{all_none, all_more, all_stopped, all_done}
+use Rattle.names.specs.Name.{dot, is_dots}
+use Rattle.names.proofs.is_dots.Given as goal
+
+abbrev pub invariant-loop-j : goal.invariant-loop-j
+invariant-loop-j l = (l.j ≤ l.k) × (all_below (λ i. eqb (get_or l.name i 0) dot) l.j ≡ true)
+
+abbrev pub decreases-loop-j : goal.decreases-loop-j
+decreases-loop-j l = l.k - l.j
