@@ -1,0 +1,11 @@
+use Prim.Native.Nat.{◌≤◌, ◌-◌}
+use mathlib.Core.Path.{sym, ◌∙◌}
+use native.Mathlib.Omega.{arith}
+use Rattle.checker.proofs.LinkLaws.{Path, path_turn}
+use Rattle.checker.proofs.links.note_path.Given as goal
+
+abbrev pub invariant-loop : goal.invariant-loop
+invariant-loop l = (l.counter ≤ l.n) × Path l.s l.n l.at l.known
+
+abbrev pub decreases-loop : goal.decreases-loop
+decreases-loop l = l.n - l.counter

@@ -1,0 +1,17 @@
+use Prim.Native.Nat.{◌≤◌, ◌-◌}
+use mathlib.Core.Path.{◌≡◌, sym}
+use mathlib.Core.Bool.{true}
+use native.Mathlib.Omega.{arith}
+use Rattle.sound.specs.Test.{lead_b}
+use Rattle.bounded.specs.Below.{all_to}
+use Rattle.bounded.proofs.BelowLaws.{all_none, all_more, all_stopped, all_done}
+use Rattle.bounded.proofs.BoolLaws.{chain_on, chain_off}
+use Rattle.checker.specs.Pass.{Known}
+use Rattle.checker.proofs.LinkLaws.{known_start}
+use Rattle.checker.proofs.links.parents_right.Given as goal
+
+abbrev pub invariant-loop-k : goal.invariant-loop-k
+invariant-loop-k l = (l.k ≤ l.n) × (all_to (lead_b l.s l.n) l.k ≡ true) × Known l.s l.known
+
+abbrev pub decreases-loop-k : goal.decreases-loop-k
+decreases-loop-k l = l.n - l.k
