@@ -55,6 +55,7 @@ module _ {s : List ℕ} {n : ℕ} (h : Sound Store s) (e : n ≡ inodes_in s) (a
   still_free j l m f g = none y.made used (fresh t n y first.sound (same_count s n (changes a t is ys []) h e first) then j l m f g)
     where
       none : (zs : List Entry) → All (λ z. kind_of t z.inode ≢ free_kind) zs → Some (λ z. z.inode ≡ j) zs → ⊥
+      none [] r q = elim q [ ]
       none (z ∷ zs) r (inl p) = r.0 (ap (kind_of t) p ∙ f)
       none (z ∷ zs) r (inr p) = none zs r.1 p
 
