@@ -181,6 +181,7 @@ module _ (n i t : ℕ) (l : 1 ≤ i) (m : i ≤ n) (u : t < most_slots) where
 
   pub set_some : (d : List ℕ) (ys : List Entry) → desk_length n ≤ length d → All (Ranged n) ys → is_running d ≡ true → Some (λ y. place_of i t ≡ place_in y) ys → mark_of (set_marks d n ys) n i t ≡ true
   unfolding set_marks
+  set_some d [] f r g e = elim e [ ]
   set_some d (y ∷ ys) f r g (inl e) =
       let z = set_notes d n y.directory y.slot in
       let w = z.long in

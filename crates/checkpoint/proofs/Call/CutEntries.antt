@@ -100,7 +100,7 @@ module _ {n b : ℕ} {s m d : List ℕ} (h : Laid n b s m d) (y : Entry) (r : Wh
 pub entries_laid : {n b : ℕ} {s m d : List ℕ} → Sound Store s → n ≡ inodes_in s → Laid n b s m d → (ys : List Entry) → All (Whole n) ys → Laid n b s (cut_entries m d n ys) d
 unfolding cut_entries
 entries_laid k x h [] r = h
-entries_laid k x h (y ∷ ys) r = entries_laid k x (image_laid h y r.0 k x) ys r.1
+entries_laid {n = n} {m = m} {d = d} k x h (y ∷ ys) r = entries_laid {m = cut_image m d n y.directory y.slot y.inode} k x (image_laid h y r.0 k x) ys r.1
 
 -- the place of an entry that is taken: cut, or left where the rule does not hold
 pub data CutAt (n : ℕ) (m v d : List ℕ) (y : Entry) : Type 0 where
@@ -196,4 +196,5 @@ cut_by {n} {b} {s} {m} {d} k x h g [] apart r = record {
   away = λ q l a. refl;
   at = tt;
 }
-cut_by k x h g (y ∷ ys) apart r = cuts_then y ys r.0 r.1 apart.0 (cut_first h g y r.0) (cut_by k x (image_laid h y r.0 k x) g ys apart.1 r.1)
+cut_by {n = n} {m = m} {d = d} k x h g (y ∷ ys) apart r =
+    cuts_then y ys r.0 r.1 apart.0 (cut_first h g y r.0) (cut_by {m = cut_image m d n y.directory y.slot y.inode} k x (image_laid h y r.0 k x) g ys apart.1 r.1)

@@ -89,6 +89,7 @@ module _ (s : List ℕ) (h : Sound Store s) where
     where
       go : (l : ℕ) → Some (λ j. l ≡ j) (d ∷ []) → (1 ≤ l) × Hinders s l (create d name k)
       go l (inl e) = (one_of directory_kind d l (creates s n b d name i r q).new.directory e, subst (λ (y : ℕ). Hinders s l (create y name k)) e paper.creates)
+      go l (inr h) = elim h [ ]
 
   puts : (i o : ℕ) (xs : List ℕ) (p : NumberPlan) → write_plan s n i o (length xs) ≡ p → Each (Touches (write i o xs)) (do_write s n b i o xs p)
   puts i o xs (NoNumber e) q = tt
@@ -96,6 +97,7 @@ module _ (s : List ℕ) (h : Sound Store s) where
     where
       go : (l : ℕ) → Some (λ j. l ≡ j) (i ∷ []) → (1 ≤ l) × Hinders s l (write i o xs)
       go l (inl e) = (one_of file_kind i l (writes s n i o (length xs) z q).file e, subst (λ (y : ℕ). Hinders s l (write y o xs)) e paper.writes)
+      go l (inr h) = elim h [ ]
 
   cuts : (i z : ℕ) (p : NumberPlan) → shorten_plan s n i z ≡ p → Each (Touches (shorten i z)) (do_shorten s n i p)
   cuts i z (NoNumber e) q = tt
@@ -103,6 +105,7 @@ module _ (s : List ℕ) (h : Sound Store s) where
     where
       go : (l : ℕ) → Some (λ j. l ≡ j) (i ∷ []) → (1 ≤ l) × Hinders s l (shorten i z)
       go l (inl e) = (one_of file_kind i l (shortens s n i z y q).file e, subst (λ (y : ℕ). Hinders s l (shorten y z)) e paper.shortens)
+      go l (inr h) = elim h [ ]
 
   adds : (d : ℕ) (name : List ℕ) (i : ℕ) (p : LinkPlan) → link_plan s n b d name i ≡ p → Each (Touches (link d name i)) (do_link s n d name i p)
   adds d name i (NoLink e) q = tt
@@ -111,6 +114,7 @@ module _ (s : List ℕ) (h : Sound Store s) where
       go : (l : ℕ) → Some (λ j. l ≡ j) (d ∷ i ∷ []) → (1 ≤ l) × Hinders s l (link d name i)
       go l (inl e) = (one_of directory_kind d l (links s n b d name i r q).new.directory e, subst (λ (y : ℕ). Hinders s l (link y name i)) e paper.links)
       go l (inr (inl e)) = (one_of file_kind i l (links s n b d name i r q).file e, subst (λ (y : ℕ). Hinders s l (link d name y)) e paper.links_it)
+      go l (inr (inr h)) = elim h [ ]
 
   takes : (d : ℕ) (name : List ℕ) (p : UnlinkPlan) → unlink_plan s n d name ≡ p → Each (Touches (unlink d name)) (do_unlink s n d p)
   takes d name (NoUnlink e) q = tt
@@ -119,6 +123,7 @@ module _ (s : List ℕ) (h : Sound Store s) where
       go : (l : ℕ) → Some (λ j. l ≡ j) (d ∷ i ∷ []) → (1 ≤ l) × Hinders s l (unlink d name)
       go l (inl e) = (one_of directory_kind d l (unlinks s n d name t i q).entry.directory e, subst (λ (y : ℕ). Hinders s l (unlink y name)) e paper.unlinks)
       go l (inr (inl e)) = let f = (unlinks s n d name t i q).entry in (found_one d t i l name f e, paper.unlinks_it (looks_up s n d name t i f ∙ ap To (sym e)))
+      go l (inr (inr h)) = elim h [ ]
 
   -- a rename, by whichever call: within a directory, and to another
   module _ {c : Call} (d : ℕ) (name : List ℕ) (e : ℕ) (other : List ℕ) (r : Renaming d name e other c) where
@@ -135,12 +140,14 @@ module _ (s : List ℕ) (h : Sound Store s) where
     away t i f k o l (inl g) = in_it f.directory l g
     away t i f k o l (inr (inl g)) = into_it k l g
     away t i f k o l (inr (inr (inl g))) = of_it t i f o l g
+    away t i f k o l (inr (inr (inr h))) = elim h [ ]
 
     either : (t i : ℕ) → FoundIn s n d name t i → is_directory s n e ≡ true → (l : ℕ) → Some (λ j. l ≡ j) (watched d e i) → (1 ≤ l) × Hinders s l c
     either t i f k l = go (eqb d e) refl
       where
         go : (x : Bool) → eqb d e ≡ x → Some (λ j. l ≡ j) (pick x (d ∷ []) (d ∷ e ∷ i ∷ [])) → (1 ≤ l) × Hinders s l c
         go true q (inl g) = in_it f.directory l g
+        go true q (inr h) = elim h [ ]
         go false q g = away t i f k (eqb-false d e q) l g
 
     moved : (p : RenamePlan) → rename_new_plan s n b d name e other ≡ p → Each (Touches c) (do_rename s n d e other p)
@@ -149,6 +156,7 @@ module _ (s : List ℕ) (h : Sound Store s) where
       where
         go : (l : ℕ) → Some (λ j. l ≡ j) (d ∷ []) → (1 ≤ l) × Hinders s l c
         go l (inl g) = in_it (renames s n b d name e other t i q).0.entry.directory l g
+        go l (inr h) = elim h [ ]
     moved (Move t i z) q = let m = moves s n b d name e other t i z q in away t i m.0.entry m.0.new.directory m.1.other
 
   -- onto a name that another entry has
