@@ -1,0 +1,16 @@
+use native.Mathlib.Nat.{add-zero}
+use Rattle.image.proofs.NamingLaws.{block_inside, entry_names, empty_block}
+use Prim.Native.Nat.{◌+◌, ◌*◌, ◌-◌, ◌≤◌}
+use mathlib.Core.Path.{◌≡◌, sym, ◌∙◌}
+use native.Mathlib.Omega.{arith}
+use Rattle.bounded.specs.Count.{Tallied}
+use Rattle.bounded.proofs.CountLaws.{tallied_le, tallied_as}
+use Rattle.sound.specs.Place.{place_of}
+use Rattle.checkpoint.specs.Image.{image_naming}
+use Rattle.image.proofs.naming.count_block.Given as goal
+
+abbrev pub invariant-loop-j : goal.invariant-loop-j
+invariant-loop-j l = (l.j ≤ 4) × Tallied (image_naming l.m l.n) 1 257 (place_of l.e (4 * l.k) + l.j) l.counts
+
+abbrev pub decreases-loop-j : goal.decreases-loop-j
+decreases-loop-j l = 4 - l.j

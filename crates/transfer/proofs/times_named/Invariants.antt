@@ -1,0 +1,15 @@
+use Prim.Native.Nat.{ℕ, ◌+◌, ◌*◌, ◌-◌, ◌≤◌}
+use mathlib.Core.Path.{◌≡◌, sym, ap, ◌∙◌}
+use mathlib.Core.Logic.{⊎_elim}
+use native.Mathlib.Omega.{arith}
+use Rattle.bounded.specs.Count.{tally}
+use Rattle.bounded.proofs.CountLaws.{tally_here, tally_else, tally_le, count_zero}
+use Rattle.layout.specs.Sizes.{address_count}
+use Rattle.layout.specs.Inode.{address_of}
+use Rattle.transfer.proofs.times_named.Given as goal
+
+abbrev pub invariant-loop-x : goal.invariant-loop-x
+invariant-loop-x l = (l.x-end ≡ address_count * l.n) × (l.x ≤ l.x-end) × (l.times ≡ tally (address_of l.m l.n) l.x l.c)
+
+abbrev pub decreases-loop-x : goal.decreases-loop-x
+decreases-loop-x l = l.x-end - l.x
