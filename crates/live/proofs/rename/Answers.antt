@@ -1,0 +1,18 @@
+use mathlib.Core.Path.{refl}
+use Rattle.files.specs.Effect.{rename}
+use Rattle.live.proofs.CallLaws.{let_through}
+use Rattle.live.proofs.ReturnLaws.{call_through, call_stopped}
+use Rattle.live.proofs.rename.Goals as goal
+
+pub rename-requires : goal.rename-requires
+rename-requires c = let_through _ _ _ _ c.three_guards.ensures c.in-Open.is
+
+pub returns-in-Open : goal.returns-in-Open
+returns-in-Open c =
+    let a = c.args in
+    call_through (rename a.dir a.name.now a.to_dir a.to_name.now) refl _ _ _ _ c.three_guards.ensures _ _ _ _ c.in-Open.is c.rename.ensures
+
+pub returns-in-Shut : goal.returns-in-Shut
+returns-in-Shut c =
+    let a = c.args in
+    call_stopped (rename a.dir a.name.now a.to_dir a.to_name.now) refl _ _ _ _ c.three_guards.ensures _ c.in-Shut.is
