@@ -10,7 +10,7 @@ use Rattle.bounded.proofs.TableLaws.{get_or_table}
 use Rattle.answers.specs.declared.Answer.TheVariants.{Done, Refused}
 use Rattle.answers.specs.declared.Refusal.TheVariants.{BadTurn}
 use Rattle.answers.specs.Refusal.{refusal_number}
-use Rattle.answers.specs.Told.{Told, told}
+use Rattle.answers.specs.Told.{Told}
 use Rattle.dealer.specs.Deal.{bays, served, gets, Dealt, turn, turn_allowed}
 use Rattle.dealer.specs.Claims.{Call, Answers, given}
 use Rattle.dealer.specs.Places.{Allowed}

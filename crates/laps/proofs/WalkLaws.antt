@@ -9,7 +9,7 @@ use native.Mathlib.Omega.{arith}
 use borrow.Author.Tests.{le-leb, lt-leb, lt-ltb, le-ltb}
 use lib.ListN.{length, get_or, drop, length-drop}
 use lib.Seq.{drop-cons}
-use Rattle.laps.specs.Times.{most_apart, Near, near}
+use Rattle.laps.specs.Times.{most_apart, Near}
 use Rattle.laps.specs.Walk.{Lists, lists, paired, watch_aside, mat_aside, walk_from, report}
 
 -- ---- the foremost times are a and b

@@ -1,10 +1,5 @@
-use Prim.Native.Nat.{ℕ, ◌-◌, ◌%◌, ◌≤◌}
-use mathlib.Core.Path.{◌≡◌, sym, ap, subst, ◌∙◌}
-use mathlib.Core.Logic.{⊎_elim}
-use native.Mathlib.Nat.{div-le_self}
-use native.Mathlib.Omega.{arith}
-use Rattle.dealer.proofs.Filling.{Filling, begin, skips, in_round, gives, whole, Ending, not_reached, passes}
-use Rattle.dealer.proofs.TurnLaws.{in_a_round, ends_at, same_turn}
+use Prim.Native.Nat.{◌-◌, ◌≤◌}
+use Rattle.dealer.proofs.Filling.{Filling, Ending}
 use Rattle.dealer.proofs.parted.Given as goal
 
 -- `dealer::parted` meets its contract. Assumes nothing.

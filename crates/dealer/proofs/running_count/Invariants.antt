@@ -1,10 +1,7 @@
-use Rattle.bounded.proofs.CountLaws.{count_zero, count_hit, count_miss}
 use Rattle.bounded.specs.Count.{count}
 use Rattle.dealer.specs.Deal.{runs}
-use Prim.Native.Nat.{◌≤◌, ◌+◌, ◌-◌}
-use mathlib.Core.Path.{◌≡◌, sym, ap, ◌∙◌}
-use native.Mathlib.Omega.{arith}
-use mathlib.Core.Logic.{⊎_elim}
+use Prim.Native.Nat.{◌≤◌, ◌-◌}
+use mathlib.Core.Path.{◌≡◌}
 use Rattle.dealer.proofs.running_count.Given as goal
 
 -- `dealer::running_count` meets its contract. Assumes nothing.

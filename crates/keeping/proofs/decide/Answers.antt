@@ -11,5 +11,6 @@ returns c =
     let a = c.args in
     let look = c.look_at.ensures in
     let e = c.settle.ensures in
-    walks a.days.now a.terms.now a.today _ _ look.0 c.latest_days.ensures c.requires.terms_fit
-    a.out.now _ _ _ c.requires.room look.1 e.0 e.1
+    let w = walks a.days.now a.terms.now a.today _ _ look.noted_from c.latest_days.ensures c.requires.terms_fit
+    a.out.now _ _ _ c.requires.room look.out_after e.value e.out_after in
+    record { value = w.0; out_after = w.1 }

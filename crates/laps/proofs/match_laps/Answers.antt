@@ -1,6 +1,6 @@
-use mathlib.Core.Path.{◌≡◌}
+use mathlib.Core.Path.{◌≡◌, sym, ◌∙◌}
 use mathlib.Core.Bool.{true, ◌&&◌}
-use Rattle.bounded.proofs.BoolLaws.{and-true, and_false_l, and_false_r, chain_on, chain_off}
+use Rattle.bounded.proofs.BoolLaws.{and-true, and_false_l, and_false_r}
 use Rattle.laps.specs.Times.{allowed}
 use Rattle.laps.specs.Walk.{lists}
 use Rattle.laps.specs.Call.{room_for, room}
@@ -8,19 +8,19 @@ use Rattle.laps.proofs.CallLaws.{room_decides, refused_times, refused_room, done
 use Rattle.laps.proofs.match_laps.Goals as goal
 
 pub returns-then-not-allowed : goal.returns-then-not-allowed
-returns-then-not-allowed c = let a = c.args in refused_times a.watch.now a.mat.now (lists a.paired_watch.now a.paired_mat.now a.alone_watch.now a.alone_mat.now) (and_false_l _ _ (chain_off _ _ c.allowed.ensures c.if-not-allowed.true-raw))
+returns-then-not-allowed c = let a = c.args in refused_times a.watch.now a.mat.now (lists a.paired_watch.now a.paired_mat.now a.alone_watch.now a.alone_mat.now) (and_false_l _ _ (sym c.allowed.ensures ∙ c.if-not-allowed.true))
 
 pub returns-then-not-allowed-2 : goal.returns-then-not-allowed-2
-returns-then-not-allowed-2 c = let a = c.args in refused_times a.watch.now a.mat.now (lists a.paired_watch.now a.paired_mat.now a.alone_watch.now a.alone_mat.now) (and_false_r (allowed a.watch.now) _ (chain_off _ _ c.allowed-2.ensures c.if-not-allowed-2.true-raw))
+returns-then-not-allowed-2 c = let a = c.args in refused_times a.watch.now a.mat.now (lists a.paired_watch.now a.paired_mat.now a.alone_watch.now a.alone_mat.now) (and_false_r (allowed a.watch.now) _ (sym c.allowed-2.ensures ∙ c.if-not-allowed-2.true))
 
 pub returns-then-not-room_for : goal.returns-then-not-room_for
-returns-then-not-room_for c = let a = c.args in refused_room a.watch.now a.mat.now (lists a.paired_watch.now a.paired_mat.now a.alone_watch.now a.alone_mat.now) ((let h : let a = c.args in allowed a.watch.now && allowed a.mat.now ≡ true = and-true _ _ (chain_on _ _ c.allowed.ensures c.if-not-allowed.false-raw) (chain_on _ _ c.allowed-2.ensures c.if-not-allowed-2.false-raw) in h)) (and_false_l _ _ (chain_off _ _ c.room_for.ensures c.if-not-room_for.true-raw))
+returns-then-not-room_for c = let a = c.args in refused_room a.watch.now a.mat.now (lists a.paired_watch.now a.paired_mat.now a.alone_watch.now a.alone_mat.now) ((let h : let a = c.args in allowed a.watch.now && allowed a.mat.now ≡ true = and-true _ _ (sym c.allowed.ensures ∙ c.if-not-allowed.false) (sym c.allowed-2.ensures ∙ c.if-not-allowed-2.false) in h)) (and_false_l _ _ (sym c.room_for.ensures ∙ c.if-not-room_for.true))
 
 pub returns-then-not-room_for-2 : goal.returns-then-not-room_for-2
-returns-then-not-room_for-2 c = let a = c.args in refused_room a.watch.now a.mat.now (lists a.paired_watch.now a.paired_mat.now a.alone_watch.now a.alone_mat.now) ((let h : let a = c.args in allowed a.watch.now && allowed a.mat.now ≡ true = and-true _ _ (chain_on _ _ c.allowed.ensures c.if-not-allowed.false-raw) (chain_on _ _ c.allowed-2.ensures c.if-not-allowed-2.false-raw) in h)) (and_false_r (room_for a.watch.now a.paired_watch.now a.alone_watch.now) _ (chain_off _ _ c.room_for-2.ensures c.if-not-room_for-2.true-raw))
+returns-then-not-room_for-2 c = let a = c.args in refused_room a.watch.now a.mat.now (lists a.paired_watch.now a.paired_mat.now a.alone_watch.now a.alone_mat.now) ((let h : let a = c.args in allowed a.watch.now && allowed a.mat.now ≡ true = and-true _ _ (sym c.allowed.ensures ∙ c.if-not-allowed.false) (sym c.allowed-2.ensures ∙ c.if-not-allowed-2.false) in h)) (and_false_r (room_for a.watch.now a.paired_watch.now a.alone_watch.now) _ (sym c.room_for-2.ensures ∙ c.if-not-room_for-2.true))
 
 pub walk-requires : goal.walk-requires
-walk-requires c = let a = c.args in (room_decides a.watch.now a.mat.now (lists a.paired_watch.now a.paired_mat.now a.alone_watch.now a.alone_mat.now)).to ((let h : let a = c.args in room a.watch.now a.mat.now (lists a.paired_watch.now a.paired_mat.now a.alone_watch.now a.alone_mat.now) ≡ true = and-true _ _ (chain_on _ _ c.room_for.ensures c.if-not-room_for.false-raw) (chain_on _ _ c.room_for-2.ensures c.if-not-room_for-2.false-raw) in h))
+walk-requires c = let a = c.args in (room_decides a.watch.now a.mat.now (lists a.paired_watch.now a.paired_mat.now a.alone_watch.now a.alone_mat.now)).to ((let h : let a = c.args in room a.watch.now a.mat.now (lists a.paired_watch.now a.paired_mat.now a.alone_watch.now a.alone_mat.now) ≡ true = and-true _ _ (sym c.room_for.ensures ∙ c.if-not-room_for.false) (sym c.room_for-2.ensures ∙ c.if-not-room_for-2.false) in h))
 
 pub returns : goal.returns
-returns c = let a = c.args in done a.watch.now a.mat.now (lists a.paired_watch.now a.paired_mat.now a.alone_watch.now a.alone_mat.now) ((let h : let a = c.args in allowed a.watch.now && allowed a.mat.now ≡ true = and-true _ _ (chain_on _ _ c.allowed.ensures c.if-not-allowed.false-raw) (chain_on _ _ c.allowed-2.ensures c.if-not-allowed-2.false-raw) in h)) ((let h : let a = c.args in room a.watch.now a.mat.now (lists a.paired_watch.now a.paired_mat.now a.alone_watch.now a.alone_mat.now) ≡ true = and-true _ _ (chain_on _ _ c.room_for.ensures c.if-not-room_for.false-raw) (chain_on _ _ c.room_for-2.ensures c.if-not-room_for-2.false-raw) in h)) _ _ c.walk.ensures.value c.walk.ensures.alone_mat_after
+returns c = let a = c.args in done a.watch.now a.mat.now (lists a.paired_watch.now a.paired_mat.now a.alone_watch.now a.alone_mat.now) ((let h : let a = c.args in allowed a.watch.now && allowed a.mat.now ≡ true = and-true _ _ (sym c.allowed.ensures ∙ c.if-not-allowed.false) (sym c.allowed-2.ensures ∙ c.if-not-allowed-2.false) in h)) ((let h : let a = c.args in room a.watch.now a.mat.now (lists a.paired_watch.now a.paired_mat.now a.alone_watch.now a.alone_mat.now) ≡ true = and-true _ _ (sym c.room_for.ensures ∙ c.if-not-room_for.false) (sym c.room_for-2.ensures ∙ c.if-not-room_for-2.false) in h)) _ _ c.walk.ensures.value c.walk.ensures.alone_mat_after

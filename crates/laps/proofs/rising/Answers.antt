@@ -1,10 +1,7 @@
-use Prim.Native.Nat.{◌+◌, ◌-◌, ◌≤◌}
-use mathlib.Core.Path.{◌≡◌}
-use mathlib.Core.Bool.{true}
+use Prim.Native.Nat.{◌-◌}
 use native.Mathlib.Omega.{arith}
 use borrow.Author.Tests.{lt-ltb, le-ltb}
 use lib.ListN.{length, get_or}
-use Rattle.bounded.specs.Below.{all_to}
 use Rattle.bounded.proofs.BelowLaws.{to_none, to_more, to_stopped, to_done}
 use Rattle.laps.specs.Times.{above, rising}
 use Rattle.laps.proofs.rising.Goals as goal

@@ -1,12 +1,9 @@
 use Prim.Native.Nat.{◌+◌, ◌-◌, ◌≤◌}
 use mathlib.Core.Path.{◌≡◌}
 use mathlib.Core.Bool.{true}
-use native.Mathlib.Omega.{arith}
-use borrow.Author.Tests.{lt-ltb, le-ltb}
-use lib.ListN.{length, get_or}
+use lib.ListN.{length}
 use Rattle.bounded.specs.Below.{all_to}
-use Rattle.bounded.proofs.BelowLaws.{to_none, to_more, to_stopped, to_done}
-use Rattle.laps.specs.Times.{above, rising}
+use Rattle.laps.specs.Times.{above}
 use Rattle.laps.proofs.rising.Given as goal
 
 abbrev pub invariant-loop-k : goal.invariant-loop-k

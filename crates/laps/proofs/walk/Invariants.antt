@@ -1,14 +1,8 @@
 use Prim.Native.Nat.{◌+◌, ◌-◌, ◌≤◌}
-use mathlib.Core.Path.{◌≡◌, refl, sym, ap, ◌∙◌}
-use mathlib.Core.Logic.{◌⊎◌, inl, inr, ⊎_elim}
-use native.Mathlib.Omega.{arith}
-use borrow.Author.Tests.{ltb-true, ltb-false}
-use lib.ListN.{length, get_or, drop, length-set}
-use Rattle.octets.specs.Octets.{splice}
-use Rattle.laps.specs.Times.{most_apart}
+use mathlib.Core.Path.{◌≡◌}
+use lib.ListN.{length, drop}
 use Rattle.laps.specs.Walk.{lists, report}
-use Rattle.laps.proofs.WalkLaws.{turn_early, turn_late, turn_pair, turn_last}
-use Rattle.laps.proofs.FrontLaws.{Written, written_begin, written_watch, written_mat, written_pair, written_last, rest_laid, past_a_pair}
+use Rattle.laps.proofs.FrontLaws.{Written}
 use Rattle.laps.proofs.walk.Given as goal
 
 abbrev pub invariant-loop-i : goal.invariant-loop-i

@@ -1,8 +1,6 @@
-use Prim.Native.Nat.{◌+◌, ◌*◌, ◌-◌, ◌≤◌}
+use Prim.Native.Nat.{◌+◌, ◌*◌}
 use mathlib.Core.Path.{◌≡◌, refl, sym, ap, ◌∙◌}
-use mathlib.Core.Bool.{true}
 use native.Mathlib.Omega.{arith}
-use Rattle.bounded.specs.Below.{all_below}
 use Rattle.bounded.proofs.BelowLaws.{all_none, all_more, all_stopped, all_done}
 use Rattle.keeping.specs.Keeping.{term_count}
 use Rattle.keeping.proofs.TermLaws.{free_from, neat, free_next, neat_tells, not_free, not_ended, is_neat}

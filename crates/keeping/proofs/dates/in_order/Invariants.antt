@@ -1,11 +1,9 @@
-use Prim.Native.Nat.{◌+◌, ◌*◌, ◌-◌, ◌≤◌}
-use mathlib.Core.Path.{◌≡◌, refl, sym, ap, ◌∙◌}
+use Prim.Native.Nat.{◌-◌, ◌≤◌}
+use mathlib.Core.Path.{◌≡◌}
 use mathlib.Core.Bool.{true}
-use native.Mathlib.Omega.{arith}
 use Rattle.bounded.specs.Below.{all_below}
-use Rattle.bounded.proofs.BelowLaws.{all_none, all_more, all_stopped, all_done}
 use Rattle.keeping.specs.Keeping.{term_count}
-use Rattle.keeping.proofs.TermLaws.{free_from, neat, free_next, neat_tells, not_free, not_ended, is_neat}
+use Rattle.keeping.proofs.TermLaws.{free_from, neat}
 use Rattle.keeping.proofs.dates.in_order.Given as goal
 
 abbrev pub invariant-loop-t : goal.invariant-loop-t

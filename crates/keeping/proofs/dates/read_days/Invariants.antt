@@ -1,17 +1,12 @@
 use Prim.Native.Nat.{ℕ, ◌-◌, ◌≤◌}
-use mathlib.Core.Path.{◌≡◌, refl, sym, subst, ◌∙◌}
+use mathlib.Core.Path.{◌≡◌}
 use mathlib.Core.Bool.{Bool, true}
 use mathlib.Core.List.{List}
-use native.Mathlib.Omega.{arith}
 use lib.ListN.{length, get_or}
 use Rattle.bounded.specs.Below.{all_below}
 use Rattle.bounded.specs.Table.{Tabulated}
-use Rattle.bounded.proofs.BoolLaws.{never}
-use Rattle.bounded.proofs.BelowLaws.{all_none, all_more, all_stopped, all_done}
-use Rattle.bounded.proofs.TableLaws.{filled_none, filled_more}
 use Rattle.calendar.specs.Date.{date_of, is_date}
-use Rattle.calendar.proofs.DayLaws.{reckoned_none, reckoned_day}
-use Rattle.keeping.specs.Call.{all_dates, day_at}
+use Rattle.keeping.specs.Call.{day_at}
 use Rattle.keeping.proofs.dates.read_days.Given as goal
 
 abbrev pub dated : List ℕ → ℕ → Bool

@@ -1,8 +1,6 @@
-use Prim.Native.Nat.{◌+◌, ◌-◌, ◌≤◌}
-use mathlib.Core.Path.{◌≡◌, sym, ◌∙◌}
-use mathlib.Core.Bool.{false}
+use Prim.Native.Nat.{◌+◌}
+use mathlib.Core.Path.{sym, ◌∙◌}
 use native.Mathlib.Omega.{arith}
-use Rattle.bounded.specs.Below.{some_below}
 use Rattle.keeping.specs.Days.{noted, noted_after}
 use Rattle.keeping.proofs.LoopLaws.{some_begin, some_on, some_found, some_done}
 use Rattle.keeping.proofs.days.noted_after.Goals as goal

@@ -1,18 +1,10 @@
-use Prim.Native.Nat.{◌+◌, ◌*◌, ◌-◌, ◌≤◌}
-use mathlib.Core.Path.{◌≡◌, sym, ◌∙◌}
-use mathlib.Core.Bool.{false}
+use Prim.Native.Nat.{◌+◌, ◌*◌}
+use mathlib.Core.Path.{sym, ◌∙◌}
 use native.Mathlib.Omega.{arith}
-use Rattle.bounded.specs.Below.{some_below}
 use Rattle.keeping.specs.Keeping.{term_count}
 use Rattle.keeping.proofs.LoopLaws.{some_begin, some_on, some_found, some_done}
 use Rattle.keeping.proofs.TestLaws.{by_term, not_looked, is_young, by_terms, same_term}
 use Rattle.keeping.proofs.rule.copy_keeps.Goals as goal
-
--- what was found of the term, by the map and the term's days
-term_told : (c : tie.After-term-keeps invariant-loop decreases-loop) → let a = c.before.before.before.before.before.before.before.before.before.before.before.before.args in c.term-keeps.result ≡ by_term a.looked a.map.now a.terms.now a.latest.now a.today a.day c.before.before.before.before.before.before.before.before.loop.t
-term_told c =
-    let a = c.before.before.before.before.before.before.before.before.before.before.before.before.args in
-    c.term-keeps.ensures ∙ same_term a.map.now a.today a.day c.before.before.before.before.before.wide.ensures c.before.before.before.wide2.ensures c.before.wide3.ensures
 
 pub returns-then-looked-ne1 : goal.returns-then-looked-ne1
 returns-then-looked-ne1 c = let a = c.args in not_looked a.looked a.map.now a.terms.now a.latest.now a.today a.day c.if-looked-ne1.true
@@ -34,15 +26,17 @@ pub returns-then-term_keeps : goal.returns-then-term_keeps
 returns-then-term_keeps c =
     let a = c.args in
     let i = c.loop-t in
+    let told = c.term_keeps.ensures ∙ same_term a.map.now a.today a.day c.wide-first.ensures c.wide-last.ensures c.wide.ensures in
     by_terms a.looked a.map.now a.terms.now a.latest.now a.today a.day _ c.if-looked-ne1.false
     c.if-today-day.false
-    (some_found (by_term a.looked a.map.now a.terms.now a.latest.now a.today a.day) (term_count a.terms.now) i.t (omega arith) (sym (term_told c.before) ∙ c.if-term_keeps.true))
+    (some_found (by_term a.looked a.map.now a.terms.now a.latest.now a.today a.day) (term_count a.terms.now) i.t (omega arith) (sym told ∙ c.if-term_keeps.true))
 
 pub loop-t-preserved : goal.loop-t-preserved
 loop-t-preserved c =
     let a = c.args in
     let i = c.loop-t in
-    (omega arith, some_on (by_term a.looked a.map.now a.terms.now a.latest.now a.today a.day) i.t i.invariant.1 (sym (term_told c.before) ∙ c.if-term_keeps.false))
+    let told = c.term_keeps.ensures ∙ same_term a.map.now a.today a.day c.wide-first.ensures c.wide-last.ensures c.wide.ensures in
+    (omega arith, some_on (by_term a.looked a.map.now a.terms.now a.latest.now a.today a.day) i.t i.invariant.1 (sym told ∙ c.if-term_keeps.false))
 
 pub returns : goal.returns
 returns c =

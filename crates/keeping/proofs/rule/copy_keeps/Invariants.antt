@@ -1,11 +1,9 @@
-use Prim.Native.Nat.{◌+◌, ◌*◌, ◌-◌, ◌≤◌}
-use mathlib.Core.Path.{◌≡◌, sym, ◌∙◌}
+use Prim.Native.Nat.{◌-◌, ◌≤◌}
+use mathlib.Core.Path.{◌≡◌}
 use mathlib.Core.Bool.{false}
-use native.Mathlib.Omega.{arith}
 use Rattle.bounded.specs.Below.{some_below}
 use Rattle.keeping.specs.Keeping.{term_count}
-use Rattle.keeping.proofs.LoopLaws.{some_begin, some_on, some_found, some_done}
-use Rattle.keeping.proofs.TestLaws.{by_term, not_looked, is_young, by_terms, same_term}
+use Rattle.keeping.proofs.TestLaws.{by_term}
 use Rattle.keeping.proofs.rule.copy_keeps.Given as goal
 
 abbrev pub invariant-loop-t : goal.invariant-loop-t

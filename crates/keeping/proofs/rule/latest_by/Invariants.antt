@@ -1,9 +1,7 @@
 use Prim.Native.Nat.{◌-◌, ◌≤◌}
-use mathlib.Core.Path.{◌≡◌, refl, ap, ◌∙◌}
-use native.Mathlib.Omega.{arith}
+use mathlib.Core.Path.{◌≡◌}
 use lib.ListN.{length}
 use Rattle.bounded.specs.Most.{most}
-use Rattle.bounded.proofs.MostLaws.{most_none, most_more}
 use Rattle.keeping.specs.Days.{up_to}
 use Rattle.keeping.proofs.rule.latest_by.Given as goal
 

@@ -1,10 +1,6 @@
-use Prim.Native.Nat.{ℕ, ◌-◌, ◌≤◌}
-use mathlib.Core.Path.{◌≡◌, subst}
-use native.Mathlib.Omega.{arith}
-use Rattle.bounded.proofs.TableLaws.{filled_none, filled_more}
-use Rattle.keeping.specs.Keeping.{term_count, last_day}
-use Rattle.keeping.specs.Call.{most_terms}
-use Rattle.keeping.specs.Days.{latest_by, Latest}
+use Prim.Native.Nat.{◌-◌, ◌≤◌}
+use Rattle.keeping.specs.Keeping.{term_count}
+use Rattle.keeping.specs.Days.{Latest}
 use Rattle.keeping.proofs.rule.latest_days.Given as goal
 
 abbrev pub invariant-loop-t : goal.invariant-loop-t

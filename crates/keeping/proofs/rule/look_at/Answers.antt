@@ -1,4 +1,4 @@
-use Prim.Native.Nat.{ℕ, ◌+◌, ◌-◌, ◌≤◌, ◌<◌}
+use Prim.Native.Nat.{ℕ, ◌+◌, ◌-◌, ◌<◌}
 use mathlib.Core.Path.{◌≡◌, sym, ap, subst, ◌∙◌}
 use mathlib.Core.Bool.{Bool, not}
 use mathlib.Core.List.{List}
@@ -12,19 +12,14 @@ use Rattle.keeping.proofs.MapLaws.{one_noted, looks}
 use borrow.Author.Rules.{rules}
 use Rattle.keeping.proofs.rule.look_at.Goals as goal
 
--- the copy's day has a bit
-fits : (c : tie.After-wide invariant-loop decreases-loop) → c.wide.result < day_bits
-fits c =
-    let k = c.before.before.before.loop.i - 1 in
-    let h = c.before.before.before.before.before.before.requires.copies_fit k (omega arith) in
-    let e = c.wide.ensures in
-    omega arith
-
 pub loop-i-init : goal.loop-i-init
 loop-i-init c = (omega arith, search rules, fill_begin _ _ _)
 
 pub noted-requires : goal.noted-requires
-noted-requires c = fits c.before
+noted-requires c =
+    let h = c.requires.copies_fit (c.loop-i.i - 1) (omega arith) in
+    let e = c.wide-day.ensures in
+    omega arith
 
 pub bounds-out-i : goal.bounds-out-i
 bounds-out-i c =
@@ -33,7 +28,10 @@ bounds-out-i c =
     omega arith
 
 pub note-requires : goal.note-requires
-note-requires c = fits c.before.before.before.before
+note-requires c =
+    let h = c.requires.copies_fit (c.loop-i.i - 1) (omega arith) in
+    let e = c.wide-day.ensures in
+    omega arith
 
 pub loop-i-preserved : goal.loop-i-preserved
 loop-i-preserved c =
@@ -42,12 +40,15 @@ loop-i-preserved c =
     let l = a.days.now in
     let k = i.i - 1 in
     let e : i.i ≡ k + 1 = omega arith in
+    let h = c.requires.copies_fit k (omega arith) in
+    let d = c.wide-day.ensures in
+    let b : c.wide-day.result < day_bits = omega arith in
     let m = subst (λ (n : ℕ). NotedFrom l n i.map) e i.invariant.1 in
     let f = subst (λ (n : ℕ). FilledFrom (λ j. one (looked_at l j)) (length l) n a.out.now i.out) e i.invariant.2 in (
       omega arith,
-      subst (λ (s : List ℕ). NotedFrom l k s) (sym c.note.ensures) (one_noted l k c.wide-day.result i.map (omega arith) c.wide-day.ensures (fits w) m),
+      subst (λ (s : List ℕ). NotedFrom l k s) (sym c.note.ensures) (one_noted l k c.wide-day.result i.map (omega arith) c.wide-day.ensures b m),
       fill_more (λ j. one (looked_at l j)) (length l) k _ a.out.now i.out c.requires.room (omega arith)
-          (c.flag.ensures ∙ ap (λ (b : Bool). one (not b)) c.noted.ensures ∙ ap one (looks l k c.wide-day.result i.map c.wide-day.ensures (fits w) m)) f,
+          (c.flag.ensures ∙ ap (λ (b : Bool). one (not b)) c.noted.ensures ∙ ap one (looks l k c.wide-day.result i.map c.wide-day.ensures b m)) f,
     )
 
 pub shape_of-out : goal.shape_of-out

@@ -1,14 +1,9 @@
-use Prim.Native.Nat.{ℕ, ◌+◌, ◌-◌, ◌≤◌, ◌<◌}
-use mathlib.Core.Path.{◌≡◌, sym, ap, subst, ◌∙◌}
-use mathlib.Core.Bool.{Bool, not}
-use mathlib.Core.List.{List}
-use native.Mathlib.Omega.{arith}
+use Prim.Native.Nat.{◌≤◌}
 use lib.ListN.{length}
 use Rattle.bounded.specs.Count.{one}
 use Rattle.keeping.specs.Keeping.{looked_at}
-use Rattle.keeping.specs.Days.{day_bits, NotedFrom, look_flags}
-use Rattle.keeping.proofs.LoopLaws.{FilledFrom, fill_begin, fill_more, fill_end}
-use Rattle.keeping.proofs.MapLaws.{one_noted, looks}
+use Rattle.keeping.specs.Days.{NotedFrom}
+use Rattle.keeping.proofs.LoopLaws.{FilledFrom}
 use Rattle.keeping.proofs.rule.look_at.Given as goal
 
 abbrev pub invariant-loop-i : goal.invariant-loop-i

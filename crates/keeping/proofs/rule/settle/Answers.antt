@@ -1,4 +1,4 @@
-use Prim.Native.Nat.{ℕ, ◌+◌, ◌-◌, ◌≤◌}
+use Prim.Native.Nat.{ℕ, ◌+◌, ◌≤◌}
 use mathlib.Core.Path.{◌≡◌, sym, ap, ap₂, subst, ◌∙◌}
 use mathlib.Core.List.{List}
 use native.Mathlib.Nat.{le_refl}
@@ -41,7 +41,7 @@ overflow_add-kept c =
     let i = c.loop-i in
     let e = c.flag-keeps.ensures in
     let h = one_le c.copy_keeps.result in
-    let k : i.auto ≤ i.i = subst (λ (x : ℕ). x ≤ i.i) (sym i.invariant.1) (count_le _ i.i) in
+    let k : i.kept ≤ i.i = subst (λ (x : ℕ). x ≤ i.i) (sym i.invariant.1) (count_le _ i.i) in
     omega arith
 
 pub loop-i-preserved : goal.loop-i-preserved

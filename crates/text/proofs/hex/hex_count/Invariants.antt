@@ -1,12 +1,9 @@
-use Rattle.text.proofs.HexLaws.{count_dash, count_empty, count_odd, count_long, count_stopped, count_all, is_hex_digit, no_hex_digit}
 use Rattle.text.specs.Hex.{hex_digit}
-use Rattle.bounded.proofs.BelowLaws.{all_none, all_more}
 use Rattle.bounded.specs.Below.{all_below}
 use lib.ListN.{length}
 use Prim.Native.Nat.{◌-◌, ◌≤◌}
 use mathlib.Core.Bool.{true}
-use mathlib.Core.Path.{◌≡◌, sym, ◌∙◌}
-use native.Mathlib.Omega.{arith}
+use mathlib.Core.Path.{◌≡◌}
 use Rattle.text.proofs.hex.hex_count.Given as goal
 
 abbrev pub invariant-loop-k : goal.invariant-loop-k

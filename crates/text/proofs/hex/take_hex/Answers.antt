@@ -1,11 +1,7 @@
 use Rattle.text.proofs.HexLaws.{count_within, bytes_none, bytes_more, taken_bytes, taken_none}
-use Rattle.text.specs.Hex.{hex_byte}
-use Rattle.octets.specs.Octets.{splice}
-use Rattle.bounded.specs.Table.{table}
-use lib.ListN.{length, length-set}
+use lib.ListN.{length-set}
 use native.Mathlib.Omega.{arith}
-use Prim.Native.Nat.{◌-◌, ◌*◌, ◌≤◌}
-use mathlib.Core.Path.{◌≡◌, refl}
+use mathlib.Core.Path.{refl}
 use Rattle.text.proofs.hex.take_hex.Goals as goal
 
 pub hex_count-requires : goal.hex_count-requires

@@ -1,11 +1,9 @@
-use Rattle.text.proofs.HexLaws.{count_within, bytes_none, bytes_more, taken_bytes, taken_none}
 use Rattle.text.specs.Hex.{hex_byte}
 use Rattle.octets.specs.Octets.{splice}
 use Rattle.bounded.specs.Table.{table}
-use lib.ListN.{length, length-set}
-use native.Mathlib.Omega.{arith}
+use lib.ListN.{length}
 use Prim.Native.Nat.{◌-◌, ◌*◌, ◌≤◌}
-use mathlib.Core.Path.{◌≡◌, refl}
+use mathlib.Core.Path.{◌≡◌}
 use Rattle.text.proofs.hex.take_hex.Given as goal
 
 abbrev pub invariant-loop-k : goal.invariant-loop-k

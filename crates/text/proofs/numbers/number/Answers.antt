@@ -1,14 +1,9 @@
 use Rattle.text.proofs.NumberLaws.{decimal_more, is_digit_lem, low_no_digit, high_no_digit, none_empty, none_stopped, value_done}
-use Rattle.text.specs.Number.{largest, is_digit, decimal}
+use Rattle.text.specs.Number.{decimal}
 use Rattle.bounded.proofs.BelowLaws.{all_none, all_more}
-use Rattle.bounded.specs.Below.{all_below}
-use lib.ListN.{length}
 use native.Mathlib.Omega.{arith}
-use Prim.Native.Nat.{◌-◌, ◌≤◌, min}
-use mathlib.Core.Bool.{true}
-use mathlib.Core.Logic.{⊎_elim}
-use mathlib.Core.Path.{◌≡◌}
 use Rattle.text.proofs.numbers.number.Goals as goal
+use Rattle.text.proofs.numbers.number.Goals.{then-v-d, else-v-d}
 
 pub returns-then-s-eq0 : goal.returns-then-s-eq0
 returns-then-s-eq0 c = none_empty _ c.if-s-eq0.true
@@ -24,7 +19,7 @@ pub returns-then-x-gt-NINE : goal.returns-then-x-gt-NINE
 returns-then-x-gt-NINE c = let i = c.loop-k in none_stopped _ i.k (omega arith) (high_no_digit _ _ c.if-x-gt-NINE.true)
 
 pub loop-k-preserved : goal.loop-k-preserved
-loop-k-preserved c = let i = c.loop-k in (omega arith, omega arith, all_more _ i.k i.invariant.2 (is_digit_lem _ i.k (omega arith) (omega arith)), ⊎_elim (λ w. decimal_more _ i.k i.v _ i.invariant.3 (omega arith)) (λ w. decimal_more _ i.k i.v _ i.invariant.3 (omega arith)) c.if-v-d.branch)
+loop-k-preserved c = let i = c.loop-k in (omega arith, omega arith, all_more _ i.k i.invariant.2 (is_digit_lem _ i.k (omega arith) (omega arith)), elim c.if-v-d.branch [ then-v-d w ↦ decimal_more _ i.k i.v _ i.invariant.3 (omega arith) | else-v-d w ↦ decimal_more _ i.k i.v _ i.invariant.3 (omega arith) ])
 
 pub returns : goal.returns
 returns c = let i = c.loop-k in value_done _ i.k i.v i.invariant.1 (omega arith) i.invariant.2 i.invariant.3

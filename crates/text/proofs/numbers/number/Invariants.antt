@@ -1,12 +1,8 @@
-use Rattle.text.proofs.NumberLaws.{decimal_more, is_digit_lem, low_no_digit, high_no_digit, none_empty, none_stopped, value_done}
 use Rattle.text.specs.Number.{largest, is_digit, decimal}
-use Rattle.bounded.proofs.BelowLaws.{all_none, all_more}
 use Rattle.bounded.specs.Below.{all_below}
 use lib.ListN.{length}
-use native.Mathlib.Omega.{arith}
 use Prim.Native.Nat.{◌-◌, ◌≤◌, min}
 use mathlib.Core.Bool.{true}
-use mathlib.Core.Logic.{⊎_elim}
 use mathlib.Core.Path.{◌≡◌}
 use Rattle.text.proofs.numbers.number.Given as goal
 

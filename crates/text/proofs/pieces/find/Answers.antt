@@ -2,8 +2,7 @@ use Rattle.text.proofs.PieceLaws.{place_found, place_turn, place_end}
 use Rattle.text.specs.Pieces.{find_from}
 use borrow.Author.Tests.{eq-eqb, ne_eqb}
 use native.Mathlib.Omega.{arith}
-use Prim.Native.Nat.{◌-◌}
-use mathlib.Core.Path.{◌≡◌, refl, sym, ◌∙◌}
+use mathlib.Core.Path.{refl, sym, ◌∙◌}
 use Rattle.text.proofs.pieces.find.Goals as goal
 
 pub loop-k-init : goal.loop-k-init

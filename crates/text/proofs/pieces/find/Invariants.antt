@@ -1,9 +1,6 @@
-use Rattle.text.proofs.PieceLaws.{place_found, place_turn, place_end}
 use Rattle.text.specs.Pieces.{find_from}
-use borrow.Author.Tests.{eq-eqb, ne_eqb}
-use native.Mathlib.Omega.{arith}
 use Prim.Native.Nat.{◌-◌}
-use mathlib.Core.Path.{◌≡◌, refl, sym, ◌∙◌}
+use mathlib.Core.Path.{◌≡◌}
 use Rattle.text.proofs.pieces.find.Given as goal
 
 abbrev pub invariant-loop-k : goal.invariant-loop-k

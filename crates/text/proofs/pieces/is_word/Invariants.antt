@@ -1,14 +1,9 @@
-use Rattle.text.specs.Pieces.{is_word}
-use Rattle.bounded.proofs.BelowLaws.{all_none, all_more, all_stopped, all_done}
-use Rattle.bounded.proofs.BoolLaws.{and_false_l, chain_end}
 use Rattle.bounded.specs.Below.{all_below}
 use lib.ListN.{length, get_or}
 use lib.Dec.{eqb}
-use borrow.Author.Tests.{eq-eqb, ne_eqb}
-use native.Mathlib.Omega.{arith}
 use Prim.Native.Nat.{ℕ, ◌-◌, ◌≤◌}
 use mathlib.Core.Bool.{true}
-use mathlib.Core.Path.{◌≡◌, sym}
+use mathlib.Core.Path.{◌≡◌}
 use Rattle.text.proofs.pieces.is_word.Given as goal
 
 abbrev pub invariant-loop-k : goal.invariant-loop-k

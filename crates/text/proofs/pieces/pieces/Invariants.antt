@@ -1,9 +1,7 @@
-use Rattle.text.proofs.PieceLaws.{pieces_to, pieces_none, pieces_more, pieces_same, pieces_done}
+use Rattle.text.proofs.PieceLaws.{pieces_to}
 use lib.ListN.{length}
 use Prim.Native.Nat.{◌+◌, ◌-◌, ◌≤◌}
-use mathlib.Core.Path.{◌≡◌, ◌∙◌}
-use mathlib.Core.Logic.{⊎_elim}
-use native.Mathlib.Omega.{arith}
+use mathlib.Core.Path.{◌≡◌}
 use Rattle.text.proofs.pieces.pieces.Given as goal
 
 abbrev pub invariant-loop-k : goal.invariant-loop-k

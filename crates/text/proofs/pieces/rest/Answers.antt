@@ -1,7 +1,6 @@
 use Rattle.text.proofs.PieceLaws.{start_none, start_more, rest_is, rest_none}
 use Rattle.text.specs.Pieces.{piece_start}
 use native.Mathlib.Omega.{arith}
-use Prim.Native.Nat.{◌-◌, ◌≤◌}
 use mathlib.Core.Path.{◌≡◌, refl, ap, ◌∙◌}
 use Rattle.text.proofs.pieces.rest.Goals as goal
 

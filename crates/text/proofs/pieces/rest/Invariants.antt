@@ -1,8 +1,6 @@
-use Rattle.text.proofs.PieceLaws.{start_none, start_more, rest_is, rest_none}
 use Rattle.text.specs.Pieces.{piece_start}
-use native.Mathlib.Omega.{arith}
 use Prim.Native.Nat.{◌-◌, ◌≤◌}
-use mathlib.Core.Path.{◌≡◌, refl, ap, ◌∙◌}
+use mathlib.Core.Path.{◌≡◌}
 use Rattle.text.proofs.pieces.rest.Given as goal
 
 abbrev pub invariant-loop-j : goal.invariant-loop-j

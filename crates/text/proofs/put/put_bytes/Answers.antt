@@ -1,10 +1,7 @@
 use Rattle.text.proofs.PutLaws.{put_same, put_length, put_none, put_more, no_bytes, some_bytes}
-use Rattle.text.specs.Put.{Put, each}
 use Rattle.io.specs.Digits.{last_digits}
-use lib.ListN.{length, take}
 use native.Mathlib.Omega.{arith}
-use Prim.Native.Nat.{◌+◌, ◌-◌, ◌*◌, ◌≤◌}
-use mathlib.Core.Path.{◌≡◌, refl, ◌∙◌}
+use mathlib.Core.Path.{refl, ◌∙◌}
 use Rattle.text.proofs.put.put_bytes.Goals as goal
 
 pub returns-then-bytes-eq0 : goal.returns-then-bytes-eq0

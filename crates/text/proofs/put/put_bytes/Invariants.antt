@@ -1,10 +1,8 @@
-use Rattle.text.proofs.PutLaws.{put_same, put_length, put_none, put_more, no_bytes, some_bytes}
 use Rattle.text.specs.Put.{Put, each}
 use Rattle.io.specs.Digits.{last_digits}
 use lib.ListN.{length, take}
-use native.Mathlib.Omega.{arith}
 use Prim.Native.Nat.{◌+◌, ◌-◌, ◌*◌, ◌≤◌}
-use mathlib.Core.Path.{◌≡◌, refl, ◌∙◌}
+use mathlib.Core.Path.{◌≡◌}
 use Rattle.text.proofs.put.put_bytes.Given as goal
 
 abbrev pub invariant-loop-k : goal.invariant-loop-k

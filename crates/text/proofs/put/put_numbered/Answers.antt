@@ -4,7 +4,7 @@ use native.Mathlib.Omega.{arith}
 use Rattle.text.proofs.put.put_numbered.Goals as goal
 
 pub put-requires : goal.put-requires
-put-requires c = let d = c.decimal-k in omega (arith, decimal_short c.args.n d.result (omega arith) d.ensures.1.0, d.ensures.0.1, c.put-e.ensures.ends)
+put-requires c = let d = c.decimal-k in omega (arith, decimal_short c.args.n d.result (omega arith) d.ensures.len, d.ensures.in_bounds, c.put-e.ensures.ends)
 
 pub returns : goal.returns
-returns c = let d = c.decimal-k in let n = c.args.n in record { put = put_on _ _ _ _ _ _ _ _ c.put-e.ensures (put_same _ _ _ _ _ _ (d.ensures.1.1 ∙ decimal_digits n d.result (omega arith) d.ensures.1.0) c.put.ensures); upper_bound = omega (arith, decimal_short n d.result (omega arith) d.ensures.1.0, d.ensures.0.1, c.put-e.ensures.ends, c.put.ensures.ends) }
+returns c = let d = c.decimal-k in let n = c.args.n in record { put = put_on _ _ _ _ _ _ _ _ c.put-e.ensures (put_same _ _ _ _ _ _ (d.ensures.digits ∙ decimal_digits n d.result (omega arith) d.ensures.len) c.put.ensures); upper_bound = omega (arith, decimal_short n d.result (omega arith) d.ensures.len, d.ensures.in_bounds, c.put-e.ensures.ends, c.put.ensures.ends) }

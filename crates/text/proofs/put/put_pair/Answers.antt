@@ -5,4 +5,4 @@ use Rattle.text.proofs.put.put_pair.Goals as goal
 
 pub returns : goal.returns
 unfolding pair_text
-returns c = let x = c.put_numbered-e.ensures in let y = c.put_numbered.ensures in record { put = put_on _ _ _ _ _ _ _ _ x.0 y.0; upper_bound = omega (arith, x.1, y.1) }
+returns c = let x = c.put_numbered-e.ensures in let y = c.put_numbered.ensures in record { put = put_on _ _ _ _ _ _ _ _ x.put y.put; upper_bound = omega (arith, x.upper_bound, y.upper_bound) }
