@@ -4,13 +4,13 @@
 ghost use Rattle.std.specs.Prelude.{◌<◌, ◌≤◌};
 ghost use Rattle.input.specs.Within.{Within};
 
-use libc::STDIN_FILENO;
+use std::io::{Read, Stdin};
 
 const NEWLINE: u8 = 10;
 
 // Between two bytes of the input: the place in the piece that was read last and where that ends, how much of a line came and whether more than
 // there is room for, whether the line is at its end, and whether the input goes on.
-#[derive(Drop)]
+#[derive(Clone, Copy)]
 pub struct Input {
     pub at: usize,
     pub end: usize,
@@ -66,12 +66,15 @@ impl Input {
     }
 }
 
-fn refill(piece: &mut [u8; 65536], input: Input) -> Input
+// The next piece; a read that fails counts as the end of the input.
+fn refill(stdin: &mut Stdin, piece: &mut [u8; 65536], input: Input) -> Input
     requires { Within input }
     ensures { Within result }
 {
-    let got = libc::read(STDIN_FILENO, &mut *piece);
-    let n = io::count(got, &*piece);
+    let n = match stdin.read(&mut *piece) {
+        Ok(n) => n,
+        Err(_) => 0,
+    };
     input.read(n)
 }
 
@@ -96,7 +99,12 @@ fn take_byte(b: u8, line: &mut [u8; 65536], mut input: Input) -> Input
 }
 
 // A byte, or the next piece if the last one is used up.
-fn advance(piece: &mut [u8; 65536], line: &mut [u8; 65536], input: Input) -> Input
+fn advance(
+    stdin: &mut Stdin,
+    piece: &mut [u8; 65536],
+    line: &mut [u8; 65536],
+    input: Input,
+) -> Input
     requires { Within input }
     ensures { Within result }
 {
@@ -104,18 +112,23 @@ fn advance(piece: &mut [u8; 65536], line: &mut [u8; 65536], input: Input) -> Inp
     if at < input.end {
         return take_byte(piece[at], line, input);
     }
-    refill(piece, input)
+    refill(stdin, piece, input)
 }
 
 // The next line. Nothing says that an input ends, so the turns are counted down from a number that no run uses up.
-pub fn next_line(piece: &mut [u8; 65536], line: &mut [u8; 65536], input: Input) -> Input
+pub fn next_line(
+    stdin: &mut Stdin,
+    piece: &mut [u8; 65536],
+    line: &mut [u8; 65536],
+    input: Input,
+) -> Input
     requires { Within input }
     ensures { Within result }
 {
     let mut s = input.begun();
     let mut turns = u64::MAX;
     while turns > 0 && !s.ended {
-        s = advance(&mut *piece, &mut *line, s);
+        s = advance(&mut *stdin, &mut *piece, &mut *line, s);
         turns -= 1;
     }
     s

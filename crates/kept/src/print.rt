@@ -1,9 +1,10 @@
 // The line that answers a command.
 ghost use Rattle.std.specs.Prelude.{◌≡◌, ◌+◌, ◌≤◌, length};
 
-use libc::STDOUT_FILENO;
 use text::pieces::front;
 use text::put::{put, put_numbered};
+
+const STDOUT_FILENO: i32 = 1;
 
 fn letter(flag: u8) -> u8 {
     if flag == 1 { b'k' } else { b'g' }

@@ -85,13 +85,14 @@ fn end_line(line: &[u8; 65536], input: Input)
 }
 
 // The lines are counted down from a number that no run uses up.
-fn main() {
+fn main(rt: HostRuntime) {
+    let mut stdin = rt.stdin();
     let mut piece = io::large_buffer();
     let mut line = io::large_buffer();
     let mut input = Input::new();
     let mut turns = u64::MAX;
     while turns > 0 && input.open {
-        input = next_line(&mut piece, &mut line, input);
+        input = next_line(&mut stdin, &mut piece, &mut line, input);
         end_line(&line, input);
         turns -= 1;
     }

@@ -1,9 +1,10 @@
 // The line that answers a command.
 ghost use Rattle.std.specs.Prelude.{◌≡◌, ◌+◌, ◌*◌, ◌≤◌, length};
 
-use libc::STDOUT_FILENO;
 use text::pieces::front;
 use text::put::{put, put_numbered, put_pair};
+
+const STDOUT_FILENO: i32 = 1;
 
 fn wide(time: u32) -> usize {
     time as usize

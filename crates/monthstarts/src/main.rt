@@ -5,7 +5,8 @@
 ghost use Rattle.std.specs.Prelude.{◌≤◌};
 
 use calendar::{FIRST_YEAR, MONTHS, month_length, month_start};
-use libc::STDOUT_FILENO;
+
+const STDOUT_FILENO: i32 = 1;
 
 fn print_line(day: usize) {
     io::print_decimal(STDOUT_FILENO, day as u64);

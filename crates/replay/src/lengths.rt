@@ -6,7 +6,7 @@ use desk::{DESK_HEADER_BYTES, DESK_INODE_BYTES};
 use layout::sizes::{BLOCK_BYTES, HEADER_BYTES, INODE_BYTES};
 use replay_commands::Command;
 
-#[derive(Drop)]
+#[derive(Clone, Copy)]
 pub struct Lengths {
     pub store: usize,
     pub image: usize,

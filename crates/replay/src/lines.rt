@@ -5,12 +5,14 @@ ghost use Rattle.replay.specs.Fit.{Inside};
 use crate::lengths::{Lengths, planned};
 use checksum::checksum;
 use input::{Input, next_line};
-use libc::STDOUT_FILENO;
 use replay_commands::answer::put_line;
 use replay_commands::parse::{command, parse};
 use replay_commands::{Command, Reply, Sums};
 use replay_run::run;
+use std::io::Stdin;
 use text::pieces::front;
+
+const STDOUT_FILENO: i32 = 1;
 
 // What an out-buffer holds before a read.
 const FILLER: u8 = 170;
@@ -110,7 +112,7 @@ fn end_line(
 }
 
 // The whole input; its lines are counted down from a number that no run uses up.
-pub fn replay(store: &mut [u8], image: &mut [u8], desk: &mut [u8]) {
+pub fn replay(stdin: &mut Stdin, store: &mut [u8], image: &mut [u8], desk: &mut [u8]) {
     let mut piece = io::large_buffer();
     let mut line = io::large_buffer();
     let mut input = Input::new();
@@ -121,7 +123,7 @@ pub fn replay(store: &mut [u8], image: &mut [u8], desk: &mut [u8]) {
     };
     let mut turns = u64::MAX;
     while turns > 0 && input.open {
-        input = next_line(&mut piece, &mut line, input);
+        input = next_line(&mut *stdin, &mut piece, &mut line, input);
         lengths = end_line(&line, input, &mut *store, &mut *image, &mut *desk, lengths);
         turns -= 1;
     }

@@ -20,9 +20,9 @@ const IMAGE_BYTES: usize = HEADER_BYTES
 
 const DESK_BYTES: usize = DESK_HEADER_BYTES + DESK_INODE_BYTES * INODES;
 
-fn main() {
+fn main(rt: HostRuntime) {
     let mut store = [0u8; STORE_BYTES];
     let mut image = [0u8; IMAGE_BYTES];
     let mut desk = [0u8; DESK_BYTES];
-    lines::replay(&mut store, &mut image, &mut desk);
+    lines::replay(&mut rt.stdin(), &mut store, &mut image, &mut desk);
 }

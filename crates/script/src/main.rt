@@ -6,7 +6,8 @@ mod print;
 
 use desk::{DESK_HEADER_BYTES, DESK_INODE_BYTES};
 use layout::sizes::{BLOCK_BYTES, HEADER_BYTES, INODE_BYTES};
-use libc::STDIN_FILENO;
+
+const STDIN_FILENO: i32 = 0;
 
 const INODES: usize = 16;
 

@@ -8,9 +8,10 @@ ghost use Rattle.script_listing.specs.Listing.{most_printed};
 ghost use Rattle.script_run.specs.Reply.{world_after};
 ghost use Rattle.script_run.specs.Script.{printed, FinishesSound, script_inodes};
 
-use libc::STDOUT_FILENO;
 use script_listing::put_printed;
 use text::pieces::front;
+
+const STDOUT_FILENO: i32 = 1;
 
 // No line prints more: `most_printed` of a store of 16 inodes.
 const MOST_PRINTED: usize = 93831;

@@ -4,6 +4,7 @@
 
 mod print;
 
+use std::env::Env;
 use text::Number;
 use text::numbers::number;
 use text::pieces::front;
@@ -13,18 +14,21 @@ use trial_record::list::run;
 use trial_record::tried::COUNTS;
 
 // Word k, or the number given where there is none.
-fn word(k: usize, given: usize) -> usize {
+fn word(rt: &HostRuntime, k: usize, given: usize) -> usize {
     let mut text = [0u8; 20];
-    let n = os::arg(k, &mut text);
+    let n = match rt.arg(k, &mut text) {
+        Ok(n) => n,
+        Err(_) => 0,
+    };
     match number(front(&text, n)) {
         Number::Value(v) => v,
         Number::NoNumber => given,
     }
 }
 
-fn main() {
-    let seed = word(1, 1) as u64;
-    let lists = word(2, 1000) as u64;
+fn main(rt: HostRuntime) {
+    let seed = word(&rt, 1, 1) as u64;
+    let lists = word(&rt, 2, 1000) as u64;
     let mut moments = [0u8; MOMENTS_BYTES];
     let mut tried = [0u64; COUNTS];
     for l in 0..lists {

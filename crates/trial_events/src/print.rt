@@ -1,7 +1,8 @@
 // A list as lines of `replay`.
 use crate::event;
 use crate::event::{Event, OUT_BYTES, spell};
-use libc::STDOUT_FILENO;
+
+const STDOUT_FILENO: i32 = 1;
 
 pub fn word(text: &[u8]) {
     io::write_all(STDOUT_FILENO, text);

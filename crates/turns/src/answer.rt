@@ -5,12 +5,13 @@ ghost use Rattle.std.specs.Prelude.{◌≤◌};
 use crate::flags::{are_flags, flags};
 use answers::{Answer, refusal_number};
 use dealer::{BAYS, Turn, deal};
-use libc::STDOUT_FILENO;
 use replay_commands::parse::command;
 use text::Number;
 use text::numbers::number;
 use text::pieces::{front, is_word, piece, pieces};
 use text::put::{put, put_numbered};
+
+const STDOUT_FILENO: i32 = 1;
 
 const SPACE: u8 = 32;
 

@@ -5,8 +5,9 @@
 mod answer;
 mod flags;
 
-use libc::STDIN_FILENO;
 use text::pieces::{piece, pieces};
+
+const STDIN_FILENO: i32 = 0;
 
 const NEWLINE: u8 = 10;
 

@@ -1,10 +1,11 @@
 // The lines of the input.
 use crate::cases;
-use libc::STDIN_FILENO;
 use text::pieces::{is_word, piece, pieces};
 use trial_events::event::SLOTS;
 use trial_events::print::word;
 use trial_record::copy::{Copy, MOMENTS_BYTES};
+
+const STDIN_FILENO: i32 = 0;
 
 const NEWLINE: u8 = 10;
 

@@ -1,0 +1,6 @@
+-- A space and a number of at most 20 digits for each time passed.
+use Rattle.std.proofs.Common.{◌≤◌, ◌+◌, ◌*◌}
+use Rattle.matched.proofs.print.put_times.Given as goal
+
+abbrev pub invariant-loop-k : goal.invariant-loop-k
+invariant-loop-k l = l.e ≤ l.o + 21 * l.k
