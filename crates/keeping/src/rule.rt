@@ -104,6 +104,7 @@ fn term_keeps(
 }
 
 // Whether a copy of this day is kept; `looked` is 1 if it is looked at.
+#[tactic(auto, using(crate::proofs::TestLaws::not_looked))]
 fn copy_keeps(
     looked: u8,
     map: &[u64; DAY_WORDS],

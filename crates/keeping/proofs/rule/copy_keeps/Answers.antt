@@ -3,14 +3,11 @@ use mathlib.Core.Path.{sym, ◌∙◌}
 use native.Mathlib.Omega.{arith}
 use Rattle.keeping.specs.Keeping.{term_count}
 use Rattle.keeping.proofs.LoopLaws.{some_begin, some_on, some_found, some_done}
-use Rattle.keeping.proofs.TestLaws.{by_term, not_looked, is_young, by_terms, same_term}
+use Rattle.keeping.proofs.TestLaws.{by_term, is_young, by_terms, same_term}
 use Rattle.keeping.proofs.rule.copy_keeps.Goals as goal
 
-pub returns-then-looked-ne1 : goal.returns-then-looked-ne1
-returns-then-looked-ne1 c = let a = c.args in not_looked a.looked a.map.now a.terms.now a.latest.now a.today a.day c.if-looked-ne1.true
-
 pub returns-then-today-day : goal.returns-then-today-day
-returns-then-today-day c = let a = c.args in is_young a.looked a.map.now a.terms.now a.latest.now a.today a.day c.if-looked-ne1.false c.if-today-day.true
+returns-then-today-day c = let a = c.args in is_young a.looked a.map.now a.terms.now a.latest.now a.today a.day (omega arith) c.if-today-day.true
 
 pub loop-t-init : goal.loop-t-init
 loop-t-init c = (omega arith, some_begin _)
@@ -27,7 +24,7 @@ returns-then-term_keeps c =
     let a = c.args in
     let i = c.loop-t in
     let told = c.term_keeps.ensures ∙ same_term a.map.now a.today a.day c.wide-first.ensures c.wide-last.ensures c.wide.ensures in
-    by_terms a.looked a.map.now a.terms.now a.latest.now a.today a.day _ c.if-looked-ne1.false
+    by_terms a.looked a.map.now a.terms.now a.latest.now a.today a.day _ (omega arith)
     c.if-today-day.false
     (some_found (by_term a.looked a.map.now a.terms.now a.latest.now a.today a.day) (term_count a.terms.now) i.t (omega arith) (sym told ∙ c.if-term_keeps.true))
 
@@ -41,5 +38,5 @@ loop-t-preserved c =
 pub returns : goal.returns
 returns c =
     let a = c.args in
-    by_terms a.looked a.map.now a.terms.now a.latest.now a.today a.day _ c.if-looked-ne1.false c.if-today-day.false
+    by_terms a.looked a.map.now a.terms.now a.latest.now a.today a.day _ (omega arith) c.if-today-day.false
     (some_done (by_term a.looked a.map.now a.terms.now a.latest.now a.today a.day) (term_count a.terms.now) c.loop-t.t (omega arith) (omega arith) c.loop-t.invariant.1)
