@@ -1,4 +1,5 @@
 pub mod NameLaws
+pub mod NoNameLaws
 pub mod EntryLaws
 pub mod LegalLaws
 pub mod FoldLaws

@@ -101,6 +101,7 @@ pub fn is_empty(entry: &[u8]) -> bool
     octets::get_64(entry, 8) == 0
 }
 
+#[tactic(auto, using(crate::proofs::NoNameLaws::no_dot))]
 fn is_dots(name: &[u8]) -> bool
     ensures { result ≡ is_dots name.now }
 {
@@ -132,6 +133,7 @@ fn is_plain(name: &[u8]) -> bool
     true
 }
 
+#[tactic(auto, using(crate::proofs::NoNameLaws::too_long))]
 pub fn legal_name(name: &[u8]) -> bool
     ensures { result ≡ legal_name name.now }
 {

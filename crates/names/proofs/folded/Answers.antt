@@ -1,6 +1,6 @@
 use mathlib.Core.Path.{refl}
 use native.Mathlib.Omega.{arith}
-use lib.Bits.{bit_and, and_le_r}
+use lib.Bits.{and_le_r}
 use Rattle.names.proofs.FoldLaws.{capitals_at, capitals_fit, low_fits}
 use borrow.Author.Rules.{rules}
 use Rattle.names.proofs.folded.Goals as goal

@@ -1,14 +1,10 @@
 use Prim.Native.Nat.{◌-◌, ◌≤◌}
-use mathlib.Core.Path.{◌≡◌, sym}
+use mathlib.Core.Path.{◌≡◌}
 use mathlib.Core.Bool.{true}
-use native.Mathlib.Omega.{arith}
-use borrow.Author.Tests.{eq-eqb, ne_eqb, lt-leb, le-leb}
 use lib.Dec.{eqb}
 use lib.ListN.{get_or}
 use Rattle.bounded.specs.Below.{all_below}
-use Rattle.bounded.proofs.BoolLaws.{and_false_l, chain_end}
-use Rattle.bounded.proofs.BelowLaws.{all_none, all_more, all_stopped, all_done}
-use Rattle.names.specs.Name.{dot, is_dots}
+use Rattle.names.specs.Name.{dot}
 use Rattle.names.proofs.is_dots.Given as goal
 
 abbrev pub invariant-loop-j : goal.invariant-loop-j

@@ -1,12 +1,8 @@
 use Prim.Native.Nat.{◌-◌, ◌≤◌}
 use mathlib.Core.Path.{◌≡◌}
 use mathlib.Core.Bool.{true}
-use native.Mathlib.Omega.{arith}
 use Rattle.bounded.specs.Below.{all_below}
-use Rattle.bounded.proofs.ReflectLaws.{r_fails}
-use Rattle.bounded.proofs.BelowLaws.{all_none, all_more, all_stopped, all_done}
 use Rattle.names.specs.Name.{plain_byte}
-use Rattle.names.proofs.NameLaws.{plain_byte_lem}
 use Rattle.names.proofs.is_plain.Given as goal
 
 abbrev pub invariant-loop-j : goal.invariant-loop-j
