@@ -11,7 +11,7 @@ use Rattle.text.specs.declared.Number.{Number}
 use Rattle.text.specs.declared.Number.TheVariants.{Value, NoNumber}
 use Rattle.entries.specs.declared.Kind.TheVariants.{File, Directory}
 use Rattle.files.specs.Effect.{create, write, shorten, link, unlink, rename}
-use Rattle.checkpoint.specs.List.{Event, call, starts, asks}
+use Rattle.checkpoint.specs.List.{Event, call, starts}
 
 -- an event of a list: a file call or a start; single steps; nothing that the paper has
 pub data Ask : Type 0 where
