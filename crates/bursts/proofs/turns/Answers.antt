@@ -1,10 +1,5 @@
-use Prim.Native.Nat.{◌-◌, ◌≤◌}
-use mathlib.Core.Path.{◌≡◌, refl, ◌∙◌}
+use mathlib.Core.Path.{refl, ◌∙◌}
 use native.Mathlib.Omega.{arith}
-use lib.ListN.{length}
-use Rattle.checkpoint.specs.Live.{world}
-use Rattle.checkpoint.specs.Burst.{burst_from}
-use Rattle.bursts.specs.Turn.{Kept}
 use Rattle.bursts.proofs.TurnLaws.{turns_begin, turns_end, turns_ends, turns_stops, turns_goes, turns_kept}
 use Rattle.bursts.proofs.StepTurns.{going_addressed, first_asks, first_kept}
 use borrow.Author.Rules.{rules}

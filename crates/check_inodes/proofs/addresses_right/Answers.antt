@@ -1,4 +1,4 @@
-use Rattle.std.proofs.Common.{min, ap, ◌∙◌, arith, rules}
+use Rattle.std.proofs.Common.{min, ap, ◌∙◌, arith}
 use borrow.Author.Tests.{not-false}
 use Rattle.bounded.proofs.BoolLaws.{chain_on, never}
 use Rattle.blocks.specs.Block.{blocks_used}

@@ -1,5 +1,5 @@
 use Rattle.check_inodes.proofs.InodeLaws.{attr_spare, attr_file_long, attr_file, attr_directory_long, attr_directory, attr_other}
-use Rattle.std.proofs.Common.{sym, ◌∙◌, arith, rules}
+use Rattle.std.proofs.Common.{sym, ◌∙◌, arith}
 use Rattle.check_inodes.proofs.attributes_right.Goals as goal
 
 pub returns-then-spare-ne0 : goal.returns-then-spare-ne0

@@ -1,10 +1,7 @@
-use Rattle.std.proofs.Common.{◌≡◌, ℕ, ◌+◌, ◌-◌, ◌*◌, ◌/◌, ◌%◌, ◌≤◌, true, sym, ap, ◌∙◌, arith, rules}
+use Rattle.std.proofs.Common.{◌≡◌, ◌-◌, ◌*◌, ◌≤◌, true}
 use Rattle.blocks.specs.Map.{map_words}
 use Rattle.bounded.specs.Below.{all_to}
-use Rattle.bounded.proofs.BoolLaws.{chain_on, chain_off}
-use Rattle.bounded.proofs.BelowLaws.{all_none}
 use Rattle.check_inodes.specs.Pass.{blank_if_free_b}
-use Rattle.check_inodes.proofs.InodeLaws.{rows_more, rows_stop, rows_end}
 use Rattle.check_inodes.proofs.blanks_right.Given as goal
 
 abbrev pub invariant-loop-row : goal.invariant-loop-row

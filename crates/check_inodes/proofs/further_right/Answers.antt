@@ -1,12 +1,10 @@
-use Rattle.std.proofs.Common.{◌≡◌, ℕ, ◌+◌, ◌-◌, ◌<◌, ◌≤◌, true, sym, refl, ◌∙◌, arith, rules}
+use Rattle.std.proofs.Common.{◌≡◌, ℕ, ◌+◌, ◌-◌, ◌<◌, sym, refl, ◌∙◌, arith}
 use borrow.Author.Tests.{not-false}
-use Rattle.bounded.specs.Below.{all_below}
 use Rattle.bounded.proofs.BelowLaws.{all_stopped, all_none, all_more}
 use Rattle.bounded.proofs.BoolLaws.{chain_on, chain_off, never}
-use Rattle.blocks.specs.Block.{address_block, further_of, kth_block}
+use Rattle.blocks.specs.Block.{further_of, kth_block}
 use Rattle.blocks.proofs.KthLaws.{kth_direct}
 use Rattle.blocks.proofs.MapLaws.{map_as}
-use Rattle.check_inodes.specs.Pass.{MapsOf, row_place, kth_b}
 use Rattle.check_inodes.proofs.InodeLaws.{kth_used, kth_noted, rest_tested, rest_passed, further_is, further_few}
 use Rattle.check_inodes.proofs.further_right.Goals as goal
 

@@ -1,7 +1,7 @@
 use Rattle.check_inodes.proofs.InodeLaws.{inode_stop, inode_named_lem, inode_addresses, inode_end, free_right, zero_passed}
 use Rattle.bounded.proofs.BoolLaws.{chain_on, never}
 use borrow.Author.Tests.{not-false}
-use Rattle.std.proofs.Common.{sym, ◌∙◌, rules}
+use Rattle.std.proofs.Common.{sym, ◌∙◌}
 use Rattle.check_inodes.proofs.inode_right.Goals as goal
 
 pub returns-then-attributes_zero : goal.returns-then-attributes_zero

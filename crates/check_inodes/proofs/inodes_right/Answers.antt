@@ -1,11 +1,8 @@
-use Rattle.std.proofs.Common.{◌≡◌, ◌+◌, ◌-◌, ◌*◌, ◌≤◌, true, ◌&&◌, sym, ◌∙◌, arith, rules}
+use Rattle.std.proofs.Common.{sym, ◌∙◌, arith}
 use borrow.Author.Tests.{not-false}
-use Rattle.sound.specs.Test.{inode_b}
-use Rattle.bounded.specs.Below.{all_below}
 use Rattle.blocks.proofs.MapLaws.{map_as}
 use Rattle.bounded.proofs.BoolLaws.{chain_on, chain_off, never}
 use Rattle.bounded.proofs.BelowLaws.{all_none, all_more, all_stopped, all_done}
-use Rattle.check_inodes.specs.Pass.{MapsOf, new_blocks_b}
 use Rattle.check_inodes.proofs.InodeLaws.{inodes_are}
 use Rattle.check_inodes.proofs.inodes_right.Goals as goal
 

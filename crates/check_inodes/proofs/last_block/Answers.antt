@@ -1,6 +1,6 @@
 use Rattle.check_inodes.proofs.InodeLaws.{last_short, last_long, last_further, attr_small}
 use Rattle.blocks.proofs.KthLaws.{kth_direct}
-use Rattle.std.proofs.Common.{refl, ◌∙◌, arith, rules}
+use Rattle.std.proofs.Common.{refl, ◌∙◌, arith}
 use Rattle.check_inodes.proofs.last_block.Goals as goal
 
 pub returns-then-size-le-MOST_DIRECT_BYTES : goal.returns-then-size-le-MOST_DIRECT_BYTES

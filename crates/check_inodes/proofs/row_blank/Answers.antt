@@ -1,10 +1,8 @@
-use Rattle.std.proofs.Common.{◌≡◌, ◌+◌, ◌-◌, ◌*◌, ◌≤◌, true, sym, ◌∙◌, arith, rules}
+use Rattle.std.proofs.Common.{◌+◌, ◌*◌, sym, ◌∙◌, arith}
 use borrow.Author.Tests.{not-true, not-false}
 use Rattle.blocks.specs.Map.{map_words}
-use Rattle.bounded.specs.Below.{all_below}
 use Rattle.bounded.proofs.BoolLaws.{chain_on, chain_off}
 use Rattle.bounded.proofs.BelowLaws.{all_none, all_more, all_stopped, all_done}
-use Rattle.check_inodes.specs.Pass.{blank_if_free_b}
 use Rattle.check_inodes.proofs.InodeLaws.{blank_named, blank_tested}
 use Rattle.check_inodes.proofs.row_blank.Goals as goal
 use Rattle.check_inodes.proofs.row_blank.Goals.{then-not-has_in+else-not-all_zero, else-not-has_in}

@@ -1,4 +1,4 @@
-use Rattle.std.proofs.Common.{arith, rules}
+use Rattle.std.proofs.Common.{arith}
 use Rattle.check_inodes.proofs.InodeLaws.{address_out, address_in, address_new, address_noted}
 use Rattle.bounded.proofs.BoolLaws.{never}
 use Rattle.check_inodes.proofs.used_right.Goals as goal

@@ -1,6 +1,6 @@
 use Rattle.checksum.proofs.ChecksumLaws.{sum_none, sum_more}
 use Rattle.checksum.specs.Checksum.{sum_to, checksum}
-use Rattle.std.proofs.Common.{◌≡◌, ◌-◌, ◌≤◌, length, ap, ◌∙◌, arith}
+use Rattle.std.proofs.Common.{◌≡◌, length, ap, ◌∙◌, arith}
 use Rattle.checksum.proofs.checksum.Goals as goal
 
 pub loop-k-init : goal.loop-k-init

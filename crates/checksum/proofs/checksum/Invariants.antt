@@ -1,6 +1,5 @@
-use Rattle.checksum.proofs.ChecksumLaws.{sum_none, sum_more}
-use Rattle.checksum.specs.Checksum.{sum_to, checksum}
-use Rattle.std.proofs.Common.{◌≡◌, ◌-◌, ◌≤◌, length, ap, ◌∙◌, arith}
+use Rattle.checksum.specs.Checksum.{sum_to}
+use Rattle.std.proofs.Common.{◌≡◌, ◌-◌, ◌≤◌, length}
 use Rattle.checksum.proofs.checksum.Given as goal
 
 abbrev pub invariant-loop-k : goal.invariant-loop-k

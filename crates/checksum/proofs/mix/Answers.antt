@@ -1,6 +1,6 @@
 use Rattle.checksum.specs.Checksum.{prime, mixed}
 use lib.Bits.{bit_xor}
-use Rattle.std.proofs.Common.{ℕ, ◌*◌, ◌%◌, ◌^◌, ap, ◌∙◌, rules}
+use Rattle.std.proofs.Common.{ℕ, ◌*◌, ◌%◌, ◌^◌, ap, ◌∙◌}
 use Rattle.checksum.proofs.mix.Goals as goal
 
 pub returns : goal.returns

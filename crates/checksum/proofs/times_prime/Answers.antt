@@ -1,5 +1,5 @@
 use Rattle.checksum.proofs.ChecksumLaws.{by_parts}
-use Rattle.std.proofs.Common.{ℕ, ◌+◌, ◌*◌, ◌%◌, ◌^◌, ap, ◌∙◌, rules}
+use Rattle.std.proofs.Common.{ℕ, ◌+◌, ◌*◌, ◌%◌, ◌^◌, ap, ◌∙◌}
 use Rattle.checksum.proofs.times_prime.Goals as goal
 
 pub returns : goal.returns

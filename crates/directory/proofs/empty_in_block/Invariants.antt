@@ -1,10 +1,7 @@
 use Prim.Native.Nat.{◌*◌, ◌-◌}
-use mathlib.Core.Path.{◌≡◌, sym, ◌∙◌}
-use native.Mathlib.Omega.{arith}
+use mathlib.Core.Path.{◌≡◌}
 use Rattle.bounded.specs.Search.{first, first_from}
-use Rattle.bounded.proofs.SearchLaws.{first_begin, first_turn, first_found, first_end}
 use Rattle.octets.specs.Octets.{part}
-use Rattle.octets.proofs.PartLaws.{cut_test}
 use Rattle.names.specs.Entry.{is_empty}
 use Rattle.directory.proofs.empty_in_block.Given as goal
 

@@ -1,11 +1,9 @@
-use Prim.Native.Nat.{◌-◌, ◌/◌}
-use mathlib.Core.Path.{◌≡◌, sym, ◌∙◌}
+use mathlib.Core.Path.{sym, ◌∙◌}
 use native.Mathlib.Omega.{arith}
 use Rattle.bounded.proofs.SearchLaws.{found_below}
 use Rattle.octets.proofs.PartLaws.{length_cut}
 use Rattle.names.specs.Entry.{is_empty}
-use Rattle.directory.specs.Slot.{empty_slot}
-use Rattle.directory.proofs.SlotLaws.{from_block, block_hit, block_skip, blocks_end, empty_blocks}
+use Rattle.directory.proofs.SlotLaws.{block_hit, block_skip, blocks_end, empty_blocks}
 use Rattle.directory.proofs.empty_slot.Goals as goal
 
 pub loop-k-init : goal.loop-k-init

@@ -1,11 +1,8 @@
 use Prim.Native.Nat.{◌-◌, ◌/◌}
-use mathlib.Core.Path.{◌≡◌, sym, ◌∙◌}
-use native.Mathlib.Omega.{arith}
-use Rattle.bounded.proofs.SearchLaws.{found_below}
-use Rattle.octets.proofs.PartLaws.{length_cut}
+use mathlib.Core.Path.{◌≡◌}
 use Rattle.names.specs.Entry.{is_empty}
 use Rattle.directory.specs.Slot.{empty_slot}
-use Rattle.directory.proofs.SlotLaws.{from_block, block_hit, block_skip, blocks_end, empty_blocks}
+use Rattle.directory.proofs.SlotLaws.{from_block}
 use Rattle.directory.proofs.empty_slot.Given as goal
 
 -- the slots before block k do not pass the test

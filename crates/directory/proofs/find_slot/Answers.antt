@@ -1,10 +1,8 @@
-use Prim.Native.Nat.{◌-◌, ◌/◌}
-use mathlib.Core.Path.{◌≡◌, sym, ◌∙◌}
+use mathlib.Core.Path.{sym, ◌∙◌}
 use native.Mathlib.Omega.{arith}
 use Rattle.bounded.proofs.SearchLaws.{found_below}
 use Rattle.octets.proofs.PartLaws.{length_cut}
-use Rattle.directory.specs.Slot.{find_slot}
-use Rattle.directory.proofs.SlotLaws.{from_block, words_test, block_hit, block_skip, blocks_end, find_blocks}
+use Rattle.directory.proofs.SlotLaws.{words_test, block_hit, block_skip, blocks_end, find_blocks}
 use Rattle.directory.proofs.find_slot.Goals as goal
 
 pub loop-k-init : goal.loop-k-init

@@ -1,10 +1,7 @@
 use Prim.Native.Nat.{◌-◌, ◌/◌}
-use mathlib.Core.Path.{◌≡◌, sym, ◌∙◌}
-use native.Mathlib.Omega.{arith}
-use Rattle.bounded.proofs.SearchLaws.{found_below}
-use Rattle.octets.proofs.PartLaws.{length_cut}
+use mathlib.Core.Path.{◌≡◌}
 use Rattle.directory.specs.Slot.{find_slot}
-use Rattle.directory.proofs.SlotLaws.{from_block, words_test, block_hit, block_skip, blocks_end, find_blocks}
+use Rattle.directory.proofs.SlotLaws.{from_block, words_test}
 use Rattle.directory.proofs.find_slot.Given as goal
 
 -- the slots before block k do not pass the test

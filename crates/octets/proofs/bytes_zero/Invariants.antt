@@ -1,12 +1,9 @@
 use Prim.Native.Nat.{◌+◌, ◌-◌, ◌≤◌}
 use mathlib.Core.Path.{◌≡◌}
 use mathlib.Core.Bool.{true}
-use native.Mathlib.Omega.{arith}
-use borrow.Author.Tests.{eq-eqb, ne_eqb}
 use lib.Dec.{eqb}
 use lib.ListN.{get_or}
 use Rattle.bounded.specs.Below.{all_below}
-use Rattle.bounded.proofs.BelowLaws.{all_none, all_more, all_stopped, all_done}
 use Rattle.octets.proofs.bytes_zero.Given as goal
 
 abbrev pub invariant-loop-j : goal.invariant-loop-j

@@ -1,7 +1,6 @@
-use Prim.Native.Nat.{◌≤◌, ◌-◌}
 use mathlib.Core.Path.{◌≡◌, refl, ◌∙◌, ap}
 use native.Mathlib.Omega.{arith}
-use lib.ListN.{length, length-set}
+use lib.ListN.{length-set}
 use Rattle.octets.specs.Octets.{pasted}
 use Rattle.octets.proofs.PartLaws.{copied_none, copied_more}
 use Rattle.octets.proofs.copy_bytes.Goals as goal

@@ -1,9 +1,7 @@
 use Prim.Native.Nat.{◌≤◌, ◌-◌}
-use mathlib.Core.Path.{◌≡◌, refl, ◌∙◌, ap}
-use native.Mathlib.Omega.{arith}
-use lib.ListN.{length, length-set}
+use mathlib.Core.Path.{◌≡◌}
+use lib.ListN.{length}
 use Rattle.octets.specs.Octets.{pasted}
-use Rattle.octets.proofs.PartLaws.{copied_none, copied_more}
 use Rattle.octets.proofs.copy_bytes.Given as goal
 
 abbrev pub invariant-loop-j : goal.invariant-loop-j

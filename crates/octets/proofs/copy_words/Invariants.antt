@@ -1,10 +1,7 @@
-use Prim.Native.Nat.{ℕ, ◌+◌, ◌*◌, ◌≤◌, ◌-◌}
-use mathlib.Core.Path.{◌≡◌, refl, ◌∙◌, ap}
-use native.Mathlib.Omega.{arith}
+use Prim.Native.Nat.{◌*◌, ◌≤◌, ◌-◌}
+use mathlib.Core.Path.{◌≡◌}
 use lib.ListN.{length}
 use Rattle.octets.specs.Octets.{pasted}
-use Rattle.octets.proofs.PartLaws.{copied_none}
-use Rattle.octets.proofs.NumLaws.{length_num, num_copied}
 use Rattle.octets.proofs.copy_words.Given as goal
 
 abbrev pub invariant-loop-j : goal.invariant-loop-j

@@ -1,13 +1,9 @@
 use Prim.Native.Nat.{◌+◌, ◌*◌, ◌-◌, ◌≤◌}
 use mathlib.Core.Bool.{true}
-use mathlib.Core.Path.{◌≡◌, sym, ◌∙◌}
-use native.Mathlib.Omega.{arith}
-use borrow.Author.Tests.{eq-eqb, ne_eqb}
+use mathlib.Core.Path.{◌≡◌}
 use lib.Dec.{eqb}
 use Rattle.bounded.specs.Below.{all_below}
-use Rattle.bounded.proofs.BelowLaws.{all_none, all_more, all_stopped, all_done}
 use Rattle.octets.specs.Octets.{num_at}
-use Rattle.octets.proofs.ZeroLaws.{numbers_zero}
 use Rattle.octets.proofs.words_zero.Given as goal
 
 abbrev pub invariant-loop-j : goal.invariant-loop-j

@@ -1,9 +1,7 @@
 use Prim.Native.Nat.{◌≤◌, ◌-◌}
-use mathlib.Core.Path.{◌≡◌, refl, ◌∙◌, ap}
-use native.Mathlib.Omega.{arith}
-use lib.ListN.{length, length-set}
+use mathlib.Core.Path.{◌≡◌}
+use lib.ListN.{length}
 use Rattle.octets.specs.Octets.{zeroed}
-use Rattle.octets.proofs.PartLaws.{zeroed_none, zeroed_more}
 use Rattle.octets.proofs.zero_range.Given as goal
 
 abbrev pub invariant-loop-j : goal.invariant-loop-j

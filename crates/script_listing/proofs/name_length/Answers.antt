@@ -1,10 +1,7 @@
-use Prim.Native.Nat.{ℕ, ◌+◌, ◌-◌, ◌≤◌, ◌<◌}
-use mathlib.Core.Path.{◌≡◌, sym}
+use mathlib.Core.Path.{sym}
 use native.Mathlib.Omega.{arith}
-use lib.ListN.{get_or}
 use borrow.Author.Count.{below_more}
 use Rattle.names.specs.Name.{name_bytes}
-use Rattle.names.specs.Entry.{name_at}
 use Rattle.names.proofs.EntryLaws.{length_of_lem}
 use Rattle.script_listing.proofs.name_length.Goals as goal
 

@@ -1,11 +1,7 @@
-use native.Mathlib.Omega.{arith}
-use Rattle.script_listing.proofs.TextLaws.{no_entries, entries_next}
-use Rattle.script_listing.proofs.LengthLaws.{entries_most}
 use Rattle.script_listing.specs.Listing.{entries_from}
 use Rattle.text.specs.Put.{Put}
-use Rattle.text.proofs.PutLaws.{put_same, put_on, put_length}
-use Prim.Native.Nat.{ℕ, ◌*◌, ◌-◌, ◌≤◌}
-use mathlib.Core.Path.{◌≡◌, refl, ap, ◌∙◌}
+use Prim.Native.Nat.{◌*◌, ◌-◌, ◌≤◌}
+use mathlib.Core.Path.{◌≡◌}
 use lib.ListN.{length}
 use Rattle.script_listing.proofs.put_entries.Given as goal
 

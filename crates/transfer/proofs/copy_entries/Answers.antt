@@ -1,7 +1,5 @@
 use mathlib.Core.Path.{◌≡◌, sym, ap, ◌∙◌}
 use native.Mathlib.Omega.{arith}
-use Prim.Native.Nat.{◌-◌, ◌≤◌}
-use lib.ListN.{length}
 use Rattle.checkpoint.specs.Copier.{copied_entries}
 use Rattle.transfer.proofs.BlockLaws.{entries_none, entries_more}
 use Rattle.transfer.proofs.copy_entries.Goals as goal

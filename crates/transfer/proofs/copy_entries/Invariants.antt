@@ -1,9 +1,7 @@
-use mathlib.Core.Path.{◌≡◌, sym, ap, ◌∙◌}
-use native.Mathlib.Omega.{arith}
+use mathlib.Core.Path.{◌≡◌}
 use Prim.Native.Nat.{◌-◌, ◌≤◌}
 use lib.ListN.{length}
 use Rattle.checkpoint.specs.Copier.{copied_entries}
-use Rattle.transfer.proofs.BlockLaws.{entries_none, entries_more}
 use Rattle.transfer.proofs.copy_entries.Given as goal
 
 abbrev pub invariant-loop-j : goal.invariant-loop-j

@@ -1,9 +1,6 @@
 use Prim.Native.Nat.{ℕ, ◌+◌, ◌-◌, ◌≤◌, ◌<◌}
-use mathlib.Core.Path.{◌≡◌, sym, ◌∙◌}
+use mathlib.Core.Path.{◌≡◌}
 use mathlib.Core.Bool.{false}
-use native.Mathlib.Omega.{arith}
-use borrow.Author.Count.{below_more}
-use Rattle.bounded.proofs.BelowLaws.{some_of, none_some}
 use Rattle.blocks.specs.Free.{long_but}
 use Rattle.transfer.specs.Behind.{behind_b}
 use Rattle.transfer.proofs.named_further.Given as goal

@@ -1,7 +1,6 @@
-use Prim.Native.Nat.{ℕ, ◌+◌, ◌*◌, ◌-◌, ◌≤◌}
+use Prim.Native.Nat.{ℕ, ◌+◌, ◌*◌}
 use mathlib.Core.Path.{◌≡◌, sym, ap, ◌∙◌}
 use native.Mathlib.Omega.{arith}
-use Rattle.bounded.specs.Count.{tally}
 use Rattle.bounded.proofs.CountLaws.{tally_here, tally_else, tally_le, count_zero}
 use Rattle.layout.specs.Sizes.{address_count}
 use Rattle.layout.specs.Inode.{address_of}

@@ -1,9 +1,6 @@
-use Prim.Native.Nat.{ℕ, ◌+◌, ◌*◌, ◌-◌, ◌≤◌}
-use mathlib.Core.Path.{◌≡◌, sym, ap, ◌∙◌}
-use mathlib.Core.Logic.{⊎_elim}
-use native.Mathlib.Omega.{arith}
+use Prim.Native.Nat.{◌*◌, ◌-◌, ◌≤◌}
+use mathlib.Core.Path.{◌≡◌}
 use Rattle.bounded.specs.Count.{tally}
-use Rattle.bounded.proofs.CountLaws.{tally_here, tally_else, tally_le, count_zero}
 use Rattle.layout.specs.Sizes.{address_count}
 use Rattle.layout.specs.Inode.{address_of}
 use Rattle.transfer.proofs.times_named.Given as goal

@@ -1,6 +1,5 @@
-use Prim.Native.Nat.{◌-◌, ◌≤◌}
 use native.Mathlib.Omega.{arith}
-use Rattle.api.proofs.MaskLaws.{Taken, none_taken, one_taken, all_taken}
+use Rattle.api.proofs.MaskLaws.{none_taken, one_taken, all_taken}
 use Rattle.api.proofs.mask.flags.Goals as goal
 
 pub loop-b-init : goal.loop-b-init

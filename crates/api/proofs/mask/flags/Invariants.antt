@@ -1,6 +1,5 @@
 use Prim.Native.Nat.{◌-◌, ◌≤◌}
-use native.Mathlib.Omega.{arith}
-use Rattle.api.proofs.MaskLaws.{Taken, none_taken, one_taken, all_taken}
+use Rattle.api.proofs.MaskLaws.{Taken}
 use Rattle.api.proofs.mask.flags.Given as goal
 
 -- `api::mask::flags` meets its contract. Assumes nothing.

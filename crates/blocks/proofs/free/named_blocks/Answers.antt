@@ -1,8 +1,7 @@
-use Prim.Native.Nat.{ℕ, ◌+◌, ◌*◌, ◌≤◌, ◌-◌}
+use Prim.Native.Nat.{ℕ, ◌+◌, ◌*◌, ◌≤◌}
 use mathlib.Core.Path.{◌≡◌, refl, subst}
 use native.Mathlib.Omega.{arith}
 use Rattle.blocks.specs.Free.{long_but}
-use Rattle.blocks.specs.Map.{Maps}
 use Rattle.blocks.proofs.KthLaws.{row_next}
 use Rattle.blocks.proofs.MapLaws.{map_none, map_inode}
 use Rattle.blocks.proofs.free.named_blocks.Goals as goal

@@ -1,10 +1,6 @@
-use Prim.Native.Nat.{ℕ, ◌+◌, ◌*◌, ◌≤◌, ◌-◌}
-use mathlib.Core.Path.{◌≡◌, refl, subst}
-use native.Mathlib.Omega.{arith}
+use Prim.Native.Nat.{◌*◌, ◌≤◌, ◌-◌}
 use Rattle.blocks.specs.Free.{long_but}
 use Rattle.blocks.specs.Map.{Maps}
-use Rattle.blocks.proofs.KthLaws.{row_next}
-use Rattle.blocks.proofs.MapLaws.{map_none, map_inode}
 use Rattle.blocks.proofs.free.named_blocks.Given as goal
 
 abbrev pub invariant-loop-k : goal.invariant-loop-k

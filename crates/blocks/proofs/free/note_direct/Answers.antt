@@ -1,10 +1,7 @@
-use Prim.Native.Nat.{◌*◌, ◌≤◌, ◌-◌}
 use mathlib.Core.Path.{◌≡◌, refl, sym, ap, ◌∙◌}
 use native.Mathlib.Omega.{arith}
 use lib.ListN.{length}
-use Rattle.layout.specs.Inode.{address_of, address_index}
 use Rattle.blocks.proofs.MapLaws.{length_noted, notes_none, notes_more}
-use Rattle.blocks.specs.Map.{Notes}
 use Rattle.blocks.proofs.free.note_direct.Goals as goal
 
 pub loop-k-init : goal.loop-k-init

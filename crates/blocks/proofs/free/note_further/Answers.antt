@@ -1,10 +1,7 @@
-use Prim.Native.Nat.{◌≤◌, ◌-◌}
 use mathlib.Core.Path.{◌≡◌, sym, ap, ◌∙◌}
 use native.Mathlib.Omega.{arith}
 use lib.ListN.{length}
-use Rattle.blocks.specs.Block.{further_of}
 use Rattle.blocks.proofs.MapLaws.{length_noted, notes_none, notes_more}
-use Rattle.blocks.specs.Map.{Notes}
 use Rattle.blocks.proofs.free.note_further.Goals as goal
 
 pub loop-j-init : goal.loop-j-init

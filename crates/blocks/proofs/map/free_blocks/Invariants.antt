@@ -1,10 +1,7 @@
-use Prim.Native.Nat.{ℕ, ◌+◌, ◌*◌, ◌-◌, ◌/◌, ◌%◌, ◌≤◌}
-use mathlib.Core.Path.{◌≡◌, ap, ◌∙◌}
-use native.Mathlib.Omega.{arith}
+use Prim.Native.Nat.{◌*◌, ◌-◌, ◌≤◌}
+use mathlib.Core.Path.{◌≡◌}
 use Rattle.bounded.specs.Count.{count_to}
-use Rattle.bounded.proofs.CountLaws.{count_zero}
 use Rattle.blocks.specs.Map.{map_words, lacks}
-use Rattle.blocks.proofs.MapLaws.{row_free, row_few}
 use Rattle.blocks.proofs.map.free_blocks.Given as goal
 
 abbrev pub invariant-loop-row : goal.invariant-loop-row

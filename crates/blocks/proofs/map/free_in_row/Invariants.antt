@@ -1,11 +1,6 @@
-use Prim.Native.Nat.{ℕ, ◌+◌, ◌*◌, ◌-◌, ◌≤◌}
-use mathlib.Core.Path.{◌≡◌, sym, ap, ◌∙◌}
-use mathlib.Core.Bool.{not}
-use mathlib.Core.Logic.{⊎_elim}
-use native.Mathlib.Omega.{arith}
-use borrow.Author.Tests.{not-true, not-false}
+use Prim.Native.Nat.{◌+◌, ◌*◌, ◌-◌, ◌≤◌}
+use mathlib.Core.Path.{◌≡◌}
 use Rattle.bounded.specs.Count.{count}
-use Rattle.bounded.proofs.CountLaws.{count_hit, count_miss, count_le, count_zero}
 use Rattle.blocks.specs.Map.{map_words, lacks}
 use Rattle.blocks.proofs.map.free_in_row.Given as goal
 

@@ -1,11 +1,8 @@
-use Prim.Native.Nat.{◌≤◌, ◌-◌, ◌+◌}
-use mathlib.Core.Path.{◌≡◌, sym, ap, ◌∙◌}
+use mathlib.Core.Path.{sym, ap, ◌∙◌}
 use mathlib.Core.Bool.{not}
 use native.Mathlib.Omega.{arith}
 use borrow.Author.Tests.{not-true, not-false}
-use Rattle.bounded.specs.Search.{first_from}
 use Rattle.bounded.proofs.SearchLaws.{first_of_begin, first_turn, first_found, first_end}
-use Rattle.blocks.specs.Map.{lacks}
 use Rattle.blocks.proofs.map.lowest.Goals as goal
 
 pub loop-b-init : goal.loop-b-init

@@ -1,10 +1,7 @@
-use Prim.Native.Nat.{◌-◌, ◌+◌, ◌≤◌}
-use mathlib.Core.Path.{◌≡◌, refl, sym, ap, ◌∙◌}
+use mathlib.Core.Path.{refl, sym, ap, ◌∙◌}
 use mathlib.Core.Bool.{not}
 use native.Mathlib.Omega.{arith}
-use Rattle.bounded.specs.Search.{first_from}
 use Rattle.bounded.proofs.SearchLaws.{first_turn, first_found, search_left}
-use Rattle.blocks.specs.Map.{lacks}
 use Rattle.blocks.proofs.map.next.Goals as goal
 
 pub loop-c-init : goal.loop-c-init

@@ -1,9 +1,6 @@
 use Prim.Native.Nat.{◌-◌, ◌+◌, ◌≤◌}
-use mathlib.Core.Path.{◌≡◌, refl, sym, ap, ◌∙◌}
-use mathlib.Core.Bool.{not}
-use native.Mathlib.Omega.{arith}
+use mathlib.Core.Path.{◌≡◌}
 use Rattle.bounded.specs.Search.{first_from}
-use Rattle.bounded.proofs.SearchLaws.{first_turn, first_found, search_left}
 use Rattle.blocks.specs.Map.{lacks}
 use Rattle.blocks.proofs.map.next.Given as goal
 

@@ -1,15 +1,12 @@
-use Prim.Native.Nat.{◌+◌, ◌*◌, ◌-◌, ◌≤◌}
-use mathlib.Core.Path.{◌≡◌}
+use Prim.Native.Nat.{◌+◌, ◌*◌}
 use mathlib.Core.Bool.{true}
 use native.Mathlib.Omega.{arith}
 use borrow.Author.Tests.{not-false}
-use Rattle.bounded.specs.Below.{all_below}
 use Rattle.bounded.proofs.BoolLaws.{chain_on, chain_off, never}
 use Rattle.bounded.proofs.BelowLaws.{all_none, all_more, all_stopped, all_done}
 use Rattle.directory.proofs.SlotLaws.{few_blocks}
 use Rattle.sound.specs.Place.{place_of}
 use Rattle.sound.specs.Test.{entry_b}
-use Rattle.checker.specs.Pass.{Passed}
 use Rattle.checker.proofs.EntryLaws.{slot_start, slot_inside, block_begin, block_more, block_done}
 use Rattle.checker.proofs.entries.block_right.Goals as goal
 

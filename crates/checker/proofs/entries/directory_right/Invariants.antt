@@ -1,16 +1,10 @@
 use Prim.Native.Nat.{◌*◌, ◌-◌, ◌≤◌}
 use mathlib.Core.Bool.{true}
-use mathlib.Core.Path.{◌≡◌, sym, ◌∙◌}
-use native.Mathlib.Omega.{arith}
-use borrow.Author.Tests.{not-false}
+use mathlib.Core.Path.{◌≡◌}
 use Rattle.bounded.specs.Below.{all_below}
-use Rattle.bounded.proofs.BelowLaws.{all_none}
-use Rattle.layout.specs.Inode.{kind_of, directory_kind}
-use Rattle.directory.specs.Fits.{DirFits}
 use Rattle.sound.specs.Place.{place_of}
 use Rattle.sound.specs.Test.{entry_b}
 use Rattle.checker.specs.Pass.{Passed}
-use Rattle.checker.proofs.EntryLaws.{other_inode, dir_begin, dir_more, dir_next, dir_stop, dir_done}
 use Rattle.checker.proofs.entries.directory_right.Given as goal
 
 abbrev pub invariant-loop-k : goal.invariant-loop-k

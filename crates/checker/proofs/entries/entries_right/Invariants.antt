@@ -1,16 +1,12 @@
-use Prim.Native.Nat.{ℕ, ◌+◌, ◌*◌, ◌-◌, ◌≤◌}
+use Prim.Native.Nat.{◌*◌, ◌-◌, ◌≤◌}
 use mathlib.Core.Bool.{true}
-use mathlib.Core.Path.{◌≡◌, refl, sym, ap, ◌∙◌}
-use native.Mathlib.Omega.{arith}
-use borrow.Author.Tests.{not-false}
-use lib.ListN.{length, length-replicate}
+use mathlib.Core.Path.{◌≡◌}
+use lib.ListN.{length}
 use Rattle.bounded.specs.Count.{Tallied}
 use Rattle.bounded.specs.Below.{all_below}
-use Rattle.bounded.proofs.BelowLaws.{all_none}
 use Rattle.directory.specs.Slot.{most_slots}
 use Rattle.sound.specs.Place.{naming}
 use Rattle.sound.specs.Test.{entry_b}
-use Rattle.checker.proofs.EntryLaws.{dirs_begin, dir_turn, dirs_more, dirs_stop, dirs_done}
 use Rattle.checker.proofs.entries.entries_right.Given as goal
 
 abbrev pub invariant-loop-k : goal.invariant-loop-k

@@ -1,10 +1,7 @@
-use Prim.Native.Nat.{◌-◌, ◌≤◌}
-use mathlib.Core.Path.{◌≡◌}
 use mathlib.Core.Bool.{true}
 use native.Mathlib.Omega.{arith}
-use Rattle.bounded.specs.Below.{all_below}
 use Rattle.bounded.proofs.BelowLaws.{all_none, all_more, all_stopped, all_done}
-use Rattle.checker.proofs.EntryLaws.{apart_b, low_apart, high_apart, not_apart}
+use Rattle.checker.proofs.EntryLaws.{low_apart, high_apart, not_apart}
 use Rattle.checker.proofs.entries.name_new.Goals as goal
 use Rattle.checker.proofs.entries.name_new.Goals.{else-low-u-via-then-low-u+else-high-u, else-low-u-via-else-low-u}
 

@@ -1,11 +1,8 @@
 use Prim.Native.Nat.{◌-◌, ◌≤◌}
 use mathlib.Core.Path.{◌≡◌}
 use mathlib.Core.Bool.{true}
-use mathlib.Core.Logic.{⊎_elim}
-use native.Mathlib.Omega.{arith}
 use Rattle.bounded.specs.Below.{all_below}
-use Rattle.bounded.proofs.BelowLaws.{all_none, all_more, all_stopped, all_done}
-use Rattle.checker.proofs.EntryLaws.{apart_b, low_apart, high_apart, not_apart}
+use Rattle.checker.proofs.EntryLaws.{apart_b}
 use Rattle.checker.proofs.entries.name_new.Given as goal
 
 abbrev pub invariant-loop-u : goal.invariant-loop-u

@@ -1,6 +1,5 @@
 use Prim.Native.Nat.{◌-◌}
-use native.Mathlib.Omega.{arith}
-use Rattle.checker.proofs.LinkLaws.{Climbing, climbing_start, climbing_turn, climbing_known, climbing_end}
+use Rattle.checker.proofs.LinkLaws.{Climbing}
 use Rattle.checker.proofs.links.climbs.Given as goal
 
 abbrev pub invariant-loop : goal.invariant-loop

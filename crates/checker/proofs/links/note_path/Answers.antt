@@ -1,7 +1,6 @@
-use Prim.Native.Nat.{◌≤◌, ◌-◌}
 use mathlib.Core.Path.{sym, ◌∙◌}
 use native.Mathlib.Omega.{arith}
-use Rattle.checker.proofs.LinkLaws.{Path, path_turn}
+use Rattle.checker.proofs.LinkLaws.{path_turn}
 use Rattle.checker.proofs.links.note_path.Goals as goal
 
 pub loop-init : goal.loop-init

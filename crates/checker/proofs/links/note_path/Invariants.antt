@@ -1,7 +1,5 @@
 use Prim.Native.Nat.{◌≤◌, ◌-◌}
-use mathlib.Core.Path.{sym, ◌∙◌}
-use native.Mathlib.Omega.{arith}
-use Rattle.checker.proofs.LinkLaws.{Path, path_turn}
+use Rattle.checker.proofs.LinkLaws.{Path}
 use Rattle.checker.proofs.links.note_path.Given as goal
 
 abbrev pub invariant-loop : goal.invariant-loop

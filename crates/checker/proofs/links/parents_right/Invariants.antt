@@ -1,13 +1,9 @@
 use Prim.Native.Nat.{◌≤◌, ◌-◌}
-use mathlib.Core.Path.{◌≡◌, sym}
+use mathlib.Core.Path.{◌≡◌}
 use mathlib.Core.Bool.{true}
-use native.Mathlib.Omega.{arith}
 use Rattle.sound.specs.Test.{lead_b}
 use Rattle.bounded.specs.Below.{all_to}
-use Rattle.bounded.proofs.BelowLaws.{all_none, all_more, all_stopped, all_done}
-use Rattle.bounded.proofs.BoolLaws.{chain_on, chain_off}
 use Rattle.checker.specs.Pass.{Known}
-use Rattle.checker.proofs.LinkLaws.{known_start}
 use Rattle.checker.proofs.links.parents_right.Given as goal
 
 abbrev pub invariant-loop-k : goal.invariant-loop-k

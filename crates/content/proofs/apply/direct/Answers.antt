@@ -1,8 +1,6 @@
-use Prim.Native.Nat.{◌-◌, ◌≤◌}
-use mathlib.Core.Path.{refl, ◌≡◌, ◌∙◌}
+use mathlib.Core.Path.{refl, ◌∙◌}
 use native.Mathlib.Omega.{arith}
-use lib.ListN.{length, get_or}
-use Rattle.bounded.specs.Table.{Tabulated}
+use lib.ListN.{get_or}
 use Rattle.bounded.proofs.TableLaws.{filled_none, filled_more, filled_all}
 use Rattle.content.proofs.RowLaws.{direct_is}
 use borrow.Author.Rules.{rules}

@@ -1,10 +1,7 @@
 use Prim.Native.Nat.{◌-◌, ◌≤◌}
-use mathlib.Core.Path.{refl, ◌≡◌, ◌∙◌}
-use native.Mathlib.Omega.{arith}
+use mathlib.Core.Path.{◌≡◌}
 use lib.ListN.{length, get_or}
 use Rattle.bounded.specs.Table.{Tabulated}
-use Rattle.bounded.proofs.TableLaws.{filled_none, filled_more, filled_all}
-use Rattle.content.proofs.RowLaws.{direct_is}
 use Rattle.content.proofs.apply.direct.Given as goal
 
 abbrev pub invariant-loop-k : goal.invariant-loop-k

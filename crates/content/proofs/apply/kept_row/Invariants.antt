@@ -1,12 +1,8 @@
-use Prim.Native.Nat.{ℕ, ◌<◌, ◌-◌, ◌≤◌}
-use mathlib.Core.Path.{sym, subst, ◌≡◌, ap, ◌∙◌}
-use native.Mathlib.Omega.{arith}
+use Prim.Native.Nat.{◌-◌, ◌≤◌}
+use mathlib.Core.Path.{◌≡◌}
 use Rattle.bounded.specs.Table.{table}
-use Rattle.layout.specs.Inode.{size_of}
-use Rattle.blocks.specs.Block.{blocks_used, kth_block}
+use Rattle.blocks.specs.Block.{kth_block}
 use Rattle.ledger.specs.Change.{kept}
-use Rattle.preservation.proofs.StoreLaws.{blocks_of_lem}
-use Rattle.content.proofs.RowLaws.{kept_begin, kept_turn, place_across_low}
 use Rattle.content.proofs.apply.kept_row.Given as goal
 
 abbrev pub invariant-loop-k : goal.invariant-loop-k

@@ -1,15 +1,8 @@
-use Prim.Native.Nat.{ℕ, ◌+◌, ◌-◌, ◌≤◌}
-use mathlib.Core.Path.{◌≡◌, refl, sym, ap, ◌∙◌, subst}
-use mathlib.Core.List.{List}
-use native.Mathlib.Omega.{arith}
+use Prim.Native.Nat.{◌-◌, ◌≤◌}
+use mathlib.Core.Path.{◌≡◌}
 use lib.ListN.{length}
 use Rattle.octets.specs.Octets.{part}
-use Rattle.octets.proofs.PartLaws.{length_copied}
-use Rattle.blocks.specs.Block.{is_long}
 use Rattle.content.specs.Content.{put_file}
-use Rattle.content.specs.Fits.{FileFits}
-use Rattle.content.proofs.ReadLaws.{fits_inode, fits_most, byte_in, byte_inside}
-use Rattle.content.proofs.PutLaws.{put_begin, put_turn, put_end, put_fits, put_long}
 use Rattle.content.proofs.apply.put_file.Given as goal
 
 abbrev pub invariant-loop-j : goal.invariant-loop-j

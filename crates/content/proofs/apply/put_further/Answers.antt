@@ -1,8 +1,5 @@
-use Prim.Native.Nat.{◌≤◌, ◌-◌}
-use mathlib.Core.Path.{◌≡◌, refl, ◌∙◌}
+use mathlib.Core.Path.{refl, ◌∙◌}
 use native.Mathlib.Omega.{arith}
-use lib.ListN.{length, take, drop}
-use Rattle.octets.specs.Octets.{splice, word_bytes}
 use Rattle.content.proofs.RowLaws.{further_begin, further_turn, further_end}
 use borrow.Author.Rules.{rules}
 use Rattle.content.proofs.apply.put_further.Goals as goal

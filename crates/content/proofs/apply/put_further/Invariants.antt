@@ -1,9 +1,7 @@
 use Prim.Native.Nat.{◌≤◌, ◌-◌}
-use mathlib.Core.Path.{◌≡◌, refl, ◌∙◌}
-use native.Mathlib.Omega.{arith}
+use mathlib.Core.Path.{◌≡◌}
 use lib.ListN.{length, take, drop}
 use Rattle.octets.specs.Octets.{splice, word_bytes}
-use Rattle.content.proofs.RowLaws.{further_begin, further_turn, further_end}
 use Rattle.content.proofs.apply.put_further.Given as goal
 
 abbrev pub invariant-loop-k : goal.invariant-loop-k

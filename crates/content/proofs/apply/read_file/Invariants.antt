@@ -1,12 +1,8 @@
-use Prim.Native.Nat.{ℕ, ◌+◌, ◌≤◌, ◌-◌}
-use mathlib.Core.Path.{◌≡◌, refl, ap, ◌∙◌}
-use native.Mathlib.Omega.{arith}
+use Prim.Native.Nat.{◌≤◌, ◌-◌}
+use mathlib.Core.Path.{◌≡◌}
 use lib.ListN.{length}
 use Rattle.octets.specs.Octets.{splice}
-use Rattle.octets.proofs.PartLaws.{length_copied}
-use Rattle.content.specs.Fits.{FileFits}
 use Rattle.content.specs.Content.{file_bytes}
-use Rattle.content.proofs.ReadLaws.{fits_inode, fits_most, byte_in, byte_inside, read_begin, read_turn}
 use Rattle.content.proofs.apply.read_file.Given as goal
 
 abbrev pub invariant-loop-j : goal.invariant-loop-j

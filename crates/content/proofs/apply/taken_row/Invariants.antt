@@ -1,18 +1,12 @@
-use Prim.Native.Nat.{ℕ, ◌-◌, ◌≤◌}
-use mathlib.Core.Path.{◌≡◌, refl, sym, ap, ◌∙◌}
-use mathlib.Core.Bool.{true≢false}
-use native.Mathlib.Omega.{arith}
-use lib.ListN.{length}
+use Prim.Native.Nat.{◌-◌, ◌≤◌}
+use mathlib.Core.Path.{◌≡◌}
 use Rattle.bounded.specs.Table.{table}
 use Rattle.blocks.specs.Block.{kth_block}
 use Rattle.blocks.specs.Free.{block_free}
-use Rattle.blocks.specs.Map.{lacks}
 use Rattle.ledger.specs.Change.{added}
 use Rattle.ledger.specs.Nth.{nth_free}
-use Rattle.preservation.proofs.StoreLaws.{sized_at, uncounted}
 use Rattle.growth.specs.Extend.{zero_blocks}
-use Rattle.content.proofs.RowLaws.{added_begin, added_turn}
-use Rattle.content.proofs.TakeLaws.{rows_fit, map_own, last_taken, last_next, last_high, next_is, next_some, nth_counted, nth_in, zeros_begin, zeros_turn, length_zeros, sized_same}
+use Rattle.content.proofs.TakeLaws.{last_taken}
 use Rattle.content.proofs.apply.taken_row.Given as goal
 
 abbrev pub invariant-loop-j : goal.invariant-loop-j

@@ -1,12 +1,8 @@
-use Prim.Native.Nat.{ℕ, ◌≤◌, ◌-◌}
-use mathlib.Core.Path.{◌≡◌, refl, sym, ap, ◌∙◌}
+use Prim.Native.Nat.{◌≤◌, ◌-◌}
+use mathlib.Core.Path.{◌≡◌}
 use mathlib.Core.Bool.{true}
-use native.Mathlib.Omega.{arith}
 use lib.ListN.{length, drop}
-use borrow.Author.Tests.{eq-eqb, ne_eqb}
-use Rattle.desk.specs.Sizes.{running}
 use Rattle.desk.specs.Next.{runs, locks_any}
-use Rattle.desk.proofs.LockLaws.{locks_none, locks_end, locks_here, locks_later}
 use Rattle.desk.proofs.Desk.locks_any.Given as goal
 
 abbrev pub invariant-loop-k : goal.invariant-loop-k

@@ -1,11 +1,6 @@
-use Prim.Native.Nat.{◌-◌, ◌≤◌}
-use mathlib.Core.Path.{◌≡◌}
-use mathlib.Core.Bool.{true}
 use native.Mathlib.Omega.{arith}
-use Rattle.bounded.specs.Below.{all_below}
 use Rattle.bounded.proofs.BelowLaws.{all_none}
 use Rattle.octets.proofs.PartLaws.{length_cut}
-use Rattle.directory.specs.Slot.{slot_empty}
 use Rattle.entries.proofs.TakePlanLaws.{empty_read, none_more, none_stopped, none_done}
 use Rattle.entries.proofs.plan.holds_none.Goals as goal
 

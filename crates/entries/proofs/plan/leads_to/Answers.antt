@@ -1,7 +1,6 @@
-use Prim.Native.Nat.{◌-◌}
 use native.Mathlib.Omega.{arith}
 use Rattle.preservation.proofs.StoreLaws.{fits}
-use Rattle.entries.proofs.ParentLaws.{Climbing, climbing_start, climbing_found, climbing_root, climbing_turn, climbing_end}
+use Rattle.entries.proofs.ParentLaws.{climbing_start, climbing_found, climbing_root, climbing_turn, climbing_end}
 use Rattle.entries.proofs.plan.leads_to.Goals as goal
 
 pub loop-init : goal.loop-init

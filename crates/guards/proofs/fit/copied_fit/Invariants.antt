@@ -1,9 +1,6 @@
-use Prim.Native.Nat.{ℕ, ◌+◌, ◌≤◌, ◌-◌}
-use mathlib.Core.Path.{◌≡◌, ap, ◌∙◌}
-use native.Mathlib.Omega.{arith}
-use lib.Dec.{leb}
+use Prim.Native.Nat.{◌+◌, ◌≤◌, ◌-◌}
+use mathlib.Core.Path.{◌≡◌}
 use Rattle.bounded.specs.Most.{most}
-use Rattle.bounded.proofs.MostLaws.{most_none, most_more, most_within}
 use Rattle.desk.specs.Desk.{copied_of}
 use Rattle.guards.proofs.fit.copied_fit.Given as goal
 

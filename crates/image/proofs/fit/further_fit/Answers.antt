@@ -1,12 +1,6 @@
-use Prim.Native.Nat.{◌≤◌, ◌-◌}
-use mathlib.Core.Path.{◌≡◌}
-use mathlib.Core.Bool.{true}
 use native.Mathlib.Omega.{arith}
-use Rattle.bounded.specs.Below.{all_to}
 use Rattle.bounded.proofs.BoolLaws.{chain_on, chain_off}
 use Rattle.bounded.proofs.BelowLaws.{all_none, all_more, all_stopped, all_done}
-use Rattle.blocks.specs.Free.{long_but}
-use Rattle.image.specs.Fit.{further_right_of}
 use Rattle.image.proofs.FitLaws.{direct_place}
 use Rattle.image.proofs.fit.further_fit.Goals as goal
 

@@ -1,8 +1,6 @@
 use Prim.Native.Nat.{◌<◌, ◌≤◌, ◌-◌}
-use mathlib.Core.Path.{◌≡◌, ap, ◌∙◌}
-use native.Mathlib.Omega.{arith}
+use mathlib.Core.Path.{◌≡◌}
 use Rattle.bounded.specs.Most.{most}
-use Rattle.bounded.proofs.MostLaws.{most_none, most_more}
 use Rattle.layout.specs.Sizes.{further_count}
 use Rattle.blocks.specs.Block.{further_of}
 use Rattle.image.proofs.fit.largest_further.Given as goal

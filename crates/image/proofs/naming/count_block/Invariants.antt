@@ -1,10 +1,5 @@
-use native.Mathlib.Nat.{add-zero}
-use Rattle.image.proofs.NamingLaws.{block_inside, entry_names, empty_block}
 use Prim.Native.Nat.{◌+◌, ◌*◌, ◌-◌, ◌≤◌}
-use mathlib.Core.Path.{◌≡◌, sym, ◌∙◌}
-use native.Mathlib.Omega.{arith}
 use Rattle.bounded.specs.Count.{Tallied}
-use Rattle.bounded.proofs.CountLaws.{tallied_le, tallied_as}
 use Rattle.sound.specs.Place.{place_of}
 use Rattle.checkpoint.specs.Image.{image_naming}
 use Rattle.image.proofs.naming.count_block.Given as goal

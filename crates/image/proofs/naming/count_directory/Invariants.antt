@@ -1,11 +1,7 @@
 use Prim.Native.Nat.{◌*◌, ◌-◌, ◌≤◌}
-use mathlib.Core.Path.{◌≡◌, sym, ◌∙◌}
-use native.Mathlib.Omega.{arith}
 use Rattle.bounded.specs.Count.{Tallied}
-use Rattle.bounded.proofs.CountLaws.{tallied_as}
 use Rattle.sound.specs.Place.{place_of}
 use Rattle.checkpoint.specs.Image.{image_naming}
-use Rattle.image.proofs.NamingLaws.{other_inode}
 use Rattle.image.proofs.naming.count_directory.Given as goal
 
 abbrev pub invariant-loop-k : goal.invariant-loop-k

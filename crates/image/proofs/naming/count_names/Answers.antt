@@ -1,9 +1,7 @@
-use Prim.Native.Nat.{◌+◌, ◌*◌, ◌-◌, ◌≤◌}
+use Prim.Native.Nat.{◌+◌, ◌*◌, ◌-◌}
 use mathlib.Core.Path.{◌≡◌}
 use native.Mathlib.Omega.{arith}
-use Rattle.bounded.specs.Count.{Tallied}
 use Rattle.bounded.proofs.CountLaws.{tally_start, tallied_as}
-use Rattle.checkpoint.specs.Image.{image_naming}
 use Rattle.image.proofs.naming.count_names.Goals as goal
 
 pub loop-k-init : goal.loop-k-init

@@ -1,8 +1,5 @@
-use Prim.Native.Nat.{◌+◌, ◌*◌, ◌-◌, ◌≤◌}
-use mathlib.Core.Path.{◌≡◌}
-use native.Mathlib.Omega.{arith}
+use Prim.Native.Nat.{◌*◌, ◌-◌, ◌≤◌}
 use Rattle.bounded.specs.Count.{Tallied}
-use Rattle.bounded.proofs.CountLaws.{tally_start, tallied_as}
 use Rattle.checkpoint.specs.Image.{image_naming}
 use Rattle.image.proofs.naming.count_names.Given as goal
 

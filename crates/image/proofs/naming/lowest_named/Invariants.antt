@@ -1,15 +1,10 @@
 use Rattle.desk.specs.Desk.{is_copied}
-use mathlib.Core.Path.{ap, ◌≡◌, sym, ◌∙◌}
-use Rattle.bounded.proofs.BoolLaws.{and-true, and_false_l, and_false_r}
+use mathlib.Core.Path.{◌≡◌}
 use Prim.Native.Nat.{◌+◌, ◌-◌, ◌≤◌}
 use mathlib.Core.Bool.{not, ◌&&◌}
-use mathlib.Core.Logic.{⊎_elim}
-use native.Mathlib.Omega.{arith}
-use borrow.Author.Tests.{eq-eqb, ne_eqb}
 use lib.Dec.{eqb}
 use lib.ListN.{get_or}
 use Rattle.bounded.specs.Search.{first_from}
-use Rattle.bounded.proofs.SearchLaws.{first_of_begin, first_turn, first_found, first_end}
 use Rattle.image.proofs.naming.lowest_named.Given as goal
 
 abbrev pub invariant-loop-i : goal.invariant-loop-i

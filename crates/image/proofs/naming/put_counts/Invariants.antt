@@ -1,9 +1,6 @@
-use Prim.Native.Nat.{◌+◌, ◌-◌, ◌≤◌}
-use mathlib.Core.Path.{◌≡◌, ap, ◌∙◌}
-use native.Mathlib.Omega.{arith}
-use lib.ListN.{length}
+use Prim.Native.Nat.{◌-◌, ◌≤◌}
+use mathlib.Core.Path.{◌≡◌}
 use Rattle.checkpoint.specs.Copier.{put_counts}
-use Rattle.image.proofs.NamingLaws.{counts_none, counts_more, length_counts}
 use Rattle.image.proofs.naming.put_counts.Given as goal
 
 abbrev pub invariant-loop-k : goal.invariant-loop-k

@@ -1,8 +1,6 @@
 use Prim.Native.Nat.{◌≤◌, ◌-◌}
-use native.Mathlib.Omega.{arith}
 use Rattle.bounded.specs.Table.{Tabulated}
-use Rattle.bounded.proofs.TableLaws.{filled_none, filled_more, filled_all}
-use Rattle.layout.specs.Inode.{address_of, address_index, addresses_of}
+use Rattle.layout.specs.Inode.{address_of, address_index}
 use Rattle.layout.proofs.inode.addresses.Given as goal
 
 abbrev pub invariant-loop-k : goal.invariant-loop-k

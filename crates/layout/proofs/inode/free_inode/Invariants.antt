@@ -1,9 +1,6 @@
 use Prim.Native.Nat.{◌≤◌, ◌-◌, ◌+◌}
-use mathlib.Core.Path.{◌≡◌, sym, ◌∙◌}
-use native.Mathlib.Omega.{arith}
-use borrow.Author.Tests.{eq-eqb, ne_eqb}
+use mathlib.Core.Path.{◌≡◌}
 use Rattle.bounded.specs.Search.{first_from}
-use Rattle.bounded.proofs.SearchLaws.{first_of_begin, first_turn, first_found, first_end}
 use Rattle.layout.specs.Inode.{free_inode, inode_free}
 use Rattle.layout.proofs.inode.free_inode.Given as goal
 

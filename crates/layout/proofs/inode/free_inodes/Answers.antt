@@ -1,9 +1,8 @@
-use Prim.Native.Nat.{ℕ, ◌+◌, ◌-◌, ◌≤◌}
+use Prim.Native.Nat.{ℕ, ◌+◌}
 use mathlib.Core.Path.{◌≡◌, sym, ap, ◌∙◌}
 use native.Mathlib.Omega.{arith}
 use borrow.Author.Tests.{eq-eqb, ne_eqb}
 use Rattle.layout.specs.Inode.{inode_free}
-use Rattle.bounded.specs.Count.{count_to}
 use Rattle.bounded.proofs.CountLaws.{count_hit, count_miss, count_le, count_zero}
 use Rattle.layout.proofs.inode.free_inodes.Goals as goal
 use Rattle.layout.proofs.inode.free_inodes.Goals.{then-kind-eq-FREE, else-kind-eq-FREE}

@@ -1,11 +1,7 @@
-use Prim.Native.Nat.{ℕ, ◌+◌, ◌-◌, ◌≤◌}
-use mathlib.Core.Path.{◌≡◌, sym, ap, ◌∙◌}
-use mathlib.Core.Logic.{⊎_elim}
-use native.Mathlib.Omega.{arith}
-use borrow.Author.Tests.{eq-eqb, ne_eqb}
+use Prim.Native.Nat.{◌-◌, ◌≤◌}
+use mathlib.Core.Path.{◌≡◌}
 use Rattle.layout.specs.Inode.{inode_free}
 use Rattle.bounded.specs.Count.{count_to}
-use Rattle.bounded.proofs.CountLaws.{count_hit, count_miss, count_le, count_zero}
 use Rattle.layout.proofs.inode.free_inodes.Given as goal
 
 abbrev pub invariant-loop-k : goal.invariant-loop-k

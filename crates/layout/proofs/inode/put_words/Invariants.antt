@@ -1,10 +1,7 @@
 use Prim.Native.Nat.{◌≤◌, ◌-◌}
-use mathlib.Core.Path.{◌≡◌, refl, ◌∙◌}
-use native.Mathlib.Omega.{arith}
+use mathlib.Core.Path.{◌≡◌}
 use lib.ListN.{length, take}
-use lib.Seq.{take_all}
 use Rattle.octets.specs.Octets.{splice, word_bytes}
-use Rattle.octets.proofs.WordLaws.{words_more}
 use Rattle.layout.proofs.inode.put_words.Given as goal
 
 abbrev pub invariant-loop-k : goal.invariant-loop-k

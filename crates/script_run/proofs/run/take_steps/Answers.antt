@@ -1,12 +1,8 @@
 use Rattle.script_run.proofs.RunLaws.{step_begin}
 use native.Mathlib.Omega.{arith}
 use Rattle.script_run.proofs.RunLaws.{step_refused, step_on, step_end}
-use Rattle.checkpoint.specs.Live.{world}
-use Rattle.script_run.specs.Reply.{stepped}
-use lib.ListN.{length}
-use Prim.Native.Nat.{◌-◌, ◌≤◌}
 use mathlib.Core.Bool.{false}
-use mathlib.Core.Path.{◌≡◌, refl, sym, ◌∙◌}
+use mathlib.Core.Path.{refl, sym, ◌∙◌}
 use borrow.Author.Rules.{rules}
 use Rattle.script_run.proofs.run.take_steps.Goals as goal
 

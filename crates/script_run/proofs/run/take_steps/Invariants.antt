@@ -1,12 +1,9 @@
-use Rattle.script_run.proofs.RunLaws.{step_begin}
-use native.Mathlib.Omega.{arith}
-use Rattle.script_run.proofs.RunLaws.{step_refused, step_on, step_end}
 use Rattle.checkpoint.specs.Live.{world}
 use Rattle.script_run.specs.Reply.{stepped}
 use lib.ListN.{length}
 use Prim.Native.Nat.{◌-◌, ◌≤◌}
 use mathlib.Core.Bool.{false}
-use mathlib.Core.Path.{◌≡◌, refl, sym, ◌∙◌}
+use mathlib.Core.Path.{◌≡◌}
 use Rattle.script_run.proofs.run.take_steps.Given as goal
 
 abbrev pub invariant-loop-k : goal.invariant-loop-k
