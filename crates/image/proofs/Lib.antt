@@ -1,3 +1,4 @@
 pub mod NamingLaws
 pub mod FitLaws
 pub mod CutLaws
+pub mod FewLaws

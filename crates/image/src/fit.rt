@@ -125,6 +125,7 @@ pub fn locked_long(s: &[u8], n: usize, l: usize) -> bool
 }
 
 // It is copied so far that its address block is, but the image has none.
+#[tactic(auto, using(crate::proofs::FewLaws::few_copied))]
 fn lacks_addresses(m: &[u8], n: usize, l: usize, long: bool, copied: usize) -> bool
     requires { (n ≤ most_inodes) × (header_bytes + inode_bytes * n ≤ length m.now) × (l ≤ n) × (long ≡ true → 1 ≤ l) }
     ensures { result ≡ addresses_lacking long m.now n l copied }
