@@ -1,4 +1,5 @@
 use Rattle.bounded.proofs.CountLaws.{count_zero, count_hit, count_miss}
+use Prim.Native.Nat.{◌+◌}
 use mathlib.Core.Path.{◌≡◌, sym, ap, ◌∙◌}
 use native.Mathlib.Omega.{arith}
 use Rattle.dealer.proofs.running_count.Goals as goal
