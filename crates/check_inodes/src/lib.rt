@@ -127,6 +127,7 @@ fn last_block(s: &[u8], n: usize, b: usize, i: usize, size: usize) -> u16
 }
 
 // The bytes of a file past its size in its last block.
+#[tactic(auto, using(crate::proofs::InodeLaws::tail_full))]
 fn zero_tail(s: &[u8], n: usize, b: usize, i: usize) -> bool
     requires { Sized s.now n b × InodeFits s.now n i × (attributes_b s.now i ≡ true) × (addresses_b s.now n b i ≡ true) }
     ensures { result ≡ zero_tail_b s.now n i }
