@@ -226,6 +226,7 @@ fn put_blocks(s: &mut [u8], n: usize, i: usize, z: usize, row: [u16; MOST_BLOCKS
 
 // ---- fewer bytes
 // Zeroes the rest of the block that the size z ends in.
+#[tactic(auto, using(crate::proofs::CodeLaws::rest_none))]
 fn zero_rest(s: &mut [u8], n: usize, i: usize, z: usize)
     requires { FileFits s.old n i z }
     ensures { s.new ≡ zero_rest s.old n i z }

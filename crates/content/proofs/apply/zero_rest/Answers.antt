@@ -1,17 +1,14 @@
 use mathlib.Core.Path.{◌∙◌}
 use native.Mathlib.Omega.{arith}
 use Rattle.content.proofs.ReadLaws.{fits_inode, byte_inside}
-use Rattle.content.proofs.CodeLaws.{rest_none, rest_some}
+use Rattle.content.proofs.CodeLaws.{rest_some}
 use Rattle.content.proofs.apply.zero_rest.Goals as goal
-
-pub returns-then-x-eq0 : goal.returns-then-x-eq0
-returns-then-x-eq0 c = rest_none _ _ _ _ c.if-x-eq0.true
 
 pub is_long-long-requires : goal.is_long-long-requires
 is_long-long-requires c = fits_inode c.requires
 
 pub zero_range-requires : goal.zero_range-requires
-zero_range-requires c = let h = c.if-x-eq0.false in rw c.byte_at-p.ensures (byte_inside c.requires _ (omega arith) _ (omega arith))
+zero_range-requires c = rw c.byte_at-p.ensures (byte_inside c.requires _ (omega arith) _ (omega arith))
 
 pub returns : goal.returns
-returns c = c.zero_range.ensures ∙ rw c.byte_at-p.ensures (rest_some _ _ _ _ c.if-x-eq0.false)
+returns c = c.zero_range.ensures ∙ rw c.byte_at-p.ensures (rest_some _ _ _ _ (omega arith))
