@@ -98,6 +98,7 @@ fn release_inode(s: &mut [u8], n: usize, i: usize)
 }
 
 // One link of i less; the last one frees it.
+#[tactic(auto, using(crate::proofs::EnterLaws::last_link))]
 fn drop_link(s: &mut [u8], n: usize, i: usize)
     requires { InodeFits s.old n i × ((header_of s.old).free_inodes ≤ most_inodes) × ((header_of s.old).free_blocks ≤ most_store_blocks) }
     ensures { s.new ≡ drop_link s.old n i }

@@ -114,6 +114,7 @@ fn holds_none(s: &[u8], n: usize, d: usize) -> bool
     true
 }
 
+#[tactic(auto, using(crate::proofs::TakePlanLaws::unlink_file))]
 pub fn unlink_plan(s: &[u8], n: usize, d: usize, name: &[u8]) -> UnlinkPlan
     requires { SoundStore s.now n (blocks_in s.now) }
     ensures { result ≡ unlink_plan s.now n d name.now }
@@ -154,6 +155,7 @@ fn leads_to(s: &[u8], n: usize, i: usize, e: usize) -> bool
     x == i
 }
 
+#[tactic(auto, using(crate::proofs::TakePlanLaws::below_file))]
 fn is_below(s: &[u8], n: usize, i: usize, e: usize) -> bool
     requires { SoundStore s.now n (blocks_in s.now) × (is_directory s.now n e ≡ true) × (1 ≤ i) × (i ≤ n) }
     ensures { result ≡ is_below s.now n i e }
@@ -165,6 +167,7 @@ fn is_below(s: &[u8], n: usize, i: usize, e: usize) -> bool
 }
 
 // The entry in slot t, which names i, is to have another name in its directory e.
+#[tactic(auto, using(crate::proofs::TakePlanLaws::within_own))]
 fn rename_within(s: &[u8], n: usize, t: usize, i: usize, e: usize, other: &[u8]) -> RenamePlan
     requires { DirFits s.now n e × (length other.now ≤ name_bytes) }
     ensures { result ≡ rename_within s.now n t i e other.now }

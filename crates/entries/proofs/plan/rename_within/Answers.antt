@@ -1,12 +1,10 @@
-use Rattle.entries.proofs.TakePlanLaws.{within_new, within_own, within_taken}
+use Rattle.entries.proofs.TakePlanLaws.{within_new, within_taken}
 use mathlib.Core.Path.{sym, ◌∙◌}
+use native.Mathlib.Omega.{arith}
 use Rattle.entries.proofs.plan.rename_within.Goals as goal
 
 pub returns-in_default : goal.returns-in_default
 returns-in_default c = within_new _ _ _ _ _ _ (sym c.find_slot.ensures ∙ c.in_default.is)
 
-pub returns-then-u-t : goal.returns-then-u-t
-returns-then-u-t c = within_own _ _ _ _ _ _ _ (sym c.find_slot.ensures ∙ c.in-At.is) c.if-u-t.true
-
 pub returns : goal.returns
-returns c = within_taken _ _ _ _ _ _ _ (sym c.find_slot.ensures ∙ c.in-At.is) c.if-u-t.false
+returns c = within_taken _ _ _ _ _ _ _ (sym c.find_slot.ensures ∙ c.in-At.is) (omega arith)
