@@ -1,4 +1,4 @@
-use mathlib.Core.Path.{sym, ap, ◌∙◌}
+use mathlib.Core.Path.{ap, ◌∙◌}
 use native.Mathlib.Omega.{arith}
 use lib.ListN.{length}
 use Rattle.octets.proofs.PartLaws.{length_copied}
@@ -35,10 +35,10 @@ pub copy_entries-requires : goal.copy_entries-requires
 copy_entries-requires c =
     let a = c.args in
     let p = c.requires in
-    (ap length c.copy_range.ensures ∙ length_copied a.x.now 0 a.s.now c.block_at.result 64 ∙ p.0, p.5, p.2, p.3, block_few p.1 a.i p.2 p.3 a.k p.4 (sym c.kind.ensures ∙ c.if-kind-ne-DIRECTORY.false))
+    (ap length c.copy_range.ensures ∙ length_copied a.x.now 0 a.s.now c.block_at.result 64 ∙ p.0, p.5, p.2, p.3, block_few p.1 a.i p.2 p.3 a.k p.4 (omega arith))
 
 pub returns : goal.returns
 returns c =
     let a = c.args in
     let p = c.requires in
-    block_parted p.1 a.i p.2 p.3 a.k p.4 a.d.now _ c.is_address_block.ensures a.x.now p.0 c.if-is_address_block.false _ _ _ c.kth_used-a.ensures c.block_at.ensures c.copy_range.ensures _ c.kind.ensures c.if-kind-ne-DIRECTORY.false _ c.copy_entries.ensures
+    block_parted p.1 a.i p.2 p.3 a.k p.4 a.d.now _ c.is_address_block.ensures a.x.now p.0 c.if-is_address_block.false _ _ _ c.kth_used-a.ensures c.block_at.ensures c.copy_range.ensures _ c.kind.ensures (omega arith) _ c.copy_entries.ensures
