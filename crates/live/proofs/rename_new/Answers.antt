@@ -1,4 +1,5 @@
 use mathlib.Core.Path.{refl}
+use borrow.Author.Rules.{rules}
 use Rattle.files.specs.Effect.{rename_new}
 use Rattle.live.proofs.CallLaws.{let_through}
 use Rattle.live.proofs.ReturnLaws.{call_through, call_stopped}
@@ -10,7 +11,7 @@ rename_new-requires c = let_through _ _ _ _ c.three_guards.ensures c.in-Open.is
 pub returns-in-Open : goal.returns-in-Open
 returns-in-Open c =
     let a = c.args in
-    call_through (rename_new a.dir a.name.now a.to_dir a.to_name.now) refl _ _ _ _ c.three_guards.ensures _ _ _ _ c.in-Open.is c.rename_new.ensures
+    call_through (rename_new a.dir a.name.now a.to_dir a.to_name.now) refl _ _ _ _ c.three_guards.ensures _ _ _ _ c.in-Open.is (search rules)
 
 pub returns-in-Shut : goal.returns-in-Shut
 returns-in-Shut c =
