@@ -1,4 +1,6 @@
-use mathlib.Core.Path.{sym, ◌∙◌}
+use mathlib.Core.Path.{◌≡◌, sym, ◌∙◌}
+use mathlib.Core.Bool.{false}
+use borrow.Author.Rules.{rules}
 use borrow.Author.Tests.{not-false}
 use Rattle.bursts.proofs.KeptLaws.{stay_is}
 use Rattle.bursts.proofs.StepTurns.{going_held, going_locked, going_addressed, going_fits, close_addressed, close_names, close_goes}
@@ -20,6 +22,8 @@ pub count_names-requires : goal.count_names-requires
 count_names-requires c =
     let a = c.args in
     let p = c.requires in
+    -- only where the names do not stay are they counted anew
+    let _counted : c.names_stay-stay.result ≡ false = search rules in
     close_addressed a.s.now a.m.now a.d.now a.n a.h p.0 p.2 p.3 _ _ _ c.close.ensures
 
 pub returns-then-not-stay : goal.returns-then-not-stay
