@@ -1,3 +1,2 @@
 pub mod ScriptLaws
 pub mod TurnLaws
-pub mod LentAgain

@@ -1,18 +1,12 @@
 -- The turns of the loop over a script's lines: what holds at each place, and that it holds at the next.
-use Prim.Native.Nat.{ℕ, ◌+◌, ◌-◌, ◌*◌, ◌^◌, ◌≤◌, ◌<◌}
-use mathlib.Core.Path.{◌≡◌, refl, sym, ap, ◌∙◌}
-use mathlib.Core.List.{List, ◌∷◌}
-use mathlib.Core.WellFounded.InvImage
-use mathlib.Core.WellFounded.{WellFounded}
-use native.Mathlib.Omega.{arith}
-use lib.WfN.{lt-wf_rel}
-use lib.ListN.{length, drop, length-append}
+use Rattle.std.proofs.Common.{ℕ, ◌+◌, ◌-◌, ◌*◌, ◌^◌, ◌≤◌, ◌<◌, ◌≡◌, refl, sym, ap, ◌∙◌, List, ◌∷◌, arith, length, drop, length-append}
 use lib.Seq.{take_all}
 use Rattle.script_lines.specs.Lines.{lines_in, line_at, next_at, most_script_bytes, script_lines}
 use Rattle.script_lines.proofs.LineLaws.{lines_first, lines_end, next_later, next_within}
-use Rattle.checkpoint.specs.Live.{World, world}
+use Rattle.checkpoint.specs.Live.{World}
 use Rattle.script_run.specs.Reply.{world_after}
 use Rattle.script_run.specs.Script.{printed, lines_run, lines_print, FinishesSound, script_inodes, fresh, script_prints}
+use Rattle.script_run.proofs.FinishLaws.{fresh_finishes}
 use Rattle.script_run.proofs.PrintLaws.{printed_short, prints_all, prints_line, prints_none}
 use Rattle.script_listing.specs.Listing.{most_printed}
 
@@ -62,70 +56,57 @@ few_more b r at next h k l = omega arith
 few_fits : (b at n : ℕ) → Few b at → at ≤ n + 1 → n ≤ most_script_bytes → b < 2 ^ 64
 few_fits b at n h k l = omega arith
 
--- ---- s is the script, s₀, m₀ and d₀ are the buffers before its first line
-module _ (s s₀ m₀ d₀ : List ℕ) where
-  -- a place, and the buffers as the lines before it leave them
-  pub record Turn : Type 0 where
-    pub at : ℕ
-    pub store : List ℕ
-    pub image : List ℕ
-    pub desk : List ℕ
-    pub within : at ≤ length s + 1
-    pub long_store : length store ≡ length s₀
-    pub long_image : length image ≡ length m₀
-    pub long_desk : length desk ≡ length d₀
-    pub runs : lines_run (lines_in s) (world s₀ m₀ d₀) ≡ lines_run (lines_in (drop at s)) (world store image desk)
-    pub sound : FinishesSound (world store image desk)
-    -- the bytes that the lines before it print
-    pub bytes : ℕ
-    pub few : Few bytes at
-    pub sums : length (lines_print (lines_in (drop 0 s)) (world s₀ m₀ d₀)) ≡ length (lines_print (lines_in (drop at s)) (world store image desk)) + bytes
+-- s is the script, and w the buffers before its first line; `at` is a place, v the buffers as the lines before it leave them, and b the bytes that those print
+pub record Turn (s : List ℕ) (w : World) (at : ℕ) (v : World) (b : ℕ) : Type 0 where
+  pub within : at ≤ length s + 1
+  pub runs : lines_run (lines_in s) w ≡ lines_run (lines_in (drop at s)) v
+  pub sound : FinishesSound v
+  pub few : Few b at
+  pub sums : length (lines_print (lines_in (drop 0 s)) w) ≡ length (lines_print (lines_in (drop at s)) v) + b
 
-  abbrev pub Nearer : Turn → Turn → Type 0
-  Nearer u t = length s + 1 - u.at < length s + 1 - t.at
+module _ (s : List ℕ) (w : World) where
+  pub turn_first : FinishesSound w → Turn s w 0 w 0
+  turn_first h = record { within = omega arith; runs = refl; sound = h; few = omega arith; sums = omega arith }
 
-  pub nearer_ends : WellFounded Nearer
-  nearer_ends = InvImage.wf (λ (t : Turn). length s + 1 - t.at) lt-wf_rel.wf
+  module _ (at : ℕ) (v : World) (b : ℕ) (t : Turn s w at v b) where
+    more_few : at < length s → (r : ℕ) → r ≡ length (printed (line_at s at) v) → Few (b + r) (next_at s at)
+    more_few l r f = few_more b r at (next_at s at) t.few (rw f (printed_short (line_at s at) v t.sound)) (next_later s at l)
 
-  abbrev pub turn_first : FinishesSound (world s₀ m₀ d₀) → Turn
-  turn_first h =
-      record { at = 0; store = s₀; image = m₀; desk = d₀; within = omega arith; long_store = refl; long_image = refl; long_desk = refl; runs = refl; sound = h; bytes = 0; few = omega arith; sums = omega arith }
-
-  module _ (t : Turn) where
-    pub more_few : t.at < length s → (r : ℕ) → r ≡ length (printed (line_at s t.at) (world t.store t.image t.desk)) → Few (t.bytes + r) (next_at s t.at)
-    more_few l r f =
-        few_more t.bytes r t.at (next_at s t.at) t.few
-        (rw f (printed_short (line_at s t.at) (world t.store t.image t.desk) t.sound))
-        (next_later s t.at l)
-
-    abbrev pub turn_next : t.at < length s → (x y z : List ℕ) → length x ≡ length s₀ → length y ≡ length m₀ → length z ≡ length d₀ → world x y z ≡ world_after (line_at s t.at) (world t.store t.image t.desk) → (r : ℕ) → r ≡ length (printed (line_at s t.at) (world t.store t.image t.desk)) → Turn
-    turn_next l x y z a b c e r f = record {
-      at = next_at s t.at;
-      store = x;
-      image = y;
-      desk = z;
-      within = next_within s t.at l;
-      long_store = a;
-      long_image = b;
-      long_desk = c;
-      runs = t.runs ∙ line_turn s t.at _ _ l e;
+    pub turn_next : at < length s → (u : World) → u ≡ world_after (line_at s at) v → (r : ℕ) → r ≡ length (printed (line_at s at) v) → Turn s w (next_at s at) u (b + r)
+    turn_next l u e r f = record {
+      within = next_within s at l;
+      runs = t.runs ∙ line_turn s at _ _ l e;
       sound = later_sound _ _ _ e t.sound;
-      bytes = t.bytes + r;
       few = more_few l r f;
-      sums = t.sums ∙ line_bytes s t.at _ _ t.bytes r l e f;
+      sums = t.sums ∙ line_bytes s at _ _ b r l e f;
     }
 
-    pub bytes_fit : length s ≤ most_script_bytes → t.bytes < 2 ^ 64
-    bytes_fit m = few_fits t.bytes t.at (length s) t.few t.within m
+    pub more_fits : at < length s → length s ≤ most_script_bytes → (r : ℕ) → r ≡ length (printed (line_at s at) v) → b + r < 2 ^ 64
+    more_fits l m r f = few_fits (b + r) (next_at s at) (length s) (more_few l r f) (next_within s at l) m
 
-    pub more_fits : t.at < length s → length s ≤ most_script_bytes → (r : ℕ) → r ≡ length (printed (line_at s t.at) (world t.store t.image t.desk)) → t.bytes + r < 2 ^ 64
-    more_fits l m r f = few_fits (t.bytes + r) (next_at s t.at) (length s) (more_few l r f) (next_within s t.at l) m
+    pub turn_last : length s ≤ at → length s ≤ most_script_bytes → w ≡ fresh → v ≡ lines_run (script_lines s) fresh
+    turn_last l m e = sym (t.runs ∙ all_run s at _ l) ∙ whole_script s _ m e
 
-    pub next_nearer : t.at < length s → length s + 1 - next_at s t.at < length s + 1 - t.at
-    next_nearer l = let h = next_later s t.at l in omega arith
+    pub bytes_last : length s ≤ at → length s ≤ most_script_bytes → w ≡ fresh → b ≡ length (script_prints s)
+    bytes_last l m e = all_bytes s at b _ _ l m e t.sums
 
-    pub turn_last : length s ≤ t.at → length s ≤ most_script_bytes → world s₀ m₀ d₀ ≡ fresh → world t.store t.image t.desk ≡ lines_run (script_lines s) fresh
-    turn_last l m e = sym (t.runs ∙ all_run s t.at _ l) ∙ whole_script s _ m e
+pub turn_begun : (s : List ℕ) (w : World) (n : ℕ) → n ≡ 0 → w ≡ fresh → Turn s w n w 0
+turn_begun s w n z e = rw z (turn_first s w (rw e fresh_finishes))
 
-    pub bytes_last : length s ≤ t.at → length s ≤ most_script_bytes → world s₀ m₀ d₀ ≡ fresh → t.bytes ≡ length (script_prints s)
-    bytes_last l m e = all_bytes s t.at t.bytes _ _ l m e t.sums
+-- ---- the reader holds q, which is the script s; l is the line at its place
+module _ (s q l : List ℕ) (at : ℕ) (p : q ≡ s) (h : l ≡ line_at q at) (m : at < length s) where
+  same_line : l ≡ line_at s at
+  same_line = h ∙ ap (λ (x : List ℕ). line_at x at) p
+
+  module _ (w v : World) (b r : ℕ) (t : Turn s w at v b) (f : r ≡ length (printed l v)) where
+    same_bytes : r ≡ length (printed (line_at s at) v)
+    same_bytes = f ∙ ap (λ (x : List ℕ). length (printed x v)) same_line
+
+    pub sum_fits : length s ≤ most_script_bytes → b + r < 2 ^ 64
+    sum_fits k = more_fits s w at v b t m k r same_bytes
+
+    pub turn_more : (u : World) → u ≡ world_after l v → (n : ℕ) → n ≡ next_at q at → Turn s w n u (b + r)
+    turn_more u e n g = rw (g, p) (turn_next s w at v b t m u (e ∙ ap (λ (x : List ℕ). world_after x v) same_line) r same_bytes)
+
+  pub nearer : (n : ℕ) → n ≡ next_at q at → length s + 1 - n < length s + 1 - at
+  nearer n g = let k = next_later s at m in rw (g, p) (omega (arith, k))
