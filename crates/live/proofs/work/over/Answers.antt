@@ -1,4 +1,4 @@
-use mathlib.Core.Bool.{Bool}
+use mathlib.Core.Bool.{Bool, ◌||◌}
 use mathlib.Core.Path.{refl, sym, ap, ap₂, ◌∙◌}
 use Rattle.desk.specs.Next.{locks_any}
 use Rattle.files.specs.Effect.{watched, do_over}
