@@ -57,7 +57,7 @@ module _ (d : List ℕ) (n i k : ℕ) (x : List ℕ) where
 
 -- ---- the block
 -- 64 bytes written over 64
-covered : (x xs : List ℕ) → length x ≡ 64 → length xs ≡ 64 → splice x 0 xs ≡ xs
+pub covered : (x xs : List ℕ) → length x ≡ 64 → length xs ≡ 64 → splice x 0 xs ≡ xs
 covered x xs e f = sym (part_all (splice x 0 xs) 64 (length_splice x 0 xs ∙ e)) ∙ part_same x 0 xs 64 f (omega arith)
 
 module _ (s : List ℕ) (i k : ℕ) where

@@ -82,6 +82,7 @@ fn named_further(m: &[u8], n: usize, l: usize, long: bool, c: u16) -> bool
 }
 
 // Block c is one of the b blocks of the image, and no address names it. Inode l has an address block as told by long, every other by its own size.
+#[tactic(auto, using(crate::proofs::NamedLaws::direct_named))]
 fn is_unnamed(m: &[u8], n: usize, l: usize, long: bool, b: usize, c: usize) -> bool
     requires { RowsFit (long_but m.now l long) m.now n × (b ≤ most_image_blocks) }
     ensures { result ≡ leb 1 c && (leb c b && not (named_by (long_but m.now l long) m.now n c)) }
@@ -147,6 +148,7 @@ fn is_address_block(s: &[u8], n: usize, i: usize, k: usize) -> bool
 }
 
 // The k-th block of inode i as it is copied, to the 64 bytes x. An address block gets its addresses later, as the blocks that it names are copied.
+#[tactic(auto, using(crate::proofs::PlainLaws::plain_copied, crate::proofs::PlainLaws::pasted_whole, crate::proofs::PlainLaws::kth_inside))]
 pub fn copy_block(x: &mut [u8], s: &[u8], d: &[u8], n: usize, i: usize, k: usize)
     requires { (length x.old ≡ block_bytes) × SoundStore s.now n (blocks_in s.now) × (1 ≤ i) × (i ≤ n) × (k < blocks_used (size_of s.now i)) × (desk_length n ≤ length d.now) }
     ensures { x.new ≡ copied_block s.now d.now n i k }

@@ -2,7 +2,7 @@ use mathlib.Core.Path.{ap, ◌∙◌}
 use native.Mathlib.Omega.{arith}
 use lib.ListN.{length}
 use Rattle.octets.proofs.PartLaws.{length_copied}
-use Rattle.transfer.proofs.BlockLaws.{block_here, block_few, block_zeroed, block_plain, block_parted}
+use Rattle.transfer.proofs.BlockLaws.{block_here, block_few, block_zeroed, block_parted}
 use Rattle.transfer.proofs.copy_block.Goals as goal
 
 pub returns-then-is_address_block : goal.returns-then-is_address_block
@@ -24,12 +24,6 @@ copy_range-requires c =
     let p = c.requires in
     let b = block_here p.1 a.i p.2 p.3 a.k p.4 in
     (omega (arith, p.0), omega (arith, b.2, c.kth_used-a.ensures, c.block_at.ensures))
-
-pub returns-then-kind-ne-DIRECTORY : goal.returns-then-kind-ne-DIRECTORY
-returns-then-kind-ne-DIRECTORY c =
-    let a = c.args in
-    let p = c.requires in
-    block_plain p.1 a.i p.2 p.3 a.k p.4 a.d.now _ c.is_address_block.ensures a.x.now p.0 c.if-is_address_block.false _ _ _ c.kth_used-a.ensures c.block_at.ensures c.copy_range.ensures _ c.kind.ensures c.if-kind-ne-DIRECTORY.true
 
 pub copy_entries-requires : goal.copy_entries-requires
 copy_entries-requires c =
