@@ -27,15 +27,13 @@ use dealer::BAYS;
 use watch::{Form, Kind, Status, check, keep, match_laps};
 
 // ---- laying out
-#[unsafe(no_mangle)]
-pub extern "C" fn honecerise_lay_out_store(store: &mut [u8], inodes: usize, blocks: usize) -> i32
+pub fn honecerise_lay_out_store(store: &mut [u8], inodes: usize, blocks: usize) -> i32
     ensures { sends result (store.new ∷ []) ≡ sent_laid (lay_out_store store.old inodes blocks) }
 {
     code(watch::lay_out_store(store, inodes, blocks))
 }
 
-#[unsafe(no_mangle)]
-pub extern "C" fn honecerise_lay_out_desk(desk: &mut [u8], inodes: usize) -> i32
+pub fn honecerise_lay_out_desk(desk: &mut [u8], inodes: usize) -> i32
     ensures { sends result (desk.new ∷ []) ≡ sent_laid (lay_out_desk desk.old inodes) }
 {
     code(watch::lay_out_desk(desk, inodes))
@@ -43,8 +41,7 @@ pub extern "C" fn honecerise_lay_out_desk(desk: &mut [u8], inodes: usize) -> i32
 
 // ---- the check
 // Whether the bytes are a sound store (image 0) or a sound finished image (any other number): 1 for yes, 0 for no.
-#[unsafe(no_mangle)]
-pub extern "C" fn honecerise_check(image: u8, store: &[u8]) -> u8
+pub fn honecerise_check(image: u8, store: &[u8]) -> u8
     ensures { result ≡ checked image store.now }
 {
     if image == 0 {
@@ -60,16 +57,14 @@ fn number(b: bool) -> u8
 }
 
 // ---- the calls on the store alone
-#[unsafe(no_mangle)]
-pub extern "C" fn honecerise_look_up(store: &[u8], directory: usize, name: &[u8]) -> i32
+pub fn honecerise_look_up(store: &[u8], directory: usize, name: &[u8]) -> i32
     ensures { sends result (store.now ∷ [] ∷ [])
         ≡ sent_alone (alone.plain (look_up directory name.now) store.now) }
 {
     code(watch::look_up(store, directory, name))
 }
 
-#[unsafe(no_mangle)]
-pub extern "C" fn honecerise_read(store: &[u8], inode: usize, offset: usize, out: &mut [u8]) -> i32
+pub fn honecerise_read(store: &[u8], inode: usize, offset: usize, out: &mut [u8]) -> i32
     ensures { sends result (store.now ∷ out.new ∷ [])
         ≡ sent_alone (alone.plain (read inode offset out.old) store.now) }
 {
@@ -77,8 +72,7 @@ pub extern "C" fn honecerise_read(store: &[u8], inode: usize, offset: usize, out
 }
 
 // ---- the file calls over store, image and desk
-#[unsafe(no_mangle)]
-pub extern "C" fn honecerise_create_file(
+pub fn honecerise_create_file(
     store: &mut [u8],
     image: &mut [u8],
     desk: &mut [u8],
@@ -91,8 +85,7 @@ pub extern "C" fn honecerise_create_file(
     code(watch::create(store, image, desk, directory, name, Kind::File))
 }
 
-#[unsafe(no_mangle)]
-pub extern "C" fn honecerise_create_directory(
+pub fn honecerise_create_directory(
     store: &mut [u8],
     image: &mut [u8],
     desk: &mut [u8],
@@ -105,8 +98,7 @@ pub extern "C" fn honecerise_create_directory(
     code(watch::create(store, image, desk, directory, name, Kind::Directory))
 }
 
-#[unsafe(no_mangle)]
-pub extern "C" fn honecerise_write(
+pub fn honecerise_write(
     store: &mut [u8],
     image: &mut [u8],
     desk: &mut [u8],
@@ -120,8 +112,7 @@ pub extern "C" fn honecerise_write(
     code(watch::write(store, image, desk, inode, offset, bytes))
 }
 
-#[unsafe(no_mangle)]
-pub extern "C" fn honecerise_shorten(
+pub fn honecerise_shorten(
     store: &mut [u8],
     image: &mut [u8],
     desk: &mut [u8],
@@ -134,8 +125,7 @@ pub extern "C" fn honecerise_shorten(
     code(watch::shorten(store, image, desk, inode, size))
 }
 
-#[unsafe(no_mangle)]
-pub extern "C" fn honecerise_link(
+pub fn honecerise_link(
     store: &mut [u8],
     image: &mut [u8],
     desk: &mut [u8],
@@ -149,8 +139,7 @@ pub extern "C" fn honecerise_link(
     code(watch::link(store, image, desk, directory, name, inode))
 }
 
-#[unsafe(no_mangle)]
-pub extern "C" fn honecerise_unlink(
+pub fn honecerise_unlink(
     store: &mut [u8],
     image: &mut [u8],
     desk: &mut [u8],
@@ -163,8 +152,7 @@ pub extern "C" fn honecerise_unlink(
     code(watch::unlink(store, image, desk, directory, name))
 }
 
-#[unsafe(no_mangle)]
-pub extern "C" fn honecerise_rename(
+pub fn honecerise_rename(
     store: &mut [u8],
     image: &mut [u8],
     desk: &mut [u8],
@@ -180,8 +168,7 @@ pub extern "C" fn honecerise_rename(
 }
 
 // The lap recorder's, which keeps what has the new name.
-#[unsafe(no_mangle)]
-pub extern "C" fn honecerise_rename_new(
+pub fn honecerise_rename_new(
     store: &mut [u8],
     image: &mut [u8],
     desk: &mut [u8],
@@ -197,24 +184,21 @@ pub extern "C" fn honecerise_rename_new(
 }
 
 // ---- the copier
-#[unsafe(no_mangle)]
-pub extern "C" fn honecerise_start(store: &[u8], image: &mut [u8], desk: &mut [u8]) -> i32
+pub fn honecerise_start(store: &[u8], image: &mut [u8], desk: &mut [u8]) -> i32
     ensures { sends result (store.now ∷ image.new ∷ desk.new ∷ [])
         ≡ sent (start store.now image.old desk.old) }
 {
     code(watch::start(store, image, desk))
 }
 
-#[unsafe(no_mangle)]
-pub extern "C" fn honecerise_step(store: &[u8], image: &mut [u8], desk: &mut [u8]) -> i32
+pub fn honecerise_step(store: &[u8], image: &mut [u8], desk: &mut [u8]) -> i32
     ensures { sends result (store.now ∷ image.new ∷ desk.new ∷ [])
         ≡ sent (step store.now image.old desk.old) }
 {
     code(watch::step(store, image, desk))
 }
 
-#[unsafe(no_mangle)]
-pub extern "C" fn honecerise_burst(
+pub fn honecerise_burst(
     store: &[u8],
     image: &mut [u8],
     desk: &mut [u8],
@@ -226,8 +210,7 @@ pub extern "C" fn honecerise_burst(
     code(watch::burst(store, image, desk, count))
 }
 
-#[unsafe(no_mangle)]
-pub extern "C" fn honecerise_state(
+pub fn honecerise_state(
     store: &[u8],
     image: &[u8],
     desk: &[u8],
@@ -251,8 +234,7 @@ pub extern "C" fn honecerise_state(
 
 // ---- the charging case
 // Bit b of running says that bay b runs; the counts are written in every case.
-#[unsafe(no_mangle)]
-pub extern "C" fn honecerise_deal(
+pub fn honecerise_deal(
     running: u16,
     steps: usize,
     last: usize,
@@ -268,8 +250,7 @@ pub extern "C" fn honecerise_deal(
 }
 
 // ---- laps against the mat
-#[unsafe(no_mangle)]
-pub extern "C" fn honecerise_match_laps(
+pub fn honecerise_match_laps(
     watch: &[u32],
     mat: &[u32],
     paired_watch: &mut [u32],
@@ -284,8 +265,7 @@ pub extern "C" fn honecerise_match_laps(
 }
 
 // ---- which copies to keep
-#[unsafe(no_mangle)]
-pub extern "C" fn honecerise_keep(copies: &[u32], terms: &[u32], asked: u32, out: &mut [u8]) -> i32
+pub fn honecerise_keep(copies: &[u32], terms: &[u32], asked: u32, out: &mut [u8]) -> i32
     ensures { sends result (out.new ∷ [])
         ≡ sent_kept (keep_call copies.now terms.now asked out.old) }
 {
