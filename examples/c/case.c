@@ -1,7 +1,7 @@
 /*
  * A charging case: one radio copies the watches in its bays, a few steps for each in turn.
  *
- *     cc -std=c99 -Iinclude examples/c/case.c crates/api/out/libapi.a -o case
+ *     cc -std=c99 -Iinclude examples/c/case.c target/staticlib/libapi.a -o case
  *
  * Four watches are in the case, one joins later and one is taken out. It prints for each turn the steps
  * that were dealt, bay by bay, and the bay last served; then how many steps each copy took.

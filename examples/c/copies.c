@@ -2,7 +2,7 @@
  * A case's finished images through a school year: on each day asked, what stays; and what would go if a
  * term were entered otherwise.
  *
- *     cc -std=c99 -Iinclude examples/c/copies.c crates/api/out/libapi.a -o copies
+ *     cc -std=c99 -Iinclude examples/c/copies.c target/staticlib/libapi.a -o copies
  *
  * The case copied the watches on Mondays and Thursdays in September and December, and twice in the
  * holidays. What goes is deleted at once: that changes nothing for the others.

@@ -2,7 +2,7 @@
  * A watch's laps against the track's timing mat: how far the watch's clock is off, and which laps both
  * recorded.
  *
- *     cc -std=c99 -Iinclude examples/c/laps.c crates/api/out/libapi.a -o laps
+ *     cc -std=c99 -Iinclude examples/c/laps.c target/staticlib/libapi.a -o laps
  *
  * The watch is 0.7 seconds late, so that nothing pairs as it stands. The pupil forgot to press at the
  * third lap, and at the second came down on the mat with both feet.

@@ -2,7 +2,7 @@
  * A watch that records two runs, and is copied while the second one is still being recorded. Meanwhile the
  * first one takes the place of yesterday's best.
  *
- *     cc -std=c99 -Iinclude examples/c/watch.c crates/api/out/libapi.a -o watch
+ *     cc -std=c99 -Iinclude examples/c/watch.c target/staticlib/libapi.a -o watch
  *
  * It prints where it had to wait for the copier, then the image: its inodes, blocks, free inodes,
  * free blocks and steps, and of each entry directory, slot, inode, kind, size, links and name.
