@@ -1,7 +1,7 @@
-// The calls that programs in other languages link: slices pass as a pointer and a length, numbers in the
-// machine's size. A call answers 32 bits with a sign: its result, which is never negative, or minus the
-// number of its refusal; the check answers a byte. Any bytes and numbers may be handed in; a refused call
-// changes nothing, save that 16 writes the desk, and that 21 sets the dealer's counts to 0.
+// The public calls as programs in other languages make them, which link `api_c`: numbers in the machine's
+// size. A call answers 32 bits with a sign: its result, which is never negative, or minus the number of its
+// refusal; the check answers a byte. Any bytes and numbers may be handed in; a refused call changes nothing,
+// save that 16 writes the desk, and that 21 sets the dealer's counts to 0.
 #![tactic(auto)]
 
 mod code;
@@ -198,12 +198,7 @@ pub fn honecerise_step(store: &[u8], image: &mut [u8], desk: &mut [u8]) -> i32
     code(watch::step(store, image, desk))
 }
 
-pub fn honecerise_burst(
-    store: &[u8],
-    image: &mut [u8],
-    desk: &mut [u8],
-    count: usize,
-) -> i32
+pub fn honecerise_burst(store: &[u8], image: &mut [u8], desk: &mut [u8], count: usize) -> i32
     ensures { sends result (store.now ∷ image.new ∷ desk.new ∷ [])
         ≡ sent (burst count (world store.now image.old desk.old)) }
 {
@@ -234,12 +229,7 @@ pub fn honecerise_state(
 
 // ---- the charging case
 // Bit b of running says that bay b runs; the counts are written in every case.
-pub fn honecerise_deal(
-    running: u16,
-    steps: usize,
-    last: usize,
-    counts: &mut [u8; BAYS],
-) -> i32
+pub fn honecerise_deal(running: u16, steps: usize, last: usize, counts: &mut [u8; BAYS]) -> i32
     ensures { sends result (counts.new ∷ []) ≡ sent_dealt (dealt (mask_flags running) steps last) }
 {
     let turn = watch::deal(flags(running), steps, last);
