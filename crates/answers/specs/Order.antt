@@ -18,7 +18,7 @@ abbrev pub first_by : {A : Type 0} → (Refusal → A) → List Row → A → A
 first_by f [] a = a
 first_by f (r ∷ rs) a = pick r.holds (f r.refusal) (first_by f rs a)
 
--- ---- the order: a list of its own, since it does not follow from the numbers; its numbers are `looked_at`, by the law `looked-at`
+-- ---- the order: a list of its own, since it does not follow from the numbers; its numbers are `looked_at`, by the law `looked_at_lem`
 abbrev pub order : List Refusal
 order =
     BadTurn ∷ BadTimes ∷ BadBuffer ∷ BadCount ∷ UnsoundStore ∷ BadDesk ∷ IllegalName ∷ WrongInode ∷ NameAbsent ∷ NameTaken

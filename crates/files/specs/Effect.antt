@@ -94,7 +94,7 @@ on_planned (does x) f g = f x
 on_planned (refused e) f g = g e
 
 -- what is planned, and then what is planned on the store that it leaves; if either is refused, nothing is done. In a replacing rename the
--- second never is (`over-does` in proofs/OverLaws)
+-- second never is (`over_does` in proofs/OverLaws)
 abbrev pub plan_then : Planned → (List ℕ → Planned) → Planned
 plan_then (does x) f = on_planned (f x.store) (λ y. does (and_then x y)) refused
 plan_then (refused e) f = refused e
