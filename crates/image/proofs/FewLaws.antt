@@ -1,4 +1,4 @@
--- What the tests of an image read where they end early: too few blocks copied to lack an address block, and an inode that is no directory. m is the image, n the inode count.
+-- Too few blocks are copied to lack an address block. m is the image, n the inode count.
 use Prim.Native.Nat.{ℕ, ◌<◌}
 use mathlib.Core.Path.{◌≡◌, refl, sym}
 use mathlib.Core.Bool.{Bool, true, false}
@@ -7,14 +7,8 @@ use borrow.Author.Tests.{lt-leb}
 use lib.Dec.{leb}
 use Rattle.bounded.proofs.BoolLaws.{and_false_l}
 use Rattle.layout.specs.Sizes.{address_count}
-use Rattle.layout.specs.Inode.{kind_of, directory_kind}
-use Rattle.checkpoint.specs.Image.{slot_names}
 use Rattle.image.specs.Fit.{addresses_lacking}
-use Rattle.image.proofs.CutLaws.{names_other}
 
 pub few_copied : (long : Bool) (m : List ℕ) (n l c : ℕ) → c < address_count → false ≡ addresses_lacking long m n l c
 few_copied true m n l c h = sym (and_false_l (leb address_count c) _ (lt-leb address_count c h))
 few_copied false m n l c h = refl
-
-pub other_kind : (m : List ℕ) (n e t : ℕ) → (kind_of m e ≡ directory_kind → ⊥) → 0 ≡ slot_names m n e t
-other_kind m n e t f = names_other m n e t f

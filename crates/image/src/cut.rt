@@ -25,7 +25,7 @@ fn image_slot(m: &[u8], n: usize, e: usize, t: usize) -> usize
 }
 
 // The inode that slot t of e names in the image, 0 for none.
-#[tactic(auto, using(crate::proofs::FewLaws::other_kind))]
+#[tactic(auto, using(crate::proofs::CutLaws::names_other))]
 fn slot_names(m: &[u8], n: usize, e: usize, t: usize) -> usize
     requires { Addressed m.now n × (1 ≤ e) × (e ≤ n) × (t < most_slots) }
     ensures { result ≡ slot_names m.now n e t }
