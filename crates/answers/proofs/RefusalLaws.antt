@@ -1,6 +1,10 @@
 -- The numbers of the refusals are those that are looked at, in the order of looking; none is 0, and each fits a byte.
+use Rattle.std.specs.Prelude.{Result, Ok, Err}
 use Prim.Native.Nat.{ℕ, ◌≤◌}
-use mathlib.Core.Path.{◌≡◌, refl}
+use mathlib.Core.Path.{◌≡◌, refl, ap, ◌∙◌}
+use Rattle.std.specs.Result.{IsErrAnd, result_eq}
+use Rattle.answers.specs.contracts.RefusalPartialEq.TheImpl.{eq-value}
+use Rattle.std.proofs.lemmas.Result.{err_from_is_err_and}
 use mathlib.Core.Bool.{Bool, true, false, ◌&&◌}
 use mathlib.Core.List.{List, [], ◌∷◌}
 use native.Mathlib.Omega.{arith}
@@ -12,7 +16,16 @@ use Rattle.bounded.proofs.ReflectLaws.{r_and, r_le}
 use Rattle.answers.specs.declared.Refusal.{Refusal}
 use Rattle.answers.specs.declared.Refusal.TheVariants.{BadBuffer, UnsoundStore, BadDesk, IllegalName, WrongInode, NameAbsent, NameTaken, NotEmpty, PastEnd, IntoItself, NoInode, NoBlocks, NoSlot, Busy, WrongState, ImageFull, BadCount, KindsDiffer, BadTurn, NoDate, BadTerms, AfterAsked, BadTimes}
 use Rattle.answers.specs.Refusal.{refusal_number}
+use Rattle.answers.specs.Told.{Answer, told}
 use Rattle.answers.specs.Order.{order, looked_at, numbers, among}
+
+-- a refusal is no answer
+pub err_not_ok : {A : Type 0} (e : Refusal) (x : A) → ◌≡◌ {A = Result A Refusal} (Err e) (Ok x) → ⊥
+err_not_ok e x h = let z : ◌≡◌ {A = ℕ} 0 1 = cc in absurd (omega arith)
+
+-- the exit of a `?` whose error is a refusal already hands the refusal on
+pub exit : {A : Type 0} (r : Result A Refusal) (e : Refusal) → IsErrAnd r (λ y. y ≡ e) → r ≡ Err e
+exit r e h = let p = err_from_is_err_and r h in p.1 ∙ ap Err p.2
 
 -- "looked at lowest first"; 17 "comes right after 1", 18 "comes after 10", and 21 and 26 are "looked at first", each by
 -- its own call; 23 to 25 come after 1, "in that order"
@@ -62,3 +75,30 @@ number_range f = among_small looked_at (refusal_number f) refl (known f)
 -- so none is 0, which stands for no refusal
 pub not_none : (f : Refusal) → eqb (refusal_number f) 0 ≡ false
 not_none f = let k = number_range f in ne_eqb (refusal_number f) 0 (λ e. omega arith)
+
+-- an answer is compared with 7 by its number
+pub is_taken : (a : Answer) → result_eq eqb eq-value.it a (Err NameTaken) ≡ eqb (told a).number (refusal_number NameTaken)
+is_taken (Ok x) = refl
+is_taken (Err BadBuffer) = refl
+is_taken (Err UnsoundStore) = refl
+is_taken (Err BadDesk) = refl
+is_taken (Err IllegalName) = refl
+is_taken (Err WrongInode) = refl
+is_taken (Err NameAbsent) = refl
+is_taken (Err NameTaken) = refl
+is_taken (Err NotEmpty) = refl
+is_taken (Err PastEnd) = refl
+is_taken (Err IntoItself) = refl
+is_taken (Err NoInode) = refl
+is_taken (Err NoBlocks) = refl
+is_taken (Err NoSlot) = refl
+is_taken (Err Busy) = refl
+is_taken (Err WrongState) = refl
+is_taken (Err ImageFull) = refl
+is_taken (Err BadCount) = refl
+is_taken (Err KindsDiffer) = refl
+is_taken (Err BadTurn) = refl
+is_taken (Err NoDate) = refl
+is_taken (Err BadTerms) = refl
+is_taken (Err AfterAsked) = refl
+is_taken (Err BadTimes) = refl

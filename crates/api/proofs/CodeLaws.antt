@@ -1,30 +1,34 @@
 -- Laws of an answer sent as one number with a sign: it fits 32 bits, and says what the answer tells.
+use Rattle.std.specs.Prelude.{Err, Ok, Result}
 use Prim.Native.Nat.{ℕ, zero, suc, ◌≤◌}
 use mathlib.Core.Path.{◌≡◌, refl, sym, ap, ◌∙◌, subst}
+use mathlib.Core.Bool.{Bool, true, false}
 use mathlib.Core.List.{List, [], ◌∷◌}
+use lib.Dec.{eqb}
+use Rattle.bounded.specs.Count.{one}
+use Rattle.bounded.specs.Search.{pick}
+use Rattle.sound.specs.declared.Form.{Form}
+use Rattle.sound.specs.declared.Form.TheVariants.{Store, Image}
 use native.Mathlib.Omega.{arith}
 use borrow.Author.Tests.{ne_eqb}
 use lib.IntN.{ℤ, pos, negsuc, ◌-ℤ◌, +ℤ_idl}
 use mir.Syntax.{w32}
-use mir.Val.{SFits, of_z, to_z}
+use mir.Val.{SFits, of_z, to_z, bool_byte}
 use mir.ValLaws.{to_z-of_z, to_z_pos}
-use Rattle.answers.specs.declared.Answer.{Answer}
-use Rattle.answers.specs.declared.Answer.TheVariants.{Done, Refused}
 use Rattle.answers.specs.declared.Refusal.{Refusal}
 use Rattle.answers.specs.Refusal.{refusal_number}
-use Rattle.answers.specs.Told.{Told, told}
+use Rattle.answers.specs.Told.{Answer, Told, told}
 use Rattle.answers.proofs.RefusalLaws.{number_range}
 use Rattle.format.specs.Format.{LaidOut}
 use Rattle.format.specs.Format as laid
 use Rattle.files.specs.Plain as alone
-use Rattle.checkpoint.specs.declared.Status.{Status}
-use Rattle.checkpoint.specs.declared.Status.TheVariants.{Is, NoStatus}
-use Rattle.checkpoint.specs.Live.{left, Outcome, told_status}
+use Rattle.checkpoint.specs.Live.{left, Outcome, told_status, standing}
 use Rattle.dealer.specs.Deal.{Dealt, turn}
 use Rattle.laps.specs.Walk.{Lists}
 use Rattle.laps.specs.Call as laps
 use Rattle.keeping.specs.Call as keeping
-use Rattle.api.specs.Api.{most_result, code_by, code_of, Fits, Sent, sends, sent_laid, sent_alone, sent, sends_state, sent_state, sent_dealt, sent_laps, sent_kept}
+use Rattle.api.specs.Api.{form_told, most_result, code_by, code_of, Fits, Sent, sends, sent_laid, sent_alone, sent, sends_state, sent_state, sent_dealt, sent_laps, sent_kept}
+use Rattle.checkpoint.specs.declared.Status.{Status}
 
 -- ---- numbers of 32 bits
 number_fits : (n : ℕ) → n ≤ most_result → SFits w32 (pos n)
@@ -48,21 +52,21 @@ negated e k h =
     ap (λ (z : ℤ). pos 0 -ℤ z) (to_z_pos w32 k (omega arith)) ∙ minus k ∙ ap (λ (n : ℕ). code_by n []) h
 
 code_fits : (a : Answer) → Fits (told a) → SFits w32 (code_of (told a))
-code_fits (Done n) l = number_fits n l
-code_fits (Refused e) l = refusal_fits (refusal_number e) (number_range e).1
+code_fits (Ok n) l = number_fits n l
+code_fits (Err e) l = refusal_fits (refusal_number e) (number_range e).1
 
 -- the result in an answer that fits
-pub done_fits : (a : Answer) (n : ℕ) → Fits (told a) → a ≡ Done n → n ≤ most_result
+pub done_fits : (a : Answer) (n : ℕ) → Fits (told a) → a ≡ Ok n → n ≤ most_result
 done_fits a n l e = rw e at l
 
 -- what comes back from a call is the number itself
 pub back : {z y : ℤ} → z ≡ y → SFits w32 y → to_z w32 (of_z w32 z) ≡ y
 back {z} {y} e f = ap (λ (u : ℤ). to_z w32 (of_z w32 u)) e ∙ to_z-of_z w32 y f
 
-pub done_code : (a : Answer) (n : ℕ) (z : ℤ) → Fits (told a) → a ≡ Done n → z ≡ pos n → to_z w32 (of_z w32 z) ≡ code_of (told a)
+pub done_code : (a : Answer) (n : ℕ) (z : ℤ) → Fits (told a) → a ≡ Ok n → z ≡ pos n → to_z w32 (of_z w32 z) ≡ code_of (told a)
 done_code a n z l e f = back f (number_fits n (done_fits a n l e)) ∙ ap (λ (x : Answer). code_of (told x)) (sym e)
 
-pub refused_code : (a : Answer) (r : Refusal) (z : ℤ) → a ≡ Refused r → z ≡ code_by (refusal_number r) [] → to_z w32 (of_z w32 z) ≡ code_of (told a)
+pub refused_code : (a : Answer) (r : Refusal) (z : ℤ) → a ≡ Err r → z ≡ code_by (refusal_number r) [] → to_z w32 (of_z w32 z) ≡ code_of (told a)
 refused_code a r z e f = back f (refusal_fits _ (number_range r).1) ∙ ap (λ (x : Answer). code_of (told x)) (sym e)
 
 -- ---- an answer and the buffers: a is what the call answered, o what its definition gives, and z what is sent for it
@@ -113,10 +117,10 @@ module _ (a : Answer) where
     sent_kept_lem z f = sent_as z _ _ kept_fits f (ap sent_kept e)
 
 -- ---- the state question
-pub state_told : (r : Status) (t : Told) (a l k : ℕ) (ns : List ℕ) → told_status r ≡ t → r ≡ Is a l k → sends_state (pos 0) (a ∷ l ∷ k ∷ []) ≡ sent_state t ns
+pub state_told : (r : Result Status Refusal) (t : Told) (a l k : ℕ) (ns : List ℕ) → told_status r ≡ t → r ≡ Ok (standing a l k) → sends_state (pos 0) (a ∷ l ∷ k ∷ []) ≡ sent_state t ns
 state_told r t a l k ns e h = rw (← e, h) refl
 
-pub state_refused : (r : Status) (t : Told) (e : Refusal) (z : ℤ) (ns : List ℕ) → told_status r ≡ t → r ≡ NoStatus e → z ≡ code_by (refusal_number e) [] → sends_state (to_z w32 (of_z w32 z)) ns ≡ sent_state t ns
+pub state_refused : (r : Result Status Refusal) (t : Told) (e : Refusal) (z : ℤ) (ns : List ℕ) → told_status r ≡ t → r ≡ Err e → z ≡ code_by (refusal_number e) [] → sends_state (to_z w32 (of_z w32 z)) ns ≡ sent_state t ns
 state_refused r t e z ns h p q =
     let k = number_range e in
     ap (λ (c : ℤ). sends_state c ns) (back q (refusal_fits _ k.1)) ∙ sym (go (refusal_number e) k.0) ∙ ap (λ (u : Told). sent_state u ns) (sym (ap told_status p) ∙ h)
@@ -124,3 +128,11 @@ state_refused r t e z ns h p q =
     go : (k : ℕ) → 1 ≤ k → sent_state (record { number = k; values = [] }) ns ≡ sends_state (code_by k []) ns
     go zero l = absurd (omega arith)
     go (suc k) l = rw (ne_eqb (suc k) 0 (λ e. omega arith)) refl
+
+-- ---- the check
+pub one_byte : (b : Bool) → bool_byte b ≡ one b
+one_byte true = refl
+one_byte false = refl
+
+pub told_form : (k : ℕ) (b : Bool) {f : Form} → eqb k 0 ≡ b → f ≡ pick b Store Image → f ≡ form_told k
+told_form k b e q = rw (e, q) refl

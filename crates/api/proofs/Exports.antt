@@ -1,5 +1,6 @@
 -- Each export is the public call of its name: from what a caller learns by its contract, whatever the arguments, follows that the call was made, and what its caller is told.
 -- a are the arguments, z is the result, e the parameters at exit; m and d are an image and a desk that the call does not have.
+use Rattle.std.specs.Prelude.{Err, Ok}
 use Prim.Native.Nat.{ℕ}
 use mathlib.Core.Path.{◌≡◌, refl, sym, ap, ◌∙◌, subst}
 use mathlib.Core.Bool.{Bool, true, false, ◌&&◌}
@@ -17,9 +18,7 @@ use Rattle.sound.specs.Test.{is_sound}
 use Rattle.entries.specs.declared.Kind.TheVariants.{File, Directory}
 use Rattle.bounded.specs.Table.{table}
 use Rattle.answers.specs.declared.Refusal.TheVariants.{BadBuffer, BadTurn, BadTimes}
-use Rattle.answers.specs.declared.Answer.{Answer}
-use Rattle.answers.specs.declared.Answer.TheVariants.{Done, Refused}
-use Rattle.answers.specs.Told.{Told, told}
+use Rattle.answers.specs.Told.{Answer, Told, told}
 use Rattle.format.specs.Format.{laid_out, fresh_store, fresh_desk, lay_out_store, lay_out_desk}
 use Rattle.files.specs.Effect.{look_up, read, create, write, shorten, link, unlink, rename, rename_new}
 use Rattle.files.specs.Plain as alone
@@ -116,9 +115,9 @@ module _ (s out : List ℕ) (z : ℤ) (o : alone.PlainOutcome) (h : sends z (s �
   alone_code = ap (λ (x : Sent). x.code) h
 
 -- ---- the layout calls: b says whether count and length are allowed, fresh is what is laid out
-lays_out : (b : Bool) (s fresh t : List ℕ) (z : ℤ) → sends z (t ∷ []) ≡ sent_laid (pick b (laid_out (Done 0) fresh) (laid_out (Refused BadBuffer) s)) → LaysOut (pick b (laid_out (Done 0) fresh) (laid_out (Refused BadBuffer) s)) z t
-lays_out true s fresh t z h = record { answer = Done 0; made = ap (λ (x : Sent). laid_out (Done 0) (first x.buffers)) h; code = ap (λ (x : Sent). x.code) h }
-lays_out false s fresh t z h = record { answer = Refused BadBuffer; made = ap (λ (x : Sent). laid_out (Refused BadBuffer) (first x.buffers)) h; code = ap (λ (x : Sent). x.code) h }
+lays_out : (b : Bool) (s fresh t : List ℕ) (z : ℤ) → sends z (t ∷ []) ≡ sent_laid (pick b (laid_out (Ok 0) fresh) (laid_out (Err BadBuffer) s)) → LaysOut (pick b (laid_out (Ok 0) fresh) (laid_out (Err BadBuffer) s)) z t
+lays_out true s fresh t z h = record { answer = Ok 0; made = ap (λ (x : Sent). laid_out (Ok 0) (first x.buffers)) h; code = ap (λ (x : Sent). x.code) h }
+lays_out false s fresh t z h = record { answer = Err BadBuffer; made = ap (λ (x : Sent). laid_out (Err BadBuffer) (first x.buffers)) h; code = ap (λ (x : Sent). x.code) h }
 
 pub lay_store_exported : Gives 1 lay-store-kinds.ps lay-store-kinds.r lay-store-reads.Learnt (λ κs a z e. LaysOut (lay_out_store a.0.now a.1.0 a.1.1.0) z e.0.now)
 unfolding lay_out_store
@@ -246,8 +245,8 @@ state_exported κs a z e h =
     }
 
 -- ---- the dealer
-told_bay : (x y : ℕ) (z : ℤ) → z ≡ pos x → z ≡ pos y → told (Done x) ≡ told (Done y)
-told_bay x y z c e = ap (λ (i : ℤ). told (Done (nat_abs i))) (sym c ∙ e)
+told_bay : (x y : ℕ) (z : ℤ) → z ≡ pos x → z ≡ pos y → told (Ok x) ≡ told (Ok y)
+told_bay x y z c e = ap (λ (i : ℤ). told (Ok (nat_abs i))) (sym c ∙ e)
 
 module _ (mask steps last : ℕ) (z : ℤ) (counts : List ℕ) (h : sends z (counts ∷ []) ≡ sent_dealt (dealt (mask_flags mask) steps last)) where
   abbrev x : ℕ
@@ -261,20 +260,20 @@ module _ (mask steps last : ℕ) (z : ℤ) (counts : List ℕ) (h : sends z (cou
     where
       go : (v : Bool) → turn_allowed steps last ≡ v → Dealing mask steps last z counts
       go true e =
-          let k : sends z (counts ∷ []) ≡ sent_dealt (turn (Done x) cs) = rw e at h in
+          let k : sends z (counts ∷ []) ≡ sent_dealt (turn (Ok x) cs) = rw e at h in
           let c = ap (λ (s : Sent). s.code) k in
           record {
-            answer = Done x;
-            made = rw e (ap (λ (s : Sent). turn (Done x) (first s.buffers)) k);
+            answer = Ok x;
+            made = rw e (ap (λ (s : Sent). turn (Ok x) (first s.buffers)) k);
             code = c;
             bay = λ y. told_bay x y z c;
           }
       go false e =
-          let k : sends z (counts ∷ []) ≡ sent_dealt (turn (Refused BadTurn) (replicate bays 0)) = rw e at h in
+          let k : sends z (counts ∷ []) ≡ sent_dealt (turn (Err BadTurn) (replicate bays 0)) = rw e at h in
           let c = ap (λ (s : Sent). s.code) k in
           record {
-            answer = Refused BadTurn;
-            made = rw e (ap (λ (s : Sent). turn (Refused BadTurn) (first s.buffers)) k);
+            answer = Err BadTurn;
+            made = rw e (ap (λ (s : Sent). turn (Err BadTurn) (first s.buffers)) k);
             code = c;
             bay = λ y p. absurd (pos-ne-negsuc y 20 (sym p ∙ c));
           }
@@ -308,10 +307,10 @@ module _ (w m : List ℕ) (o v : Lists) (z : ℤ) (h : sends z (v.paired_watch �
       ⊎_elim
       (λ (p : times.allowed w && times.allowed m ≡ true).
       ⊎_elim
-      (λ (q : laps.room w m o ≡ true). matched_by (Done (length (report w m).paired_watch)) (laps.over (report w m) o) (accepted w m o p q))
-      (λ (q : laps.room w m o ≡ false). matched_by (Refused BadBuffer) o (refused_room w m o p q))
+      (λ (q : laps.room w m o ≡ true). matched_by (Ok (length (report w m).paired_watch)) (laps.over (report w m) o) (accepted w m o p q))
+      (λ (q : laps.room w m o ≡ false). matched_by (Err BadBuffer) o (refused_room w m o p q))
       (holds_or_fails (laps.room w m o)))
-      (λ (p : times.allowed w && times.allowed m ≡ false). matched_by (Refused BadTimes) o (refused_times w m o p))
+      (λ (p : times.allowed w && times.allowed m ≡ false). matched_by (Err BadTimes) o (refused_times w m o p))
       (holds_or_fails (times.allowed w && times.allowed m))
 
 pub match_laps_exported : Gives 6 match-laps-kinds.ps match-laps-kinds.r match-laps-reads.Learnt (λ κs a z e.
@@ -343,15 +342,15 @@ module _ (copies terms : List ℕ) (day : ℕ) (out v : List ℕ) where
       record { answer = r; made = q; code = c; delivered = d; flags = told_kept d c }
 
 -- by any table: what was answered and left
-kept_given : (rs : List Row) (n : ℕ) (o u : List ℕ) → (r : Answer) × (v : List ℕ) × (keeping.left r v ≡ first_by (λ e. keeping.left (Refused e) o) rs (keeping.left (Done n) u))
-kept_given [] n o u = (Done n, u, refl)
+kept_given : (rs : List Row) (n : ℕ) (o u : List ℕ) → (r : Answer) × (v : List ℕ) × (keeping.left r v ≡ first_by (λ e. keeping.left (Err e) o) rs (keeping.left (Ok n) u))
+kept_given [] n o u = (Ok n, u, refl)
 kept_given (r ∷ rs) n o u = go r.holds (kept_given rs n o u)
   where
     rest : keeping.Left
-    rest = first_by (λ e. keeping.left (Refused e) o) rs (keeping.left (Done n) u)
+    rest = first_by (λ e. keeping.left (Err e) o) rs (keeping.left (Ok n) u)
 
-    go : (b : Bool) → (r : Answer) × (v : List ℕ) × (keeping.left r v ≡ rest) → (a : Answer) × (v : List ℕ) × (keeping.left a v ≡ pick b (keeping.left (Refused r.refusal) o) rest)
-    go true t = (Refused r.refusal, o, refl)
+    go : (b : Bool) → (r : Answer) × (v : List ℕ) × (keeping.left r v ≡ rest) → (a : Answer) × (v : List ℕ) × (keeping.left a v ≡ pick b (keeping.left (Err r.refusal) o) rest)
+    go true t = (Err r.refusal, o, refl)
     go false t = t
 
 keep_told : (copies terms : List ℕ) (day : ℕ) (out v : List ℕ) (z : ℤ) → sends z (v ∷ []) ≡ sent_kept (keeping.keep_call copies terms day out) → KeepTold copies terms day out z v

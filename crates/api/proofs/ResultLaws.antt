@@ -1,4 +1,5 @@
 -- Every public call's result fits 32 bits with a sign, on any bytes: it is 0, an inode's number, a size, a count of bytes, steps or pairs, or a bay. s is the store, m the image, d the desk.
+use Rattle.std.specs.Prelude.{Err, None, Ok, Option, Some}
 use Prim.Native.Nat.{ℕ, zero, suc, ◌+◌, ◌*◌, ◌≤◌}
 use mathlib.Core.Path.{◌≡◌, refl, subst}
 use mathlib.Core.Bool.{Bool, true, false, not, ◌&&◌}
@@ -9,8 +10,6 @@ use lib.Dec.{leb, ltb}
 use lib.ListN.{length, get_or, replicate}
 use Rattle.bounded.specs.Search.{pick}
 use Rattle.bounded.specs.Table.{table}
-use Rattle.bounded.specs.declared.Found.{Found}
-use Rattle.bounded.specs.declared.Found.TheVariants.{At, Absent}
 use Rattle.bounded.proofs.BoolLaws.{never, and_right, or_false_r}
 use Rattle.bounded.proofs.SearchLaws.{by_pick, found_lowest}
 use Rattle.bounded.proofs.EachLaws.{All}
@@ -28,7 +27,6 @@ use Rattle.sound.specs.declared.Form.TheVariants.{Store}
 use Rattle.sound.proofs.SoundLaws.{is_sound_lem}
 use Rattle.preservation.proofs.StoreLaws.{sound_store, kind_size}
 use Rattle.preservation.proofs.SlotPlaceLaws.{found_here}
-use Rattle.answers.specs.declared.Answer.TheVariants.{Done, Refused}
 use Rattle.answers.specs.declared.Refusal.TheVariants.{BadTurn}
 use Rattle.answers.specs.Told.{Told}
 use Rattle.answers.specs.Order.{Row}
@@ -82,14 +80,14 @@ module _ (s : List ℕ) (h : is_sound Store s ≡ true) where
   file_size : (i : ℕ) → is_file s (inodes_in s) i ≡ true → size_of s i ≤ most_file_bytes
   file_size i f = kind_size store file_kind i f
 
-  named_inode : (e : ℕ) (name : List ℕ) → is_directory s (inodes_in s) e ≡ true → legal_name name ≡ true → (f : Found) → find_slot s (inodes_in s) e name ≡ f → found f ≡ true → inode_at s (inodes_in s) e (or_zero f) ≤ most_inodes
-  named_inode e name d l (At t) q g = omega (arith, few_inodes, (found_here store e t name d l q).high)
-  named_inode e name d l Absent q g = never g
+  named_inode : (e : ℕ) (name : List ℕ) → is_directory s (inodes_in s) e ≡ true → legal_name name ≡ true → (f : Option ℕ) → find_slot s (inodes_in s) e name ≡ f → found f ≡ true → inode_at s (inodes_in s) e (or_zero f) ≤ most_inodes
+  named_inode e name d l (Some t) q g = omega (arith, few_inodes, (found_here store e t name d l q).high)
+  named_inode e name d l None q g = never g
 
-  free_number : (f : Found) → free_inode s (inodes_in s) ≡ f → or_zero f ≤ most_inodes
+  free_number : (f : Option ℕ) → free_inode s (inodes_in s) ≡ f → or_zero f ≤ most_inodes
   unfolding free_inode
-  free_number (At i) q = omega (arith, few_inodes, (found_lowest (inode_free s) 1 (inodes_in s) i q).below)
-  free_number Absent q = omega arith
+  free_number (Some i) q = omega (arith, few_inodes, (found_lowest (inode_free s) 1 (inodes_in s) i q).below)
+  free_number None q = omega arith
 
 -- ---- numbers of a desk that fits
 module _ (s m d : List ℕ) (h : notes_fit s m d ≡ true) where
@@ -189,7 +187,7 @@ lay_desk_fits d n = by_pick (λ (o : LaidOut). Fits o.answer) (desk_allowed n (l
 pub deal_fits : (f : List Bool) (s b : ℕ) → Fits (dealt f s b).answer
 deal_fits f s b = go (turn_allowed s b) refl
   where
-    go : (v : Bool) → turn_allowed s b ≡ v → Fits (pick v (turn (Done (served f b s)) (table (gets f b s) bays)) (turn (Refused BadTurn) (replicate bays 0))).answer
+    go : (v : Bool) → turn_allowed s b ≡ v → Fits (pick v (turn (Ok (served f b s)) (table (gets f b s) bays)) (turn (Err BadTurn) (replicate bays 0))).answer
     go true e = omega (arith, served_below f b s (allowed_is s b e).bay)
     go false e = omega arith
 

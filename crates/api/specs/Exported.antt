@@ -1,10 +1,8 @@
 -- The calls by their C names are the public calls: what is claimed of lists of these (`Claim`, in `watch`) is claimed of lists of those.
-use Rattle.std.specs.Prelude.{ℕ, ◌≡◌, Bool, List, [], ◌∷◌, ℤ, pos}
+use Rattle.std.specs.Prelude.{ℕ, ◌≡◌, Bool, List, [], ◌∷◌, ℤ, pos, Ok}
 use Rattle.bounded.specs.Count as count
 use Rattle.sound.specs.Test.{is_sound}
-use Rattle.answers.specs.declared.Answer.{Answer}
-use Rattle.answers.specs.declared.Answer.TheVariants.{Done}
-use Rattle.answers.specs.Told.{told}
+use Rattle.answers.specs.Told.{Answer, told}
 use Rattle.format.specs.Format.{LaidOut, laid_out}
 use Rattle.checkpoint.specs.Live.{World}
 use Rattle.checkpoint.specs.List.{asks}
@@ -56,7 +54,7 @@ pub record Dealing (mask steps last : ℕ) (c : ℤ) (counts : List ℕ) : Type 
   pub answer : Answer
   pub made : turn answer counts ≡ dealt (mask_flags mask) steps last
   pub code : c ≡ code_of (told answer)
-  pub bay : (x : ℕ) → c ≡ pos x → told answer ≡ told (Done x)
+  pub bay : (x : ℕ) → c ≡ pos x → told answer ≡ told (Ok x)
 
 -- laps against the mat: the call on watch times w and mat times m, with the lists o lent, answered c
 -- and left v; so it is the public call, and delivered what is claimed of it (`Claim`, in `laps`); a

@@ -4,7 +4,7 @@ ghost use Rattle.answers.specs.Refusal.{refusal_number};
 ghost use Rattle.answers.specs.Told.{told};
 ghost use Rattle.api.specs.Api.{most_result, code_by, code_of, Fits};
 
-use answers::{Answer, Refusal, refusal_number};
+use answers::{Answer, Refusal};
 
 fn result(n: usize) -> i32
     requires { n ≤ most_result }
@@ -17,7 +17,7 @@ fn result(n: usize) -> i32
 pub fn refused(e: Refusal) -> i32
     ensures { result ≡ code_by (refusal_number e) [] }
 {
-    let n = refusal_number(e) as i32;
+    let n = usize::from(e) as i32;
     0 - n
 }
 
@@ -26,7 +26,7 @@ pub fn code(a: Answer) -> i32
     ensures { result ≡ code_of (told a) }
 {
     match a {
-        Answer::Done(n) => result(n),
-        Answer::Refused(e) => refused(e),
+        Ok(n) => result(n),
+        Err(e) => refused(e),
     }
 }

@@ -8,7 +8,6 @@ mod code;
 mod mask;
 
 ghost use Rattle.std.specs.Prelude.{◌≡◌, [], ◌∷◌};
-ghost use Rattle.bounded.specs.Count.{one};
 ghost use Rattle.entries.specs.declared.Kind.TheVariants.{File, Directory};
 ghost use Rattle.format.specs.Format.{lay_out_store, lay_out_desk};
 ghost use Rattle.files.specs.Effect.{look_up, read, create, write, shorten, link, unlink, rename, rename_new};
@@ -24,7 +23,7 @@ ghost use Rattle.api.specs.Api.{sends, sent_laid, sent_alone, sent, sends_state,
 use crate::code::{code, refused};
 use crate::mask::flags;
 use dealer::BAYS;
-use watch::{Form, Kind, Status, check, keep, match_laps};
+use watch::{Form, Kind, check, keep, match_laps};
 
 // ---- laying out
 pub fn honecerise_lay_out_store(store: &mut [u8], inodes: usize, blocks: usize) -> i32
@@ -44,16 +43,8 @@ pub fn honecerise_lay_out_desk(desk: &mut [u8], inodes: usize) -> i32
 pub fn honecerise_check(image: u8, store: &[u8]) -> u8
     ensures { result ≡ checked image store.now }
 {
-    if image == 0 {
-        return number(check(Form::Store, store));
-    }
-    number(check(Form::Image, store))
-}
-
-fn number(b: bool) -> u8
-    ensures { result ≡ one b }
-{
-    if b { 1 } else { 0 }
+    let form = if image == 0 { Form::Store } else { Form::Image };
+    u8::from(check(form, store))
 }
 
 // ---- the calls on the store alone
@@ -217,13 +208,13 @@ pub fn honecerise_state(
         ≡ sent_state (status store.now image.now desk.now) (state.old ∷ locked.old ∷ steps.old ∷ []) }
 {
     match watch::state(store, image, desk) {
-        Status::Is(a, l, k) => {
-            *state = a as usize;
-            *locked = l as usize;
-            *steps = k as usize;
+        Ok(now) => {
+            *state = now.state as usize;
+            *locked = now.locked as usize;
+            *steps = now.steps as usize;
             0
         }
-        Status::NoStatus(why) => refused(why),
+        Err(why) => refused(why),
     }
 }
 

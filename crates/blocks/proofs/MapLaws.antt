@@ -1,5 +1,7 @@
 -- Laws of the map of named blocks.
-use Prim.Native.Nat.{ℕ, ◌+◌, ◌*◌, ◌-◌, ◌/◌, ◌%◌, ◌^◌, ◌≤◌, ◌<◌}
+use Rattle.std.specs.List.{sum_by, range_with_len}
+use Rattle.std.proofs.lemmas.List.Sums.{sum_by-cons}
+use Prim.Native.Nat.{ℕ, zero, suc, ◌+◌, ◌*◌, ◌-◌, ◌/◌, ◌%◌, ◌^◌, ◌≤◌, ◌<◌}
 use mathlib.Core.Path.{◌≡◌, refl, sym, ap, ap₂, ◌∙◌}
 use mathlib.Core.Logic.{◌≢◌, ◌⊎◌}
 use mathlib.Core.Bool.{Bool, true, false, not}
@@ -17,7 +19,7 @@ use Rattle.marks.specs.Mark.{digit, marked, with_mark}
 use Rattle.marks.proofs.MarkLaws.{with_same, with_other, mark_none}
 use Rattle.bounded.specs.Count.{count, count_to}
 use Rattle.bounded.specs.Search.{pick}
-use Rattle.bounded.proofs.CountLaws.{count_ext, count_split, count_le}
+use Rattle.bounded.proofs.CountLaws.{count_zero, count_ext, count_split, count_le}
 use Rattle.bounded.proofs.SeenLaws.{seen_start, seen_more, seen_as, seen_pass, seen_ext, seen_change}
 use Rattle.layout.specs.Sizes.{most_image_blocks, most_blocks}
 use Rattle.blocks.specs.Block.{kth_by, row_by}
@@ -140,8 +142,18 @@ pub row_free : (map : List ℕ) (row m f r : ℕ) → f ≡ count_to (lacks map)
     f + r ≡ count_to (lacks map) (map_words * row + m)
 row_free map row m f r e q = ap₂ ◌+◌ e q ∙ sym (count_split (λ k. lacks map (k + 1)) (map_words * row) m)
 
-pub row_few : (map : List ℕ) (e f r : ℕ) → f + r ≡ count_to (lacks map) e → f + r ≤ e
-row_few map e f r h = let l = count_le (λ k. lacks map (k + 1)) e in omega arith
+-- those of the rows from a on
+rows_from : (map : List ℕ) (a n : ℕ) → sum_by (λ r. count (λ k. lacks map (map_words * r + k + 1)) map_words) (range_with_len a n) ≡ count (λ k. lacks map (map_words * a + k + 1)) (map_words * n)
+rows_from map a zero = count_zero (λ k. lacks map (map_words * a + k + 1))
+rows_from map a (suc n) =
+    let z : map_words * suc n ≡ map_words + map_words * n = omega arith in
+    sum_by-cons (λ r. count (λ k. lacks map (map_words * r + k + 1)) map_words) a (range_with_len (a + 1) n)
+    ∙ ap (λ (x : ℕ). count (λ k. lacks map (map_words * a + k + 1)) map_words + x) (rows_from map (a + 1) n
+    ∙ count_ext _ _ (map_words * n) (λ k l. let q : map_words * (a + 1) + k + 1 ≡ map_words * a + (map_words + k) + 1 = omega arith in ap (lacks map) q))
+    ∙ sym (ap (count (λ k. lacks map (map_words * a + k + 1))) z ∙ count_split (λ k. lacks map (map_words * a + k + 1)) map_words (map_words * n))
+
+pub rows_free : (map : List ℕ) (n : ℕ) → sum_by (λ r. count (λ k. lacks map (map_words * r + k + 1)) map_words) (range_with_len 0 n) ≡ count_to (lacks map) (map_words * n)
+rows_free map n = rows_from map 0 n ∙ count_ext _ _ (map_words * n) (λ k l. let q : map_words * 0 + k + 1 ≡ k + 1 = omega arith in ap (lacks map) q)
 
 -- ---- blocks noted one after the other, whatever row they are of
 pub notes_none : (g : ℕ → ℕ) (map : List ℕ) → Notes g 0 map map

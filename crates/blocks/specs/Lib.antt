@@ -2,3 +2,4 @@ pub mod Block
 pub mod Free
 pub mod Fits
 pub mod Map
+pub mod Gives

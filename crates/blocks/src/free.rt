@@ -7,43 +7,32 @@ ghost use Rattle.blocks.specs.Block.{block_at, further_of, kth_by};
 ghost use Rattle.blocks.specs.Free.{long_but, lowest_by};
 ghost use Rattle.blocks.specs.Fits.{RowsFit, Reaches};
 ghost use Rattle.blocks.specs.Map.{map_words, Maps, Notes};
+ghost use Rattle.blocks.specs.Gives.{Gives};
 
 use crate::map::MAP_WORDS;
 use crate::{further, is_long, map};
-use bounded::Found;
 use layout::inode::{address, addresses_zero};
 use layout::sizes::{ADDRESS_COUNT, ADDRESS_PLACE, FURTHER_COUNT};
 
-// The twelve addresses of inode i are noted in the map.
-fn note_direct(s: &[u8], n: usize, i: usize, map: &mut [u16])
-    requires { InodeFits s.now n i × (length map.old ≡ map_words) × ((k : ℕ) → k < address_count → address_of s.now n (address_index i k) ≤ most_image_blocks) }
-    ensures { Notes (λ k. address_of s.now n (address_index i k)) address_count map.old map.new }
+// The count blocks that a closure gives are noted in the map.
+fn note_each<F: Fn(usize) -> u16>(map: &mut [u16], count: usize, block: F)
+    requires long { length map.old ≡ map_words }
+    requires asked { (k : ℕ) → k < count → F.pre block k }
+    requires few { (k b : ℕ) → k < count → F.post block k b → b ≤ most_image_blocks }
+    ensures { (g : ℕ → ℕ) → Gives F.Fn block count g → Notes g count map.old map.new }
 {
-    let x = ADDRESS_COUNT * (i - 1);
-    for k in 0..ADDRESS_COUNT {
-        map::note(&mut *map, address(s, n, x + k) as usize);
-    }
-}
-
-// The 32 of the address block a.
-fn note_further(s: &[u8], n: usize, a: usize, map: &mut [u16])
-    requires { (n ≤ most_inodes) × (1 ≤ a) × (a ≤ most_image_blocks) × (block_at n a + block_bytes ≤ length s.now) × (length map.old ≡ map_words) × ((j : ℕ) → j < further_count → further_of s.now n a j ≤ most_image_blocks) }
-    ensures { Notes (further_of s.now n a) further_count map.old map.new }
-{
-    for j in 0..FURTHER_COUNT {
-        map::note(&mut *map, further(s, n, a, j) as usize);
+    for k in 0..count {
+        map::note(&mut *map, usize::from(block(k)));
     }
 }
 
 // Inode i has an address block: inode l as told, every other by its own size.
+#[tactic(auto, unfolding(crate::specs::Free::long_but))]
 pub fn long_but(s: &[u8], n: usize, l: usize, long: bool, i: usize) -> bool
     requires { InodeFits s.now n i }
     ensures { result ≡ long_but s.now l long i }
 {
-    if i == l {
-        return long;
-    }
-    is_long(s, n, i)
+    if i == l { long } else { is_long(s, n, i) }
 }
 
 // The blocks of inode i. Most inodes have none, which is asked first.
@@ -54,15 +43,16 @@ fn note_blocks(s: &[u8], n: usize, i: usize, l: usize, long: bool, map: &mut [u1
     if addresses_zero(s, n, i) {
         return;
     }
-    note_direct(s, n, i, &mut *map);
+    let x = ADDRESS_COUNT * (i - 1);
+    note_each(&mut *map, ADDRESS_COUNT, |k| address(s, n, x + k));
     if !long_but(s, n, l, long, i) {
         return;
     }
-    let a = address(s, n, ADDRESS_COUNT * (i - 1) + ADDRESS_PLACE) as usize;
+    let a = usize::from(address(s, n, x + ADDRESS_PLACE));
     if a < 1 {
         return;
     }
-    note_further(s, n, a, &mut *map);
+    note_each(&mut *map, FURTHER_COUNT, |j| further(s, n, a, j));
 }
 
 // The map of all blocks that an inode has, whatever it was before: one pass over the inodes. It is lent, since one that is handed back is held twice.
@@ -76,7 +66,7 @@ pub fn named_blocks(s: &[u8], n: usize, l: usize, long: bool, map: &mut [u16; MA
     }
 }
 
-pub fn free_block(s: &[u8], n: usize, l: usize, long: bool, count: usize) -> Found
+pub fn free_block(s: &[u8], n: usize, l: usize, long: bool, count: usize) -> Option<usize>
     requires { RowsFit (long_but s.now l long) s.now n × (count ≤ most_image_blocks) }
     ensures { result ≡ lowest_by (long_but s.now l long) s.now n count }
 {

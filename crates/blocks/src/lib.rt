@@ -26,23 +26,12 @@ pub fn store_length(n: usize, b: usize) -> usize
 }
 
 // Counts and length of a store or an image are allowed, with at most `limit` blocks.
+#[tactic(auto, unfolding(crate::specs::Block::allowed))]
 pub fn allowed(limit: usize, n: usize, b: usize, length: usize) -> bool
     requires { limit ≤ most_image_blocks }
     ensures { result ≡ allowed limit n b length }
 {
-    if n < 1 {
-        return false;
-    }
-    if MOST_INODES < n {
-        return false;
-    }
-    if b < 1 {
-        return false;
-    }
-    if limit < b {
-        return false;
-    }
-    length == store_length(n, b)
+    (1..=MOST_INODES).contains(&n) && (1..=limit).contains(&b) && length == store_length(n, b)
 }
 
 pub fn block_at(n: usize, b: usize) -> usize
@@ -60,15 +49,12 @@ pub fn zero_block(s: &mut [u8], n: usize, count: usize, b: usize)
 }
 
 // How many blocks a size uses.
+#[tactic(auto, unfolding(crate::specs::Block::blocks_used))]
 pub fn blocks_used(size: usize) -> usize
     requires { size < 65536 }
     ensures { result ≡ blocks_used size }
 {
-    let bytes = (size + (BLOCK_BYTES - 1)) / BLOCK_BYTES;
-    if size <= MOST_DIRECT_BYTES {
-        return bytes;
-    }
-    bytes + 1
+    size.div_ceil(BLOCK_BYTES) + usize::from(MOST_DIRECT_BYTES < size)
 }
 
 // The k-th address of an inode, which names its k-th block.
@@ -80,14 +66,12 @@ pub fn kth_block(s: &[u8], n: usize, i: usize, k: usize) -> u16
 }
 
 // Inode i has an address block: a file of more than 768 bytes.
+#[tactic(auto, unfolding(crate::specs::Block::is_long))]
 pub fn is_long(s: &[u8], n: usize, i: usize) -> bool
     requires { InodeFits s.now n i }
     ensures { result ≡ is_long s.now i }
 {
-    if inode::kind(s, n, i) != FILE {
-        return false;
-    }
-    MOST_DIRECT_BYTES < inode::size(s, n, i) as usize
+    inode::kind(s, n, i) == FILE && MOST_DIRECT_BYTES < usize::from(inode::size(s, n, i))
 }
 
 // Address j of the address block a.
@@ -116,6 +100,6 @@ pub fn put_kth(s: &mut [u8], n: usize, i: usize, k: usize, c: u16)
         put_address(&mut *s, n, x + k, c);
         return;
     }
-    let a = address(s, n, x + ADDRESS_PLACE) as usize;
+    let a = usize::from(address(s, n, x + ADDRESS_PLACE));
     octets::put_16(&mut *s, block_at(n, a) + 2 * (k - ADDRESS_COUNT), c);
 }

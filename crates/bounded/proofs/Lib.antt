@@ -14,3 +14,4 @@ pub mod DifferLaws
 pub mod SumLaws
 pub mod MostLaws
 pub mod EachLaws
+pub mod ListLaws

@@ -1,4 +1,5 @@
 -- Laws of a search for the lowest number that passes a test.
+use Rattle.std.specs.Prelude.{None, Option, Some}
 use mathlib.Core.Path.{◌≡◌, refl, sym, ap, ◌∙◌}
 use mathlib.Core.Bool.{Bool, true, false, not}
 use Prim.Native.Nat.{ℕ, zero, suc, ◌+◌, ◌-◌, ◌≤◌, ◌<◌}
@@ -6,8 +7,6 @@ use native.Mathlib.Nat.{zero-add, add-zero, add-suc, suc-add}
 use native.Mathlib.Decide.{dec_lt}
 use native.Mathlib.Omega.{arith}
 use Rattle.bounded.specs.Search.{pick, first_from, first, on_found}
-use Rattle.bounded.specs.declared.Found.{Found}
-use Rattle.bounded.specs.declared.Found.TheVariants.{At, Absent}
 use Rattle.bounded.proofs.BoolLaws.{clash}
 
 -- A loop `for c in i..e` that searches, with `first_from f c (e - c)` as what is left to answer: it begins at 0 or at i, makes a turn, and ends in one of two ways.
@@ -28,16 +27,16 @@ first_turn f c e h t =
     let p : c + 1 ≡ suc c = omega arith in
     rw (q, t) (rw p refl)
 
-pub first_found : (f : ℕ → Bool) (c e : ℕ) → c < e → f c ≡ true → first_from f c (e - c) ≡ At c
+pub first_found : (f : ℕ → Bool) (c e : ℕ) → c < e → f c ≡ true → first_from f c (e - c) ≡ Some c
 unfolding first_from
 first_found f c e h t = let q : e - c ≡ suc (e - (c + 1)) = omega arith in rw (q, t)
 
-pub first_end : (f : ℕ → Bool) (c e : ℕ) → e ≤ c → first_from f c (e - c) ≡ Absent
+pub first_end : (f : ℕ → Bool) (c e : ℕ) → e ≤ c → first_from f c (e - c) ≡ None
 unfolding first_from
 first_end f c e h = let q : e - c ≡ 0 = omega arith in rw q
 
 -- a search that finds something ends at its last number at most
-pub search_left : (f : ℕ → Bool) (c last : ℕ) → (first_from f c (last + 1 - c) ≡ Absent → ⊥) → c ≤ last
+pub search_left : (f : ℕ → Bool) (c last : ℕ) → (first_from f c (last + 1 - c) ≡ None → ⊥) → c ≤ last
 search_left f c last h = go (dec_lt last c)
   where
     go : Dec (last < c) → c ≤ last
@@ -51,12 +50,12 @@ pub record Lowest (f : ℕ → Bool) (i k t : ℕ) : Type 0 where
   pub holds : f t ≡ true
   pub before : (j : ℕ) → i ≤ j → j < t → f j ≡ false
 
-pub found_lowest : (f : ℕ → Bool) (i k t : ℕ) → first_from f i k ≡ At t → Lowest f i k t
+pub found_lowest : (f : ℕ → Bool) (i k t : ℕ) → first_from f i k ≡ Some t → Lowest f i k t
 unfolding first_from
 found_lowest f i zero t e = let z : ◌≡◌ {A = ℕ} 0 1 = cc in absurd (omega arith)
 found_lowest f i (suc k) t e = go (f i) refl e (found_lowest f (suc i) k t)
   where
-    go : (b : Bool) → f i ≡ b → pick b (At i) (first_from f (suc i) k) ≡ At t → (first_from f (suc i) k ≡ At t → Lowest f (suc i) k t) → Lowest f i (suc k) t
+    go : (b : Bool) → f i ≡ b → pick b (Some i) (first_from f (suc i) k) ≡ Some t → (first_from f (suc i) k ≡ Some t → Lowest f (suc i) k t) → Lowest f i (suc k) t
     go true q r ih =
         let p : i ≡ t = cc in
         record { from = omega arith; below = omega arith; holds = rw (← p) q; before = λ j a b. absurd (omega arith) }
@@ -72,7 +71,7 @@ found_lowest f i (suc k) t e = go (f i) refl e (found_lowest f (suc i) k t)
           ];
         }
 
-pub found_below : (f : ℕ → Bool) (n : ℕ) {r : Found} {j : ℕ} → r ≡ first f n → r ≡ At j → j < n
+pub found_below : (f : ℕ → Bool) (n : ℕ) {r : Option ℕ} {j : ℕ} → r ≡ first f n → r ≡ Some j → j < n
 unfolding first
 found_below f n {r} {j} g e = let b = found_lowest f 0 n j (sym g ∙ e) in omega arith
 
@@ -86,17 +85,17 @@ first_ext f g i (suc k) h =
     rw (e, r)
 
 -- where nothing passes, the search finds nothing, and the other way round
-pub absent_of : (f : ℕ → Bool) (i k : ℕ) → ((j : ℕ) → i ≤ j → j < i + k → f j ≡ false) → first_from f i k ≡ Absent
+pub absent_of : (f : ℕ → Bool) (i k : ℕ) → ((j : ℕ) → i ≤ j → j < i + k → f j ≡ false) → first_from f i k ≡ None
 unfolding first_from
 absent_of f i zero h = refl
 absent_of f i (suc k) h = rw (h i (omega arith) (omega arith)) (absent_of f (suc i) k (λ j a b. h j (omega arith) (omega arith)))
 
-pub none_below : (f : ℕ → Bool) (i k : ℕ) → first_from f i k ≡ Absent → (j : ℕ) → i ≤ j → j < i + k → f j ≡ false
+pub none_below : (f : ℕ → Bool) (i k : ℕ) → first_from f i k ≡ None → (j : ℕ) → i ≤ j → j < i + k → f j ≡ false
 unfolding first_from
 none_below f i zero e j a b = absurd (omega arith)
 none_below f i (suc k) e j a b = go (f i) refl e (λ r c. none_below f (suc i) k r j c (omega arith))
   where
-    go : (b : Bool) → f i ≡ b → pick b (At i) (first_from f (suc i) k) ≡ Absent → (first_from f (suc i) k ≡ Absent → suc i ≤ j → f j ≡ false) → f j ≡ false
+    go : (b : Bool) → f i ≡ b → pick b (Some i) (first_from f (suc i) k) ≡ None → (first_from f (suc i) k ≡ None → suc i ≤ j → f j ≡ false) → f j ≡ false
     go true q r ih = cc
     go false q r ih = elim (dec_lt i j) as (λ _. f j ≡ false) [
       | yes lt ↦ ih r lt
@@ -107,29 +106,29 @@ none_below f i (suc k) e j a b = go (f i) refl e (λ r c. none_below f (suc i) k
 pub lowest_of : (f : ℕ → Bool) (i k j : ℕ) → i ≤ j → j < i + k → f j ≡ true → (t : ℕ) × Lowest f i k t
 lowest_of f i k j a b h = go (first_from f i k) refl
   where
-    go : (r : Found) → first_from f i k ≡ r → (t : ℕ) × Lowest f i k t
-    go (At t) e = (t, found_lowest f i k t e)
-    go Absent e = absurd (clash (f j) h (none_below f i k e j a b))
+    go : (r : Option ℕ) → first_from f i k ≡ r → (t : ℕ) × Lowest f i k t
+    go (Some t) e = (t, found_lowest f i k t e)
+    go None e = absurd (clash (f j) h (none_below f i k e j a b))
 
 -- the w numbers from i on, and then the k after them
-pub first_split : (f : ℕ → Bool) (i w k : ℕ) → first_from f i (w + k) ≡ on_found (first_from f i w) At (first_from f (i + w) k)
+pub first_split : (f : ℕ → Bool) (i w k : ℕ) → first_from f i (w + k) ≡ on_found (first_from f i w) Some (first_from f (i + w) k)
 unfolding first_from
 first_split f i zero k = rw (zero-add, add-zero)
 first_split f i (suc w) k = rw (suc-add) (go (f i) (first_split f (suc i) w k))
   where
-    go : (b : Bool) → first_from f (suc i) (w + k) ≡ on_found (first_from f (suc i) w) At (first_from f (suc i + w) k)
-        → pick b (At i) (first_from f (suc i) (w + k)) ≡ on_found (pick b (At i) (first_from f (suc i) w)) At (first_from f (i + suc w) k)
+    go : (b : Bool) → first_from f (suc i) (w + k) ≡ on_found (first_from f (suc i) w) Some (first_from f (suc i + w) k)
+        → pick b (Some i) (first_from f (suc i) (w + k)) ≡ on_found (pick b (Some i) (first_from f (suc i) w)) Some (first_from f (i + suc w) k)
     go true h = refl
     go false h = let q : i + suc w ≡ suc i + w = omega arith in rw q h
 
 -- a search block by block, where the block of the w numbers from i on was searched: nothing there, or t
-pub first_skip : (f : ℕ → Bool) (i w k : ℕ) → w ≤ k → first_from f i w ≡ Absent → first_from f i k ≡ first_from f (i + w) (k - w)
+pub first_skip : (f : ℕ → Bool) (i w k : ℕ) → w ≤ k → first_from f i w ≡ None → first_from f i k ≡ first_from f (i + w) (k - w)
 first_skip f i w k l e = let q : k ≡ w + (k - w) = omega arith in ap (first_from f i) q ∙ first_split f i w (k - w) ∙ rw e
 
-pub first_hit : (f : ℕ → Bool) (i w k t : ℕ) → w ≤ k → first_from f i w ≡ At t → first_from f i k ≡ At t
+pub first_hit : (f : ℕ → Bool) (i w k t : ℕ) → w ≤ k → first_from f i w ≡ Some t → first_from f i k ≡ Some t
 first_hit f i w k t l e = let q : k ≡ w + (k - w) = omega arith in ap (first_from f i) q ∙ first_split f i w (k - w) ∙ rw e
 
-pub lowest_found : (f : ℕ → Bool) (i k t : ℕ) → Lowest f i k t → first_from f i k ≡ At t
+pub lowest_found : (f : ℕ → Bool) (i k t : ℕ) → Lowest f i k t → first_from f i k ≡ Some t
 lowest_found f i k t h =
     let a : i ≤ t = h.from in
     let b : t < i + k = h.below in
@@ -146,13 +145,13 @@ first_of f m n l b h = elim (dec_lt n m) as (λ _. on_found (first_from f 0 m) (
 ]
 
 -- the search of a test that is moved by a
-pub first_shift : (f : ℕ → Bool) (a i k : ℕ) → on_found (first_from (λ j. f (a + j)) i k) (λ t. At (a + t)) Absent ≡ first_from f (a + i) k
+pub first_shift : (f : ℕ → Bool) (a i k : ℕ) → on_found (first_from (λ j. f (a + j)) i k) (λ t. Some (a + t)) None ≡ first_from f (a + i) k
 unfolding first_from
 first_shift f a i zero = refl
 first_shift f a i (suc k) = go (f (a + i)) (first_shift f a (suc i) k)
   where
-    go : (b : Bool) → on_found (first_from (λ j. f (a + j)) (suc i) k) (λ t. At (a + t)) Absent ≡ first_from f (a + suc i) k
-        → on_found (pick b (At i) (first_from (λ j. f (a + j)) (suc i) k)) (λ t. At (a + t)) Absent ≡ pick b (At (a + i)) (first_from f (suc (a + i)) k)
+    go : (b : Bool) → on_found (first_from (λ j. f (a + j)) (suc i) k) (λ t. Some (a + t)) None ≡ first_from f (a + suc i) k
+        → on_found (pick b (Some i) (first_from (λ j. f (a + j)) (suc i) k)) (λ t. Some (a + t)) None ≡ pick b (Some (a + i)) (first_from f (suc (a + i)) k)
     go true h = refl
     go false h = h ∙ ap (λ (m : ℕ). first_from f m k) (add-suc a i)
 
@@ -161,13 +160,13 @@ pub by_pick : {A : Type 0} (P : A → Type 0) (b : Bool) {x y : A} → P x → P
 by_pick P true p q = p
 by_pick P false p q = q
 
-pub by_found : {A : Type 0} (P : A → Type 0) (r : Found) {g : ℕ → A} {y : A} → ((t : ℕ) → P (g t)) → P y → P (on_found r g y)
-by_found P (At t) p q = p t
-by_found P Absent p q = q
+pub by_found : {A : Type 0} (P : A → Type 0) (r : Option ℕ) {g : ℕ → A} {y : A} → ((t : ℕ) → P (g t)) → P y → P (on_found r g y)
+by_found P (Some t) p q = p t
+by_found P None p q = q
 
-pub found_else : (x : Found) → on_found x At Absent ≡ x
-found_else (At t) = refl
-found_else Absent = refl
+pub found_else : (x : Option ℕ) → on_found x Some None ≡ x
+found_else (Some t) = refl
+found_else None = refl
 
 -- ---- a choice whose outcome is known, and cannot have come from one of its branches
 module _ {A : Type 0} where
@@ -179,10 +178,10 @@ module _ {A : Type 0} where
   pick_not true x y z e h = (refl, e)
   pick_not false x y z e h = absurd (h e)
 
-  pub found_none : (f : Found) (g : ℕ → A) (y z : A) → on_found f g y ≡ z → ((t : ℕ) → g t ≡ z → ⊥) → (f ≡ Absent) × (y ≡ z)
-  found_none (At t) g y z e h = absurd (h t e)
-  found_none Absent g y z e h = (refl, e)
+  pub found_none : (f : Option ℕ) (g : ℕ → A) (y z : A) → on_found f g y ≡ z → ((t : ℕ) → g t ≡ z → ⊥) → (f ≡ None) × (y ≡ z)
+  found_none (Some t) g y z e h = absurd (h t e)
+  found_none None g y z e h = (refl, e)
 
-  pub found_at : (f : Found) (g : ℕ → A) (y z : A) → on_found f g y ≡ z → (y ≡ z → ⊥) → (t : ℕ) × (f ≡ At t) × (g t ≡ z)
-  found_at (At t) g y z e h = (t, refl, e)
-  found_at Absent g y z e h = absurd (h e)
+  pub found_at : (f : Option ℕ) (g : ℕ → A) (y z : A) → on_found f g y ≡ z → (y ≡ z → ⊥) → (t : ℕ) × (f ≡ Some t) × (g t ≡ z)
+  found_at (Some t) g y z e h = (t, refl, e)
+  found_at None g y z e h = absurd (h e)

@@ -1,8 +1,2 @@
-// What a search of the numbers below a bound answers: the lowest that passes, or that none does.
+// Numbers below a bound: tests of all or some, counts, the lowest that passes. No code.
 #![tactic(auto)]
-
-#[derive(Clone, Copy)]
-pub enum Found {
-    At(usize),
-    Absent,
-}

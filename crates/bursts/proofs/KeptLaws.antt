@@ -1,4 +1,5 @@
 -- The map of named blocks that a burst keeps, as the code goes through it. s is the store, m the image, n and b the counts of inodes and image blocks; long tells which inodes have an address block.
+use Rattle.std.specs.Prelude.{Option, Some}
 use Prim.Native.Nat.{ℕ, ◌+◌, ◌*◌, ◌-◌, ◌/◌, ◌%◌, ◌≤◌, ◌<◌}
 use mathlib.Core.Path.{◌≡◌, refl, sym, ap, ◌∙◌}
 use mathlib.Core.Logic.{◌≢◌}
@@ -6,19 +7,17 @@ use mathlib.Core.Bool.{Bool, true, false, not, ◌&&◌}
 use mathlib.Core.List.{List}
 use native.Mathlib.Decide.{ℕ_discrete}
 use native.Mathlib.Omega.{arith}
-use borrow.Author.Tests.{leb-true, le-leb, lt-leb, eq-eqb, ne_eqb, eqb-false, not-true}
+use borrow.Author.Tests.{leb-true, eqb-false, not-true}
 use lib.Dec.{eqb, leb}
 use Rattle.bounded.specs.Search.{first_from}
-use Rattle.bounded.specs.declared.Found.{Found}
-use Rattle.bounded.specs.declared.Found.TheVariants.{At}
-use Rattle.bounded.proofs.BoolLaws.{and_left, and_right, and_false_l, chain_end}
+use Rattle.bounded.proofs.BoolLaws.{and_left, and_right}
 use Rattle.bounded.proofs.SearchLaws.{first_ext}
 use Rattle.layout.specs.Sizes.{address_count, address_place, most_blocks, most_image_blocks}
 use Rattle.layout.specs.Inode.{kind_of, directory_kind}
 use Rattle.blocks.specs.Block.{is_long, address_block, further_of, kth_by, kth_block, row_by}
 use Rattle.blocks.specs.Free.{named_by, lowest_by, long_but}
 use Rattle.blocks.specs.Fits.{RowsFit}
-use Rattle.blocks.specs.Map.{has_block, lacks, Maps}
+use Rattle.blocks.specs.Map.{lacks, Maps}
 use Rattle.blocks.proofs.KthLaws.{kth_direct, kth_further, few_alike}
 use Rattle.blocks.proofs.MapLaws.{map_ext, map_free}
 use Rattle.blocks.proofs.LongLaws.{but_else}
@@ -30,15 +29,6 @@ use Rattle.transfer.proofs.NamedLaws.{target_own, target_other}
 
 -- ---- the place of a block by the map
 module _ (map : List ℕ) (b c : ℕ) where
-  pub open_low : c < 1 → false ≡ leb 1 c && (leb c b && lacks map c)
-  open_low h = sym (and_false_l _ _ (lt-leb 1 c h))
-
-  pub open_high : 1 ≤ c → b < c → false ≡ leb 1 c && (leb c b && lacks map c)
-  open_high l h = chain_end _ _ _ (le-leb 1 c l) (sym (and_false_l _ _ (lt-leb c b h)))
-
-  pub open_read : (r : Bool) → r ≡ has_block map c → 1 ≤ c → c ≤ b → not r ≡ leb 1 c && (leb c b && lacks map c)
-  open_read r e l h = chain_end _ _ _ (le-leb 1 c l) (chain_end _ _ _ (le-leb c b h) (ap not e))
-
   module _ (few : b ≤ most_image_blocks) (long : ℕ → Bool) (m : List ℕ) (n : ℕ) (k : Maps long m n (most_blocks * n) map) where
     same_open : leb 1 c && (leb c b && lacks map c) ≡ leb 1 c && (leb c b && not (named_by long m n c))
     same_open = go (leb 1 c) (leb c b) refl refl
@@ -48,10 +38,10 @@ module _ (map : List ℕ) (b c : ℕ) where
         go true false p q = refl
         go false y p q = refl
 
-    pub place_own : (r : Bool) → r ≡ leb 1 c && (leb c b && lacks map c) → r ≡ true → At c ≡ target_block long m n b c
+    pub place_own : (r : Bool) → r ≡ leb 1 c && (leb c b && lacks map c) → r ≡ true → Some c ≡ target_block long m n b c
     place_own r e q = target_own long m n c b r (e ∙ same_open) q
 
-    pub place_lowest : (r : Bool) → r ≡ leb 1 c && (leb c b && lacks map c) → r ≡ false → (f : Found) → f ≡ first_from (lacks map) 1 b → f ≡ target_block long m n b c
+    pub place_lowest : (r : Bool) → r ≡ leb 1 c && (leb c b && lacks map c) → r ≡ false → (f : Option ℕ) → f ≡ first_from (lacks map) 1 b → f ≡ target_block long m n b c
     unfolding lowest_by
     place_lowest r e q f g = target_other long m n c b r (e ∙ same_open) f q (g ∙ first_ext _ _ 1 _ (λ j l u. map_free long m n map k j l (omega arith)))
 
@@ -96,16 +86,6 @@ module _ (s m : List ℕ) (n i : ℕ) where
 
 -- ---- whether the counts stay at the close of inode i
 module _ (s m : List ℕ) (i : ℕ) where
-  pub stay_image : kind_of m i ≡ directory_kind → false ≡ names_stay_b s m i
-  stay_image e = rw (eq-eqb (kind_of m i) directory_kind e)
-
-  module _ (file : kind_of m i ≢ directory_kind) where
-    pub stay_store : kind_of s i ≡ directory_kind → false ≡ names_stay_b s m i
-    stay_store e = rw (ne_eqb (kind_of m i) directory_kind file, eq-eqb (kind_of s i) directory_kind e)
-
-    pub stay_long : kind_of s i ≢ directory_kind → not (is_long s i) ≡ names_stay_b s m i
-    stay_long e = rw (ne_eqb (kind_of m i) directory_kind file, ne_eqb (kind_of s i) directory_kind e)
-
   pub stay_is : names_stay_b s m i ≡ true → (kind_of m i ≢ directory_kind) × (kind_of s i ≢ directory_kind) × (is_long s i ≡ false)
   stay_is h =
       let a = and_left _ _ h in

@@ -1,4 +1,5 @@
 -- Each step of a burst as a turn: what it asks for, what is left to do after it, and that it keeps what a burst keeps. s is the store, m the image, d the desk, n the inode count, h the desk's header.
+use Rattle.std.specs.Prelude.{Err, None, Ok, Option, Some}
 use Prim.Native.Nat.{ℕ, suc, ◌+◌, ◌*◌, ◌-◌, ◌/◌, ◌%◌, ◌≤◌, ◌<◌}
 use mathlib.Core.Path.{◌≡◌, refl, sym, ap, ◌∙◌, subst}
 use mathlib.Core.Logic.{◌≢◌}
@@ -9,8 +10,6 @@ use native.Mathlib.Omega.{arith}
 use lib.ListN.{length}
 use Rattle.bounded.specs.Count.{Tallied}
 use Rattle.bounded.specs.Search.{on_found}
-use Rattle.bounded.specs.declared.Found.{Found}
-use Rattle.bounded.specs.declared.Found.TheVariants.{At, Absent}
 use Rattle.bounded.proofs.BoolLaws.{clash}
 use Rattle.bounded.proofs.TallyLaws.{tallied_ext}
 use Rattle.layout.specs.Sizes.{header_bytes, inode_bytes, most_inodes, most_image_blocks, most_blocks, address_count, address_place, not_complete}
@@ -31,9 +30,8 @@ use Rattle.sound.specs.Sound.{inodes_in}
 use Rattle.sound.specs.declared.Form.TheVariants.{Store}
 use Rattle.sound.proofs.SoundLaws.{is_sound_lem}
 use Rattle.preservation.proofs.StoreLaws.{sound_store, sized_at}
-use Rattle.answers.specs.declared.Answer.{Answer}
-use Rattle.answers.specs.Told.{Told, told}
-use Rattle.answers.specs.declared.Answer.TheVariants.{Done, Refused}
+use Rattle.answers.specs.Told.{Answer, Told, told}
+use Rattle.answers.specs.declared.Refusal.{Refusal}
 use Rattle.answers.specs.declared.Refusal.TheVariants.{BadDesk, ImageFull}
 use Rattle.checkpoint.specs.Fit.{image_long, image_fits}
 use Rattle.checkpoint.specs.Image.{image_naming}
@@ -52,9 +50,9 @@ use Rattle.copier.specs.Held.{Held, Locked, Target, OpenImage}
 use Rattle.copier.proofs.ReadyLaws.{ready_held, ready_locked, ready_open}
 use Rattle.copier.proofs.FiveLaws.{locked_close, locked_copy, locked_full, step_free, step_locked, does_lock, does_full, target_inside}
 use Rattle.bursts.specs.Turn.{Mapped, NamesStay, Counted, Going, Kept, Took}
-use Rattle.bursts.specs.declared.Turn.TheVariants.{Goes, Stops}
 use Rattle.bursts.proofs.NamingLaws.{copy_naming, close_naming}
 use Rattle.bursts.proofs.TurnLaws.{went_stops, went_last, went_on, went_final}
+use Rattle.bursts.specs.declared.Turn.TheVariants.{Goes}
 
 -- ---- the buffers of a running copy
 module _ (s m d : List ℕ) (z : Steady (world s m d)) (n : ℕ) (e : n ≡ inodes_in s) where
@@ -134,26 +132,26 @@ module _ (s m d : List ℕ) (n : ℕ) (h : Desk) (g : Going (world s m d) n h) w
 
     -- 3: f is where the map says that the next block goes
     module _ (map : List ℕ) (k : Mapped (world s m d) n map) (more : h.transferred < blocks_used (size_of s h.locked)) (own : ℕ) (o : own ≡ kth_block s n h.locked h.transferred)
-        (f : Found) (place : (long : ℕ → Bool) (m : List ℕ) (n : ℕ) → Maps long m n (most_blocks * n) map → f ≡ target_block long m n h.blocks own) where
+        (f : Option ℕ) (place : (long : ℕ → Bool) (m : List ℕ) (n : ℕ) → Maps long m n (most_blocks * n) map → f ≡ target_block long m n h.blocks own) where
       found : f ≡ target_block (long_but m h.locked (is_long s h.locked)) m n h.blocks own
       found = place _ m n (subst (λ (v : Desk). Maps (long_but m v.locked (is_long s v.locked)) m n (most_blocks * n) map) (sym g.read) k)
 
-      pub block_stops : f ≡ Absent → (a : Answer) (p : List ℕ) → a ≡ Refused ImageFull → p ≡ step_desk d full → (counts : List ℕ) → Took (Stops ImageFull) (world s m d) n m p map counts
-      block_stops w a p x y counts =
+      pub block_stops : f ≡ None → (e : Refusal) (p : List ℕ) → e ≡ ImageFull → p ≡ step_desk d full → (counts : List ℕ) → Took (Err e) (world s m d) n m p map counts
+      block_stops w e p x y counts = subst (λ (r : Refusal). Took (Err r) (world s m d) n m p map counts) (sym x) (
           went_stops s m d n h g full
           (step_locked s m d n h g.read on ∙ locked_full s m n h.blocks h.locked h.transferred (blocks_used (size_of s h.locked)) refl more (is_long s h.locked) refl own o f found w)
-          (told a) m p (does_full s m d n full refl a p x y) ImageFull refl
+          (told (Err ImageFull)) m p (does_full s m d n full refl (Err ImageFull) p refl y) ImageFull refl)
 
-      module _ (c : ℕ) (w : f ≡ At c) where
+      module _ (c : ℕ) (w : f ≡ Some c) where
         pub block_target : Target m n h c
         block_target = target_inside going_locked going_open more _ own c f found w
 
         more_desk : (desk_of d).transferred < blocks_used (size_of s (desk_of d).locked)
         more_desk = subst (λ (v : Desk). v.transferred < blocks_used (size_of s v.locked)) g.read more
 
-        goes : target_block (image_long s m d) m n (desk_of d).blocks (kth_block s n (desk_of d).locked (desk_of d).transferred) ≡ At c
+        goes : target_block (image_long s m d) m n (desk_of d).blocks (kth_block s n (desk_of d).locked (desk_of d).transferred) ≡ Some c
         goes =
-            subst (λ (v : Desk). target_block (long_but m v.locked (is_long s v.locked)) m n v.blocks (kth_block s n v.locked v.transferred) ≡ At c) g.read
+            subst (λ (v : Desk). target_block (long_but m v.locked (is_long s v.locked)) m n v.blocks (kth_block s n v.locked v.transferred) ≡ Some c) g.read
             (ap (target_block (long_but m h.locked (is_long s h.locked)) m n h.blocks) (sym o) ∙ sym found ∙ w)
 
         -- what stands at its place can be read
@@ -256,7 +254,7 @@ module _ (s m d : List ℕ) (n : ℕ) (h : Desk) (g : Going (world s m d) n h) w
                 (subst (Mapped (world s after notes) n) (sym (r.0 y)) (copy_mapped (sym (e ∙ ap (λ (v : Desk). kth_by true m n v.locked v.transferred) g.read) ∙ y)))
             mapped (no y) = subst (λ (x : ℕ). Maps (long_but t x (is_long s x)) t n (most_blocks * n) new) (sym lock_left) (r.1 y)
 
-            pub block_goes : (counts : List ℕ) → Counted (world s m d) n counts → Took Goes (world s m d) n t p new counts
+            pub block_goes : (counts : List ℕ) → Counted (world s m d) n counts → Took (Ok Goes) (world s m d) n t p new counts
             block_goes counts x = (
               (λ k j. went_on s m d n h g (copy l q c) is_copy a t p did_desk ((desk_of d).steps + 1) refl k j (steady_incomplete s t p stays n g.inodes)),
               record { inodes = g.inodes; steady = stays; mapped = mapped (ℕ_discrete old 0); counted = subst (λ (v : World). Counted v n counts) (sym copy_left) (copy_counted counts x) },
@@ -288,7 +286,7 @@ module _ (s m d : List ℕ) (n : ℕ) (h : Desk) (g : Going (world s m d) n h) w
           (tallied_ext (image_naming m n) (image_naming (step_image s m d n (close (desk_of d).locked)) n) 1 (most_inodes + 1) (most_slots * n) counts
           (close_naming (close_inode s m d steady n g.inodes on_desk) y.0 (λ w. y.1 (sym (close_kind s m d steady n g.inodes on_desk) ∙ w))) (k (λ _. (y.0, y.2))))
 
-      pub close_goes : (counts : List ℕ) → Tallied (image_naming t n) 1 (most_inodes + 1) (most_slots * n) counts → (map : List ℕ) → Mapped (world s m d) n map → Took Goes (world s m d) n t p map counts
+      pub close_goes : (counts : List ℕ) → Tallied (image_naming t n) 1 (most_inodes + 1) (most_slots * n) counts → (map : List ℕ) → Mapped (world s m d) n map → Took (Ok Goes) (world s m d) n t p map counts
       close_goes counts x map k = (
         (λ j c. went_on s m d n h g (close (desk_of d).locked) is_close a t p closed_desk ((desk_of d).steps + 1) refl j c (steady_incomplete s t p close_steady n g.inodes)),
         record {
@@ -317,20 +315,20 @@ module _ (s m d : List ℕ) (n : ℕ) (h : Desk) (g : Going (world s m d) n h) w
     free_most = sized.blocks
 
     -- f is what is to be locked
-    module _ (f : Found) (next : (m : List ℕ) → Tallied (image_naming m n) 1 (most_inodes + 1) (most_slots * n) counts → free_step m d n ≡ on_found f lock finish) where
-      is_next : (x : Found) → f ≡ x → step_of s m d n ≡ on_found x lock finish
-      is_next x w = step_free s m d n h g.read none ∙ next m free_names ∙ ap (λ (y : Found). on_found y lock finish) w
+    module _ (f : Option ℕ) (next : (m : List ℕ) → Tallied (image_naming m n) 1 (most_inodes + 1) (most_slots * n) counts → free_step m d n ≡ on_found f lock finish) where
+      is_next : (x : Option ℕ) → f ≡ x → step_of s m d n ≡ on_found x lock finish
+      is_next x w = step_free s m d n h g.read none ∙ next m free_names ∙ ap (λ (y : Option ℕ). on_found y lock finish) w
 
       -- 5
-      pub finish_ends : f ≡ Absent → (a : Told) (t p : List ℕ) → ((s : List ℕ) → tells a s t p ≡ do_step s m d n finish) → (k c : ℕ) → burst_from (suc k) c (world s m d) ≡ left (Done (suc c)) s t p
+      pub finish_ends : f ≡ None → (a : Told) (t p : List ℕ) → ((s : List ℕ) → tells a s t p ≡ do_step s m d n finish) → (k c : ℕ) → burst_from (suc k) c (world s m d) ≡ left (Ok (suc c)) s t p
       finish_ends w a t p did k c =
-          went_last s m d n h g finish (is_next Absent w) a t p (did s) ((desk_of d).steps + 1) refl k c
+          went_last s m d n h g finish (is_next None w) a t p (did s) ((desk_of d).steps + 1) refl k c
           (ap (λ (o : Outcome). (header_of o.image).complete) (did s) ∙ (finished m n (desk_of d).blocks going_addressed.few going_addressed.area).complete)
 
       -- 1 and 2
-      module _ (i : ℕ) (w : f ≡ At i) where
+      module _ (i : ℕ) (w : f ≡ Some i) where
         range : (1 ≤ i) × (i ≤ n)
-        range = lock_range (chosen s m d n (some s m d steady n g.inodes)) i (is_next (At i) w)
+        range = lock_range (chosen s m d n (some s m d steady n g.inodes)) i (is_next (Some i) w)
 
         fits_is : image_fits s m (step_desk d (lock i)) ≡ further_right_of (is_long s i) m n h.blocks i
         fits_is = lock_fits s m d steady n g.inodes none_desk i range.0 range.1 ∙ ap (λ (v : Desk). further_right_of (is_long s i) m n v.blocks i) (sym g.read)
@@ -351,7 +349,7 @@ module _ (s m d : List ℕ) (n : ℕ) (h : Desk) (g : Going (world s m d) n h) w
         lock_few = let l = range.1 in let k = going_addressed.few in omega arith
 
         -- it was locked: r is what the look found
-        module _ (a : Answer) (p : List ℕ) (x : a ≡ Done ((desk_of d).steps + 1)) (y : p ≡ step_desk d (lock i)) (r : Bool) (v : r ≡ further_right_of (is_long s i) m n h.blocks i) where
+        module _ (a : Answer) (p : List ℕ) (x : a ≡ Ok ((desk_of d).steps + 1)) (y : p ≡ step_desk d (lock i)) (r : Bool) (v : r ≡ further_right_of (is_long s i) m n h.blocks i) where
           incomplete : (header_of m).complete ≡ not_complete
           incomplete = steady_incomplete s m d steady n g.inodes
 
@@ -359,14 +357,14 @@ module _ (s m d : List ℕ) (n : ℕ) (h : Desk) (g : Going (world s m d) n h) w
           locked = does_lock s m d n (lock i) i refl a p x y
 
           -- the next step would get 3
-          pub lock_ends : r ≡ false → (k c : ℕ) → burst_from (suc k) c (world s m d) ≡ left (Done (suc c)) s m p
+          pub lock_ends : r ≡ false → (k c : ℕ) → burst_from (suc k) c (world s m d) ≡ left (Ok (suc c)) s m p
           lock_ends e k c =
-              went_final s m d n h g (lock i) (is_next (At i) w) (told a) m p locked ((desk_of d).steps + 1) refl k c incomplete BadDesk
+              went_final s m d n h g (lock i) (is_next (Some i) w) (told a) m p locked ((desk_of d).steps + 1) refl k c incomplete BadDesk
               (subst (λ (q : List ℕ). step s m q ≡ refuse BadDesk s m q) (sym y) (lock_unfit s m d steady n g.inodes none_desk i range.0 range.1 (fits_is ∙ sym v ∙ e)))
 
-          pub lock_goes : r ≡ true → (new : List ℕ) → Maps (long_but m i (is_long s i)) m n (most_blocks * n) new → Took Goes (world s m d) n m p new counts
+          pub lock_goes : r ≡ true → (new : List ℕ) → Maps (long_but m i (is_long s i)) m n (most_blocks * n) new → Took (Ok Goes) (world s m d) n m p new counts
           lock_goes e new k = (
-            (λ j c. went_on s m d n h g (lock i) (is_next (At i) w) (told a) m p locked ((desk_of d).steps + 1) refl j c incomplete),
+            (λ j c. went_on s m d n h g (lock i) (is_next (Some i) w) (told a) m p locked ((desk_of d).steps + 1) refl j c incomplete),
             subst (λ (q : List ℕ). Kept (world s m q) n new counts) (sym y) (record {
               inodes = g.inodes;
               steady = lock_stays s m d steady n g.inodes none_desk i range.0 range.1 (fits_is ∙ sym v ∙ e);

@@ -1,26 +1,27 @@
 -- Each way that a turn, the turns and the burst return. s is the store, m the image, d the desk, n the inode count.
+use Rattle.std.specs.Prelude.{Err, Ok, Result}
 use Prim.Native.Nat.{ℕ, zero, suc, ◌+◌, ◌-◌, ◌*◌, ◌≤◌, ◌<◌}
 use mathlib.Core.Path.{◌≡◌, refl, sym, ap, ◌∙◌, subst}
 use mathlib.Core.Bool.{Bool, true, false, not}
 use mathlib.Core.List.{List}
 use native.Mathlib.Omega.{arith}
-use borrow.Author.Tests.{eq-eqb, ne_eqb, lt-leb, le-leb, not-true, not-false}
+use borrow.Author.Tests.{eq-eqb, ne_eqb, not-true, not-false}
 use lib.Dec.{eqb, leb}
 use lib.ListN.{length}
 use Rattle.bounded.specs.Search.{pick}
-use Rattle.bounded.proofs.BoolLaws.{and_left, and_right, and_false_l, chain_end}
+use Rattle.bounded.proofs.BoolLaws.{and_left, and_right}
 use Rattle.bounded.proofs.ReflectLaws.{r_le}
 use Rattle.layout.specs.Sizes.{is_complete, not_complete}
 use Rattle.layout.specs.Header.{header_of}
-use Rattle.desk.specs.Sizes.{desk_header_bytes, running, steps_an_inode}
+use Rattle.desk.specs.Sizes.{desk_header_bytes, steps_an_inode}
 use Rattle.desk.specs.declared.Desk.{Desk}
 use Rattle.desk.specs.Desk.{desk_of}
 use Rattle.sound.specs.Sound.{inodes_in}
-use Rattle.answers.specs.declared.Answer.{Answer}
-use Rattle.answers.specs.declared.Answer.TheVariants.{Done, Refused}
+use Rattle.std.specs.Result.{IsErrAnd}
+use Rattle.answers.proofs.RefusalLaws.{exit}
 use Rattle.answers.specs.declared.Refusal.{Refusal}
 use Rattle.answers.specs.declared.Refusal.TheVariants.{BadBuffer, BadCount, BadDesk, WrongState}
-use Rattle.answers.specs.Told.{Told, told}
+use Rattle.answers.specs.Told.{Answer, Told, told}
 use Rattle.answers.proofs.RefusalLaws.{not_none}
 use Rattle.files.specs.Guard.{guard_by}
 use Rattle.checkpoint.specs.Fit.{both_framed, is_running}
@@ -31,24 +32,20 @@ use Rattle.checkpoint.specs.Burst.{most_burst, count_allowed, burst_from, burst}
 use Rattle.checkpoint.proofs.Copy.FitLaws.{desk_framed_is}
 use Rattle.checkpoint.proofs.DecisionLaws.{three_is}
 use Rattle.checkpoint.proofs.SteadyLaws.{ready_of, late, ready_step}
-use Rattle.guards.specs.declared.Watched.{Watched}
-use Rattle.guards.specs.declared.Watched.TheVariants.{Open, Shut}
-use Rattle.guards.specs.Handed.{handed}
+use Rattle.guards.specs.Handed.{handed, watched_by}
 use Rattle.guards.proofs.GuardLaws.{three_framed, shut}
 use Rattle.copier.proofs.StepLaws.{step_ready}
 use Rattle.bursts.specs.Turn.{Going, Kept, stopped_at, Took}
+use Rattle.bursts.specs.declared.Turn.TheVariants.{Ends, Goes}
 use Rattle.bursts.specs.declared.Turn.{Turn}
-use Rattle.bursts.specs.declared.Turn.TheVariants.{Goes, Ends, Stops}
+use Rattle.guards.specs.declared.Watched.{Watched}
 
 -- ---- the answer after k accepted steps
 module _ (k : ℕ) (e : Refusal) where
-  pub stopped_first : k ≡ 0 → Refused e ≡ stopped_at k e
-  stopped_first q = rw (eq-eqb k 0 q)
-
-  pub stopped_later : (k ≡ 0 → ⊥) → Done k ≡ stopped_at k e
+  pub stopped_later : (k ≡ 0 → ⊥) → Ok k ≡ stopped_at k e
   stopped_later q = rw (ne_eqb k 0 q)
 
-ends : (s m d : List ℕ) (c : ℕ) → burst_from zero c (world s m d) ≡ left (Done c) s m d
+ends : (s m d : List ℕ) (c : ℕ) → burst_from zero c (world s m d) ≡ left (Ok c) s m d
 unfolding burst_from
 ends s m d c = refl
 
@@ -67,24 +64,24 @@ module _ (s m d : List ℕ) (o : Outcome) (h : step s m d ≡ o) where
   left_in = ap world_in h
 
   module _ (k c : ℕ) where
-    from_refused : (e : Refusal) → o.answer ≡ told (Refused e) → burst_from (suc k) c w ≡ left (stopped_at c e) o.store o.image o.desk
+    from_refused : (e : Refusal) → o.answer ≡ told (Err e) → burst_from (suc k) c w ≡ left (stopped_at c e) o.store o.image o.desk
     unfolding burst_from
     from_refused e q =
         let a : accepted advances w ≡ false = taken ∙ ap (λ (x : Told). eqb x.number 0) q ∙ not_none e in
         rw (a, h) (go (eqb c 0))
       where
-        go : (b : Bool) → pick b o (left (Done c) o.store o.image o.desk) ≡ left (pick b (Refused e) (Done c)) o.store o.image o.desk
+        go : (b : Bool) → pick b o (left (Ok c) o.store o.image o.desk) ≡ left (pick b (Err e) (Ok c)) o.store o.image o.desk
         go true = ap (λ (x : Told). tells x o.store o.image o.desk) q
         go false = refl
 
-    module _ (x : ℕ) (q : o.answer ≡ told (Done x)) where
+    module _ (x : ℕ) (q : o.answer ≡ told (Ok x)) where
       on : accepted advances w ≡ true
       on = taken ∙ ap (λ (x : Told). eqb x.number 0) q
 
       ended : (b : Bool) → eqb (header_of o.image).complete is_complete ≡ b → completes advances w ≡ b
       ended b p = rw on (ap (λ (v : World). eqb (header_of v.image).complete is_complete) left_in ∙ p)
 
-      from_last : eqb (header_of o.image).complete is_complete ≡ true → burst_from (suc k) c w ≡ left (Done (suc c)) o.store o.image o.desk
+      from_last : eqb (header_of o.image).complete is_complete ≡ true → burst_from (suc k) c w ≡ left (Ok (suc c)) o.store o.image o.desk
       unfolding burst_from
       from_last p = let a = on in let b = ended true p in rw (b, a, h)
 
@@ -98,7 +95,7 @@ module _ (s m d : List ℕ) (n : ℕ) (map counts : List ℕ) (z : Kept (world s
   turn_long = let f = ((desk_framed_is d).to z.steady.desk).1.1 in omega arith
 
   module _ (h : Desk) (r : h ≡ desk_of d) where
-    pub turn_late : steps_an_inode * h.inodes < h.steps → Took (Stops BadDesk) (world s m d) n m d map counts
+    pub turn_late : steps_an_inode * h.inodes < h.steps → Took (Err BadDesk) (world s m d) n m d map counts
     turn_late l k c =
         let q = ap (λ (v : Desk). v.inodes) r in
         let p = ap (λ (v : Desk). v.steps) r in
@@ -118,11 +115,11 @@ module _ (s m d : List ℕ) (n : ℕ) (h : Desk) (g : Going (world s m d) n h) (
   answered : a ≡ (do_step s m d n x).answer
   answered = ap (λ (o : Outcome). o.answer) f
 
-  pub went_stops : (e : Refusal) → (do_step s m d n x).answer ≡ told (Refused e) → (k c : ℕ) → burst_from (suc k) c (world s m d) ≡ left (stopped_at c e) s t p
+  pub went_stops : (e : Refusal) → (do_step s m d n x).answer ≡ told (Err e) → (k c : ℕ) → burst_from (suc k) c (world s m d) ≡ left (stopped_at c e) s t p
   went_stops e q k c = from_refused s m d (tells a s t p) stepped k c e (answered ∙ q)
 
-  module _ (y : ℕ) (q : (do_step s m d n x).answer ≡ told (Done y)) (k c : ℕ) where
-    pub went_last : (header_of t).complete ≡ is_complete → burst_from (suc k) c (world s m d) ≡ left (Done (suc c)) s t p
+  module _ (y : ℕ) (q : (do_step s m d n x).answer ≡ told (Ok y)) (k c : ℕ) where
+    pub went_last : (header_of t).complete ≡ is_complete → burst_from (suc k) c (world s m d) ≡ left (Ok (suc c)) s t p
     went_last w = from_last s m d (tells a s t p) stepped k c y (answered ∙ q) (eq-eqb (header_of t).complete is_complete w)
 
     module _ (w : (header_of t).complete ≡ not_complete) where
@@ -130,10 +127,10 @@ module _ (s m d : List ℕ) (n : ℕ) (h : Desk) (g : Going (world s m d) n h) (
       went_on = from_on s m d (tells a s t p) stepped k c y (answered ∙ q) (ne_eqb (header_of t).complete is_complete (λ v. omega arith))
 
       -- a step that is accepted, with none after it
-      pub went_final : (e : Refusal) → step s t p ≡ refuse e s t p → burst_from (suc k) c (world s m d) ≡ left (Done (suc c)) s t p
+      pub went_final : (e : Refusal) → step s t p ≡ refuse e s t p → burst_from (suc k) c (world s m d) ≡ left (Ok (suc c)) s t p
       went_final e v = went_on ∙ after k
         where
-          after : (k : ℕ) → burst_from k (suc c) (world s t p) ≡ left (Done (suc c)) s t p
+          after : (k : ℕ) → burst_from k (suc c) (world s t p) ≡ left (Ok (suc c)) s t p
           after zero = ends s t p (suc c)
           after (suc j) = from_refused s t p (refuse e s t p) v j (suc c) e refl ∙ ap (λ (x : Answer). left x s t p) (sym (stopped_later (suc c) e (λ y. omega arith)))
 
@@ -141,33 +138,33 @@ module _ (s m d : List ℕ) (n : ℕ) (h : Desk) (g : Going (world s m d) n h) (
 pub turns_begin : (count : ℕ) (v : World) → burst_from (count - 0) 0 v ≡ burst_from count 0 v
 turns_begin count v = let e : count - 0 ≡ count = omega arith in ap (λ (k : ℕ). burst_from k 0 v) e
 
-pub turns_end : (count k : ℕ) (s m d : List ℕ) → k ≤ count → count ≤ k → left (Done count) s m d ≡ burst_from (count - k) k (world s m d)
+pub turns_end : (count k : ℕ) (s m d : List ℕ) → k ≤ count → count ≤ k → left (Ok count) s m d ≡ burst_from (count - k) k (world s m d)
 unfolding burst_from
 turns_end count k s m d a b =
     let e : count - k ≡ 0 = omega arith in
     let f : count ≡ k = omega arith in
     rw (e, f)
 
-module _ (s m d : List ℕ) (n : ℕ) (t p map counts : List ℕ) (r : Turn) (h : Took r (world s m d) n t p map counts) (count k : ℕ) (l : k < count) where
+module _ (s m d : List ℕ) (n : ℕ) (t p map counts : List ℕ) (r : Result Turn Refusal) (h : Took r (world s m d) n t p map counts) (count k : ℕ) (l : k < count) where
   one_more : count - k ≡ suc (count - (k + 1))
   one_more = omega arith
 
   next_k : k + 1 ≡ suc k
   next_k = omega arith
 
-  pub turns_ends : r ≡ Ends → left (Done (k + 1)) s t p ≡ burst_from (count - k) k (world s m d)
+  pub turns_ends : r ≡ Ok Ends → left (Ok (k + 1)) s t p ≡ burst_from (count - k) k (world s m d)
   turns_ends q =
-      let g : Took Ends (world s m d) n t p map counts = subst (λ (x : Turn). Took x (world s m d) n t p map counts) q h in
+      let g : Took (Ok Ends) (world s m d) n t p map counts = subst (λ (x : Result Turn Refusal). Took x (world s m d) n t p map counts) q h in
       rw (one_more, next_k) (sym (g (count - suc k) k))
 
-  pub turns_stops : (e : Refusal) → r ≡ Stops e → (a : Answer) → a ≡ stopped_at k e → left a s t p ≡ burst_from (count - k) k (world s m d)
+  pub turns_stops : (e : Refusal) → r ≡ Err e → (a : Answer) → a ≡ stopped_at k e → left a s t p ≡ burst_from (count - k) k (world s m d)
   turns_stops e q a b =
-      let g : Took (Stops e) (world s m d) n t p map counts = subst (λ (x : Turn). Took x (world s m d) n t p map counts) q h in
+      let g : Took (Err e) (world s m d) n t p map counts = subst (λ (x : Result Turn Refusal). Took x (world s m d) n t p map counts) q h in
       ap (λ (x : Answer). left x s t p) b ∙ sym (g (count - (k + 1)) k) ∙ ap (λ (x : ℕ). burst_from x k (world s m d)) (sym one_more)
 
-  module _ (q : r ≡ Goes) where
-    goes : Took Goes (world s m d) n t p map counts
-    goes = subst (λ (x : Turn). Took x (world s m d) n t p map counts) q h
+  module _ (q : r ≡ Ok Goes) where
+    goes : Took (Ok Goes) (world s m d) n t p map counts
+    goes = subst (λ (x : Result Turn Refusal). Took x (world s m d) n t p map counts) q h
 
     pub turns_goes : burst_from (count - (k + 1)) (k + 1) (world s t p) ≡ burst_from (count - k) k (world s m d)
     turns_goes = rw one_more (ap (λ (x : ℕ). burst_from (count - (k + 1)) x (world s t p)) next_k ∙ sym (goes.0 (count - (k + 1)) k))
@@ -184,13 +181,6 @@ module _ (s m d : List ℕ) where
   pub rests : (count : ℕ) → 1 ≤ count → Ready (world s m d) → is_running d ≡ false → refuse WrongState s m d ≡ burst_from count 0 (world s m d)
   unfolding step
   rests count some r t = first_stops WrongState (three_is s m d _ ∙ rw (r.framed, r.desk, r.sound, r.notes, t)) count some
-
--- ---- how many steps
-pub count_low : (k : ℕ) → k < 1 → false ≡ count_allowed k
-count_low k l = sym (and_false_l (leb 1 k) (leb k most_burst) (lt-leb 1 k l))
-
-pub count_high : (k : ℕ) → 1 ≤ k → leb k most_burst ≡ count_allowed k
-count_high k l = chain_end _ (leb 1 k) (leb k most_burst) (le-leb 1 k l) refl
 
 -- ---- the whole: a and b are what the code has found of lengths and count
 module _ (s m d : List ℕ) (count : ℕ) (a : Bool) (f : a ≡ both_framed s d) where
@@ -222,15 +212,15 @@ module _ (s m d : List ℕ) (count : ℕ) (a : Bool) (f : a ≡ both_framed s d)
         burst_through o e = let g = burst_framed in let k = counted in rw (g, k) (e)
 
         -- w is what the guards have answered
-        module _ (w : Watched) (e : w ≡ handed (guard_by s (guard_rows true s m d)) (desk_of d)) where
-          pub burst_ready : {n c : ℕ} {g : Desk} → w ≡ Open n c g → (g ≡ desk_of d) × Ready (world s m d) × (n ≡ inodes_in s) × (1 ≤ count) × (count ≤ most_burst)
+        module _ (w : Result Watched Refusal) (e : w ≡ handed (guard_by s (guard_rows true s m d)) (desk_of d)) where
+          pub burst_ready : {n c : ℕ} {g : Desk} → w ≡ Ok (watched_by n c g) → (g ≡ desk_of d) × Ready (world s m d) × (n ≡ inodes_in s) × (1 ≤ count) × (count ≤ most_burst)
           burst_ready y =
               let z = step_ready s m d w (three_framed s m d burst_framed w e) y in
               (z.0, z.1, z.2, some_steps, few_steps)
 
-          stops : (r : Refusal) → w ≡ Shut r → step s m d ≡ refuse r s m d
+          stops : (r : Refusal) → w ≡ Err r → step s m d ≡ refuse r s m d
           unfolding step
           stops r y = let g = shut (three_guards s m d) (desk_of d) w (three_framed s m d burst_framed w e) y in rw g
 
-          pub burst_stopped : (r : Refusal) → w ≡ Shut r → refuse r s m d ≡ burst count (world s m d)
-          burst_stopped r y = burst_through (refuse r s m d) (first_stops s m d r (stops r y) count some_steps)
+          pub burst_stopped : (r : Refusal) (a : Answer) → IsErrAnd a (λ z. z ≡ r) → w ≡ Err r → left a s m d ≡ burst count (world s m d)
+          burst_stopped r a z y = ap (λ (x : Answer). left x s m d) (exit a r z) ∙ burst_through (refuse r s m d) (first_stops s m d r (stops r y) count some_steps)

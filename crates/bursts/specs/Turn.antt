@@ -1,5 +1,5 @@
 -- What a burst keeps from one step to the next, and what one turn of it came to. w is the world, n the inode count.
-use Rattle.std.specs.Prelude.{ℕ, suc, ◌+◌, ◌*◌, ◌≡◌, ◌≢◌, Bool, true, false, not, ◌&&◌, List, eqb}
+use Rattle.std.specs.Prelude.{ℕ, suc, ◌+◌, ◌*◌, ◌≡◌, ◌≢◌, Bool, true, false, not, ◌&&◌, List, eqb, Err, Ok, Result}
 use Rattle.bounded.specs.Count.{Tallied}
 use Rattle.bounded.specs.Search.{pick}
 use Rattle.layout.specs.Sizes.{most_inodes, most_blocks}
@@ -10,16 +10,15 @@ use Rattle.directory.specs.Slot.{most_slots}
 use Rattle.desk.specs.declared.Desk.{Desk}
 use Rattle.desk.specs.Desk.{desk_of}
 use Rattle.sound.specs.Sound.{inodes_in}
-use Rattle.answers.specs.declared.Answer.{Answer}
-use Rattle.answers.specs.declared.Answer.TheVariants.{Done, Refused}
 use Rattle.answers.specs.declared.Refusal.{Refusal}
 use Rattle.checkpoint.specs.Fit.{is_running, image_long}
 use Rattle.checkpoint.specs.Image.{image_naming}
 use Rattle.checkpoint.specs.Live.{World, left, world}
 use Rattle.checkpoint.specs.List.{Ready}
 use Rattle.checkpoint.specs.Burst.{burst_from, Steady}
+use Rattle.answers.specs.Told.{Answer}
+use Rattle.bursts.specs.declared.Turn.TheVariants.{Ends, Goes}
 use Rattle.bursts.specs.declared.Turn.{Turn}
-use Rattle.bursts.specs.declared.Turn.TheVariants.{Goes, Ends, Stops}
 
 -- ---- what is kept
 -- the map has the image's named blocks
@@ -54,10 +53,10 @@ pub record Kept (w : World) (n : ℕ) (map counts : List ℕ) : Type 0 where
 -- ---- what a turn came to
 -- the answer of a burst whose step after c accepted ones is refused
 abbrev pub stopped_at : ℕ → Refusal → Answer
-stopped_at c e = pick (eqb c 0) (Refused e) (Done c)
+stopped_at c e = pick (eqb c 0) (Err e) (Ok c)
 
 -- of a turn r from the world w that left the image m, the desk d and what is kept: what is left to do, whatever number of steps is left, and was accepted before
-abbrev pub Took : Turn → World → ℕ → List ℕ → List ℕ → List ℕ → List ℕ → Type 0
-Took Goes w n m d map counts = ((k c : ℕ) → burst_from (suc k) c w ≡ burst_from k (suc c) (world w.store m d)) × Kept (world w.store m d) n map counts
-Took Ends w n m d map counts = (k c : ℕ) → burst_from (suc k) c w ≡ left (Done (suc c)) w.store m d
-Took (Stops e) w n m d map counts = (k c : ℕ) → burst_from (suc k) c w ≡ left (stopped_at c e) w.store m d
+abbrev pub Took : Result Turn Refusal → World → ℕ → List ℕ → List ℕ → List ℕ → List ℕ → Type 0
+Took (Ok Goes) w n m d map counts = ((k c : ℕ) → burst_from (suc k) c w ≡ burst_from k (suc c) (world w.store m d)) × Kept (world w.store m d) n map counts
+Took (Ok Ends) w n m d map counts = (k c : ℕ) → burst_from (suc k) c w ≡ left (Ok (suc c)) w.store m d
+Took (Err e) w n m d map counts = (k c : ℕ) → burst_from (suc k) c w ≡ left (stopped_at c e) w.store m d

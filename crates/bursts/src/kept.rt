@@ -1,5 +1,4 @@
-// The steps of a burst, over what it keeps from one to the next so that it is made once a call: the map of the blocks that
-// image addresses name, and the counts of the inodes that image directories name. s is the store, m the image, d the desk, h
+// The steps of a burst, over what it keeps from one to the next so that it is made once a call. s is the store, m the image, d the desk, h
 // the desk's header, n the count of inodes.
 ghost use Rattle.std.specs.Prelude.{◌≡◌, ◌≢◌, Bool, true, false, ◌&&◌, List, ℕ, ◌+◌, ◌*◌, ◌<◌, ◌≤◌, leb, length};
 ghost use Rattle.bounded.specs.Count.{Tallied};
@@ -23,7 +22,6 @@ use crate::Turn;
 use answers::Refusal;
 use blocks::map::MAP_WORDS;
 use blocks::{free, map};
-use bounded::Found;
 use content::apply::kth_used;
 use copier::five;
 use desk::Desk;
@@ -31,30 +29,33 @@ use image::{fit, naming};
 use layout::inode;
 use layout::sizes::{ADDRESS_COUNT, ADDRESS_PLACE, DIRECTORY, INODE_PLACES, ROOT};
 
+// What the image names: a map of the blocks that its addresses name, and how often its directories
+// name each inode.
+#[derive(Drop)]
+pub struct Named {
+    pub map: [u16; MAP_WORDS],
+    pub counts: [u16; INODE_PLACES],
+}
+
 // ---- the map
 // Block c is one of the b blocks of the image, and the map does not have it.
 fn is_open(map: &[u16], b: usize, c: usize) -> bool
     requires { (length map.now ≡ map_words) × (b ≤ most_image_blocks) }
     ensures { result ≡ leb 1 c && (leb c b && lacks map.now c) }
 {
-    if c < 1 {
-        return false;
-    }
-    if b < c {
-        return false;
-    }
-    !map::has(map, c)
+    (1..=b).contains(&c) && !map::has(map, c)
 }
 
 // Where block c of the store goes in an image of b blocks.
-fn place(map: &[u16], b: usize, c: usize) -> Found
+fn place(map: &[u16], b: usize, c: usize) -> Option<usize>
     requires { (length map.now ≡ map_words) × (b ≤ most_image_blocks) }
     ensures { (long : ℕ → Bool) (m : List ℕ) (n : ℕ) → Maps long m n (most_blocks * n) map.now → result ≡ target_block long m n b c }
 {
     if is_open(map, b, c) {
-        return Found::At(c);
+        Some(c)
+    } else {
+        map::lowest(map, b)
     }
-    map::lowest(map, b)
 }
 
 // The map of an image whose locked inode is l, or 0.
@@ -71,10 +72,11 @@ fn standing(m: &[u8], n: usize, i: usize, k: usize) -> u16
     ensures { result ≡ kth_by true m.now n i k }
 {
     if k < ADDRESS_COUNT {
-        return blocks::kth_block(m, n, i, k);
+        blocks::kth_block(m, n, i, k)
+    } else {
+        let a = blocks::kth_block(m, n, i, ADDRESS_PLACE) as usize;
+        blocks::further(m, n, a, k - ADDRESS_COUNT)
     }
-    let a = blocks::kth_block(m, n, i, ADDRESS_PLACE) as usize;
-    blocks::further(m, n, a, k - ADDRESS_COUNT)
 }
 
 // An address of the locked inode i that was old is now c. In a run old is 0, and no block loses its name.
@@ -82,11 +84,11 @@ fn renew(s: &[u8], m: &[u8], n: usize, i: usize, old: u16, c: usize, map: &mut [
     requires { RowsFit (long_but m.now i (is_long s.now i)) m.now n × (header_bytes + inode_bytes * n ≤ length s.now) × (i ≤ n) × (c ≤ most_image_blocks) }
     ensures { (old ≡ 0 → map.new ≡ noted map.old c) × (old ≢ 0 → Maps (long_but m.now i (is_long s.now i)) m.now n (most_blocks * n) map.new) }
 {
-    if old != 0 {
+    if old == 0 {
+        map::note(&mut *map, c);
+    } else {
         map_of(s, m, n, i, &mut *map);
-        return;
     }
-    map::note(&mut *map, c);
 }
 
 // ---- a step while an inode is locked
@@ -98,21 +100,20 @@ fn block_step(
     h: Desk,
     n: usize,
     map: &mut [u16; MAP_WORDS],
-) -> Turn
+) -> Result<Turn, Refusal>
     requires { Going (world s.now m.old d.old) n h × Mapped (world s.now m.old d.old) n map.old × (h.locked ≢ 0) × (h.transferred < blocks_used (size_of s.now h.locked)) }
     ensures { (counts : List ℕ) → Counted (world s.now m.old d.old) n counts → Took result (world s.now m.old d.old) n m.new d.new map.new counts }
 {
     let i = h.locked as usize;
     let k = h.transferred as usize;
     let own = kth_used(s, n, i, k) as usize;
-    let Found::At(c) = place(&*map, h.blocks as usize, own) else {
-        five::stop(&mut *d, h);
-        return Turn::Stops(Refusal::ImageFull);
+    let Some(c) = place(&*map, h.blocks as usize, own) else {
+        return Err(five::stop(&mut *d, h));
     };
     let old = standing(&*m, n, i, k);
     five::copy(s, &mut *m, &mut *d, h, n, c);
     renew(s, &*m, n, i, old, c, &mut *map);
-    Turn::Goes
+    Ok(Turn::Goes)
 }
 
 // Neither the blocks of inode i nor its close change what the image's directories name. Those of a long file may: its addresses go into a block that, on odd bytes, is a directory's too.
@@ -120,13 +121,9 @@ fn names_stay(s: &[u8], m: &[u8], n: usize, i: usize) -> bool
     requires { InodeFits s.now n i × InodeFits m.now n i }
     ensures { result ≡ names_stay_b s.now m.now i }
 {
-    if inode::kind(m, n, i) == DIRECTORY {
-        return false;
-    }
-    if inode::kind(s, n, i) == DIRECTORY {
-        return false;
-    }
-    !blocks::is_long(s, n, i)
+    inode::kind(m, n, i) != DIRECTORY
+        && inode::kind(s, n, i) != DIRECTORY
+        && !blocks::is_long(s, n, i)
 }
 
 // 4: none is left.
@@ -137,7 +134,7 @@ fn close_step(
     h: Desk,
     n: usize,
     counts: &mut [u16; INODE_PLACES],
-) -> Turn
+) -> Result<Turn, Refusal>
     requires { Going (world s.now m.old d.old) n h × Counted (world s.now m.old d.old) n counts.old × (h.locked ≢ 0) × (blocks_used (size_of s.now h.locked) ≤ h.transferred) }
     ensures { (map : List ℕ) → Mapped (world s.now m.old d.old) n map → Took result (world s.now m.old d.old) n m.new d.new map counts.new }
 {
@@ -146,7 +143,7 @@ fn close_step(
     if !stay {
         naming::count_names(&*m, n, &mut *counts);
     }
-    Turn::Goes
+    Ok(Turn::Goes)
 }
 
 pub fn locked_step(
@@ -155,30 +152,31 @@ pub fn locked_step(
     d: &mut [u8],
     h: Desk,
     n: usize,
-    map: &mut [u16; MAP_WORDS],
-    counts: &mut [u16; INODE_PLACES],
-) -> Turn
-    requires { Going (world s.now m.old d.old) n h × Kept (world s.now m.old d.old) n map.old counts.old × (h.locked ≢ 0) }
-    ensures { Took result (world s.now m.old d.old) n m.new d.new map.new counts.new }
+    named: &mut Named,
+) -> Result<Turn, Refusal>
+    requires { Going (world s.now m.old d.old) n h × Kept (world s.now m.old d.old) n named.old.map named.old.counts × (h.locked ≢ 0) }
+    ensures { Took result (world s.now m.old d.old) n m.new d.new named.new.map named.new.counts }
 {
     if blocks::blocks_used(inode::size(s, n, h.locked as usize) as usize)
         <= h.transferred as usize
     {
-        return close_step(s, &mut *m, &mut *d, h, n, &mut *counts);
+        close_step(s, &mut *m, &mut *d, h, n, &mut named.counts)
+    } else {
+        block_step(s, &mut *m, &mut *d, h, n, &mut named.map)
     }
-    block_step(s, &mut *m, &mut *d, h, n, &mut *map)
 }
 
 // ---- a step while none is
 // The inode to lock, if one is left.
-fn next_lock(d: &[u8], n: usize, counts: &[u16; INODE_PLACES]) -> Found
+fn next_lock(d: &[u8], n: usize, counts: &[u16; INODE_PLACES]) -> Option<usize>
     requires { (n ≤ most_inodes) × (desk_length n ≤ length d.now) }
     ensures { (m : List ℕ) → Tallied (image_naming m n) 1 (most_inodes + 1) (most_slots * n) counts.now → free_step m d.now n ≡ on_found result lock finish }
 {
-    if !desk::is_copied(d, n, ROOT) {
-        return Found::At(ROOT);
+    if desk::is_copied(d, n, ROOT) {
+        naming::lowest_named(counts, d, n)
+    } else {
+        Some(ROOT)
     }
-    naming::lowest_named(counts, d, n)
 }
 
 // None of the addresses that the image has for inode i, by its address block a, is above b; they count if it is long in the store.
@@ -186,10 +184,7 @@ fn further_fit(s: &[u8], m: &[u8], n: usize, b: usize, i: usize, a: usize) -> bo
     requires { InodeFits s.now n i × Sized m.now n b × (a ≡ address_block m.now n i) × (1 ≤ a) × (a ≤ b) }
     ensures { result ≡ further_right_of (is_long s.now i) m.now n b i }
 {
-    if !blocks::is_long(s, n, i) {
-        return true;
-    }
-    fit::largest_further(m, n, a) as usize <= b
+    !blocks::is_long(s, n, i) || fit::largest_further(m, n, a) as usize <= b
 }
 
 // Inode i is to be locked: 3 stays away, by the 32 addresses that count from then on if it is long in the store. In a run its twelfth image address is 0, and there are none.
@@ -214,21 +209,20 @@ pub fn free_step(
     d: &mut [u8],
     h: Desk,
     n: usize,
-    map: &mut [u16; MAP_WORDS],
-    counts: &[u16; INODE_PLACES],
-) -> Turn
-    requires { Going (world s.now m.old d.old) n h × Kept (world s.now m.old d.old) n map.old counts.now × (h.locked ≡ 0) }
-    ensures { Took result (world s.now m.old d.old) n m.new d.new map.new counts.now }
+    named: &mut Named,
+) -> Result<Turn, Refusal>
+    requires { Going (world s.now m.old d.old) n h × Kept (world s.now m.old d.old) n named.old.map named.old.counts × (h.locked ≡ 0) }
+    ensures { Took result (world s.now m.old d.old) n m.new d.new named.new.map named.new.counts }
 {
-    let Found::At(i) = next_lock(&*d, n, counts) else {
-        five::finish(&mut *m, &mut *d, h, n, &*map, counts);
-        return Turn::Ends;
+    let Some(i) = next_lock(&*d, n, &named.counts) else {
+        five::finish(&mut *m, &mut *d, h, n, &named.map, &named.counts);
+        return Ok(Turn::Ends);
     };
-    let holds = may_hold(s, &*m, n, h.blocks as usize, i, &mut *map);
+    let holds = may_hold(s, &*m, n, h.blocks as usize, i, &mut named.map);
     five::lock(&mut *d, h, i);
     if holds {
-        return Turn::Goes;
+        return Ok(Turn::Goes);
     }
     // the next step would be refused with 3: this one was accepted
-    Turn::Ends
+    Ok(Turn::Ends)
 }

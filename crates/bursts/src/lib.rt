@@ -17,16 +17,16 @@ use blocks::map::MAP_WORDS;
 use desk::{Desk, STEPS_AN_INODE};
 use guards::{Watched, after_lengths, both_framed};
 use image::naming;
+use kept::Named;
 use layout::sizes::INODE_PLACES;
 
 pub const MOST_BURST: usize = 64;
 
-// What one turn came to: its step was accepted and the copy runs on; it was, and no step after it is; or it was refused.
+// What an accepted turn came to: the copy runs on, or no step after it is accepted.
 #[derive(Clone, Copy)]
 pub enum Turn {
     Goes,
     Ends,
-    Stops(Refusal),
 }
 
 // One step, its guards down to what a step before it can have changed: the steps' bound here, and after a lock the addresses of the inode.
@@ -35,75 +35,68 @@ fn take_one(
     m: &mut [u8],
     d: &mut [u8],
     n: usize,
-    map: &mut [u16; MAP_WORDS],
-    counts: &mut [u16; INODE_PLACES],
-) -> Turn
-    requires { Kept (world s.now m.old d.old) n map.old counts.old }
-    ensures { Took result (world s.now m.old d.old) n m.new d.new map.new counts.new }
+    named: &mut Named,
+) -> Result<Turn, Refusal>
+    requires { Kept (world s.now m.old d.old) n named.old.map named.old.counts }
+    ensures { Took result (world s.now m.old d.old) n m.new d.new named.new.map named.new.counts }
 {
     let h = Desk::read(&*d);
     if STEPS_AN_INODE * (h.inodes as u32) < h.steps {
-        return Turn::Stops(Refusal::BadDesk);
+        return Err(Refusal::BadDesk);
     }
     if h.locked == 0 {
-        return kept::free_step(s, &mut *m, &mut *d, h, n, &mut *map, &*counts);
+        kept::free_step(s, &mut *m, &mut *d, h, n, &mut *named)
+    } else {
+        kept::locked_step(s, &mut *m, &mut *d, h, n, &mut *named)
     }
-    kept::locked_step(s, &mut *m, &mut *d, h, n, &mut *map, &mut *counts)
 }
 
 // "If the very first is refused, that refusal is the answer."
 fn stopped_at(done: usize, why: Refusal) -> Answer
     ensures { result ≡ stopped_at done why }
 {
-    if done == 0 {
-        return Answer::Refused(why);
-    }
-    Answer::Done(done)
+    if done == 0 { Err(why) } else { Ok(done) }
 }
 
 // The steps themselves, over one map of the image's named blocks and one count of its names.
-fn turns(s: &[u8], m: &mut [u8], d: &mut [u8], h: Desk, n: usize, count: usize) -> Answer
-    requires { (h ≡ desk_of d.old) × Ready (world s.now m.old d.old) × (n ≡ inodes_in s.now) × (is_running d.old ≡ true) × (count ≤ most_burst) }
+fn turns(s: &[u8], m: &mut [u8], d: &mut [u8], w: Watched, count: usize) -> Answer
+    requires { (w.desk ≡ desk_of d.old) × Ready (world s.now m.old d.old) × (w.inodes ≡ inodes_in s.now) × (is_running d.old ≡ true) × (count ≤ most_burst) }
     ensures { left result s.now m.new d.new
         ≡ burst_from count 0 (world s.now m.old d.old) }
 {
-    let mut map = [0u16; MAP_WORDS];
-    let mut counts = [0u16; INODE_PLACES];
-    kept::map_of(s, &*m, n, h.locked as usize, &mut map);
-    naming::count_names(&*m, n, &mut counts);
+    let mut named = Named {
+        map: [0; MAP_WORDS],
+        counts: [0; INODE_PLACES],
+    };
+    kept::map_of(s, &*m, w.inodes, w.desk.locked as usize, &mut named.map);
+    naming::count_names(&*m, w.inodes, &mut named.counts);
+    // a turn changes m and d, which a chain's closure may not, and its number is the answer
     for k in 0..count {
-        match take_one(s, &mut *m, &mut *d, n, &mut map, &mut counts) {
-            Turn::Goes => {}
-            Turn::Ends => {
-                return Answer::Done(k + 1);
-            }
-            Turn::Stops(why) => {
-                return stopped_at(k, why);
-            }
+        match take_one(s, &mut *m, &mut *d, w.inodes, &mut named) {
+            Ok(Turn::Goes) => {}
+            Ok(Turn::Ends) => return Ok(k + 1),
+            Err(why) => return stopped_at(k, why),
         }
     }
-    Answer::Done(count)
+    Ok(count)
 }
 
 // 15, or the steps.
-fn go_on(s: &[u8], m: &mut [u8], d: &mut [u8], h: Desk, n: usize, count: usize) -> Answer
-    requires { (h ≡ desk_of d.old) × Ready (world s.now m.old d.old) × (n ≡ inodes_in s.now) × (1 ≤ count) × (count ≤ most_burst) }
+fn go_on(s: &[u8], m: &mut [u8], d: &mut [u8], w: Watched, count: usize) -> Answer
+    requires { (w.desk ≡ desk_of d.old) × Ready (world s.now m.old d.old) × (w.inodes ≡ inodes_in s.now) × (1 ≤ count) × (count ≤ most_burst) }
     ensures { left result s.now m.new d.new
         ≡ burst_from count 0 (world s.now m.old d.old) }
 {
-    if !h.runs() {
-        return Answer::Refused(Refusal::WrongState);
+    if !w.desk.runs() {
+        return Err(Refusal::WrongState);
     }
-    turns(s, &mut *m, &mut *d, h, n, count)
+    turns(s, &mut *m, &mut *d, w, count)
 }
 
 fn count_allowed(count: usize) -> bool
     ensures { result ≡ count_allowed count }
 {
-    if count < 1 {
-        return false;
-    }
-    count <= MOST_BURST
+    (1..=MOST_BURST).contains(&count)
 }
 
 pub fn burst(store: &[u8], image: &mut [u8], desk: &mut [u8], count: usize) -> Answer
@@ -111,13 +104,11 @@ pub fn burst(store: &[u8], image: &mut [u8], desk: &mut [u8], count: usize) -> A
         ≡ burst count (world store.now image.old desk.old) }
 {
     if !both_framed(store, &*desk) {
-        return Answer::Refused(Refusal::BadBuffer);
+        return Err(Refusal::BadBuffer);
     }
     if !count_allowed(count) {
-        return Answer::Refused(Refusal::BadCount);
+        return Err(Refusal::BadCount);
     }
-    match after_lengths(store, &*image, &*desk) {
-        Watched::Open(n, _, h) => go_on(store, &mut *image, &mut *desk, h, n, count),
-        Watched::Shut(why) => Answer::Refused(why),
-    }
+    let w = after_lengths(store, &*image, &*desk)?;
+    go_on(store, &mut *image, &mut *desk, w, count)
 }

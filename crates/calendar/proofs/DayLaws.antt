@@ -1,15 +1,14 @@
 -- Day numbers rise with dates, and end with 2049-12-31.
+use Rattle.std.specs.Prelude.{None, Some}
 use Prim.Native.Nat.{ℕ, ◌+◌, ◌-◌, ◌*◌, ◌/◌, ◌%◌, ◌≤◌, ◌<◌}
-use mathlib.Core.Path.{◌≡◌, refl, ap, ap₂, ◌∙◌}
-use mathlib.Core.Bool.{Bool, true, false, not, ◌&&◌}
+use mathlib.Core.Path.{◌≡◌, refl, ap, ap₂}
+use mathlib.Core.Bool.{Bool, true, false}
 use native.Mathlib.Decide.{dec_lt}
 use native.Mathlib.Omega.{arith}
 use Rattle.bounded.specs.Search.{pick}
 use Rattle.bounded.specs.Sum.{sum}
 use Rattle.bounded.specs.Reflect.{Reflects}
-use Rattle.bounded.proofs.BoolLaws.{and-true, and_false_l, and_false_r, chain_on, chain_off}
 use Rattle.bounded.proofs.ReflectLaws.{r_and, r_le}
-use Rattle.calendar.specs.declared.Reckoned.TheVariants.{Day, NoDate}
 use Rattle.calendar.specs.Gregorian.{first_year, last_year, months, month_length, length_of, month_start}
 use Rattle.calendar.specs.Date.{Date, date_of, within, is_date, month_of, day_number, last_day, reckoned}
 use Rattle.calendar.proofs.MonthLaws.{length_most, start_later}
@@ -90,42 +89,13 @@ days_end n e =
     is_last : is_date (date_of 20491231) ≡ true
     is_last = unfold month_length in refl
 
--- ---- as the code finds them: r is what a test answered
+-- ---- as the code finds them
 module _ (n : ℕ) where
-  no_date : is_date (date_of n) ≡ false → NoDate ≡ reckoned n
+  pub no_date : is_date (date_of n) ≡ false → None ≡ reckoned n
   unfolding reckoned
   no_date h = rw h
 
-  abbrev year_test : Bool
-  year_test = within first_year (n / 10000) last_year
-
-  abbrev month_test : Bool
-  month_test = within 1 (n / 100 % 100) 12
-
-  abbrev day_test : ℕ → Bool
-  day_test l = within 1 (n % 100) l
-
-  abbrev long : ℕ
-  long = month_length (n / 10000) (n / 100 % 100)
-
-  pub no_year : (r : Bool) → r ≡ year_test → not r ≡ true → NoDate ≡ reckoned n
-  no_year r e t = no_date (and_false_l year_test (month_test && day_test long) (chain_off r year_test e t))
-
-  pub no_month : (r : Bool) → r ≡ month_test → not r ≡ true → NoDate ≡ reckoned n
-  no_month r e t = no_date (and_false_r year_test (month_test && day_test long) (and_false_l month_test (day_test long) (chain_off r month_test e t)))
-
-  pub no_day : (r : Bool) (l : ℕ) → l ≡ long → r ≡ day_test l → not r ≡ true → NoDate ≡ reckoned n
-  no_day r l f e t =
-      no_date (and_false_r year_test (month_test && day_test long) (and_false_r month_test (day_test long) (chain_off r (day_test long) (e ∙ ap day_test f) t)))
-
-  -- all three passed
-  pub passed : (q r s : Bool) (l : ℕ) → q ≡ year_test → not q ≡ false → r ≡ month_test → not r ≡ false → l ≡ long → s ≡ day_test l → not s ≡ false
-      → is_date (date_of n) ≡ true
-  passed q r s l a b c d f e t =
-      and-true year_test (month_test && day_test long) (chain_on q year_test a b)
-      (and-true month_test (day_test long) (chain_on r month_test c d) (chain_on s (day_test long) (e ∙ ap day_test f) t))
-
-  pub a_day : (d : ℕ) → is_date (date_of n) ≡ true → d ≡ day_number (date_of n) → Day d ≡ reckoned n
+  pub a_day : (d : ℕ) → is_date (date_of n) ≡ true → d ≡ day_number (date_of n) → Some d ≡ reckoned n
   unfolding reckoned
   a_day d h e = rw (h, e)
 
@@ -134,18 +104,18 @@ module _ (n : ℕ) where
   month_below h = omega arith
 
   -- what an answer says
-  pub reckoned_none : reckoned n ≡ NoDate → is_date (date_of n) ≡ false
+  pub reckoned_none : reckoned n ≡ None → is_date (date_of n) ≡ false
   unfolding reckoned
   reckoned_none e = go (is_date (date_of n)) e
     where
-      go : (b : Bool) → pick b (Day (day_number (date_of n))) NoDate ≡ NoDate → b ≡ false
+      go : (b : Bool) → pick b (Some (day_number (date_of n))) None ≡ None → b ≡ false
       go true r = let z : ◌≡◌ {A = ℕ} 0 1 = cc in absurd (omega arith)
       go false r = refl
 
-  pub reckoned_day : (d : ℕ) → reckoned n ≡ Day d → (is_date (date_of n) ≡ true) × (d ≡ day_number (date_of n))
+  pub reckoned_day : (d : ℕ) → reckoned n ≡ Some d → (is_date (date_of n) ≡ true) × (d ≡ day_number (date_of n))
   unfolding reckoned
   reckoned_day d e = go (is_date (date_of n)) e
     where
-      go : (b : Bool) → pick b (Day (day_number (date_of n))) NoDate ≡ Day d → (b ≡ true) × (d ≡ day_number (date_of n))
+      go : (b : Bool) → pick b (Some (day_number (date_of n))) None ≡ Some d → (b ≡ true) × (d ≡ day_number (date_of n))
       go true r = (refl, cc)
       go false r = let z : ◌≡◌ {A = ℕ} 0 1 = cc in absurd (omega arith)

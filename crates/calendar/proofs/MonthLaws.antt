@@ -68,7 +68,7 @@ start_later i (suc k) h =
     next : (k : ℕ) → month_start (suc k) ≡ month_start k + length_of k
     next k = ap month_start (sym (add-one k)) ∙ start_next k
 
--- ---- as the code finds them
+-- ---- the rule by centuries and other years
 pub leap_century : (y : ℕ) → y % 100 ≡ 0 → eqb (y % 400) 0 ≡ is_leap y
 leap_century y h =
     rw (eq-eqb (y % 100) 0 h) (go (eqb (y % 4) 0))
@@ -84,20 +84,3 @@ leap_year y h =
     go : (b : Bool) → b ≡ (b && true) || false
     go true = refl
     go false = refl
-
-module _ (y m : ℕ) where
-  pub leap_february : m ≡ 2 → is_leap y ≡ true → 29 ≡ month_length y m
-  unfolding month_length
-  leap_february e h = rw (eq-eqb m 2 e, h)
-
-  pub february : m ≡ 2 → is_leap y ≡ false → 28 ≡ month_length y m
-  unfolding month_length
-  february e h = rw (eq-eqb m 2 e, h)
-
-  pub thirty : (m ≡ 2 → ⊥) → has_thirty m ≡ true → 30 ≡ month_length y m
-  unfolding month_length
-  thirty e h = rw (ne_eqb m 2 e, h)
-
-  pub thirty_one : (m ≡ 2 → ⊥) → has_thirty m ≡ false → 31 ≡ month_length y m
-  unfolding month_length
-  thirty_one e h = rw (ne_eqb m 2 e, h)

@@ -2,14 +2,10 @@
 use Prim.Native.Nat.{ℕ, zero, suc, ◌+◌, ◌<◌}
 use mathlib.Core.Path.{◌≡◌, sym, ap, ◌∙◌}
 use mathlib.Core.List.{List, [], ◌∷◌}
-use mir.Syntax.{w64}
-use mir.Val.{Fits}
 use native.Mathlib.Nat.{add-zero, zero-add, add-suc, suc-add, le_of_suc-le-suc, not-suc-le-zero}
-use native.Mathlib.Omega.{arith}
 use lib.ListN.{get_or}
 use Rattle.bounded.specs.Sum.{sum}
-use Rattle.calendar.specs.Gregorian.{length_of, month_start, months}
-use Rattle.calendar.proofs.MonthLaws.{start_most}
+use Rattle.calendar.specs.Gregorian.{length_of, month_start}
 
 -- n first days from month k on, whose first day is s
 abbrev pub starts : ℕ → ℕ → ℕ → List ℕ
@@ -26,6 +22,3 @@ starts_from (suc n) k (suc i) h =
 pub starts_right : (n i : ℕ) → i < n → get_or (starts n 0 0) i 0 ≡ month_start i
 unfolding sum
 starts_right n i h = starts_from n 0 i h ∙ ap month_start (zero-add i)
-
-pub start_fits : (k : ℕ) → k < months → Fits w64 (month_start k)
-start_fits k h = let s = start_most k in omega arith

@@ -1,8 +1,6 @@
 -- A date, whether it exists, its day number, and its week.
-use Rattle.std.specs.Prelude.{ℕ, ◌+◌, ◌-◌, ◌*◌, ◌/◌, ◌%◌, Bool, ◌&&◌, leb}
+use Rattle.std.specs.Prelude.{ℕ, ◌+◌, ◌-◌, ◌*◌, ◌/◌, ◌%◌, Bool, ◌&&◌, leb, None, Option, Some}
 use Rattle.bounded.specs.Search.{pick}
-use Rattle.calendar.specs.declared.Reckoned.{Reckoned}
-use Rattle.calendar.specs.declared.Reckoned.TheVariants.{Day, NoDate}
 use Rattle.calendar.specs.Gregorian.{first_year, last_year, month_length, month_start}
 
 pub record Date : Type 0 where
@@ -35,8 +33,8 @@ abbrev pub last_day : ℕ
 last_day = 18262
 
 -- what is found of a number that stands for a date
-unfoldable pub reckoned : ℕ → Reckoned
-reckoned n = pick (is_date (date_of n)) (Day (day_number (date_of n))) NoDate
+unfoldable pub reckoned : ℕ → Option ℕ
+reckoned n = pick (is_date (date_of n)) (Some (day_number (date_of n))) None
 
 -- "Monday-to-Sunday week": 2000-01-01 was a Saturday, so weeks begin on days 2, 9, 16, ..
 abbrev pub week : ℕ → ℕ

@@ -4,8 +4,8 @@
 mod starts;
 
 ghost use Rattle.std.specs.Prelude.{◌≡◌, ◌<◌, ◌≤◌};
-ghost use Rattle.calendar.specs.Gregorian.{is_leap, has_thirty, month_length, month_start, months, MonthStarts};
-ghost use Rattle.calendar.specs.Date.{within, reckoned, last_day, sunday};
+ghost use Rattle.calendar.specs.Gregorian.{is_leap, month_length, month_start, months, MonthStarts};
+ghost use Rattle.calendar.specs.Date.{is_date, reckoned, last_day, sunday};
 
 use crate::starts::MONTH_STARTS;
 pub use crate::starts::MONTHS;
@@ -14,50 +14,22 @@ pub const FIRST_YEAR: usize = 2000;
 
 const LAST_YEAR: usize = 2049;
 
-// What a number that stands for a date is found to be.
-#[derive(Clone, Copy)]
-pub enum Reckoned {
-    Day(u16),
-    NoDate,
-}
-
 pub fn is_leap(year: usize) -> bool
     ensures { result ≡ is_leap year }
 {
-    if year % 100 == 0 {
-        return year % 400 == 0;
-    }
-    year % 4 == 0
+    year % 4 == 0 && year % 100 != 0 || year % 400 == 0
 }
 
-fn has_thirty(month: usize) -> bool
-    ensures { result ≡ has_thirty month }
-{
-    if month == 4 {
-        return true;
-    }
-    if month == 6 {
-        return true;
-    }
-    if month == 9 {
-        return true;
-    }
-    month == 11
-}
-
+#[tactic(auto, unfolding(crate::specs::Gregorian::month_length))]
 pub fn month_length(year: usize, month: usize) -> usize
     ensures { result ≡ month_length year month }
 {
-    if month == 2 {
-        if is_leap(year) {
-            return 29;
-        }
-        return 28;
+    match month {
+        2 if is_leap(year) => 29,
+        2 => 28,
+        4 | 6 | 9 | 11 => 30,
+        _ => 31,
     }
-    if has_thirty(month) {
-        return 30;
-    }
-    31
 }
 
 // The first days of all months. Compiled code lays the table on the stack, so whoever looks up many
@@ -72,7 +44,7 @@ fn start_in(starts: &[u16; MONTHS], month: usize) -> usize
     requires { MonthStarts starts.now × (month < months) }
     ensures { result ≡ month_start month }
 {
-    starts[month] as usize
+    usize::from(starts[month])
 }
 
 // The first day of a month; months are counted from January 2000.
@@ -84,14 +56,16 @@ pub fn month_start(month: usize) -> usize
     start_in(&starts, month)
 }
 
-fn within(from: usize, x: usize, to: usize) -> bool
-    ensures { result ≡ within from x to }
+fn is_date(year: usize, month: usize, day: usize) -> bool
+    ensures { result ≡ is_date (record { year = year; month = month; day = day }) }
 {
-    from <= x && x <= to
+    (FIRST_YEAR..=LAST_YEAR).contains(&year)
+        && (1..=12).contains(&month)
+        && (1..=month_length(year, month)).contains(&day)
 }
 
-// A date is tested and its day reckoned in one go.
-pub fn reckon(starts: &[u16; MONTHS], date: u32) -> Reckoned
+// The day of a number that stands for a date, if it is one: tested and reckoned in one go.
+pub fn reckon(starts: &[u16; MONTHS], date: u32) -> Option<u16>
     requires { MonthStarts starts.now }
     ensures { result ≡ reckoned date }
 {
@@ -99,17 +73,11 @@ pub fn reckon(starts: &[u16; MONTHS], date: u32) -> Reckoned
     let year = n / 10000;
     let month = n / 100 % 100;
     let day = n % 100;
-    if !within(FIRST_YEAR, year, LAST_YEAR) {
-        return Reckoned::NoDate;
-    }
-    if !within(1, month, 12) {
-        return Reckoned::NoDate;
-    }
-    if !within(1, day, month_length(year, month)) {
-        return Reckoned::NoDate;
+    if !is_date(year, month, day) {
+        return None;
     }
     let first = start_in(starts, (year - FIRST_YEAR) * 12 + (month - 1));
-    Reckoned::Day((first + (day - 1)) as u16)
+    Some((first + (day - 1)) as u16)
 }
 
 // The Sunday of a day's week.

@@ -1,4 +1,5 @@
 -- The track cases of any store, by the tables of refusals; and the whole table.
+use Rattle.std.specs.Prelude.{Err, None, Ok, Some}
 use Prim.Native.Nat.{ℕ, ◌+◌, ◌-◌, ◌≤◌, ◌<◌, max}
 use mathlib.Core.Path.{◌≡◌, ap, ◌∙◌}
 use mathlib.Core.Bool.{true, false, not, ◌&&◌, ◌||◌}
@@ -8,7 +9,6 @@ use borrow.Author.Tests.{lt-ltb, le-ltb, leb-true, eqb-true, ne_eqb}
 use lib.Dec.{eqb, leb, ltb}
 use lib.ListN.{length, get_or}
 use Rattle.bounded.specs.Search.{first}
-use Rattle.bounded.specs.declared.Found.TheVariants.{At, Absent}
 use Rattle.bounded.proofs.BoolLaws.{fails, and_left, and_right, or_l, or_r, or_right}
 use Rattle.bounded.proofs.SearchLaws.{lowest_of, lowest_found, absent_of}
 use Rattle.layout.specs.Sizes.{most_file_bytes}
@@ -20,7 +20,6 @@ use Rattle.names.proofs.NameLaws.{legal, legal_bounds}
 use Rattle.directory.specs.Slot.{slots, slot_empty, empty_slot}
 use Rattle.answers.specs.declared.Refusal.TheVariants.{IllegalName, PastEnd, NoSlot, WrongState}
 use Rattle.answers.specs.Told.{told}
-use Rattle.answers.specs.declared.Answer.TheVariants.{Done, Refused}
 use Rattle.desk.specs.Desk.{desk_of}
 use Rattle.desk.specs.Next.{locks_any}
 use Rattle.sound.specs.declared.Form.TheVariants.{Store}
@@ -40,8 +39,8 @@ use Rattle.cases.proofs.Witness.{fourteen_shown, fifteen_shown, end_shown, past_
 use Rattle.checkpoint.proofs.Run.Calls.{image_allowed_lem}
 
 -- a create of a legal name in an empty slot
-created : (w : World) (d : ℕ) (name : List ℕ) (k : Kind) (c : Creates w d name) (t : ℕ) → legal_name name ≡ true → empty_slot w.store (inodes w) d ≡ At t
-    → (live (create d name k) w).answer ≡ told (Done c.inode)
+created : (w : World) (d : ℕ) (name : List ℕ) (k : Kind) (c : Creates w d name) (t : ℕ) → legal_name name ≡ true → empty_slot w.store (inodes w) d ≡ Some t
+    → (live (create d name k) w).answer ≡ told (Ok c.inode)
 unfolding create_table locks_any
 created w d name k c t l u =
     let r = c.ready in
@@ -62,15 +61,15 @@ fourteen_legal name e h =
 fifteen_illegal : (name : List ℕ) → length name ≡ 15 → legal_name name ≡ false
 fifteen_illegal name e = fails (legal_name name) (λ t. let b = legal_bounds name t in let c = b.1 in omega arith)
 
-fifteen : (w : World) (d : ℕ) (name : List ℕ) (k : Kind) → Ready w → length name ≡ 15 → (live (create d name k) w).answer ≡ told (Refused IllegalName)
+fifteen : (w : World) (d : ℕ) (name : List ℕ) (k : Kind) → Ready w → length name ≡ 15 → (live (create d name k) w).answer ≡ told (Err IllegalName)
 unfolding create_table locks_any
 fifteen w d name k r e =
     create_table_lem w d name k
     ∙ rw (r.framed, r.desk, r.sound, r.notes, fifteen_illegal name e)
 
 fourteen : (w : World) (d t : ℕ) (name : List ℕ) (k : Kind) (c : Creates w d name) → length name ≡ 14
-    → ((j : ℕ) → j < 14 → (get_or name j 0 ≡ 0 → ⊥) × (get_or name j 0 ≡ slash → ⊥)) → empty_slot w.store (inodes w) d ≡ At t
-    → (live (create d name k) w).answer ≡ told (Done c.inode)
+    → ((j : ℕ) → j < 14 → (get_or name j 0 ≡ 0 → ⊥) × (get_or name j 0 ≡ slash → ⊥)) → empty_slot w.store (inodes w) d ≡ Some t
+    → (live (create d name k) w).answer ≡ told (Ok c.inode)
 fourteen w d t name k c e h u = created w d name k c t (fourteen_legal name e h) u
 
 -- ---- writes
@@ -85,7 +84,7 @@ file_size w i r f =
     size_most (((is_sound_lem Store s).to r.sound).inodes i (leb-true 1 i a) (leb-true i n b))
 
 module _ (w : World) (i o : ℕ) (xs : List ℕ) (h : Writes w i o xs) where
-  write_done : o ≤ size_of w.store i → o + length xs ≤ most_file_bytes → (live (write i o xs) w).answer ≡ told (Done (max (size_of w.store i) (o + length xs)))
+  write_done : o ≤ size_of w.store i → o + length xs ≤ most_file_bytes → (live (write i o xs) w).answer ≡ told (Ok (max (size_of w.store i) (o + length xs)))
   unfolding write_table locks_any
   write_done a b =
       let r = h.ready in
@@ -104,47 +103,47 @@ module _ (w : World) (i o : ℕ) (xs : List ℕ) (h : Writes w i o xs) where
         h.idle,
       )
 
-  write_refused : ltb (size_of w.store i) o || ltb most_file_bytes (o + length xs) ≡ true → (live (write i o xs) w).answer ≡ told (Refused PastEnd)
+  write_refused : ltb (size_of w.store i) o || ltb most_file_bytes (o + length xs) ≡ true → (live (write i o xs) w).answer ≡ told (Err PastEnd)
   unfolding write_table locks_any
   write_refused q =
       let r = h.ready in
       write_table_lem w i o xs
       ∙ rw (r.framed, r.desk, r.sound, r.notes, h.file, q)
 
-  to_2752 : o ≤ size_of w.store i → o + length xs ≡ most_file_bytes → (live (write i o xs) w).answer ≡ told (Done most_file_bytes)
+  to_2752 : o ≤ size_of w.store i → o + length xs ≡ most_file_bytes → (live (write i o xs) w).answer ≡ told (Ok most_file_bytes)
   to_2752 a b =
       let z : size_of w.store i ≤ most_file_bytes = file_size w i h.ready h.file in
-      write_done a (omega arith) ∙ ap (λ (x : ℕ). told (Done x)) (omega arith)
+      write_done a (omega arith) ∙ ap (λ (x : ℕ). told (Ok x)) (omega arith)
 
-  to_2753 : o + length xs ≡ most_file_bytes + 1 → (live (write i o xs) w).answer ≡ told (Refused PastEnd)
+  to_2753 : o + length xs ≡ most_file_bytes + 1 → (live (write i o xs) w).answer ≡ told (Err PastEnd)
   to_2753 b = write_refused (or_r (ltb (size_of w.store i) o) (ltb most_file_bytes (o + length xs)) (lt-ltb most_file_bytes (o + length xs) (omega arith)))
 
-  at_size : o ≡ size_of w.store i → o + length xs ≤ most_file_bytes → (live (write i o xs) w).answer ≡ told (Done (o + length xs))
-  at_size a b = write_done (omega arith) b ∙ ap (λ (x : ℕ). told (Done x)) (omega arith)
+  at_size : o ≡ size_of w.store i → o + length xs ≤ most_file_bytes → (live (write i o xs) w).answer ≡ told (Ok (o + length xs))
+  at_size a b = write_done (omega arith) b ∙ ap (λ (x : ℕ). told (Ok x)) (omega arith)
 
-  past_size : o ≡ size_of w.store i + 1 → (live (write i o xs) w).answer ≡ told (Refused PastEnd)
+  past_size : o ≡ size_of w.store i + 1 → (live (write i o xs) w).answer ≡ told (Err PastEnd)
   past_size a = write_refused (or_l (ltb (size_of w.store i) o) (ltb most_file_bytes (o + length xs)) (lt-ltb (size_of w.store i) o (omega arith)))
 
 -- ---- slots
 module _ (w : World) (d : ℕ) (name : List ℕ) (k : Kind) (c : Creates w d name) (legal-name : legal_name name ≡ true) (all : slots w.store d ≡ 48) where
-  some_slot : (t : ℕ) → t < 48 → slot_empty w.store (inodes w) d t ≡ true → (u : ℕ) × (empty_slot w.store (inodes w) d ≡ At u)
+  some_slot : (t : ℕ) → t < 48 → slot_empty w.store (inodes w) d t ≡ true → (u : ℕ) × (empty_slot w.store (inodes w) d ≡ Some u)
   unfolding empty_slot first
   some_slot t l e =
       let r = lowest_of (slot_empty w.store (inodes w) d) 0 (slots w.store d) t (omega arith) (omega arith) e in
       (r.0, lowest_found (slot_empty w.store (inodes w) d) 0 (slots w.store d) r.0 r.1)
 
-  none : ((t : ℕ) → t < 48 → slot_empty w.store (inodes w) d t ≡ false) → empty_slot w.store (inodes w) d ≡ Absent
+  none : ((t : ℕ) → t < 48 → slot_empty w.store (inodes w) d t ≡ false) → empty_slot w.store (inodes w) d ≡ None
   unfolding empty_slot first
   none h = absent_of (slot_empty w.store (inodes w) d) 0 (slots w.store d) (λ j a b. h j (omega arith))
 
-  last_slot : (t : ℕ) → t < 48 → slot_empty w.store (inodes w) d t ≡ true → (live (create d name k) w).answer ≡ told (Done c.inode)
+  last_slot : (t : ℕ) → t < 48 → slot_empty w.store (inodes w) d t ≡ true → (live (create d name k) w).answer ≡ told (Ok c.inode)
   last_slot t l e = let u = some_slot t l e in created w d name k c u.0 legal-name u.1
 
   twelve : blocks_used (size_of w.store d) ≡ 12
   unfolding slots
   twelve = omega arith
 
-  no_slot : ((t : ℕ) → t < 48 → slot_empty w.store (inodes w) d t ≡ false) → (live (create d name k) w).answer ≡ told (Refused NoSlot)
+  no_slot : ((t : ℕ) → t < 48 → slot_empty w.store (inodes w) d t ≡ false) → (live (create d name k) w).answer ≡ told (Err NoSlot)
   unfolding create_table locks_any
   no_slot h =
       let r = c.ready in
@@ -175,7 +174,7 @@ allowed w r h =
     let z = (framed Store w.store).to r.framed in
     image_allowed_lem (inodes w) (desk_of d).blocks (length w.image) (record { some_inodes = z.some_inodes; most_inodes_lem = z.most_inodes_lem; some_blocks = k.0; most_blocks_lem = k.1; long = omega arith })
 
-second_start : (w : World) → Ready w → is_running w.desk ≡ true → (start w.store w.image w.desk).answer ≡ told (Refused WrongState)
+second_start : (w : World) → Ready w → is_running w.desk ≡ true → (start w.store w.image w.desk).answer ≡ told (Err WrongState)
 unfolding start_table
 second_start w r h = start_table_lem w.store w.image w.desk ∙ rw (r.framed, r.desk, allowed w r h, r.sound, r.notes, h)
 

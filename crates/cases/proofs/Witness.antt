@@ -1,4 +1,5 @@
 -- The track cases of any store, on stores that are shown: antt computes them.
+use Rattle.std.specs.Prelude.{Err, Ok}
 use Rattle.bounded.specs.Below.{all_below, some_below}
 use Rattle.bounded.specs.Climb.{leads_b}
 use Rattle.bounded.specs.Count.{count}
@@ -44,7 +45,6 @@ use Rattle.desk.specs.Sizes.{desk_allowed}
 use Rattle.desk.specs.Next.{locks_any}
 use Rattle.answers.specs.declared.Refusal.TheVariants.{IllegalName, PastEnd, NoSlot}
 use Rattle.answers.specs.Told.{told}
-use Rattle.answers.specs.declared.Answer.TheVariants.{Done, Refused}
 use Rattle.files.specs.Effect.{create, write}
 use Rattle.entries.specs.declared.Kind.TheVariants.{File}
 use Rattle.cases.specs.Worlds.{fresh, one_file, ten_bytes, linked_from, entered}
@@ -55,27 +55,27 @@ use Rattle.cases.proofs.Edge.{pairs, joined, inode_is}
 use Rattle.checkpoint.proofs.Run.Starts.{Opens, opens, opened, opened_runs}
 use Rattle.checkpoint.proofs.Run.Lists.{Going, runs}
 
-pub fourteen_shown : (outcome (call (create 1 (replicate name_bytes 97) File)) (fresh 2 1)).answer ≡ told (Done 2)
+pub fourteen_shown : (outcome (call (create 1 (replicate name_bytes 97) File)) (fresh 2 1)).answer ≡ told (Ok 2)
 unfolding fresh desk.desk_rest_zero all_below some_below leads_b count first_from first table part splice num_at to_bytes put_num word_bytes digit marked with_mark without_mark entry_inode is_empty folded same_byte same_name spelled name_length entry_name legal_entry entry_for plain_byte is_dots legal_name block_of put_in_block zero_block blocks_used bytes_place is_long further_of kth_by row_by put_kth put_row free_inode named_by lowest_by long_but across added grown kept lowest_from nth_free zero_blocks put_blocks taken extended cut_blocks header_of put_free put_complete put_header header_rest_zero kind_of spare_of links_of size_of parent_of put_links attribute_entry put_attributes address_of put_address addresses_of put_addresses inode_of put_inode slots slot_at entry_of slot_has_name find_slot slot_empty empty_slot put_entry clear_entry desk_of put_desk copied_of put_copied marks_of put_marks mark_of set_mark clear_mark clear_notes same_names naming_b new_name_b entry_b attributes_b addresses_b zero_tail_b inode_b counted_b lead_b is_slot entry_at filled naming allowed desk_allowed framed_b header_b free_counts_b blank_block_b blanks_b body_b is_sound enter created written drop_link unlinked set_parent moved put_file add_block put_size zero_rest cut_to is_kind zero_inode less_free more_free create_plan write_plan shorten_plan holds_none unlink_plan is_below rename_to rename_new_plan room_in make_room fresh_header empty_root fresh_store fresh_desk start_image start_desk next_inode target_block locked_step free_step step_of copied_entry copied_entries copied_block put_counts finish_image desk_framed image_blocks image_allowed is_running blocks_fit desk_fits lacks_addresses image_fits notes_fit has_slot slot_names inode_named outcome next run started start step is_copied note_made note_taken cuts_image cut_image zeroed guard_of locks_any three_guards start_guards decision live cut_entries clear_marks set_marks
 fourteen_shown = refl
 
-pub fifteen_shown : (outcome (call (create 1 (replicate (name_bytes + 1) 97) File)) (fresh 2 1)).answer ≡ told (Refused IllegalName)
+pub fifteen_shown : (outcome (call (create 1 (replicate (name_bytes + 1) 97) File)) (fresh 2 1)).answer ≡ told (Err IllegalName)
 unfolding fresh desk.desk_rest_zero all_below some_below leads_b count first_from first table part splice num_at to_bytes put_num word_bytes digit marked with_mark without_mark entry_inode is_empty folded same_byte same_name spelled name_length entry_name legal_entry entry_for plain_byte is_dots legal_name block_of put_in_block zero_block blocks_used bytes_place is_long further_of kth_by row_by put_kth put_row free_inode named_by lowest_by long_but across added grown kept lowest_from nth_free zero_blocks put_blocks taken extended cut_blocks header_of put_free put_complete put_header header_rest_zero kind_of spare_of links_of size_of parent_of put_links attribute_entry put_attributes address_of put_address addresses_of put_addresses inode_of put_inode slots slot_at entry_of slot_has_name find_slot slot_empty empty_slot put_entry clear_entry desk_of put_desk copied_of put_copied marks_of put_marks mark_of set_mark clear_mark clear_notes same_names naming_b new_name_b entry_b attributes_b addresses_b zero_tail_b inode_b counted_b lead_b is_slot entry_at filled naming allowed desk_allowed framed_b header_b free_counts_b blank_block_b blanks_b body_b is_sound enter created written drop_link unlinked set_parent moved put_file add_block put_size zero_rest cut_to is_kind zero_inode less_free more_free create_plan write_plan shorten_plan holds_none unlink_plan is_below rename_to rename_new_plan room_in make_room fresh_header empty_root fresh_store fresh_desk start_image start_desk next_inode target_block locked_step free_step step_of copied_entry copied_entries copied_block put_counts finish_image desk_framed image_blocks image_allowed is_running blocks_fit desk_fits lacks_addresses image_fits notes_fit has_slot slot_names inode_named outcome next run started start step is_copied note_made note_taken cuts_image cut_image zeroed guard_of locks_any three_guards start_guards decision live cut_entries clear_marks set_marks
 fifteen_shown = refl
 
-pub at_size_shown : (outcome (call (write 2 10 (7 ∷ []))) (run ten_bytes (fresh 2 2))).answer ≡ told (Done 11)
+pub at_size_shown : (outcome (call (write 2 10 (7 ∷ []))) (run ten_bytes (fresh 2 2))).answer ≡ told (Ok 11)
 unfolding fresh desk.desk_rest_zero all_below some_below leads_b count first_from first table part splice num_at to_bytes put_num word_bytes digit marked with_mark without_mark entry_inode is_empty folded same_byte same_name spelled name_length entry_name legal_entry entry_for plain_byte is_dots legal_name block_of put_in_block zero_block blocks_used bytes_place is_long further_of kth_by row_by put_kth put_row free_inode named_by lowest_by long_but across added grown kept lowest_from nth_free zero_blocks put_blocks taken extended cut_blocks header_of put_free put_complete put_header header_rest_zero kind_of spare_of links_of size_of parent_of put_links attribute_entry put_attributes address_of put_address addresses_of put_addresses inode_of put_inode slots slot_at entry_of slot_has_name find_slot slot_empty empty_slot put_entry clear_entry desk_of put_desk copied_of put_copied marks_of put_marks mark_of set_mark clear_mark clear_notes same_names naming_b new_name_b entry_b attributes_b addresses_b zero_tail_b inode_b counted_b lead_b is_slot entry_at filled naming allowed desk_allowed framed_b header_b free_counts_b blank_block_b blanks_b body_b is_sound enter created written drop_link unlinked set_parent moved put_file add_block put_size zero_rest cut_to is_kind zero_inode less_free more_free create_plan write_plan shorten_plan holds_none unlink_plan is_below rename_to rename_new_plan room_in make_room fresh_header empty_root fresh_store fresh_desk start_image start_desk next_inode target_block locked_step free_step step_of copied_entry copied_entries copied_block put_counts finish_image desk_framed image_blocks image_allowed is_running blocks_fit desk_fits lacks_addresses image_fits notes_fit has_slot slot_names inode_named outcome next run started start step is_copied note_made note_taken cuts_image cut_image zeroed guard_of locks_any three_guards start_guards decision live cut_entries clear_marks set_marks ten_bytes
 at_size_shown = refl
 
-pub past_size_shown : (outcome (call (write 2 11 (7 ∷ []))) (run ten_bytes (fresh 2 2))).answer ≡ told (Refused PastEnd)
+pub past_size_shown : (outcome (call (write 2 11 (7 ∷ []))) (run ten_bytes (fresh 2 2))).answer ≡ told (Err PastEnd)
 unfolding fresh desk.desk_rest_zero all_below some_below leads_b count first_from first table part splice num_at to_bytes put_num word_bytes digit marked with_mark without_mark entry_inode is_empty folded same_byte same_name spelled name_length entry_name legal_entry entry_for plain_byte is_dots legal_name block_of put_in_block zero_block blocks_used bytes_place is_long further_of kth_by row_by put_kth put_row free_inode named_by lowest_by long_but across added grown kept lowest_from nth_free zero_blocks put_blocks taken extended cut_blocks header_of put_free put_complete put_header header_rest_zero kind_of spare_of links_of size_of parent_of put_links attribute_entry put_attributes address_of put_address addresses_of put_addresses inode_of put_inode slots slot_at entry_of slot_has_name find_slot slot_empty empty_slot put_entry clear_entry desk_of put_desk copied_of put_copied marks_of put_marks mark_of set_mark clear_mark clear_notes same_names naming_b new_name_b entry_b attributes_b addresses_b zero_tail_b inode_b counted_b lead_b is_slot entry_at filled naming allowed desk_allowed framed_b header_b free_counts_b blank_block_b blanks_b body_b is_sound enter created written drop_link unlinked set_parent moved put_file add_block put_size zero_rest cut_to is_kind zero_inode less_free more_free create_plan write_plan shorten_plan holds_none unlink_plan is_below rename_to rename_new_plan room_in make_room fresh_header empty_root fresh_store fresh_desk start_image start_desk next_inode target_block locked_step free_step step_of copied_entry copied_entries copied_block put_counts finish_image desk_framed image_blocks image_allowed is_running blocks_fit desk_fits lacks_addresses image_fits notes_fit has_slot slot_names inode_named outcome next run started start step is_copied note_made note_taken cuts_image cut_image zeroed guard_of locks_any three_guards start_guards decision live cut_entries clear_marks set_marks ten_bytes
 past_size_shown = refl
 
-pub end_shown : (outcome (call (write 2 0 (replicate most_file_bytes 7))) (run one_file (fresh 2 45))).answer ≡ told (Done most_file_bytes)
+pub end_shown : (outcome (call (write 2 0 (replicate most_file_bytes 7))) (run one_file (fresh 2 45))).answer ≡ told (Ok most_file_bytes)
 unfolding fresh desk.desk_rest_zero all_below some_below leads_b count first_from first table part splice num_at to_bytes put_num word_bytes digit marked with_mark without_mark entry_inode is_empty folded same_byte same_name spelled name_length entry_name legal_entry entry_for plain_byte is_dots legal_name block_of put_in_block zero_block blocks_used bytes_place is_long further_of kth_by row_by put_kth put_row free_inode named_by lowest_by long_but across added grown kept lowest_from nth_free zero_blocks put_blocks taken extended cut_blocks header_of put_free put_complete put_header header_rest_zero kind_of spare_of links_of size_of parent_of put_links attribute_entry put_attributes address_of put_address addresses_of put_addresses inode_of put_inode slots slot_at entry_of slot_has_name find_slot slot_empty empty_slot put_entry clear_entry desk_of put_desk copied_of put_copied marks_of put_marks mark_of set_mark clear_mark clear_notes same_names naming_b new_name_b entry_b attributes_b addresses_b zero_tail_b inode_b counted_b lead_b is_slot entry_at filled naming allowed desk_allowed framed_b header_b free_counts_b blank_block_b blanks_b body_b is_sound enter created written drop_link unlinked set_parent moved put_file add_block put_size zero_rest cut_to is_kind zero_inode less_free more_free create_plan write_plan shorten_plan holds_none unlink_plan is_below rename_to rename_new_plan room_in make_room fresh_header empty_root fresh_store fresh_desk start_image start_desk next_inode target_block locked_step free_step step_of copied_entry copied_entries copied_block put_counts finish_image desk_framed image_blocks image_allowed is_running blocks_fit desk_fits lacks_addresses image_fits notes_fit has_slot slot_names inode_named outcome next run started start step is_copied note_made note_taken cuts_image cut_image zeroed guard_of locks_any three_guards start_guards decision live cut_entries clear_marks set_marks one_file
 end_shown = refl
 
-pub past_end_shown : (outcome (call (write 2 0 (replicate (most_file_bytes + 1) 7))) (run one_file (fresh 2 45))).answer ≡ told (Refused PastEnd)
+pub past_end_shown : (outcome (call (write 2 0 (replicate (most_file_bytes + 1) 7))) (run one_file (fresh 2 45))).answer ≡ told (Err PastEnd)
 unfolding fresh desk.desk_rest_zero all_below some_below leads_b count first_from first table part splice num_at to_bytes put_num word_bytes digit marked with_mark without_mark entry_inode is_empty folded same_byte same_name spelled name_length entry_name legal_entry entry_for plain_byte is_dots legal_name block_of put_in_block zero_block blocks_used bytes_place is_long further_of kth_by row_by put_kth put_row free_inode named_by lowest_by long_but across added grown kept lowest_from nth_free zero_blocks put_blocks taken extended cut_blocks header_of put_free put_complete put_header header_rest_zero kind_of spare_of links_of size_of parent_of put_links attribute_entry put_attributes address_of put_address addresses_of put_addresses inode_of put_inode slots slot_at entry_of slot_has_name find_slot slot_empty empty_slot put_entry clear_entry desk_of put_desk copied_of put_copied marks_of put_marks mark_of set_mark clear_mark clear_notes same_names naming_b new_name_b entry_b attributes_b addresses_b zero_tail_b inode_b counted_b lead_b is_slot entry_at filled naming allowed desk_allowed framed_b header_b free_counts_b blank_block_b blanks_b body_b is_sound enter created written drop_link unlinked set_parent moved put_file add_block put_size zero_rest cut_to is_kind zero_inode less_free more_free create_plan write_plan shorten_plan holds_none unlink_plan is_below rename_to rename_new_plan room_in make_room fresh_header empty_root fresh_store fresh_desk start_image start_desk next_inode target_block locked_step free_step step_of copied_entry copied_entries copied_block put_counts finish_image desk_framed image_blocks image_allowed is_running blocks_fit desk_fits lacks_addresses image_fits notes_fit has_slot slot_names inode_named outcome next run started start step is_copied note_made note_taken cuts_image cut_image zeroed guard_of locks_any three_guards start_guards decision live cut_entries clear_marks set_marks one_file
 past_end_shown = refl
 
@@ -167,11 +167,11 @@ twelve : blocks_used (size_of (root_with 45 12 (255 ∷ 255 ∷ 255 ∷ 255 ∷ 
 unfolding fresh desk.desk_rest_zero all_below some_below leads_b count first_from first table part splice num_at to_bytes put_num word_bytes digit marked with_mark without_mark entry_inode is_empty folded same_byte same_name spelled name_length entry_name legal_entry entry_for plain_byte is_dots legal_name block_of put_in_block zero_block blocks_used bytes_place is_long further_of kth_by row_by put_kth put_row free_inode named_by lowest_by long_but across added grown kept lowest_from nth_free zero_blocks put_blocks taken extended cut_blocks header_of put_free put_complete put_header header_rest_zero kind_of spare_of links_of size_of parent_of put_links attribute_entry put_attributes address_of put_address addresses_of put_addresses inode_of put_inode slots slot_at entry_of slot_has_name find_slot slot_empty empty_slot put_entry clear_entry desk_of put_desk copied_of put_copied marks_of put_marks mark_of set_mark clear_mark clear_notes same_names naming_b new_name_b entry_b attributes_b addresses_b zero_tail_b inode_b counted_b lead_b is_slot entry_at filled naming allowed desk_allowed framed_b header_b free_counts_b blank_block_b blanks_b body_b is_sound enter created written drop_link unlinked set_parent moved put_file add_block put_size zero_rest cut_to is_kind zero_inode less_free more_free create_plan write_plan shorten_plan holds_none unlink_plan is_below rename_to rename_new_plan room_in make_room fresh_header empty_root fresh_store fresh_desk start_image start_desk next_inode target_block locked_step free_step step_of copied_entry copied_entries copied_block put_counts finish_image desk_framed image_blocks image_allowed is_running blocks_fit desk_fits lacks_addresses image_fits notes_fit has_slot slot_names inode_named outcome next run started start step is_copied note_made note_taken cuts_image cut_image zeroed guard_of locks_any three_guards start_guards decision live cut_entries clear_marks set_marks entered linked_from linked link_plan behind behind_all entries_from root_with joined inode_is pairs
 twelve = refl
 
-one_more : (outcome (call (create 1 (96 ∷ []) File)) (root_with 47 12 (255 ∷ 255 ∷ 255 ∷ 255 ∷ 255 ∷ 127 ∷ 0 ∷ 0 ∷ []))).answer ≡ told (Done 3)
+one_more : (outcome (call (create 1 (96 ∷ []) File)) (root_with 47 12 (255 ∷ 255 ∷ 255 ∷ 255 ∷ 255 ∷ 127 ∷ 0 ∷ 0 ∷ []))).answer ≡ told (Ok 3)
 unfolding fresh desk.desk_rest_zero all_below some_below leads_b count first_from first table part splice num_at to_bytes put_num word_bytes digit marked with_mark without_mark entry_inode is_empty folded same_byte same_name spelled name_length entry_name legal_entry entry_for plain_byte is_dots legal_name block_of put_in_block zero_block blocks_used bytes_place is_long further_of kth_by row_by put_kth put_row free_inode named_by lowest_by long_but across added grown kept lowest_from nth_free zero_blocks put_blocks taken extended cut_blocks header_of put_free put_complete put_header header_rest_zero kind_of spare_of links_of size_of parent_of put_links attribute_entry put_attributes address_of put_address addresses_of put_addresses inode_of put_inode slots slot_at entry_of slot_has_name find_slot slot_empty empty_slot put_entry clear_entry desk_of put_desk copied_of put_copied marks_of put_marks mark_of set_mark clear_mark clear_notes same_names naming_b new_name_b entry_b attributes_b addresses_b zero_tail_b inode_b counted_b lead_b is_slot entry_at filled naming allowed desk_allowed framed_b header_b free_counts_b blank_block_b blanks_b body_b is_sound enter created written drop_link unlinked set_parent moved put_file add_block put_size zero_rest cut_to is_kind zero_inode less_free more_free create_plan write_plan shorten_plan holds_none unlink_plan is_below rename_to rename_new_plan room_in make_room fresh_header empty_root fresh_store fresh_desk start_image start_desk next_inode target_block locked_step free_step step_of copied_entry copied_entries copied_block put_counts finish_image desk_framed image_blocks image_allowed is_running blocks_fit desk_fits lacks_addresses image_fits notes_fit has_slot slot_names inode_named outcome next run started start step is_copied note_made note_taken cuts_image cut_image zeroed guard_of locks_any three_guards start_guards decision live cut_entries clear_marks set_marks entered linked_from linked link_plan behind behind_all entries_from root_with joined inode_is pairs
 one_more = refl
 
-no_more : (outcome (call (create 1 (96 ∷ []) File)) (root_with 48 12 (255 ∷ 255 ∷ 255 ∷ 255 ∷ 255 ∷ 255 ∷ 0 ∷ 0 ∷ []))).answer ≡ told (Refused NoSlot)
+no_more : (outcome (call (create 1 (96 ∷ []) File)) (root_with 48 12 (255 ∷ 255 ∷ 255 ∷ 255 ∷ 255 ∷ 255 ∷ 0 ∷ 0 ∷ []))).answer ≡ told (Err NoSlot)
 unfolding fresh desk.desk_rest_zero all_below some_below leads_b count first_from first table part splice num_at to_bytes put_num word_bytes digit marked with_mark without_mark entry_inode is_empty folded same_byte same_name spelled name_length entry_name legal_entry entry_for plain_byte is_dots legal_name block_of put_in_block zero_block blocks_used bytes_place is_long further_of kth_by row_by put_kth put_row free_inode named_by lowest_by long_but across added grown kept lowest_from nth_free zero_blocks put_blocks taken extended cut_blocks header_of put_free put_complete put_header header_rest_zero kind_of spare_of links_of size_of parent_of put_links attribute_entry put_attributes address_of put_address addresses_of put_addresses inode_of put_inode slots slot_at entry_of slot_has_name find_slot slot_empty empty_slot put_entry clear_entry desk_of put_desk copied_of put_copied marks_of put_marks mark_of set_mark clear_mark clear_notes same_names naming_b new_name_b entry_b attributes_b addresses_b zero_tail_b inode_b counted_b lead_b is_slot entry_at filled naming allowed desk_allowed framed_b header_b free_counts_b blank_block_b blanks_b body_b is_sound enter created written drop_link unlinked set_parent moved put_file add_block put_size zero_rest cut_to is_kind zero_inode less_free more_free create_plan write_plan shorten_plan holds_none unlink_plan is_below rename_to rename_new_plan room_in make_room fresh_header empty_root fresh_store fresh_desk start_image start_desk next_inode target_block locked_step free_step step_of copied_entry copied_entries copied_block put_counts finish_image desk_framed image_blocks image_allowed is_running blocks_fit desk_fits lacks_addresses image_fits notes_fit has_slot slot_names inode_named outcome next run started start step is_copied note_made note_taken cuts_image cut_image zeroed guard_of locks_any three_guards start_guards decision live cut_entries clear_marks set_marks entered linked_from linked link_plan behind behind_all entries_from root_with joined inode_is pairs
 no_more = refl
 
@@ -182,8 +182,8 @@ twelfth_block = (
   ap (λ (w : World). blocks_used (size_of w.store 1)) (ran 45 (root_with 45 12 (255 ∷ 255 ∷ 255 ∷ 255 ∷ 255 ∷ 31 ∷ 0 ∷ 0 ∷ [])) entered_45) ∙ twelve,
 )
 
-pub last_slot_shown : (outcome (call (create 1 (96 ∷ []) File)) (run (starts ∷ entered 47) (fresh 3 13))).answer ≡ told (Done 3)
+pub last_slot_shown : (outcome (call (create 1 (96 ∷ []) File)) (run (starts ∷ entered 47) (fresh 3 13))).answer ≡ told (Ok 3)
 last_slot_shown = ap (λ (w : World). (outcome (call (create 1 (96 ∷ []) File)) w).answer) (ran 47 (root_with 47 12 (255 ∷ 255 ∷ 255 ∷ 255 ∷ 255 ∷ 127 ∷ 0 ∷ 0 ∷ [])) entered_47) ∙ one_more
 
-pub no_slot_shown : (outcome (call (create 1 (96 ∷ []) File)) (run (starts ∷ entered 48) (fresh 3 13))).answer ≡ told (Refused NoSlot)
+pub no_slot_shown : (outcome (call (create 1 (96 ∷ []) File)) (run (starts ∷ entered 48) (fresh 3 13))).answer ≡ told (Err NoSlot)
 no_slot_shown = ap (λ (w : World). (outcome (call (create 1 (96 ∷ []) File)) w).answer) (ran 48 (root_with 48 12 (255 ∷ 255 ∷ 255 ∷ 255 ∷ 255 ∷ 255 ∷ 0 ∷ 0 ∷ [])) entered_48) ∙ no_more

@@ -1,12 +1,11 @@
 -- What the check of the inodes finds at each step, said of the definitions. n and b are the counts of inodes and blocks.
-use Rattle.std.proofs.Common.{◌≡◌, ℕ, ◌+◌, ◌-◌, ◌*◌, ◌/◌, ◌%◌, ◌^◌, ◌<◌, ◌≤◌, Bool, true, false, not, ◌&&◌, ◌||◌, eqb, ltb, leb, ◌≢◌, List, get_or, sym, refl, ap, ◌∙◌, ap₂, arith, le-ltb, lt-ltb, eq-eqb, ne_eqb, eqb-true, le-leb, leb-true}
+use Rattle.std.proofs.Common.{◌≡◌, ℕ, ◌+◌, ◌-◌, ◌*◌, ◌/◌, ◌%◌, ◌<◌, ◌≤◌, Bool, true, false, not, ◌&&◌, ◌||◌, eqb, ltb, leb, ◌≢◌, List, get_or, sym, refl, ap, ◌∙◌, ap₂, arith, le-ltb, lt-ltb, eq-eqb, ne_eqb, eqb-true, le-leb, leb-true}
 use mathlib.Core.Bool.{and-true as and-unit}
-use native.Mathlib.Decide.{dec_lt}
 use borrow.Author.Tests.{not-true, not-false, lt-leb}
 use Rattle.bounded.specs.Below.{all_below, all_to}
 use Rattle.bounded.specs.Count.{new_at, differ_b}
 use Rattle.bounded.specs.Reflect.{Reflects}
-use Rattle.bounded.proofs.BoolLaws.{clash, fails, holds, same_test, chain_stop, chain_on, chain_off, chain_end, and-true, and_left, and_right, and_false_l, and_false_r, or_l, or_r}
+use Rattle.bounded.proofs.BoolLaws.{clash, fails, holds, same_test, chain_end, and-true, and_left, and_right, and_false_l, and_false_r, or_l, or_r}
 use Rattle.bounded.proofs.BelowLaws.{all_at, all_of, all_ext, all_split, all_chunk, all_and, all_from}
 use Rattle.bounded.proofs.CountLaws.{new_zero}
 use Rattle.bounded.proofs.SeenLaws.{new_noted, again_noted}
@@ -32,13 +31,13 @@ module _ (s : List ℕ) (i : ℕ) where
   unfolding attributes_zero
   no_attributes = r_and (r_eq (kind_of s i) 0) (r_and (r_eq (spare_of s i) 0) (r_and (r_eq (links_of s i) 0) (r_and (r_eq (size_of s i) 0) (r_eq (parent_of s i) 0))))
 
-  pub attr_spare : (spare_of s i ≡ 0 → ⊥) → false ≡ attributes_b s i
-  attr_spare h = sym (r_fails (attributes s i) (λ a. h a.1.0))
+  pub attr_spare : (spare_of s i ≡ 0 → ⊥) → attributes_b s i ≡ false
+  attr_spare h = r_fails (attributes s i) (λ a. h a.1.0)
 
   -- a file, of which the code has the parent p
   module _ (e : kind_of s i ≡ file_kind) where
-    pub attr_file_long : most_file_bytes < size_of s i → false ≡ attributes_b s i
-    attr_file_long h = sym (r_fails (attributes s i) (λ a. let m = most_file (kind_of s i) e in omega (arith, a.1.1.1.0)))
+    pub attr_file_long : most_file_bytes < size_of s i → attributes_b s i ≡ false
+    attr_file_long h = r_fails (attributes s i) (λ a. let m = most_file (kind_of s i) e in omega (arith, a.1.1.1.0))
 
     pub attr_file : (p : ℕ) → spare_of s i ≡ 0 → size_of s i ≤ most_file_bytes → p ≡ parent_of s i → eqb p 0 ≡ attributes_b s i
     attr_file p eo h ep =
@@ -50,8 +49,8 @@ module _ (s : List ℕ) (i : ℕ) where
 
   -- a directory, of which it has the size z
   module _ (e : kind_of s i ≡ directory_kind) where
-    pub attr_directory_long : most_directory_bytes < size_of s i → false ≡ attributes_b s i
-    attr_directory_long h = sym (r_fails (attributes s i) (λ a. let m = most_directory (kind_of s i) e in omega (arith, a.1.1.1.0)))
+    pub attr_directory_long : most_directory_bytes < size_of s i → attributes_b s i ≡ false
+    attr_directory_long h = r_fails (attributes s i) (λ a. let m = most_directory (kind_of s i) e in omega (arith, a.1.1.1.0))
 
     pub attr_directory : (z : ℕ) → spare_of s i ≡ 0 → size_of s i ≤ most_directory_bytes → z ≡ size_of s i → eqb (z % block_bytes) 0 ≡ attributes_b s i
     attr_directory z eo h ez =
@@ -83,21 +82,10 @@ module _ (s : List ℕ) (i : ℕ) where
   pub attr_small : attributes_b s i ≡ true → size_of s i ≤ most_file_bytes
   attr_small h = most_any (kind_of s i) (size_of s i) ((attributes s i).to h).1.1.1.0
 
--- ---- an address a that the size uses, with the blocks met so far in the map m; q is one less, and wraps at 0
-module _ (b a q : ℕ) (m : List ℕ) (few : b ≤ most_image_blocks) (e : (q + 1) % 2 ^ 64 ≡ a) where
-  pub address_out : q < 2 ^ 64 → b ≤ q → false ≡ used_address_b b m a
-  address_out l h = go (dec_lt a 1)
-    where
-      go : Dec (a < 1) → false ≡ used_address_b b m a
-      go (yes z) = sym (and_false_l (leb 1 a) (leb a b && lacks m a) (lt-leb 1 a z))
-      go (no z) = sym (and_false_r (leb 1 a) (leb a b && lacks m a) (and_false_l (leb a b) (lacks m a) (lt-leb a b (omega arith))))
-
-  module _ (h : q < b) where
-    pub address_in : (1 ≤ a) × (a ≤ b)
-    address_in = (omega arith, omega arith)
-
-    pub address_new : (r : Bool) → r ≡ lacks m a → r ≡ used_address_b b m a
-    address_new r z = chain_end r (leb 1 a) (leb a b && lacks m a) (le-leb 1 a address_in.0) (chain_end r (leb a b) (lacks m a) (le-leb a b address_in.1) z)
+-- ---- an address a that the size uses, with the blocks met so far in the map m
+module _ (b a : ℕ) (m : List ℕ) where
+  pub address_new : 1 ≤ a → a ≤ b → (r : Bool) → r ≡ lacks m a → r ≡ used_address_b b m a
+  address_new p q r z = chain_end r (leb 1 a) (leb a b && lacks m a) (le-leb 1 a p) (chain_end r (leb a b) (lacks m a) (le-leb a b q) z)
 
 -- what is met is noted
 pub address_noted : (a : ℕ) (m : List ℕ) → Notes (λ _. a) 1 m (noted m a)
@@ -196,8 +184,8 @@ module _ (s : List ℕ) (n b i : ℕ) where
   parts : all_below (kth_b s n b i) address_count && all_below (λ j. kth_b s n b i (address_count + j)) further_count ≡ addresses_b s n b i && new_blocks_b s n i
   parts = sym (all_split (kth_b s n b i) address_count further_count) ∙ addresses_are
 
-  pub direct_stop : (r : Bool) → r ≡ all_below (kth_b s n b i) address_count → not r ≡ true → false ≡ addresses_b s n b i && new_blocks_b s n i
-  direct_stop r e h = chain_stop r _ (all_below (λ j. kth_b s n b i (address_count + j)) further_count) e h ∙ parts
+  pub direct_stop : (r : Bool) → r ≡ all_below (kth_b s n b i) address_count → r ≡ false → r ≡ addresses_b s n b i && new_blocks_b s n i
+  direct_stop r e h = h ∙ sym (and_false_l _ (all_below (λ j. kth_b s n b i (address_count + j)) further_count) (sym e ∙ h)) ∙ parts
 
   module _ (d : all_below (kth_b s n b i) address_count ≡ true) where
     pub direct_then : (r : Bool) → r ≡ all_below (λ j. kth_b s n b i (address_count + j)) further_count → r ≡ addresses_b s n b i && new_blocks_b s n i
@@ -265,24 +253,23 @@ module _ (z u : ℕ) (e : u ≡ blocks_used z) where
 
 -- ---- inode i
 module _ (s : List ℕ) (n b i : ℕ) where
-  pub inode_stop : (r : Bool) → r ≡ attributes_b s i → not r ≡ true → false ≡ inode_b s n b i && new_blocks_b s n i
+  pub inode_stop : attributes_b s i ≡ false → inode_b s n b i && new_blocks_b s n i ≡ false
   unfolding inode_b
-  inode_stop r e h = sym (and_false_l (inode_b s n b i) (new_blocks_b s n i) (sym (chain_stop r (attributes_b s i) (addresses_b s n b i && zero_tail_b s n i) e h)))
+  inode_stop h = and_false_l (inode_b s n b i) (new_blocks_b s n i) (and_false_l (attributes_b s i) (addresses_b s n b i && zero_tail_b s n i) h)
 
-  module _ (r : Bool) (a : attributes_b s i ≡ true) (e : r ≡ addresses_b s n b i && new_blocks_b s n i) where
-    pub inode_named_lem : not r ≡ true → false ≡ inode_b s n b i && new_blocks_b s n i
+  module _ (a : attributes_b s i ≡ true) where
+    pub inode_named_lem : addresses_b s n b i && new_blocks_b s n i ≡ false → inode_b s n b i && new_blocks_b s n i ≡ false
     unfolding inode_b
     inode_named_lem h =
-        sym
-        (fails (inode_b s n b i && new_blocks_b s n i) (λ t.
+        fails (inode_b s n b i && new_blocks_b s n i) (λ t.
         let x = and_right (attributes_b s i) (addresses_b s n b i && zero_tail_b s n i) (and_left (inode_b s n b i) (new_blocks_b s n i) t) in
         clash (addresses_b s n b i && new_blocks_b s n i)
         (and-true (addresses_b s n b i) (new_blocks_b s n i) (and_left (addresses_b s n b i) (zero_tail_b s n i) x) (and_right (inode_b s n b i) (new_blocks_b s n i) t))
-        (chain_off r (addresses_b s n b i && new_blocks_b s n i) e h)))
+        h)
 
-    module _ (h : not r ≡ false) where
+    module _ (h : addresses_b s n b i && new_blocks_b s n i ≡ true) where
       pub inode_addresses : addresses_b s n b i ≡ true
-      inode_addresses = and_left (addresses_b s n b i) (new_blocks_b s n i) (chain_on r (addresses_b s n b i && new_blocks_b s n i) e h)
+      inode_addresses = and_left (addresses_b s n b i) (new_blocks_b s n i) h
 
       pub inode_end : (z : Bool) → z ≡ zero_tail_b s n i → z ≡ inode_b s n b i && new_blocks_b s n i
       unfolding inode_b
@@ -290,7 +277,7 @@ module _ (s : List ℕ) (n b i : ℕ) where
           q
           ∙ sym
           (ap₂ ◌&&◌ (ap₂ ◌&&◌ a (ap (λ (x : Bool). x && zero_tail_b s n i) inode_addresses))
-          (and_right (addresses_b s n b i) (new_blocks_b s n i) (chain_on r (addresses_b s n b i && new_blocks_b s n i) e h))
+          (and_right (addresses_b s n b i) (new_blocks_b s n i) h)
           ∙ and-unit (zero_tail_b s n i))
 
 -- all inodes: no block is named twice
@@ -389,20 +376,13 @@ module _ (s : List ℕ) (n k : ℕ) (map : List ℕ) (h : MapsOf s n (most_block
   pub blank_tested : (a : ℕ) → has_block map (k + 1) ≡ false → a ≡ block_at n (k + 1) → all_below (λ j. eqb (get_or s (a + j) 0) 0) block_bytes ≡ blank_if_free_b s n (k + 1)
   blank_tested a z e = zero_block_is s n k a e ∙ sym (ap (λ (x : Bool). not x || blank_block_b s n (k + 1)) (sym free ∙ ap not z))
 
--- row by row
-module _ (p : ℕ → Bool) (n row m : ℕ) (h : all_to p (map_words * row) ≡ true) where
-  pub rows_more : all_below (λ k. p (map_words * row + k + 1)) m ≡ true → all_to p (map_words * row + m) ≡ true
-  rows_more e = all_split (λ k. p (k + 1)) (map_words * row) m ∙ and-true (all_to p (map_words * row)) _ h e
-
-  pub rows_stop : map_words * row + m ≤ n → all_below (λ k. p (map_words * row + k + 1)) m ≡ false → false ≡ all_to p n
-  rows_stop l e =
-      let q : map_words * row + m + (n - (map_words * row + m)) ≡ n = omega arith in
-      sym
-      (ap (all_to p) (sym q) ∙ all_split (λ k. p (k + 1)) (map_words * row + m) (n - (map_words * row + m))
-      ∙ and_false_l (all_to p (map_words * row + m)) _ (all_split (λ k. p (k + 1)) (map_words * row) m ∙ and_false_r (all_to p (map_words * row)) _ e))
-
-  pub rows_end : (r : Bool) → map_words * row + m ≡ n → r ≡ all_below (λ k. p (map_words * row + k + 1)) m → r ≡ all_to p n
-  rows_end r q e = chain_end r _ _ h e ∙ sym (ap (all_to p) (sym q) ∙ all_split (λ k. p (k + 1)) (map_words * row) m)
+-- row by row: that many whole rows, and m of the next
+pub rows_are : (p : ℕ → Bool) (rows m n : ℕ) → map_words * rows + m ≡ n →
+    all_below (λ row. all_below (λ k. p (map_words * row + k + 1)) map_words) rows && all_below (λ k. p (map_words * rows + k + 1)) m ≡ all_to p n
+rows_are p rows m n e =
+    ap (λ (x : Bool). x && all_below (λ k. p (map_words * rows + k + 1)) m) (sym (all_chunk (λ k. p (k + 1)) map_words rows))
+    ∙ sym (all_split (λ k. p (k + 1)) (map_words * rows) m)
+    ∙ ap (all_to p) e
 
 -- ---- an inode that has no attributes: it is free, and right if it has no address
 module _ (s : List ℕ) (n b i : ℕ) (low : 1 ≤ i) (a : attributes_zero s i ≡ true) where

@@ -1,1 +1,2 @@
 pub mod InodeLaws
+pub mod ChainLaws

@@ -29,22 +29,12 @@ fn attributes_right(s: &[u8], n: usize, i: usize) -> bool
 {
     let kind = inode::kind(s, n, i);
     let size = inode::size(s, n, i) as usize;
-    if inode::spare(s, n, i) != 0 {
-        return false;
-    }
-    if kind == FILE {
-        if MOST_FILE_BYTES < size {
-            return false;
+    inode::spare(s, n, i) == 0
+        && match kind {
+            FILE => size <= MOST_FILE_BYTES && inode::parent(s, n, i) == 0,
+            DIRECTORY => size <= MOST_DIRECTORY_BYTES && size % BLOCK_BYTES == 0,
+            _ => false,
         }
-        return inode::parent(s, n, i) == 0;
-    }
-    if kind == DIRECTORY {
-        if MOST_DIRECTORY_BYTES < size {
-            return false;
-        }
-        return size % BLOCK_BYTES == 0;
-    }
-    false
 }
 
 // An address that the inode's size uses: one of b blocks that the map does not have, which is noted. Less one, address 0 is beyond them all.
@@ -52,21 +42,8 @@ fn used_right(address: u16, b: usize, map: &mut [u16]) -> bool
     requires { (b ≤ most_image_blocks) × (length map.old ≡ map_words) }
     ensures { (result ≡ used_address_b b map.old address) × (result ≡ true → Notes (λ _. address) 1 map.old map.new) }
 {
-    let a = address as usize;
-    if b <= std::num::wrapping_sub_usize(a, 1) {
-        return false;
-    }
-    map::note_new(&mut *map, a)
-}
-
-// How many of the twelve addresses are used, of so many blocks.
-fn direct_of(used: usize) -> usize
-    ensures { result ≡ min address_count used }
-{
-    if ADDRESS_COUNT < used {
-        return ADDRESS_COUNT;
-    }
-    used
+    let a = usize::from(address);
+    a.wrapping_sub(1) < b && map::note_new(map, a)
 }
 
 // The twelve addresses of inode i: those that the size uses, then the others, which are 0.
@@ -74,8 +51,9 @@ fn direct_right(s: &[u8], n: usize, b: usize, i: usize, used: usize, map: &mut [
     requires { Sized s.now n b × InodeFits s.now n i × (used ≡ min address_count (blocks_used (size_of s.now i))) × MapsOf s.now n (row_place i 0) map.old }
     ensures { (result ≡ all_below (kth_b s.now n b i) address_count) × (result ≡ true → MapsOf s.now n (row_place i address_count) map.new) }
 {
+    // a loop: what a closure does to the map, `all` does not say
     for k in 0..used {
-        if !used_right(blocks::kth_block(s, n, i, k), b, &mut *map) {
+        if !used_right(blocks::kth_block(s, n, i, k), b, map) {
             return false;
         }
     }
@@ -89,8 +67,9 @@ fn further_right(s: &[u8], n: usize, b: usize, i: usize, used: usize, map: &mut 
     ensures { (result ≡ all_below (λ j. kth_b s.now n b i (address_count + j)) further_count) × (result ≡ true → MapsOf s.now n (row_place i most_blocks) map.new) }
 {
     let a = blocks::kth_block(s, n, i, ADDRESS_PLACE) as usize;
+    // a loop: as in direct_right
     for j in 0..used {
-        if !used_right(blocks::further(s, n, a, j), b, &mut *map) {
+        if !used_right(blocks::further(s, n, a, j), b, map) {
             return false;
         }
     }
@@ -103,13 +82,8 @@ fn addresses_right(s: &[u8], n: usize, b: usize, i: usize, map: &mut [u16]) -> b
     ensures { (result ≡ addresses_b s.now n b i && new_blocks_b s.now n i) × (result ≡ true → MapsOf s.now n (most_blocks * i) map.new) }
 {
     let used = blocks::blocks_used(inode::size(s, n, i) as usize);
-    if !direct_right(s, n, b, i, direct_of(used), &mut *map) {
-        return false;
-    }
-    if used <= ADDRESS_COUNT {
-        return true;
-    }
-    further_right(s, n, b, i, used - ADDRESS_COUNT, &mut *map)
+    direct_right(s, n, b, i, used.min(ADDRESS_COUNT), map)
+        && (used <= ADDRESS_COUNT || further_right(s, n, b, i, used - ADDRESS_COUNT, map))
 }
 
 // The block that the size of file i ends in.
@@ -152,13 +126,7 @@ fn inode_right(s: &[u8], n: usize, b: usize, i: usize, map: &mut [u16]) -> bool
     if inode::attributes_zero(s, n, i) {
         return inode::addresses_zero(s, n, i);
     }
-    if !attributes_right(s, n, i) {
-        return false;
-    }
-    if !addresses_right(s, n, b, i, &mut *map) {
-        return false;
-    }
-    zero_tail(s, n, b, i)
+    attributes_right(s, n, i) && addresses_right(s, n, b, i, map) && zero_tail(s, n, b, i)
 }
 
 // Every inode is right, and no block is named twice; the map, which comes in empty, then has the blocks that are named.
@@ -166,12 +134,22 @@ pub fn inodes_right(s: &[u8], n: usize, b: usize, map: &mut [u16]) -> bool
     requires { Sized s.now n b × MapsOf s.now n 0 map.old }
     ensures { (result ≡ all_to (inode_b s.now n b) n && differ_b (row_of s.now n) (most_blocks * n)) × (result ≡ true → MapsOf s.now n (most_blocks * n) map.new) }
 {
+    // a loop: as in direct_right
     for k in 0..n {
-        if !inode_right(s, n, b, k + 1, &mut *map) {
+        if !inode_right(s, n, b, k + 1, map) {
             return false;
         }
     }
     true
+}
+
+// Block k of the row is one that the map has, or zero.
+fn block_blank(s: &[u8], n: usize, b: usize, map: &[u16], row: usize, k: usize) -> bool
+    requires { Sized s.now n b × MapsOf s.now n (most_blocks * n) map.now × (map_words * row + k < b) × (k < map_words) }
+    ensures { result ≡ blank_if_free_b s.now n (map_words * row + k + 1) }
+{
+    map::has_in(map, row, k)
+        || all_zero(s, blocks::block_at(n, MAP_WORDS * row + k + 1), BLOCK_BYTES)
 }
 
 // The first m blocks of the row that the map does not have are zero.
@@ -179,14 +157,7 @@ fn row_blank(s: &[u8], n: usize, b: usize, map: &[u16], row: usize, m: usize) ->
     requires { Sized s.now n b × MapsOf s.now n (most_blocks * n) map.now × (map_words * row + m ≤ b) × (m ≤ map_words) }
     ensures { result ≡ all_below (λ k. blank_if_free_b s.now n (map_words * row + k + 1)) m }
 {
-    for k in 0..m {
-        if !map::has_in(map, row, k) {
-            if !all_zero(s, blocks::block_at(n, MAP_WORDS * row + k + 1), BLOCK_BYTES) {
-                return false;
-            }
-        }
-    }
-    true
+    (0..m).all(|k| block_blank(s, n, b, map, row, k))
 }
 
 // The blocks that the map does not have are zero: row by row, so that the bit stays the same while the words go by.
@@ -195,10 +166,6 @@ pub fn blanks_right(s: &[u8], n: usize, b: usize, map: &[u16]) -> bool
     ensures { result ≡ all_to (blank_if_free_b s.now n) b }
 {
     let rows = b / MAP_WORDS;
-    for row in 0..rows {
-        if !row_blank(s, n, b, map, row, MAP_WORDS) {
-            return false;
-        }
-    }
-    row_blank(s, n, b, map, rows, b % MAP_WORDS)
+    (0..rows).all(|row| row_blank(s, n, b, map, row, MAP_WORDS))
+        && row_blank(s, n, b, map, rows, b % MAP_WORDS)
 }

@@ -13,8 +13,8 @@ use Rattle.bounded.specs.Climb.{Closed}
 use Rattle.bounded.proofs.BoolLaws.{fails, and_false_l, chain_end}
 use Rattle.bounded.proofs.ReflectLaws.{r_all, r_to}
 use Rattle.layout.specs.Sizes.{root_inode, most_blocks, most_image_blocks}
-use Rattle.layout.specs.Header.{header_of, header_rest_zero}
-use Rattle.layout.specs.Inode.{kind_of, parent_of, directory_kind, inode_free}
+use Rattle.layout.specs.Header.{header_of}
+use Rattle.layout.specs.Inode.{parent_of, inode_free}
 use Rattle.blocks.specs.Block.{is_long, blocks_used, row_of, allowed}
 use Rattle.directory.specs.Slot.{most_slots}
 use Rattle.directory.specs.Fits.{DirFits}
@@ -43,49 +43,20 @@ pub frame_read : (f : Form) (s : List ℕ) (h : Header) → h ≡ header_of s �
 unfolding framed_b
 frame_read f s h e l g x q = q ∙ ap₂ (λ (y : ℕ) (w : Header). allowed y w.inodes w.blocks (length s)) g e
 
--- ---- the header
-module _ (s : List ℕ) (h : Header) (e : h ≡ header_of s) where
-  pub header_1 : (h.complete ≡ 1 → ⊥) → false ≡ header_b s
-  unfolding header_b
-  header_1 q = sym (and_false_l _ _ (ne_eqb (header_of s).complete 1 (λ z. q (ap (λ (x : Header). x.complete) e ∙ z))))
-
-  module _ (q₁ : h.complete ≡ 1) where
-    on_1 : (x rest : Bool) → x ≡ rest → x ≡ eqb (header_of s).complete 1 && rest
-    on_1 x rest r = chain_end _ _ _ (eq-eqb (header_of s).complete 1 (sym (ap (λ (y : Header). y.complete) e) ∙ q₁)) r
-
-    pub header_2 : (h.root ≡ root_inode → ⊥) → false ≡ header_b s
-    unfolding header_b
-    header_2 q = on_1 false _ (sym (and_false_l _ _ (ne_eqb (header_of s).root root_inode (λ z. q (ap (λ (x : Header). x.root) e ∙ z)))))
-
-    module _ (q₂ : h.root ≡ root_inode) where
-      on_2 : (x rest : Bool) → x ≡ rest → x ≡ eqb (header_of s).complete 1 && (eqb (header_of s).root root_inode && rest)
-      on_2 x rest r = on_1 x _ (chain_end _ _ _ (eq-eqb (header_of s).root root_inode (sym (ap (λ (y : Header). y.root) e) ∙ q₂)) r)
-
-      pub header_3 : header_rest_zero s ≡ false → false ≡ header_b s
-      unfolding header_b
-      header_3 q = on_2 false _ (sym (and_false_l _ _ q))
-
-      module _ (q₃ : header_rest_zero s ≡ true) (k : ℕ) (f : k ≡ kind_of s root_inode) where
-        pub header_4 : (k ≡ directory_kind → ⊥) → false ≡ header_b s
-        unfolding header_b
-        header_4 q = on_2 false _ (chain_end _ _ _ q₃ (sym (and_false_l _ _ (ne_eqb (kind_of s root_inode) directory_kind (λ z. q (f ∙ z))))))
-
-        pub header_5 : (p : ℕ) → k ≡ directory_kind → p ≡ parent_of s root_inode → eqb p 0 ≡ header_b s
-        unfolding header_b
-        header_5 p q g = on_2 _ _ (chain_end _ _ _ q₃ (chain_end _ _ _ (eq-eqb (kind_of s root_inode) directory_kind (sym f ∙ q)) (ap (λ (x : ℕ). eqb x 0) g)))
-
--- ---- the free counts
-module _ (s : List ℕ) (h : Header) (e : h ≡ header_of s) (x : ℕ) (f : x ≡ count_to (inode_free s) (inodes_in s)) where
-  pub counts_1 : (h.free_inodes ≡ x → ⊥) → false ≡ free_counts_b s
+-- ---- the free counts: the code has read u free inodes and v free blocks
+module _ (s : List ℕ) (h : Header) (e : h ≡ header_of s) (x : ℕ) (f : x ≡ count_to (inode_free s) (inodes_in s)) (u : ℕ) (d : u ≡ h.free_inodes) where
+  pub counts_1 : (u ≡ x → ⊥) → eqb u x ≡ free_counts_b s
   unfolding free_counts_b
-  counts_1 q = sym (and_false_l _ _ (ne_eqb (header_of s).free_inodes (count_to (inode_free s) (inodes_in s)) (λ z. q (ap (λ (y : Header). y.free_inodes) e ∙ z ∙ sym f))))
+  counts_1 q =
+      ne_eqb u x q
+      ∙ sym (and_false_l _ _ (ne_eqb (header_of s).free_inodes (count_to (inode_free s) (inodes_in s)) (λ z. q (d ∙ ap (λ (y : Header). y.free_inodes) e ∙ z ∙ sym f))))
 
-  pub counts_2 : (b y : ℕ) (l : List ℕ) → h.free_inodes ≡ x → MapsOf s (inodes_in s) (most_blocks * inodes_in s) l → b ≡ blocks_in s → b ≤ most_image_blocks
-      → y ≡ count_to (lacks l) b → eqb h.free_blocks y ≡ free_counts_b s
+  pub counts_2 : (b y : ℕ) (l : List ℕ) → u ≡ x → MapsOf s (inodes_in s) (most_blocks * inodes_in s) l → b ≡ blocks_in s → b ≤ most_image_blocks
+      → y ≡ count_to (lacks l) b → (v : ℕ) → v ≡ h.free_blocks → eqb v y ≡ free_counts_b s
   unfolding free_counts_b
-  counts_2 b y l q m g i z =
-      chain_end _ _ _ (eq-eqb (header_of s).free_inodes (count_to (inode_free s) (inodes_in s)) (sym (ap (λ (w : Header). w.free_inodes) e) ∙ q ∙ f))
-      (ap₂ eqb (ap (λ (w : Header). w.free_blocks) e) (z ∙ map_count (is_long s) s (inodes_in s) l m b i ∙ ap (count_to (block_free s (inodes_in s))) g))
+  counts_2 b y l q m g i z v w =
+      chain_end _ _ _ (eq-eqb (header_of s).free_inodes (count_to (inode_free s) (inodes_in s)) (sym (ap (λ (j : Header). j.free_inodes) e) ∙ sym d ∙ q ∙ f))
+      (ap₂ eqb (w ∙ ap (λ (j : Header). j.free_blocks) e) (z ∙ map_count (is_long s) s (inodes_in s) l m b i ∙ ap (count_to (block_free s (inodes_in s))) g))
 
 -- ---- the body: n and b are the counts that the code has read
 abbrev pub inodes_right : List ℕ → ℕ → ℕ → Bool
@@ -97,34 +68,30 @@ entries_right s n = all_below (entry_b s n) (most_slots * n)
 abbrev pub links_right : List ℕ → ℕ → Bool
 links_right s n = all_to (counted_b s n) n
 
--- what is left of the test after each pass
-abbrev pub after_counts : Form → List ℕ → ℕ → ℕ → Bool
-after_counts f s n b = not (blank_of f) || all_to (blank_if_free_b s n) b
+abbrev pub blanks_right : Form → List ℕ → ℕ → ℕ → Bool
+blanks_right f s n b = not (blank_of f) || all_to (blank_if_free_b s n) b
 
-abbrev pub after_parents : Form → List ℕ → ℕ → ℕ → Bool
-after_parents f s n b = free_counts_b s && after_counts f s n b
+-- the passes in the code's order
+abbrev body_as : Form → List ℕ → ℕ → ℕ → Bool
+body_as f s n b =
+    header_b s
+    && ((inodes_right s n b && differ_b (row_of s n) (most_blocks * n))
+    && (entries_right s n
+    && (links_right s n
+    && (all_to (lead_b s n) n
+    && (free_counts_b s
+    && blanks_right f s n b)))))
 
-abbrev pub after_links : Form → List ℕ → ℕ → ℕ → Bool
-after_links f s n b = all_to (lead_b s n) n && after_parents f s n b
-
-abbrev pub after_entries : Form → List ℕ → ℕ → ℕ → Bool
-after_entries f s n b = links_right s n && after_links f s n b
-
-abbrev pub after_inodes : Form → List ℕ → ℕ → ℕ → Bool
-after_inodes f s n b = entries_right s n && after_entries f s n b
-
-abbrev pub after_header : Form → List ℕ → ℕ → ℕ → Bool
-after_header f s n b = (inodes_right s n b && differ_b (row_of s n) (most_blocks * n)) && after_inodes f s n b
-
-abbrev pub body_as : Form → List ℕ → ℕ → ℕ → Bool
-body_as f s n b = header_b s && after_header f s n b
-
-pub body_as_lem : (f : Form) (s : List ℕ) {n b : ℕ} → n ≡ inodes_in s → b ≡ blocks_in s → body_as f s n b ≡ body_b f s
+-- where all passes but the last find nothing, the last one's answer is the test's
+pub body_all : (f : Form) (s : List ℕ) {n b : ℕ} → n ≡ inodes_in s → b ≡ blocks_in s → header_b s ≡ true →
+    inodes_right s n b && differ_b (row_of s n) (most_blocks * n) ≡ true → entries_right s n ≡ true → links_right s n ≡ true → all_to (lead_b s n) n ≡ true → free_counts_b s ≡ true →
+    (x : Bool) → x ≡ blanks_right f s n b → x ≡ body_b f s
 unfolding body_b blanks_b
-body_as_lem f s {n} {b} e g =
-    ap₂ (body_as f s) e g
-    ∙ ap (λ (x : Bool). header_b s && x)
-    (and_assoc (inodes_right s (inodes_in s) (blocks_in s)) (differ_b (row_of s (inodes_in s)) (most_blocks * inodes_in s)) (after_inodes f s (inodes_in s) (blocks_in s)))
+body_all f s {n} {b} e g h i j k l m x q =
+    chain_end _ _ _ h (chain_end _ _ _ i (chain_end _ _ _ j (chain_end _ _ _ k (chain_end _ _ _ l (chain_end _ _ _ m q)))))
+    ∙ ap₂ (body_as f s) e g
+    ∙ ap (λ (y : Bool). header_b s && y)
+    (and_assoc (inodes_right s (inodes_in s) (blocks_in s)) (differ_b (row_of s (inodes_in s)) (most_blocks * inodes_in s)) _)
 
 -- ---- what the passes need of each other
 module _ (s : List ℕ) {n b : ℕ} (f : Framed Image s) (e : n ≡ inodes_in s) (g : b ≡ blocks_in s) where
@@ -140,9 +107,6 @@ module _ (s : List ℕ) {n b : ℕ} (f : Framed Image s) (e : n ≡ inodes_in s)
       let x = f.most_inodes_lem in
       let z = f.long in
       record { low = l; high = m; few = omega arith; area = omega arith }
-
-  pub root_fits : InodeFits s n root_inode
-  root_fits = let x = f.some_inodes in frame_fits root_inode (omega arith) (omega arith)
 
   module _ (t : inodes_right s n b ≡ true) where
     each : (i : ℕ) → 1 ≤ i → i ≤ n → InodeSound s n b i

@@ -1,23 +1,26 @@
 -- Laws of the pass over the entries: slot t of directory d and its place, what each return of the code says, and the counts. n is the inode count.
-use Prim.Native.Nat.{ℕ, ◌+◌, ◌*◌, ◌-◌, ◌/◌, ◌%◌, ◌≤◌, ◌<◌}
+use Prim.Native.Nat.{ℕ, zero, suc, ◌+◌, ◌*◌, ◌-◌, ◌/◌, ◌%◌, ◌≤◌, ◌<◌}
 use mathlib.Core.Path.{◌≡◌, refl, sym, ap, ap₂, ◌∙◌, subst}
 use mathlib.Core.Bool.{Bool, true, false, not, ◌&&◌, ◌||◌}
 use mathlib.Core.List.{List}
+use mathlib.Core.Logic.{◌⊎◌, inl, inr}
 use native.Mathlib.Nat.{add-zero}
-use native.Mathlib.Decide.{dec_lt}
+use native.Mathlib.Numerals.{add-one}
+use native.Mathlib.Decide.{dec_lt, ℕ_discrete}
 use native.Mathlib.Omega.{arith}
-use borrow.Author.Tests.{eq-eqb, ne_eqb, eqb-true, not-true, not-false}
+use borrow.Author.Tests.{eq-eqb, eqb-true}
 use lib.Dec.{eqb, leb}
-use lib.ListN.{length, get_or, set, take, drop, replicate}
+use lib.ListN.{length, get_or, set, take, drop, replicate, length-set}
+use lib.Seq.{get_or-set_same, get_or-set_other}
+use Rattle.std.specs.List.{list_all}
+use Rattle.std.proofs.lemmas.List.Folds.{list_all_more}
 use Rattle.bounded.specs.Below.{all_below}
 use Rattle.bounded.specs.Count.{Tallied}
 use Rattle.bounded.specs.Search.{pick}
 use Rattle.bounded.specs.Reflect.{Reflects}
-use Rattle.bounded.specs.Table.{Tabulated}
 use Rattle.bounded.proofs.BoolLaws.{clash, never, holds, same_test, and-true, and_left, and_false_l, and_false_r, or_l, or_weaker}
 use Rattle.bounded.proofs.BelowLaws.{all_none, all_at, all_of, all_fail, all_stop, all_ext, all_split}
 use Rattle.bounded.proofs.CountLaws.{tally_start, tally_skip, tally_one, tally_skips}
-use Rattle.bounded.proofs.TableLaws.{filled_none, filled_more}
 use Rattle.bounded.proofs.ReflectLaws.{r_eq, r_le, r_true, r_and, r_not, r_imp, r_same, r_says, r_fails, reflects_ext}
 use Rattle.octets.specs.Octets.{Octets, part, num_at}
 use Rattle.octets.proofs.NumLaws.{zero_num}
@@ -39,7 +42,7 @@ use Rattle.sound.specs.Entry.{same_names}
 use Rattle.sound.specs.Place.{dir_of, slot_of, is_slot, entry_at, filled, naming, place_of}
 use Rattle.sound.proofs.PlaceLaws.{filled_is, naming_entry, place_dir, entry_place, slot_place}
 use Rattle.sound.specs.Test.{naming_b, new_name_b, entry_b}
-use Rattle.checker.specs.Pass.{low_of, high_of, Passed}
+use Rattle.checker.specs.Pass.{no_name, name_of, Passed}
 
 -- a place that is no slot names nothing, and is right
 module _ (s : List ℕ) (n p : ℕ) (e : is_slot s p ≡ false) where
@@ -126,51 +129,47 @@ module _ (s : List ℕ) (n d t o : ℕ) (x : Here s n d t o) where
         ∙ ap (names_b g i) (place_dir d t x.0.inode.low in_reach)))
         (names i g)
 
-    pub illegal : not g ≡ true → false ≡ naming_b s n (place_of d t)
-    illegal e = sym (r_fails named_here (λ w. clash g w.0 (not-true g e)))
+    -- one of the four tests that come first turns it down
+    abbrev pub Barred : Type 0
+    Barred = (g ≡ false) ⊎ (((g ≡ true) × (i < 1)) ⊎ (((g ≡ true) × (1 ≤ i) × (n < i)) ⊎ ((g ≡ true) × (1 ≤ i) × (i ≤ n) × (i ≡ root_inode))))
 
-    pub nameless : i < 1 → false ≡ naming_b s n (place_of d t)
-    nameless e = sym (r_fails named_here (λ w. let z = w.1.0 in omega arith))
+    pub barred : Barred → false ≡ naming_b s n (place_of d t)
+    barred h = sym (r_fails named_here (λ w. go w h))
+      where
+        go : Names i g → Barred → ⊥
+        go w (inl e) = clash g w.0 e
+        go w (inr (inl e)) = let z = w.1.0 in omega arith
+        go w (inr (inr (inl e))) = let z = w.1.1.0 in omega arith
+        go w (inr (inr (inr e))) = w.1.1.1.1.0 e.3
 
-    pub past_inodes : n < i → false ≡ naming_b s n (place_of d t)
-    past_inodes e = sym (r_fails named_here (λ w. let z = w.1.1.0 in omega arith))
+    pub free_named : kind_of s i ≡ free_kind → false ≡ naming_b s n (place_of d t)
+    free_named e = sym (r_fails named_here (λ w. w.1.1.1.0 e))
 
-    module _ (k : ℕ) (c : k ≡ kind_of s i) where
-      pub free_named : k ≡ free_kind → false ≡ naming_b s n (place_of d t)
-      free_named e = sym (r_fails named_here (λ w. w.1.1.1.0 (sym c ∙ e)))
+    module _ (y : g ≡ true) (p : 1 ≤ i) (q : i ≤ n) (v : i ≡ root_inode → ⊥) where
+      pub file_named : (kind_of s i ≡ free_kind → ⊥) → (kind_of s i ≡ directory_kind → ⊥) → true ≡ naming_b s n (place_of d t)
+      file_named u f = sym (named_here.from (y, (p, (q, (u, (v, λ e. absurd (f e)))))))
 
-      pub root_named : i ≡ root_inode → false ≡ naming_b s n (place_of d t)
-      root_named e = sym (r_fails named_here (λ w. w.1.1.1.1.0 e))
-
-      module _ (y : not g ≡ false) (p : 1 ≤ i) (q : i ≤ n) (u : k ≡ free_kind → ⊥) (v : i ≡ root_inode → ⊥) where
-        pub file_named : (k ≡ directory_kind → ⊥) → true ≡ naming_b s n (place_of d t)
-        file_named f = sym (named_here.from (not-false g y, (p, (q, ((λ e. u (c ∙ e)), (v, λ e. absurd (f (c ∙ e))))))))
-
-        pub dir_named : (w : ℕ) → w ≡ parent_of s i → k ≡ directory_kind → eqb w d ≡ naming_b s n (place_of d t)
-        dir_named w m f =
-            same_test (eqb w d) (naming_b s n (place_of d t))
-            (λ e. named_here.from (not-false g y, (p, (q, ((λ z. u (c ∙ z)), (v, λ z. sym m ∙ eqb-true w d e))))))
-            (λ e. eq-eqb w d (m ∙ (named_here.to e).1.1.1.1.1 (sym c ∙ f)))
+      pub dir_named : (w : ℕ) → w ≡ parent_of s i → kind_of s i ≡ directory_kind → eqb w d ≡ naming_b s n (place_of d t)
+      dir_named w m f =
+          same_test (eqb w d) (naming_b s n (place_of d t))
+          (λ e. named_here.from (y, (p, (q, ((λ z. absurd (omega arith)), (v, λ z. sym m ∙ eqb-true w d e))))))
+          (λ e. eq-eqb w d (m ∙ (named_here.to e).1.1.1.1.1 f))
 
     -- an inode of the n
     pub named_range : naming_b s n (place_of d t) ≡ true → (1 ≤ i) × (i ≤ n)
     named_range e = let w = named_here.to e in (w.1.0, w.1.1.0)
 
--- ---- name_new: slot u has another name than slot t, as the words in low and high say
-abbrev pub apart_b : List ℕ → List ℕ → ℕ → ℕ → Bool
-apart_b low high t u = not (eqb (get_or low u 0) (get_or low t 0) && eqb (get_or high u 0) (get_or high t 0))
+-- ---- name_new: no name of the list is w
+abbrev pub apart : Name → Name → Bool
+apart w x = not (same_words x w)
 
-module _ (low high : List ℕ) (t u : ℕ) where
-  pub low_apart : (get_or low u 0 ≡ get_or low t 0 → ⊥) → apart_b low high t u ≡ true
-  low_apart h = ap not (and_false_l (eqb (get_or low u 0) (get_or low t 0)) (eqb (get_or high u 0) (get_or high t 0)) (ne_eqb (get_or low u 0) (get_or low t 0) h))
-
-  pub high_apart : eqb (get_or high u 0) (get_or high t 0) ≡ false → apart_b low high t u ≡ true
-  high_apart h = ap not (and_false_r (eqb (get_or low u 0) (get_or low t 0)) (eqb (get_or high u 0) (get_or high t 0)) h)
-
-  pub not_apart : get_or low u 0 ≡ get_or low t 0 → eqb (get_or high u 0) (get_or high t 0) ≡ true → apart_b low high t u ≡ false
-  not_apart p q =
-      ap not
-      (and-true (eqb (get_or low u 0) (get_or low t 0)) (eqb (get_or high u 0) (get_or high t 0)) (eq-eqb (get_or low u 0) (get_or low t 0) p) q)
+-- a test of each element, by its place
+list_all-below : {X : Type 0} (p : X → Bool) (d : X) (xs : List X) (i : ℕ) → i ≤ length xs → list_all p (take i xs) ≡ all_below (λ u. p (get_or xs u d)) i
+unfolding all_below
+list_all-below p d xs zero l = refl
+list_all-below p d xs (suc i) l =
+    ap (λ (j : ℕ). list_all p (take j xs)) (sym (add-one i)) ∙ list_all_more p xs i d (omega arith)
+    ∙ ap (λ (b : Bool). b && p (get_or xs i d)) (list_all-below p d xs i (omega arith))
 
 -- an empty entry has no legal name
 empty_differs : (a b : List ℕ) → is_empty a ≡ true → legal_entry b ≡ true → same_name a (part b name_at name_bytes) ≡ false
@@ -195,7 +194,7 @@ octets_entry s n d t h = octets_part s (slot_at s n d t) 16 h
 
 -- the words of the names up to slot t are read, and slot t has a legal name
 module _ (s : List ℕ) (n d t : ℕ) (h : Octets s) (f : DirFits s n d) (k : kind_of s d ≡ directory_kind) (l : t < slots s d)
-    (low high : List ℕ) (lo : Tabulated (low_of s n d) most_slots (t + 1) low) (hi : Tabulated (high_of s n d) most_slots (t + 1) high)
+    (names : List Name) (long : length names ≡ most_slots) (each : (u : ℕ) → u < t + 1 → get_or names u no_name ≡ name_of s n d u)
     (g : legal_entry (entry_of s n d t) ≡ true) where
   reach : t < most_slots
   reach = let w = few_slots s n d f in omega arith
@@ -207,10 +206,9 @@ module _ (s : List ℕ) (n d t : ℕ) (h : Octets s) (f : DirFits s n d) (k : ki
   unfolding same_names
   same_at u m = ap₂ (λ (x y : List ℕ). same_name x (part y name_at name_bytes)) (sym (at u m)) (sym (at t (omega arith)))
 
-  words_at_lem : (u : ℕ) → u ≤ t → eqb (get_or low u 0) (get_or low t 0) && eqb (get_or high u 0) (get_or high t 0) ≡ same_names s n (place_of d u) (place_of d t)
-  unfolding same_words
+  words_at_lem : (u : ℕ) → u ≤ t → same_words (get_or names u no_name) (name_of s n d t) ≡ same_names s n (place_of d u) (place_of d t)
   words_at_lem u m =
-      ap₂ ◌&&◌ (ap₂ eqb (lo.each u (omega arith)) (lo.each t (omega arith))) (ap₂ eqb (hi.each u (omega arith)) (hi.each t (omega arith)))
+      ap (λ (x : Name). same_words x (name_of s n d t)) (each u (omega arith))
       ∙ same_parts (entry_of s n d u) (entry_of s n d t) (octets_entry s n d u h) (octets_entry s n d t h) ∙ same_at u m
 
   empty_other : (u : ℕ) → u < t → filled s n (place_of d u) ≡ false → same_names s n (place_of d u) (place_of d t) ≡ false
@@ -220,51 +218,56 @@ module _ (s : List ℕ) (n d t : ℕ) (h : Octets s) (f : DirFits s n d) (k : ki
       sym (same_at u (omega arith))
       ∙ empty_differs (entry_of s n d u) (entry_of s n d t) (ap is_empty (sym (at u (omega arith))) ∙ z) g
 
-  pub new_here : all_below (apart_b low high t) t ≡ new_name_b s n (place_of d t)
+  pub new_here : list_all (apart (name_of s n d t)) (take t names) ≡ new_name_b s n (place_of d t)
   unfolding new_name_b
   new_here =
       let p = place_of d t in
       let a : d - 1 ≡ p / most_slots = omega (arith, reach, f.inode.low) in
       let b : t ≡ slot_of p = omega (arith, reach, f.inode.low) in
-      all_ext (apart_b low high t) (λ u. not (filled s n (place_of d u)) || not (same_names s n (place_of d u) p)) t
+      let w = reach in
+      list_all-below (apart (name_of s n d t)) no_name names t (omega arith)
+      ∙ all_ext (λ u. apart (name_of s n d t) (get_or names u no_name)) (λ u. not (filled s n (place_of d u)) || not (same_names s n (place_of d u) p)) t
       (λ u m. ap not (words_at_lem u (omega arith)) ∙ or_weaker (filled s n (place_of d u)) (same_names s n (place_of d u) p) (empty_other u m))
       ∙ ap₂ (λ (q j : ℕ). all_below (λ u. not (filled s n (most_slots * q + u)) || not (same_names s n (most_slots * q + u) p)) j) a b
 
 -- ---- slot_right
 -- the words of an empty entry
-pub no_words : (e : List ℕ) → is_empty e ≡ true → record { low = 0; high = 0 } ≡ words_at e 2
+pub no_words : (e : List ℕ) → is_empty e ≡ true → no_name ≡ words_at e 2
 unfolding words_at folds folded
 no_words e h =
     let a : num_at 8 e 2 ≡ 0 = zero_num 8 e 2 (λ j l. empty_all e h (2 + j) (omega arith)) in
     let b : num_at 6 e (2 + 8) ≡ 0 = zero_num 6 e (2 + 8) (λ j l. empty_all e h (2 + 8 + j) (omega arith)) in
     sym (ap₂ (λ (x y : ℕ). record { low = folds 8 x; high = folds 8 y }) a b)
 
-module _ (s : List ℕ) (n d t o : ℕ) (x : Here s n d t o) (low high counts : List ℕ) (y : Passed s n d t (place_of d t) low high counts)
+module _ (s : List ℕ) (n d t o : ℕ) (x : Here s n d t o) (names : List Name) (counts : List ℕ) (y : Passed s n d t (place_of d t) names counts)
     (w : Name) (e : w ≡ words_at (cut_at s o) 2) where
-  -- what low and high hold then
-  abbrev low_now : List ℕ
-  low_now = set low t w.low
+  -- what names holds then
+  abbrev names_now : List Name
+  names_now = set names t w
 
-  abbrev high_now : List ℕ
-  high_now = set high t w.high
-
-  word : w ≡ words_at (entry_of s n d t) 2
+  word : w ≡ name_of s n d t
   word = e ∙ ap (λ (q : List ℕ). words_at q 2) (cut_here s n d t o x)
 
-  low_read : Tabulated (low_of s n d) most_slots (t + 1) low_now
-  low_read = filled_more (low_of s n d) most_slots t w.low low (in_reach s n d t o x) (ap (λ (v : Name). v.low) word) y.lows
+  long_now : length names_now ≡ most_slots
+  long_now = length-set names t w ∙ y.long
 
-  high_read : Tabulated (high_of s n d) most_slots (t + 1) high_now
-  high_read = filled_more (high_of s n d) most_slots t w.high high (in_reach s n d t o x) (ap (λ (v : Name). v.high) word) y.highs
+  each_now : (u : ℕ) → u < t + 1 → get_or names_now u no_name ≡ name_of s n d u
+  each_now u l = at (ℕ_discrete u t)
+    where
+      at : Dec (u ≡ t) → get_or names_now u no_name ≡ name_of s n d u
+      at (yes q) =
+          let k = in_reach s n d t o x in
+          ap (λ (j : ℕ). get_or names_now j no_name) q ∙ get_or-set_same names t w no_name (omega (arith, y.long)) ∙ word ∙ ap (name_of s n d) (sym q)
+      at (no q) = get_or-set_other names t u w no_name q ∙ y.each u (omega arith)
 
   module _ (b : Bool) (r : b ≡ is_empty (cut_at s o)) where
-    pub empty_slot_lem : b ≡ true → (true ≡ entry_b s n (place_of d t)) × (true ≡ true → Passed s n d (t + 1) (place_of d t + 1) low_now high_now counts)
+    pub empty_slot_lem : b ≡ true → (true ≡ entry_b s n (place_of d t)) × (true ≡ true → Passed s n d (t + 1) (place_of d t + 1) names_now counts)
     unfolding entry_b
     empty_slot_lem z =
         let f : filled s n (place_of d t) ≡ false = filled_here s n d t o x ∙ ap not (sym r ∙ z) in
         let m = naming_here s n d t o x ∙ empty_inode_lem (cut_at s o) (sym r ∙ z) in (
           sym (or_l (not (filled s n (place_of d t))) (naming_b s n (place_of d t) && new_name_b s n (place_of d t)) (ap not f)),
-          λ q. record { lows = low_read; highs = high_read; counted = tally_skip (naming s n) 1 (most_inodes + 1) (place_of d t) counts (omega arith) y.counted },
+          λ q. record { long = long_now; each = each_now; counted = tally_skip (naming s n) 1 (most_inodes + 1) (place_of d t) counts (omega arith) y.counted },
         )
 
     module _ (z : b ≡ false) (g : Bool) (c : g ≡ naming_b s n (place_of d t)) where
@@ -273,13 +276,13 @@ module _ (s : List ℕ) (n d t o : ℕ) (x : Here s n d t o) (low high counts : 
       full_slot =
           ap (λ (q : Bool). not q || (naming_b s n (place_of d t) && new_name_b s n (place_of d t))) (filled_here s n d t o x ∙ ap not (sym r ∙ z))
 
-      pub unnamed_slot : {A : Type 0} → not g ≡ true → (false ≡ entry_b s n (place_of d t)) × (false ≡ true → A)
+      pub unnamed_slot : {A : Type 0} → g ≡ false → (false ≡ entry_b s n (place_of d t)) × (false ≡ true → A)
       unnamed_slot q =
-          (sym (full_slot ∙ and_false_l (naming_b s n (place_of d t)) (new_name_b s n (place_of d t)) (sym c ∙ not-true g q)), never)
+          (sym (full_slot ∙ and_false_l (naming_b s n (place_of d t)) (new_name_b s n (place_of d t)) (sym c ∙ q)), never)
 
-      module _ (u : not g ≡ false) where
+      module _ (u : g ≡ true) where
         named_slot : naming_b s n (place_of d t) ≡ true
-        named_slot = sym c ∙ not-false g u
+        named_slot = sym c ∙ u
 
         legal_slot : legal_entry (entry_of s n d t) ≡ true
         unfolding naming_b
@@ -291,22 +294,22 @@ module _ (s : List ℕ) (n d t o : ℕ) (x : Here s n d t o) (low high counts : 
             let few = x.0.inode.few in
             (v.0, omega (arith, v.1))
 
-        module _ (h : Octets s) (m : Bool) (v : m ≡ all_below (apart_b low_now high_now t) t) where
+        module _ (h : Octets s) (m : Bool) (v : m ≡ list_all (apart w) (take t names_now)) where
           new_slot : m ≡ new_name_b s n (place_of d t)
-          new_slot = v ∙ new_here s n d t h x.0 x.2 x.1 low_now high_now low_read high_read legal_slot
+          new_slot = v ∙ ap (λ (q : Name). list_all (apart q) (take t names_now)) word ∙ new_here s n d t h x.0 x.2 x.1 names_now long_now each_now legal_slot
 
-          pub same_slot : {A : Type 0} → not m ≡ true → (false ≡ entry_b s n (place_of d t)) × (false ≡ true → A)
+          pub same_slot : {A : Type 0} → m ≡ false → (false ≡ entry_b s n (place_of d t)) × (false ≡ true → A)
           same_slot q =
-              (sym (full_slot ∙ and_false_r (naming_b s n (place_of d t)) (new_name_b s n (place_of d t)) (sym new_slot ∙ not-true m q)), never)
+              (sym (full_slot ∙ and_false_r (naming_b s n (place_of d t)) (new_name_b s n (place_of d t)) (sym new_slot ∙ q)), never)
 
-          pub counted_slot : not m ≡ false → (i : ℕ) → i ≡ entry_inode (cut_at s o)
-              → (true ≡ entry_b s n (place_of d t)) × (true ≡ true → Passed s n d (t + 1) (place_of d t + 1) low_now high_now (set counts i (get_or counts i 0 + 1)))
+          pub counted_slot : m ≡ true → (i : ℕ) → i ≡ entry_inode (cut_at s o)
+              → (true ≡ entry_b s n (place_of d t)) × (true ≡ true → Passed s n d (t + 1) (place_of d t + 1) names_now (set counts i (get_or counts i 0 + 1)))
           counted_slot q i a =
               let k = slot_range i a in (
-                sym (full_slot ∙ and-true (naming_b s n (place_of d t)) (new_name_b s n (place_of d t)) named_slot (sym new_slot ∙ not-false m q)),
+                sym (full_slot ∙ and-true (naming_b s n (place_of d t)) (new_name_b s n (place_of d t)) named_slot (sym new_slot ∙ q)),
                 λ p. record {
-                  lows = low_read;
-                  highs = high_read;
+                  long = long_now;
+                  each = each_now;
                   counted = tally_one (naming s n) 1 (most_inodes + 1) (place_of d t) i counts (a ∙ sym (naming_here s n d t o x)) k.0 k.1 y.counted;
                 },
               )
@@ -325,23 +328,18 @@ module _ (s : List ℕ) (n d k : ℕ) where
   slot_inside l j h = omega arith
 
   -- the same pass, in other words
-  passed_at : {low high counts : List ℕ} (t u p : ℕ) → t ≡ u → p ≡ place_of d u → Passed s n d t p low high counts → Passed s n d u (place_of d u) low high counts
-  passed_at {low} {high} {counts} t u p e f y =
-      subst (λ (q : ℕ). Passed s n d u q low high counts) f (subst (λ (q : ℕ). Passed s n d q p low high counts) e y)
+  passed_at : {names : List Name} {counts : List ℕ} (t u p : ℕ) → t ≡ u → p ≡ place_of d u → Passed s n d t p names counts → Passed s n d u (place_of d u) names counts
+  passed_at {names} {counts} t u p e f y =
+      subst (λ (q : ℕ). Passed s n d u q names counts) f (subst (λ (q : ℕ). Passed s n d q p names counts) e y)
 
-  pub block_begin : {low high counts : List ℕ} → Passed s n d (4 * k) (place_of d (4 * k)) low high counts → Passed s n d (4 * k + 0) (place_of d (4 * k + 0)) low high counts
+  pub block_begin : {names : List Name} {counts : List ℕ} → Passed s n d (4 * k) (place_of d (4 * k)) names counts → Passed s n d (4 * k + 0) (place_of d (4 * k + 0)) names counts
   block_begin = let e : 4 * k ≡ 4 * k + 0 = omega arith in passed_at (4 * k) (4 * k + 0) (place_of d (4 * k)) e (ap (place_of d) e)
 
-  pub block_more : {low high counts : List ℕ} (j : ℕ) → Passed s n d (4 * k + j + 1) (place_of d (4 * k + j) + 1) low high counts → Passed s n d (4 * k + (j + 1)) (place_of d (4 * k + (j + 1))) low high counts
+  pub block_more : {names : List Name} {counts : List ℕ} (j : ℕ) → Passed s n d (4 * k + j + 1) (place_of d (4 * k + j) + 1) names counts → Passed s n d (4 * k + (j + 1)) (place_of d (4 * k + (j + 1))) names counts
   block_more j =
       let e : 4 * k + j + 1 ≡ 4 * k + (j + 1) = omega arith in
       let f : place_of d (4 * k + j) + 1 ≡ place_of d (4 * k + (j + 1)) = omega arith in
       passed_at (4 * k + j + 1) (4 * k + (j + 1)) (place_of d (4 * k + j) + 1) e f
-
-  pub block_done : {low high counts : List ℕ} (j : ℕ) → j ≤ 4 → 4 ≤ j → Passed s n d (4 * k + j) (place_of d (4 * k + j)) low high counts → Passed s n d (4 * k + 4) (place_of d (4 * k + 4)) low high counts
-  block_done j l h =
-      let e : 4 * k + j ≡ 4 * k + 4 = omega arith in
-      passed_at (4 * k + j) (4 * k + 4) (place_of d (4 * k + j)) e (ap (place_of d) e)
 
 -- ---- directory_right
 module _ (s : List ℕ) (n d : ℕ) (some : 1 ≤ d) where
@@ -378,32 +376,31 @@ module _ (s : List ℕ) (n d : ℕ) (some : 1 ≤ d) where
       (first_place counts y)
 
   -- before the first block, a block that is right, one that is not, and after the last
-  pub dir_begin : (low high counts : List ℕ) → length low ≡ most_slots → length high ≡ most_slots → Tallied (naming s n) 1 257 (most_slots * (d - 1)) counts → Passed s n d 0 (place_of d 0) low high counts
-  dir_begin low high counts p q y =
-      record { lows = filled_none (low_of s n d) most_slots low p; highs = filled_none (high_of s n d) most_slots high q; counted = first_place counts y }
+  pub dir_begin : (names : List Name) (counts : List ℕ) → length names ≡ most_slots → Tallied (naming s n) 1 257 (most_slots * (d - 1)) counts → Passed s n d 0 (place_of d 0) names counts
+  dir_begin names counts p y = record { long = p; each = λ u l. absurd (omega arith); counted = first_place counts y }
 
-  pub dir_more : (k : ℕ) (r : Bool) → all_below right_at (4 * k) ≡ true → r ≡ all_below (λ j. right_at (4 * k + j)) 4 → not r ≡ false → all_below right_at (4 * (k + 1)) ≡ true
+  pub dir_more : (k : ℕ) (r : Bool) → all_below right_at (4 * k) ≡ true → r ≡ all_below (λ j. right_at (4 * k + j)) 4 → r ≡ true → all_below right_at (4 * (k + 1)) ≡ true
   dir_more k r a b c =
       let e : 4 * (k + 1) ≡ 4 * k + 4 = omega arith in
       ap (all_below right_at) e ∙ all_split right_at (4 * k) 4
-      ∙ and-true (all_below right_at (4 * k)) (all_below (λ j. right_at (4 * k + j)) 4) a (sym b ∙ not-false r c)
+      ∙ and-true (all_below right_at (4 * k)) (all_below (λ j. right_at (4 * k + j)) 4) a (sym b ∙ c)
 
-  pub dir_next : {low high counts : List ℕ} (k : ℕ) → Passed s n d (4 * k + 4) (place_of d (4 * k + 4)) low high counts → Passed s n d (4 * (k + 1)) (place_of d (4 * (k + 1))) low high counts
+  pub dir_next : {names : List Name} {counts : List ℕ} (k : ℕ) → Passed s n d (4 * k + 4) (place_of d (4 * k + 4)) names counts → Passed s n d (4 * (k + 1)) (place_of d (4 * (k + 1))) names counts
   dir_next k =
       let e : 4 * k + 4 ≡ 4 * (k + 1) = omega arith in
       passed_at s n d k (4 * k + 4) (4 * (k + 1)) (place_of d (4 * k + 4)) e (ap (place_of d) e)
 
-  pub dir_stop : {A : Type 0} (k : ℕ) (r : Bool) → DirFits s n d → 4 * k < slots s d → r ≡ all_below (λ j. right_at (4 * k + j)) 4 → not r ≡ true → (false ≡ all_below right_at most_slots) × (false ≡ true → A)
+  pub dir_stop : {A : Type 0} (k : ℕ) (r : Bool) → DirFits s n d → 4 * k < slots s d → r ≡ all_below (λ j. right_at (4 * k + j)) 4 → r ≡ false → (false ≡ all_below right_at most_slots) × (false ≡ true → A)
   dir_stop k r f l b c =
       let w = few_slots s n d f in
-      let x = all_fail (λ j. right_at (4 * k + j)) 4 (sym b ∙ not-true r c) in
+      let x = all_fail (λ j. right_at (4 * k + j)) 4 (sym b ∙ c) in
       let y = slot_inside s n d k l x.0 x.1 in
       (sym (all_stop right_at most_slots (4 * k + x.0) (omega arith) x.2), never)
 
-  pub dir_done : {low high counts : List ℕ} (k m : ℕ) → DirFits s n d → m ≡ slots s d → k ≤ m / 4 → m / 4 ≤ k → all_below right_at (4 * k) ≡ true → Passed s n d (4 * k) (place_of d (4 * k)) low high counts
+  pub dir_done : {names : List Name} {counts : List ℕ} (k m : ℕ) → DirFits s n d → m ≡ slots s d → k ≤ m / 4 → m / 4 ≤ k → all_below right_at (4 * k) ≡ true → Passed s n d (4 * k) (place_of d (4 * k)) names counts
       → (true ≡ all_below right_at most_slots) × (true ≡ true → Tallied (naming s n) 1 257 (most_slots * d) counts)
   unfolding slots
-  dir_done {low} {high} {counts} k m f e p q a y =
+  dir_done {names} {counts} k m f e p q a y =
       let w = f.few in
       let z : 4 * k ≡ slots s d = omega arith in
       rest_right counts (4 * k) (omega arith)
@@ -419,23 +416,14 @@ module _ (s : List ℕ) (n : ℕ) where
   pub dirs_begin : (counts : List ℕ) → counts ≡ replicate 257 0 → Tallied (naming s n) 1 257 0 counts
   dirs_begin counts e = subst (λ (l : List ℕ). Tallied (naming s n) 1 257 0 l) (sym e) (tally_start (naming s n) 1 257)
 
-  pub dir_turn : (counts : List ℕ) (k : ℕ) → Tallied (naming s n) 1 257 (most_slots * k) counts → Tallied (naming s n) 1 257 (most_slots * (k + 1 - 1)) counts
-  dir_turn counts k = let e : most_slots * k ≡ most_slots * (k + 1 - 1) = omega arith in subst (λ (p : ℕ). Tallied (naming s n) 1 257 p counts) e
-
-  pub dirs_more : (k : ℕ) (r : Bool) → all_below (entry_b s n) (most_slots * k) ≡ true → r ≡ all_below (λ t. entry_b s n (place_of (k + 1) t)) most_slots → not r ≡ false → all_below (entry_b s n) (most_slots * (k + 1)) ≡ true
+  pub dirs_more : (k : ℕ) (r : Bool) → all_below (entry_b s n) (most_slots * k) ≡ true → r ≡ all_below (λ t. entry_b s n (place_of (k + 1) t)) most_slots → r ≡ true → all_below (entry_b s n) (most_slots * (k + 1)) ≡ true
   dirs_more k r a b c =
       let e : most_slots * (k + 1) ≡ most_slots * k + most_slots = omega arith in
       ap (all_below (entry_b s n)) e ∙ all_split (entry_b s n) (most_slots * k) most_slots
-      ∙ and-true (all_below (entry_b s n) (most_slots * k)) (all_below (λ t. entry_b s n (most_slots * k + t)) most_slots) a (sym (dir_places k) ∙ sym b ∙ not-false r c)
+      ∙ and-true (all_below (entry_b s n) (most_slots * k)) (all_below (λ t. entry_b s n (most_slots * k + t)) most_slots) a (sym (dir_places k) ∙ sym b ∙ c)
 
-  pub dirs_stop : {A : Type 0} (k : ℕ) (r : Bool) → k < n → r ≡ all_below (λ t. entry_b s n (place_of (k + 1) t)) most_slots → not r ≡ true → (false ≡ all_below (entry_b s n) (most_slots * n)) × (false ≡ true → A)
+  pub dirs_stop : {A : Type 0} (k : ℕ) (r : Bool) → k < n → r ≡ all_below (λ t. entry_b s n (place_of (k + 1) t)) most_slots → r ≡ false → (false ≡ all_below (entry_b s n) (most_slots * n)) × (false ≡ true → A)
   dirs_stop k r l b c =
-      let x = all_fail (λ t. entry_b s n (most_slots * k + t)) most_slots (sym (dir_places k) ∙ sym b ∙ not-true r c) in
+      let x = all_fail (λ t. entry_b s n (most_slots * k + t)) most_slots (sym (dir_places k) ∙ sym b ∙ c) in
       let y = x.1 in
       (sym (all_stop (entry_b s n) (most_slots * n) (most_slots * k + x.0) (omega arith) x.2), never)
-
-  pub dirs_done : (counts : List ℕ) (k : ℕ) → k ≤ n → n ≤ k → all_below (entry_b s n) (most_slots * k) ≡ true → Tallied (naming s n) 1 257 (most_slots * k) counts
-      → (true ≡ all_below (entry_b s n) (most_slots * n)) × (true ≡ true → Tallied (naming s n) 1 257 (most_slots * n) counts)
-  dirs_done counts k l m a y =
-      let e : most_slots * k ≡ most_slots * n = omega arith in
-      (sym (ap (all_below (entry_b s n)) (sym e) ∙ a), λ q. subst (λ (p : ℕ). Tallied (naming s n) 1 257 p counts) e y)

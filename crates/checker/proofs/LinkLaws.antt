@@ -1,22 +1,20 @@
 -- Laws of the check of link counts, and of the climb from parent to parent with a list of those that are known to lead to the root.
-use mathlib.Core.Path.{◌≡◌, sym, ap, ◌∙◌, subst}
+use mathlib.Core.Path.{◌≡◌, refl, sym, ap, ◌∙◌, subst}
 use mathlib.Core.Bool.{Bool, true, false, not, ◌||◌}
 use mathlib.Core.Logic.{◌⊎◌, inl, inr}
 use mathlib.Core.List.{List}
-use Prim.Native.Nat.{ℕ, ◌+◌, ◌*◌, ◌-◌, ◌≤◌, ◌<◌}
+use Prim.Native.Nat.{ℕ, zero, suc, ◌+◌, ◌*◌, ◌-◌, ◌≤◌, ◌<◌}
 use native.Mathlib.Decide.{ℕ_discrete}
-use native.Mathlib.Nat.{sub-zero}
 use native.Mathlib.Omega.{arith}
-use borrow.Author.Tests.{eq-eqb, ne_eqb, eqb-true, eqb-false}
+use borrow.Author.Tests.{eq-eqb, ne_eqb}
 use lib.Dec.{eqb, leb}
 use lib.ListN.{length, get_or, set, replicate, length-set, length-replicate}
 use lib.Seq.{get_or-set_same, get_or-set_other}
 use Rattle.bounded.specs.Count.{tally}
 use Rattle.bounded.specs.Climb.{Leads, leads_b, Closed}
-use Rattle.bounded.proofs.BoolLaws.{holds_or_fails}
+use Rattle.bounded.proofs.BoolLaws.{clash, holds_or_fails}
 use Rattle.bounded.proofs.ClimbLaws.{leads_self, leads_up, leads_turn, leads_end, leads_bool, leads_on}
 use Rattle.bounded.proofs.ReflectLaws.{r_eq, r_le, r_says, r_fails, reflects_ext}
-use Rattle.octets.proofs.ZeroLaws.{byte_zeros}
 use Rattle.layout.specs.Sizes.{root_inode}
 use Rattle.layout.specs.Inode.{kind_of, links_of, parent_of, free_kind, directory_kind}
 use Rattle.layout.specs.Fits.{InodeFits}
@@ -28,8 +26,8 @@ use Rattle.checker.specs.Pass.{Known}
 
 -- ---- the link count l of inode i, which count entries name
 module _ (s : List ℕ) (n i count l : ℕ) (t : count ≡ tally (naming s n) (most_slots * n) i) (e : l ≡ links_of s i) where
-  pub count_wrong : (l ≡ count → ⊥) → false ≡ counted_b s n i
-  count_wrong h = sym (r_fails (counted_is s n i) (λ r. h (e ∙ r.counted ∙ sym t)))
+  pub count_wrong : (l ≡ count → ⊥) → counted_b s n i ≡ false
+  count_wrong h = r_fails (counted_is s n i) (λ r. h (e ∙ r.counted ∙ sym t))
 
   pub count_free : (k : ℕ) → l ≡ count → k ≡ kind_of s i → k ≡ free_kind → true ≡ counted_b s n i
   count_free k q m f =
@@ -57,46 +55,48 @@ module _ (s : List ℕ) (n i count l : ℕ) (t : count ≡ tally (naming s n) (m
 -- ---- the list of those that are known
 module _ (s : List ℕ) where
   -- what is not known is not the root
-  pub known_not : (l : List ℕ) (x : ℕ) → Known s l → get_or l x 0 ≡ 0 → x ≡ root_inode → ⊥
-  known_not l x g z h = g.root (ap (λ (y : ℕ). get_or l y 0) (sym h) ∙ z)
+  pub known_not : (l : List Bool) (x : ℕ) → Known s l → get_or l x false ≡ false → x ≡ root_inode → ⊥
+  known_not l x g z h = clash (get_or l x false) (ap (λ (y : ℕ). get_or l y false) h ∙ g.root) z
 
   -- a place is noted
-  module _ (l : List ℕ) (x : ℕ) where
-    noted : length l ≡ 257 → x < 257 → get_or (set l x 1) x 0 ≡ 1
-    noted e h = get_or-set_same l x 1 0 (omega arith)
+  module _ (l : List Bool) (x : ℕ) where
+    noted : length l ≡ 257 → x < 257 → get_or (set l x true) x false ≡ true
+    noted e h = get_or-set_same l x true false (omega arith)
 
-    pub known_more : x < 257 → Leads (parent_of s) root_inode x → Known s l → Known s (set l x 1)
+    pub known_more : x < 257 → Leads (parent_of s) root_inode x → Known s l → Known s (set l x true)
     known_more h r g =
         record {
-          long = length-set l x 1 ∙ g.long;
-          root = λ z. root (ℕ_discrete root_inode x) z;
+          long = length-set l x true ∙ g.long;
+          root = root (ℕ_discrete root_inode x);
           each = λ y f. at y (ℕ_discrete y x) f;
         }
       where
-        root : Dec (root_inode ≡ x) → get_or (set l x 1) root_inode 0 ≡ 0 → ⊥
-        root (yes e) z =
-            let w = noted g.long h in
-            let v : get_or (set l x 1) x 0 ≡ 0 = ap (λ (y : ℕ). get_or (set l x 1) y 0) (sym e) ∙ z in
-            omega arith
-        root (no e) z = g.root (sym (get_or-set_other l x root_inode 1 0 e) ∙ z)
+        root : Dec (root_inode ≡ x) → get_or (set l x true) root_inode false ≡ true
+        root (yes e) = ap (λ (y : ℕ). get_or (set l x true) y false) e ∙ noted g.long h
+        root (no e) = get_or-set_other l x root_inode true false e ∙ g.root
 
-        at : (y : ℕ) → Dec (y ≡ x) → (get_or (set l x 1) y 0 ≡ 0 → ⊥) → Leads (parent_of s) root_inode y
+        at : (y : ℕ) → Dec (y ≡ x) → get_or (set l x true) y false ≡ true → Leads (parent_of s) root_inode y
         at y (yes e) f = subst (Leads (parent_of s) root_inode) (sym e) r
-        at y (no e) f = g.each y (λ z. f (get_or-set_other l x y 1 0 e ∙ z))
+        at y (no e) f = g.each y (sym (get_or-set_other l x y true false e) ∙ f)
 
   -- before any look: the root alone
-  abbrev blank : ℕ → List ℕ
-  blank n = replicate n 0
+  not_noted : (m y : ℕ) → get_or (replicate m false) y false ≡ false
+  not_noted zero y = refl
+  not_noted (suc m) zero = refl
+  not_noted (suc m) (suc y) = not_noted m y
 
-  start_at : (y : ℕ) → Dec (y ≡ root_inode) → (get_or (set (blank 257) root_inode 1) y 0 ≡ 0 → ⊥) → Leads (parent_of s) root_inode y
+  abbrev blank : List Bool
+  blank = replicate 257 false
+
+  start_at : (y : ℕ) → Dec (y ≡ root_inode) → get_or (set blank root_inode true) y false ≡ true → Leads (parent_of s) root_inode y
   start_at y (yes e) f = subst (Leads (parent_of s) root_inode) (sym e) (leads_self (parent_of s) root_inode)
-  start_at y (no e) f = absurd (f (get_or-set_other (blank 257) root_inode y 1 0 e ∙ byte_zeros 257 y))
+  start_at y (no e) f = absurd (clash (get_or blank y false) (sym (get_or-set_other blank root_inode y true false e) ∙ f) (not_noted 257 y))
 
-  pub known_start : Known s (set (replicate 257 0) root_inode 1)
+  pub known_start : Known s (set (replicate 257 false) root_inode true)
   known_start =
       record {
-        long = length-set (blank 257) root_inode 1 ∙ length-replicate {A = ℕ} 257 0;
-        root = λ z. (let w = noted (blank 257) root_inode (length-replicate {A = ℕ} 257 0) (omega arith) in omega arith);
+        long = length-set blank root_inode true ∙ length-replicate {A = Bool} 257 false;
+        root = noted blank root_inode (length-replicate {A = Bool} 257 false) (omega arith);
         each = λ y f. start_at y (ℕ_discrete y root_inode) f;
       }
 
@@ -108,11 +108,8 @@ pub record Climbing (s : List ℕ) (n d k x : ℕ) : Type 0 where
   pub same : leads_b (parent_of s) root_inode (n - k) x ≡ leads_b (parent_of s) root_inode n d
 
 module _ (s : List ℕ) (n d : ℕ) where
-  pub climbing_start : IsDir s n d → Climbing s n d 0 d
-  climbing_start h = record { steps = omega arith; dir = h; back = λ r. r; same = rw sub-zero }
-
-  module _ (closed : Closed (IsDir s n) (parent_of s) root_inode n) (l : List ℕ) (g : Known s l) (k x : ℕ) (c : Climbing s n d k x) where
-    pub climbing_turn : (p : ℕ) → get_or l x 0 ≡ 0 → k < n → p ≡ parent_of s x → Climbing s n d (k + 1) p
+  module _ (closed : Closed (IsDir s n) (parent_of s) root_inode n) (l : List Bool) (g : Known s l) (k x : ℕ) (c : Climbing s n d k x) where
+    pub climbing_turn : (p : ℕ) → get_or l x false ≡ false → k < n → p ≡ parent_of s x → Climbing s n d (k + 1) p
     climbing_turn p z m e =
         let h = known_not s l x g z in
         let u : n - (k + 1) + 1 ≡ n - k = omega arith in
@@ -125,19 +122,19 @@ module _ (s : List ℕ) (n d : ℕ) where
               ∙ ap (λ (i : ℕ). leads_b (parent_of s) root_inode i x) u ∙ c.same;
         }
 
-    pub climbing_known : IsDir s n d → (get_or l x 0 ≡ 0 → ⊥) → true ≡ leads_b (parent_of s) root_inode n d
+    pub climbing_known : IsDir s n d → get_or l x false ≡ true → true ≡ leads_b (parent_of s) root_inode n d
     climbing_known h f = sym (leads_bool (parent_of s) root_inode (IsDir s n) n d closed h (c.back (g.each x f)))
 
     -- n steps up, what is not known is not the root
-    pub climbing_end : IsDir s n d → n ≤ k → not (eqb (get_or l x 0) 0) ≡ leads_b (parent_of s) root_inode n d
-    climbing_end h m = go (holds_or_fails (eqb (get_or l x 0) 0))
+    pub climbing_end : IsDir s n d → n ≤ k → get_or l x false ≡ leads_b (parent_of s) root_inode n d
+    climbing_end h m = go (holds_or_fails (get_or l x false))
       where
-        go : (eqb (get_or l x 0) 0 ≡ true) ⊎ (eqb (get_or l x 0) 0 ≡ false) → not (eqb (get_or l x 0) 0) ≡ leads_b (parent_of s) root_inode n d
-        go (inl e) =
+        go : (get_or l x false ≡ true) ⊎ (get_or l x false ≡ false) → get_or l x false ≡ leads_b (parent_of s) root_inode n d
+        go (inl e) = e ∙ climbing_known h e
+        go (inr e) =
             let u : 0 ≡ n - k = omega arith in
-            ap not e ∙ sym (ne_eqb x root_inode (known_not s l x g (eqb-true (get_or l x 0) 0 e)))
+            e ∙ sym (ne_eqb x root_inode (known_not s l x g e))
             ∙ sym (leads_end (parent_of s) root_inode x) ∙ ap (λ (i : ℕ). leads_b (parent_of s) root_inode i x) u ∙ c.same
-        go (inr e) = ap not e ∙ climbing_known h (eqb-false (get_or l x 0) 0 e)
 
 -- ---- the check of one number
 module _ (s : List ℕ) (n d k : ℕ) (e : k ≡ kind_of s d) where
@@ -153,12 +150,12 @@ module _ (s : List ℕ) (n d k : ℕ) (e : k ≡ kind_of s d) where
   lead_dir h = ap (λ (b : Bool). not b || leads_b (parent_of s) root_inode n d) (eq-eqb (kind_of s d) directory_kind (sym e ∙ h))
 
 -- ---- the way up from a directory that leads to the root is noted: the next is x
-pub record Path (s : List ℕ) (n x : ℕ) (l : List ℕ) : Type 0 where
+pub record Path (s : List ℕ) (n x : ℕ) (l : List Bool) : Type 0 where
   pub dir : IsDir s n x
   pub leads : Leads (parent_of s) root_inode x
   pub known : Known s l
 
-pub path_turn : (s : List ℕ) (n x p : ℕ) (l : List ℕ) → n ≤ 256 → Closed (IsDir s n) (parent_of s) root_inode n → Path s n x l → get_or l x 0 ≡ 0 → p ≡ parent_of s x → Path s n p (set l x 1)
+pub path_turn : (s : List ℕ) (n x p : ℕ) (l : List Bool) → n ≤ 256 → Closed (IsDir s n) (parent_of s) root_inode n → Path s n x l → get_or l x false ≡ false → p ≡ parent_of s x → Path s n p (set l x true)
 path_turn s n x p l m closed w z e =
     let h = known_not s l x w.known z in
     let u = w.dir.high in

@@ -1,10 +1,12 @@
 // The entries of all directories: one pass, in which every named inode is counted.
-ghost use Rattle.std.specs.Prelude.{◌≡◌, true, not, ◌&&◌, ℕ, ◌+◌, ◌*◌, ◌-◌, ◌<◌, ◌≤◌, eqb, length, get_or, replicate};
+ghost use Rattle.std.specs.Prelude.{◌≡◌, true, not, ℕ, ◌+◌, ◌*◌, ◌-◌, ◌<◌, ◌≤◌, length, replicate};
+ghost use Rattle.std.specs.List.{list_all};
 ghost use Rattle.bounded.specs.Below.{all_below};
 ghost use Rattle.bounded.specs.Count.{Tallied};
 ghost use Rattle.layout.specs.Sizes.{header_bytes, most_inodes, inode_bytes};
 ghost use Rattle.layout.specs.Inode.{kind_of, directory_kind};
 ghost use Rattle.layout.specs.Fits.{InodeFits};
+ghost use Rattle.names.specs.Words.{same_words};
 ghost use Rattle.directory.specs.Slot.{slots_in_block, most_slots, slots, slot_at};
 ghost use Rattle.directory.specs.Fits.{DirFits};
 ghost use Rattle.sound.specs.Place.{IsDir, naming, place_of};
@@ -16,47 +18,32 @@ use layout::inode;
 use layout::sizes::{DIRECTORY, FREE, ROOT};
 use names::{ENTRY_BYTES, Name};
 
+// What stands for an empty entry: no legal name reads so.
+const NO_NAME: Name = Name { low: 0, high: 0 };
+
 // The entry at o, in slot t of d, names an inode in use, by a legal name; a directory's parent is d.
 fn entry_named(s: &[u8], n: usize, d: usize, t: usize, o: usize) -> bool
     requires { DirFits s.now n d × (t < slots s.now d) × (kind_of s.now d ≡ directory_kind) × (o ≡ slot_at s.now n d t) }
     ensures { result ≡ naming_b s.now n (place_of d t) }
 {
     let e = &s[o..o + ENTRY_BYTES];
-    let i = names::entry_inode(e) as usize;
-    if !names::legal_entry(e) {
+    let i = usize::from(names::entry_inode(e));
+    if !names::legal_entry(e) || i < 1 || n < i || i == ROOT {
         return false;
     }
-    if i < 1 {
-        return false;
+    match inode::kind(s, n, i) {
+        FREE => false,
+        DIRECTORY => usize::from(inode::parent(s, n, i)) == d,
+        _ => true,
     }
-    if n < i {
-        return false;
-    }
-    let kind = inode::kind(s, n, i);
-    if kind == FREE {
-        return false;
-    }
-    if i == ROOT {
-        return false;
-    }
-    if kind != DIRECTORY {
-        return true;
-    }
-    inode::parent(s, n, i) as usize == d
 }
 
-// No slot before t has the name of slot t.
-fn name_new(low: &[u64], high: &[u64], t: usize) -> bool
-    requires { (t < most_slots) × (length low.now ≡ most_slots) × (length high.now ≡ most_slots) }
-    ensures { result
-        ≡ all_below (λ u. not (eqb (get_or low.now u 0) (get_or low.now t 0) && eqb (get_or high.now u 0) (get_or high.now t 0))) t }
+// None of the slots before has the name.
+#[tactic(auto, unfolding(names::specs::Words::same_words))]
+fn name_new(before: &[Name], name: Name) -> bool
+    ensures { result ≡ list_all (λ x. not (same_words x name)) before.now }
 {
-    for u in 0..t {
-        if low[u] == low[t] && high[u] == high[t] {
-            return false;
-        }
-    }
-    true
+    before.iter().all(|x| *x != name)
 }
 
 // Slot t of d, whose bytes start at o.
@@ -66,31 +53,27 @@ fn slot_right(
     d: usize,
     t: usize,
     o: usize,
-    low: &mut [u64],
-    high: &mut [u64],
+    names: &mut [Name],
     counts: &mut [u16],
 ) -> bool
     requires dir_fits { DirFits s.now n d × (t < slots s.now d) × (kind_of s.now d ≡ directory_kind) × (o ≡ slot_at s.now n d t) }
-    requires passed { Passed s.now n d t (place_of d t) low.old high.old counts.old }
-    ensures { (result ≡ entry_b s.now n (place_of d t)) × (result ≡ true → Passed s.now n d (t + 1) (place_of d t + 1) low.new high.new counts.new) }
+    requires passed { Passed s.now n d t (place_of d t) names.old counts.old }
+    ensures { (result ≡ entry_b s.now n (place_of d t)) × (result ≡ true → Passed s.now n d (t + 1) (place_of d t + 1) names.new counts.new) }
 {
     let e = &s[o..o + ENTRY_BYTES];
     if names::is_empty(e) {
-        low[t] = 0;
-        high[t] = 0;
+        names[t] = NO_NAME;
         return true;
     }
-    let words = Name::in_entry(e);
-    low[t] = words.low;
-    high[t] = words.high;
+    let name = Name::in_entry(e);
+    names[t] = name;
     if !entry_named(s, n, d, t, o) {
         return false;
     }
-    if !name_new(&*low, &*high, t) {
+    if !name_new(&names[..t], name) {
         return false;
     }
-    let i = names::entry_inode(e) as usize;
-    counts[i] = counts[i] + 1;
+    counts[usize::from(names::entry_inode(e))] += 1;
     true
 }
 
@@ -100,43 +83,28 @@ fn block_right(
     n: usize,
     d: usize,
     k: usize,
-    low: &mut [u64],
-    high: &mut [u64],
+    names: &mut [Name],
     counts: &mut [u16],
 ) -> bool
     requires dir_fits { DirFits s.now n d × (slots_in_block * k < slots s.now d) × (kind_of s.now d ≡ directory_kind) }
-    requires passed { Passed s.now n d (slots_in_block * k) (place_of d (slots_in_block * k)) low.old high.old counts.old }
-    ensures { (result ≡ all_below (λ j. entry_b s.now n (place_of d (slots_in_block * k + j))) slots_in_block) × (result ≡ true → Passed s.now n d (slots_in_block * k + slots_in_block) (place_of d (slots_in_block * k + slots_in_block)) low.new high.new counts.new) }
+    requires passed { Passed s.now n d (slots_in_block * k) (place_of d (slots_in_block * k)) names.old counts.old }
+    ensures { (result ≡ all_below (λ j. entry_b s.now n (place_of d (slots_in_block * k + j))) slots_in_block) × (result ≡ true → Passed s.now n d (slots_in_block * k + slots_in_block) (place_of d (slots_in_block * k + slots_in_block)) names.new counts.new) }
 {
     let o = directory::block_start(s, n, d, k);
+    // a loop, as the two below: what a closure does to names and counts, `all` does not say
     for j in 0..SLOTS_IN_BLOCK {
-        if !slot_right(
-            s,
-            n,
-            d,
-            SLOTS_IN_BLOCK * k + j,
-            o + ENTRY_BYTES * j,
-            &mut *low,
-            &mut *high,
-            &mut *counts,
-        ) {
+        let t = SLOTS_IN_BLOCK * k + j;
+        if !slot_right(s, n, d, t, o + ENTRY_BYTES * j, names, counts) {
             return false;
         }
     }
     true
 }
 
-// All places of inode d, which may be no directory. In low and high may stand what another directory left.
-fn directory_right(
-    s: &[u8],
-    n: usize,
-    d: usize,
-    low: &mut [u64],
-    high: &mut [u64],
-    counts: &mut [u16],
-) -> bool
+// All places of inode d, which may be no directory. In names may stand what another directory left.
+fn directory_right(s: &[u8], n: usize, d: usize, names: &mut [Name], counts: &mut [u16]) -> bool
     requires inode_fits { InodeFits s.now n d × (kind_of s.now d ≡ directory_kind → DirFits s.now n d) }
-    requires low_len { (length low.old ≡ most_slots) × (length high.old ≡ most_slots) × Tallied (naming s.now n) 1 (most_inodes + 1) (most_slots * (d - 1)) counts.old }
+    requires names_len { (length names.old ≡ most_slots) × Tallied (naming s.now n) 1 (most_inodes + 1) (most_slots * (d - 1)) counts.old }
     ensures { (result ≡ all_below (λ t. entry_b s.now n (place_of d t)) most_slots) × (result ≡ true → Tallied (naming s.now n) 1 (most_inodes + 1) (most_slots * d) counts.new) }
 {
     if inode::kind(s, n, d) != DIRECTORY {
@@ -144,7 +112,7 @@ fn directory_right(
     }
     let blocks = directory::slot_count(s, n, d) / SLOTS_IN_BLOCK;
     for k in 0..blocks {
-        if !block_right(s, n, d, k, &mut *low, &mut *high, &mut *counts) {
+        if !block_right(s, n, d, k, names, counts) {
             return false;
         }
     }
@@ -156,10 +124,9 @@ pub fn entries_right(s: &[u8], n: usize, counts: &mut [u16]) -> bool
     requires { (n ≤ most_inodes) × (header_bytes + inode_bytes * n ≤ length s.now) × ((d : ℕ) → IsDir s.now n d → DirFits s.now n d) × (counts.old ≡ replicate (most_inodes + 1) 0) }
     ensures { (result ≡ all_below (entry_b s.now n) (most_slots * n)) × (result ≡ true → Tallied (naming s.now n) 1 (most_inodes + 1) (most_slots * n) counts.new) }
 {
-    let mut low = [0u64; MOST_SLOTS];
-    let mut high = [0u64; MOST_SLOTS];
+    let mut names = [NO_NAME; MOST_SLOTS];
     for k in 0..n {
-        if !directory_right(s, n, k + 1, &mut low, &mut high, &mut *counts) {
+        if !directory_right(s, n, k + 1, &mut names, counts) {
             return false;
         }
     }

@@ -41,31 +41,24 @@ pub fn framed(form: Form, s: &[u8]) -> bool
     let h = Header::read(s);
     allowed(
         block_limit(form),
-        h.inodes as usize,
-        h.blocks as usize,
+        usize::from(h.inodes),
+        usize::from(h.blocks),
         s.len(),
     )
 }
 
 // Byte 8, the root and the reserved bytes; the root is a directory that has no parent.
+#[tactic(auto, unfolding(sound::specs::Test::header_b))]
 fn header_right(s: &[u8], n: usize) -> bool
     requires { InodeFits s.now n root_inode }
     ensures { result ≡ header_b s.now }
 {
     let h = Header::read(s);
-    if h.complete != COMPLETE {
-        return false;
-    }
-    if h.root as usize != ROOT {
-        return false;
-    }
-    if !header::reserved_zero(s) {
-        return false;
-    }
-    if inode::kind(s, n, ROOT) != DIRECTORY {
-        return false;
-    }
-    inode::parent(s, n, ROOT) == 0
+    h.complete == COMPLETE
+        && usize::from(h.root) == ROOT
+        && header::reserved_zero(s)
+        && inode::kind(s, n, ROOT) == DIRECTORY
+        && inode::parent(s, n, ROOT) == 0
 }
 
 // The free counts are true.
@@ -74,41 +67,28 @@ fn counts_right(s: &[u8], n: usize, b: usize, map: &[u16]) -> bool
     ensures { result ≡ free_counts_b s.now }
 {
     let h = Header::read(s);
-    if h.free_inodes as usize != inode::free_inodes(s, n) {
-        return false;
-    }
-    h.free_blocks as usize == map::free_blocks(map, b)
+    usize::from(h.free_inodes) == inode::free_inodes(s, n)
+        && usize::from(h.free_blocks) == map::free_blocks(map, b)
 }
 
 // What holds of a store whose counts and length are right.
+#[tactic(auto, unfolding(sound::specs::Test::body_b))]
 pub fn body_right(form: Form, s: &[u8], n: usize, b: usize) -> bool
     requires { Framed Image s.now × (n ≡ inodes_in s.now) × (b ≡ blocks_in s.now) }
     ensures { result ≡ body_b form s.now }
 {
-    if !header_right(s, n) {
-        return false;
-    }
     let mut map = [0u16; MAP_WORDS];
-    if !check_inodes::inodes_right(s, n, b, &mut map) {
-        return false;
-    }
     let mut counts = [0u16; INODE_PLACES];
-    if !entries::entries_right(s, n, &mut counts) {
-        return false;
-    }
-    if !links::links_right(s, n, &counts) {
-        return false;
-    }
-    if !links::parents_right(s, n) {
-        return false;
-    }
-    if !counts_right(s, n, b, &map) {
-        return false;
-    }
-    match form {
-        Form::Store => true,
-        Form::Image => check_inodes::blanks_right(s, n, b, &map),
-    }
+    header_right(s, n)
+        && check_inodes::inodes_right(s, n, b, &mut map)
+        && entries::entries_right(s, n, &mut counts)
+        && links::links_right(s, n, &counts)
+        && links::parents_right(s, n)
+        && counts_right(s, n, b, &map)
+        && match form {
+            Form::Store => true,
+            Form::Image => check_inodes::blanks_right(s, n, b, &map),
+        }
 }
 
 pub fn check(form: Form, s: &[u8]) -> bool
@@ -118,5 +98,5 @@ pub fn check(form: Form, s: &[u8]) -> bool
         return false;
     }
     let h = Header::read(s);
-    body_right(form, s, h.inodes as usize, h.blocks as usize)
+    body_right(form, s, usize::from(h.inodes), usize::from(h.blocks))
 }

@@ -19,77 +19,67 @@ fn link_right(s: &[u8], n: usize, i: usize, count: u16) -> bool
     requires { InodeFits s.now n i × (count ≡ tally (naming s.now n) (most_slots * n) i) }
     ensures { result ≡ counted_b s.now n i }
 {
-    if inode::links(s, n, i) != count {
-        return false;
-    }
-    let kind = inode::kind(s, n, i);
-    if kind == FREE {
-        return true;
-    }
-    if i == ROOT {
-        return true;
-    }
-    if kind == DIRECTORY {
-        return count == 1;
-    }
-    1 <= count
+    inode::links(s, n, i) == count
+        && (i == ROOT
+            || match inode::kind(s, n, i) {
+                FREE => true,
+                DIRECTORY => count == 1,
+                _ => 1 <= count,
+            })
 }
 
 pub fn links_right(s: &[u8], n: usize, counts: &[u16]) -> bool
     requires { (n ≤ most_inodes) × (header_bytes + inode_bytes * n ≤ length s.now) × Tallied (naming s.now n) 1 (most_inodes + 1) (most_slots * n) counts.now }
     ensures { result ≡ all_to (counted_b s.now n) n }
 {
-    for k in 0..n {
-        if !link_right(s, n, k + 1, counts[k + 1]) {
-            return false;
-        }
-    }
-    true
+    (0..n).all(|k| link_right(s, n, k + 1, counts[k + 1]))
 }
 
 // From directory d up to one that is known to lead to the root, in at most n steps.
-fn climbs(s: &[u8], n: usize, d: usize, known: &[u8]) -> bool
+fn climbs(s: &[u8], n: usize, d: usize, known: &[bool]) -> bool
     requires { (n ≤ most_inodes) × (header_bytes + inode_bytes * n ≤ length s.now) × IsDir s.now n d × Known s.now known.now × Closed (IsDir s.now n) (parent_of s.now) root_inode n }
     ensures { result ≡ leads_b (parent_of s.now) root_inode n d }
 {
     let mut at = d;
+    // a loop: a walk up, which no range or slice gives
     for _ in 0..n {
-        if known[at] != 0 {
+        if known[at] {
             return true;
         }
-        at = inode::parent(s, n, at) as usize;
+        at = usize::from(inode::parent(s, n, at));
     }
-    known[at] != 0
+    known[at]
 }
 
 // Directory d leads to the root: so does every directory from it up to one that is known.
-fn note_path(s: &[u8], n: usize, d: usize, known: &mut [u8])
+fn note_path(s: &[u8], n: usize, d: usize, known: &mut [bool])
     requires n_le_most_inodes { (n ≤ most_inodes) × (header_bytes + inode_bytes * n ≤ length s.now) × IsDir s.now n d × Known s.now known.old × Closed (IsDir s.now n) (parent_of s.now) root_inode n }
     requires leads { Leads (parent_of s.now) root_inode d }
     ensures { Known s.now known.new }
 {
-    let mut at = d;
+    let mut noted = d;
+    // a loop, as in climbs
     for _ in 0..n {
-        if known[at] != 0 {
+        if known[noted] {
             return;
         }
-        known[at] = 1;
-        at = inode::parent(s, n, at) as usize;
+        known[noted] = true;
+        noted = usize::from(inode::parent(s, n, noted));
     }
 }
 
 // One directory: looked up, and its path noted.
-fn parent_right(s: &[u8], n: usize, d: usize, known: &mut [u8]) -> bool
+fn parent_right(s: &[u8], n: usize, d: usize, known: &mut [bool]) -> bool
     requires { InodeFits s.now n d × Known s.now known.old × Closed (IsDir s.now n) (parent_of s.now) root_inode n }
     ensures { (result ≡ lead_b s.now n d) × Known s.now known.new }
 {
     if inode::kind(s, n, d) != DIRECTORY {
         return true;
     }
-    if !climbs(s, n, d, &*known) {
+    if !climbs(s, n, d, known) {
         return false;
     }
-    note_path(s, n, d, &mut *known);
+    note_path(s, n, d, known);
     true
 }
 
@@ -98,8 +88,9 @@ pub fn parents_right(s: &[u8], n: usize) -> bool
     requires { (1 ≤ n) × (n ≤ most_inodes) × (header_bytes + inode_bytes * n ≤ length s.now) × Closed (IsDir s.now n) (parent_of s.now) root_inode n }
     ensures { result ≡ all_to (lead_b s.now n) n }
 {
-    let mut known = [0u8; INODE_PLACES];
-    known[ROOT] = 1;
+    let mut known = [false; INODE_PLACES];
+    known[ROOT] = true;
+    // a loop: what a closure notes in known, `all` does not say
     for k in 0..n {
         if !parent_right(s, n, k + 1, &mut known) {
             return false;

@@ -1,4 +1,5 @@
 -- What a live file call is decided to do, for all calls at once: as the plain one, or the copy is in the way, or a guard refuses; and what holds of each planned effect holds of it.
+use Rattle.std.specs.Prelude.{Err, Ok, Result}
 use Prim.Native.Nat.{ℕ}
 use mathlib.Core.Path.{◌≡◌, refl, sym, ◌∙◌}
 use mathlib.Core.Bool.{Bool, true, false, not, ◌&&◌, ◌||◌}
@@ -16,16 +17,15 @@ use Rattle.sound.specs.Test.{framed_b, is_sound}
 use Rattle.answers.specs.declared.Refusal.{Refusal}
 use Rattle.answers.specs.declared.Refusal.TheVariants.{BadBuffer, UnsoundStore, BadDesk, Busy}
 use Rattle.answers.proofs.RefusalLaws.{not_none}
-use Rattle.files.specs.declared.Guard.{Guard}
-use Rattle.files.specs.declared.Guard.TheVariants.{Pass, Stop}
 use Rattle.files.specs.Guard.{guard_of, on_guard, guard_by}
 use Rattle.files.specs.Effect.{Call, Effect, Planned, refused, does, on_planned, planned, plain_decision}
 use Rattle.files.proofs.Lawful.{Apart, Each}
-use Rattle.checkpoint.specs.declared.Status.TheVariants.{Is, NoStatus}
 use Rattle.checkpoint.specs.Fit.{desk_framed, is_running, notes_fit, both_framed, all_framed}
 use Rattle.checkpoint.specs.Busy.{any_locked, unless_busy}
-use Rattle.checkpoint.specs.Live.{World, Outcome, tells, refuse, three_guards, store_alone, decision, leaves_in, live, guarded, told_status, status, guard_rows, start_guards, started, start}
+use Rattle.checkpoint.specs.Live.{standing, World, Outcome, tells, refuse, three_guards, store_alone, decision, leaves_in, live, guarded, told_status, status, guard_rows, start_guards, started, start}
 use Rattle.checkpoint.specs.List.{Ready, call, outcome, accepted}
+use Rattle.layout.specs.declared.header.Counts.{Counts}
+use Rattle.layout.specs.Header.{counts}
 
 -- ---- the guards as a chain of tests; a says whether lengths and counts are those allowed
 abbrev pub chained : Bool → List ℕ → List ℕ → List ℕ → Outcome → Outcome
@@ -34,7 +34,7 @@ chained a s m d o = pick (not a) (refuse BadBuffer s m d) (pick (not (is_sound S
 guarded_is : (a : Bool) (s m d : List ℕ) (o : Outcome) → guarded (guard_by s (guard_rows a s m d)) s m d o ≡ chained a s m d o
 guarded_is a s m d o = go a (is_sound Store s) (notes_fit s m d)
   where
-    go : (a b c : Bool) → on_guard (pick (not a) (Stop BadBuffer) (pick (not b) (Stop UnsoundStore) (pick (not c) (Stop BadDesk) (Pass (inodes_in s) (blocks_in s))))) (λ n k. o) (λ e. refuse e s m d)
+    go : (a b c : Bool) → on_guard (pick (not a) (Err BadBuffer) (pick (not b) (Err UnsoundStore) (pick (not c) (Err BadDesk) (Ok (counts (inodes_in s) (blocks_in s)))))) (λ n k. o) (λ e. refuse e s m d)
         ≡ pick (not a) (refuse BadBuffer s m d) (pick (not b) (refuse UnsoundStore s m d) (pick (not c) (refuse BadDesk s m d) o))
     go true true true = refl
     go true true false = refl
@@ -77,15 +77,15 @@ pub beside : (c : Call) (w : World) → Beside w (plain_decision c w.store) (dec
 unfolding plain_decision decision three_guards guard_of
 beside c w = go (store_alone c) (framed_b Store w.store) (desk_framed w.desk) (is_sound Store w.store) (notes_fit w.store w.image w.desk) refl refl
   where
-    o : Guard
-    o = Pass (inodes_in w.store) (blocks_in w.store)
+    o : Result Counts Refusal
+    o = Ok (counts (inodes_in w.store) (blocks_in w.store))
 
     last : Beside w (planned c w.store (inodes_in w.store) (blocks_in w.store)) (unless_busy w.desk (planned c w.store (inodes_in w.store) (blocks_in w.store)))
     last = beside_busy w (planned c w.store (inodes_in w.store) (blocks_in w.store))
 
     go : (a f d s n : Bool) → desk_framed w.desk ≡ d → notes_fit w.store w.image w.desk ≡ n
-        → Beside w (on_guard (pick (not f) (Stop BadBuffer) (pick (not s) (Stop UnsoundStore) o)) (planned c w.store) refused)
-        (on_guard (pick a (pick (not f) (Stop BadBuffer) (pick (not s) (Stop UnsoundStore) o)) (pick (not (f && d)) (Stop BadBuffer) (pick (not s) (Stop UnsoundStore) (pick (not n) (Stop BadDesk) o))))
+        → Beside w (on_guard (pick (not f) (Err BadBuffer) (pick (not s) (Err UnsoundStore) o)) (planned c w.store) refused)
+        (on_guard (pick a (pick (not f) (Err BadBuffer) (pick (not s) (Err UnsoundStore) o)) (pick (not (f && d)) (Err BadBuffer) (pick (not s) (Err UnsoundStore) (pick (not n) (Err BadDesk) o))))
         (λ n b. unless_busy w.desk (planned c w.store n b)) refused)
     go true false d s n y t = same refl
     go true true d false n y t = same refl
@@ -114,13 +114,13 @@ module _ (Q : Effect → Type 0) where
   unfolding decision three_guards guard_of
   each_decided c w h = go (store_alone c) (framed_b Store w.store) (desk_framed w.desk) (is_sound Store w.store) (notes_fit w.store w.image w.desk)
     where
-      o : Guard
-      o = Pass (inodes_in w.store) (blocks_in w.store)
+      o : Result Counts Refusal
+      o = Ok (counts (inodes_in w.store) (blocks_in w.store))
 
       last : Each (Unhindered Q w) (unless_busy w.desk (planned c w.store (inodes_in w.store) (blocks_in w.store)))
       last = each_unless w (planned c w.store (inodes_in w.store) (blocks_in w.store)) h
 
-      go : (a f d s n : Bool) → Each (Unhindered Q w) (on_guard (pick a (pick (not f) (Stop BadBuffer) (pick (not s) (Stop UnsoundStore) o)) (pick (not (f && d)) (Stop BadBuffer) (pick (not s) (Stop UnsoundStore) (pick (not n) (Stop BadDesk) o))))
+      go : (a f d s n : Bool) → Each (Unhindered Q w) (on_guard (pick a (pick (not f) (Err BadBuffer) (pick (not s) (Err UnsoundStore) o)) (pick (not (f && d)) (Err BadBuffer) (pick (not s) (Err UnsoundStore) (pick (not n) (Err BadDesk) o))))
           (λ n b. unless_busy w.desk (planned c w.store n b)) refused)
       go true false d s n = tt
       go true true d false n = tt
@@ -152,12 +152,12 @@ accepted_is c w = done_is w (decision c w)
 
 -- ---- the state question is answered as a call that does nothing would be
 abbrev pub stated : List ℕ → List ℕ → List ℕ → Outcome
-stated s m d = tells (told_status (Is (desk_of d).state (desk_of d).locked (desk_of d).steps)) s m d
+stated s m d = tells (told_status (Ok (standing (desk_of d).state (desk_of d).locked (desk_of d).steps))) s m d
 
 pub status_is : (s m d : List ℕ) → status s m d ≡ (guarded (three_guards s m d) s m d (stated s m d)).answer
 unfolding status
 status_is s m d = go (three_guards s m d)
   where
-    go : (g : Guard) → on_guard g (λ n b. (stated s m d).answer) (λ e. told_status (NoStatus e)) ≡ (on_guard g (λ n b. stated s m d) (λ e. refuse e s m d)).answer
-    go (Pass n b) = refl
-    go (Stop e) = refl
+    go : (g : Result Counts Refusal) → on_guard g (λ n b. (stated s m d).answer) (λ e. told_status (Err e)) ≡ (on_guard g (λ n b. stated s m d) (λ e. refuse e s m d)).answer
+    go (Ok c) = refl
+    go (Err e) = refl

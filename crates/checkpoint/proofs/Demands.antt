@@ -1,4 +1,5 @@
 -- `OfEvents` holds: for every accepted start on any bytes, and every list of events after it.
+use Rattle.std.specs.Prelude.{Ok}
 use Prim.Native.Nat.{ℕ, ◌+◌, ◌*◌, ◌<◌}
 use mathlib.Core.Path.{◌≡◌, refl, sym, ap, ◌∙◌, subst}
 use mathlib.Core.Bool.{true}
@@ -7,9 +8,7 @@ use native.Mathlib.Omega.{arith}
 use lib.Dec.{eqb}
 use lib.ListN.{length}
 use Rattle.bounded.proofs.BoolLaws.{clash}
-use Rattle.desk.specs.Sizes.{finished}
 use Rattle.desk.specs.Desk.{desk_of}
-use Rattle.answers.specs.declared.Answer.TheVariants.{Done}
 use Rattle.answers.specs.declared.Refusal.TheVariants.{ImageFull}
 use Rattle.answers.specs.Refusal.{refusal_number}
 use Rattle.answers.specs.Told.{Told, told}
@@ -86,10 +85,10 @@ module _ (b : ℕ) (w : World) (s : Fresher (count_of w) b w) (es : List Event) 
       (l.image ∙ ap (λ (v : World). v.image) r.is, l.desk)
 
   -- ---- a step's answer
-  answer_is : (v : World) → Going n b v → accepted advances v ≡ true → (outcome advances v).answer ≡ told (Done ((desk_of v.desk).steps + 1))
+  answer_is : (v : World) → Going n b v → accepted advances v ≡ true → (outcome advances v).answer ≡ told (Ok ((desk_of v.desk).steps + 1))
   answer_is v (runs r) a = go (stepped n b v r)
     where
-      go : Stepped n b v → (outcome advances v).answer ≡ told (Done ((desk_of v.desk).steps + 1))
+      go : Stepped n b v → (outcome advances v).answer ≡ told (Ok ((desk_of v.desk).steps + 1))
       go (on g c h) = h
       go (ends f) = (finals n b v r f).answer
       go (halts f) = absurd (clash (accepted advances v) a (ap (λ (x : Told). eqb x.number 0) (halted n b v r f).answer))
@@ -113,7 +112,7 @@ module _ (b : ℕ) (w : World) (s : Fresher (count_of w) b w) (es : List Event) 
     done = gets_done n b es w s.runs s.steps;
     stays = record { copy = finish_stays; stop = stop_stays };
     never_full = full_never;
-    step_answer_lem = λ a. answer_is (run es w) later a ∙ ap (λ (c : ℕ). told (Done (c + 1))) (steps_counted n b es w 0 going s.steps);
+    step_answer_lem = λ a. answer_is (run es w) later a ∙ ap (λ (c : ℕ). told (Ok (c + 1))) (steps_counted n b es w 0 going s.steps);
   }
 
 -- ---- the opening start

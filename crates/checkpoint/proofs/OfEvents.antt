@@ -1,4 +1,5 @@
 -- What holds of a list of single events after an accepted start; watch's `Demand`, which adds bursts, is proved from it.
+use Rattle.std.specs.Prelude.{Ok}
 use Prim.Native.Nat.{ℕ, suc, ◌+◌, ◌*◌, ◌≤◌, ◌<◌}
 use mathlib.Core.Path.{◌≡◌}
 use mathlib.Core.Bool.{Bool, true}
@@ -13,12 +14,10 @@ use Rattle.desk.specs.Sizes.{running, finished, stopped, steps_an_inode}
 use Rattle.desk.specs.Desk.{desk_of}
 use Rattle.answers.specs.declared.Refusal.TheVariants.{Busy, ImageFull}
 use Rattle.answers.specs.Refusal.{refusal_number}
-use Rattle.answers.specs.declared.Answer.TheVariants.{Done}
 use Rattle.answers.specs.Told.{told}
 use Rattle.files.specs.Effect.{Call}
 use Rattle.files.specs.Plain.{Received, got}
-use Rattle.checkpoint.specs.declared.Status.TheVariants.{Is}
-use Rattle.checkpoint.specs.Live.{World, live, out_of, told_status}
+use Rattle.checkpoint.specs.Live.{World, live, out_of, told_status, standing}
 use Rattle.checkpoint.specs.List.{Event, asks, advances, on_event, outcome, next, refusal_of, accepted, run, Finish, accepted_steps, state_after, plain_run, plain_replies}
 use Rattle.checkpoint.specs.Finished.{count_of, Finished}
 use Rattle.checkpoint.specs.Progress.{Refusals, Takes, Progress, no_restart, Roomy, Timing, Calls, Stays}
@@ -51,7 +50,7 @@ pub record GetsDone (es : List Event) (w : World) : Type 0 where
   pub complete : Roomy w → no_restart es w ≡ true → steps_an_inode * count_of w + 1 ≤ tried es → ((desk_of (run es w).desk).state ≡ finished) × ((header_of (run es w).image).complete ≡ is_complete)
 
 pub record Reported (es : List Event) (w : World) : Type 0 where
-  pub reports : (outcome asks (run es w)).answer ≡ told_status (Is (state_after es w running) (desk_of (run es w).desk).locked (accepted_steps es w 0))
+  pub reports : (outcome asks (run es w)).answer ≡ told_status (Ok (standing (state_after es w running) (desk_of (run es w).desk).locked (accepted_steps es w 0)))
   pub bound : accepted_steps es w 0 ≤ steps_an_inode * count_of w + 1
   pub byte : (header_of (run es w).image).complete ≡ pick (eqb (state_after es w running) finished) is_complete not_complete
   pub count : count_of (run es w) ≡ count_of w
@@ -72,4 +71,4 @@ pub record OfEvents (es : List Event) (w : World) : Type 0 where
   pub done : GetsDone es w
   pub stays : Stays es w
   pub never_full : Roomy w → refusal_of advances (run es w) ≡ refusal_number ImageFull → ⊥
-  pub step_answer_lem : accepted advances (run es w) ≡ true → (outcome advances (run es w)).answer ≡ told (Done (accepted_steps es w 0 + 1))
+  pub step_answer_lem : accepted advances (run es w) ≡ true → (outcome advances (run es w)).answer ≡ told (Ok (accepted_steps es w 0 + 1))

@@ -1,4 +1,5 @@
 -- What the plain store answers: 1 or 2, a plan's refusal, or that it is done; nothing of a desk or a copy.
+use Rattle.std.specs.Prelude.{Err, Ok, Result}
 use Prim.Native.Nat.{ℕ, ◌+◌, ◌-◌, ◌≤◌, max}
 use mathlib.Core.Path.{◌≡◌, refl, sym, ap, ◌∙◌}
 use mathlib.Core.Bool.{Bool, true, false, not, ◌&&◌, ◌||◌}
@@ -22,32 +23,25 @@ use Rattle.sound.specs.Test.{framed_b, is_sound}
 use Rattle.answers.specs.declared.Refusal.TheVariants.{BadBuffer, UnsoundStore, BadDesk, NameTaken, NoBlocks, NoSlot, Busy}
 use Rattle.answers.specs.Refusal.{refusal_number}
 use Rattle.answers.specs.Order.{order, rank_in, rank}
-use Rattle.answers.specs.Told.{Told}
-use Rattle.content.specs.declared.NumberPlan.{NumberPlan}
-use Rattle.content.specs.declared.NumberPlan.TheVariants.{To, NoNumber}
+use Rattle.answers.specs.Told.{Answer, Told}
 use Rattle.content.specs.Plan.{read_plan, write_plan, shorten_plan}
 use Rattle.entries.specs.declared.Kind.{Kind}
 use Rattle.entries.specs.declared.Room.{Room}
-use Rattle.entries.specs.declared.RoomPlan.{RoomPlan}
-use Rattle.entries.specs.declared.RoomPlan.TheVariants.{Has, NoRoom}
-use Rattle.entries.specs.declared.CreatePlan.{CreatePlan}
-use Rattle.entries.specs.declared.LinkPlan.{LinkPlan}
-use Rattle.entries.specs.declared.UnlinkPlan.{UnlinkPlan}
-use Rattle.entries.specs.declared.RenamePlan.{RenamePlan}
-use Rattle.entries.specs.declared.OverPlan.{OverPlan}
-use Rattle.entries.specs.declared.OverPlan.TheVariants.{Over, Same, NoOver}
-use Rattle.entries.specs.declared.UnlinkPlan.TheVariants.{Take, NoUnlink}
-use Rattle.entries.specs.declared.CreatePlan.TheVariants.{Make, NoCreate}
-use Rattle.entries.specs.declared.LinkPlan.TheVariants.{Add, NoLink}
-use Rattle.entries.specs.declared.RenamePlan.TheVariants.{Move, NoRename}
-use Rattle.entries.specs.Room.{room_in, on_room}
+use Rattle.entries.specs.Room.{room_in, on_room, creation}
 use Rattle.entries.specs.Plan.{holds_none, is_below, look_up_plan, create_plan, link_plan, unlink_plan, rename_to, rename_new_plan, on_number, on_unlink, over_of, over_plan}
 use Rattle.files.specs.Effect.{Call, look_up, read, create, write, shorten, link, unlink, rename, rename_new, Planned, refused, does, on_planned, and_then, plan_then, if_taken, do_look_up, do_read, do_create, do_write, do_shorten, do_link, do_unlink, do_rename, do_rename_new, do_over, planned, plain_decision, given}
 use Rattle.files.specs.Plain.{leaves, plain, PlainOutcome}
 use Rattle.files.proofs.PlainLaws.{on_guard_lem}
+use Rattle.answers.specs.declared.Refusal.{Refusal}
+use Rattle.entries.specs.declared.CreatePlan.{CreatePlan}
+use Rattle.entries.specs.declared.RenamePlan.TheVariants.{Move}
+use Rattle.entries.specs.declared.OverPlan.TheVariants.{Over}
+use Rattle.entries.specs.declared.UnlinkPlan.{UnlinkPlan}
+use Rattle.entries.specs.declared.RenamePlan.{RenamePlan}
+use Rattle.entries.specs.declared.OverPlan.{OverPlan}
 
 -- ---- by cases
-by_room : (P : RoomPlan → Type 0) (s : List ℕ) (n b d : ℕ) → ((r : Room) → P (Has r)) → P (NoRoom NoBlocks) → P (NoRoom NoSlot) → P (room_in s n b d)
+by_room : (P : Result Room Refusal → Type 0) (s : List ℕ) (n b d : ℕ) → ((r : Room) → P (Ok r)) → P (Err NoBlocks) → P (Err NoSlot) → P (room_in s n b d)
 unfolding room_in
 by_room P s n b d h p q =
     by_found P (empty_slot s n d) (λ t. h _)
@@ -70,7 +64,7 @@ Ordinary p = ordinary (number_in p) ≡ true
 look_up_ordinary : (s : List ℕ) (n d : ℕ) (name : List ℕ) → Ordinary (do_look_up s (look_up_plan s n d name))
 unfolding look_up_plan
 look_up_ordinary s n d name =
-    let P : NumberPlan → Type 0 = λ x. Ordinary (do_look_up s x) in
+    let P : Answer → Type 0 = λ x. Ordinary (do_look_up s x) in
     by_pick P (not (legal_name name)) refl
     (by_pick P (not (is_directory s n d)) refl
     (by_found P (find_slot s n d name) (λ t. refl) refl))
@@ -78,23 +72,23 @@ look_up_ordinary s n d name =
 read_ordinary : (s : List ℕ) (n i o : ℕ) (out : List ℕ) (k : ℕ) → Ordinary (do_read s n i o out (read_plan s n i o k))
 unfolding read_plan
 read_ordinary s n i o out k =
-    let P : NumberPlan → Type 0 = λ x. Ordinary (do_read s n i o out x) in
+    let P : Answer → Type 0 = λ x. Ordinary (do_read s n i o out x) in
     by_pick P (not (is_file s n i)) refl (by_pick P (ltb (size_of s i) o) refl refl)
 
 create_ordinary : (s : List ℕ) (n b d : ℕ) (name : List ℕ) (k : Kind) → Ordinary (do_create s n d name k (create_plan s n b d name))
 unfolding create_plan
 create_ordinary s n b d name k =
-    let P : CreatePlan → Type 0 = λ x. Ordinary (do_create s n d name k x) in
+    let P : Result CreatePlan Refusal → Type 0 = λ x. Ordinary (do_create s n d name k x) in
     by_pick P (not (legal_name name)) refl
     (by_pick P (not (is_directory s n d)) refl
     (by_found P (find_slot s n d name) (λ t. refl)
-    (by_found P (free_inode s n) (λ i. by_room (λ x. P (on_room x (λ r. Make i r) NoCreate)) s n b d (λ r. refl) refl refl)
+    (by_found P (free_inode s n) (λ i. by_room (λ x. P (on_room x (λ r. Ok (creation i r)) Err)) s n b d (λ r. refl) refl refl)
     refl)))
 
 write_ordinary : (s : List ℕ) (n b i o : ℕ) (xs : List ℕ) (k : ℕ) → Ordinary (do_write s n b i o xs (write_plan s n i o k))
 unfolding write_plan
 write_ordinary s n b i o xs k =
-    let P : NumberPlan → Type 0 = λ x. Ordinary (do_write s n b i o xs x) in
+    let P : Answer → Type 0 = λ x. Ordinary (do_write s n b i o xs x) in
     by_pick P (not (is_file s n i)) refl
     (by_pick P (ltb (size_of s i) o || ltb most_file_bytes (o + k)) refl
     (by_pick P (ltb (header_of s).free_blocks (blocks_used (max (size_of s i) (o + k)) - blocks_used (size_of s i))) refl
@@ -103,22 +97,22 @@ write_ordinary s n b i o xs k =
 shorten_ordinary : (s : List ℕ) (n i z : ℕ) → Ordinary (do_shorten s n i (shorten_plan s n i z))
 unfolding shorten_plan
 shorten_ordinary s n i z =
-    let P : NumberPlan → Type 0 = λ x. Ordinary (do_shorten s n i x) in
+    let P : Answer → Type 0 = λ x. Ordinary (do_shorten s n i x) in
     by_pick P (not (is_file s n i)) refl (by_pick P (ltb (size_of s i) z) refl refl)
 
 link_ordinary : (s : List ℕ) (n b d : ℕ) (name : List ℕ) (i : ℕ) → Ordinary (do_link s n d name i (link_plan s n b d name i))
 unfolding link_plan
 link_ordinary s n b d name i =
-    let P : LinkPlan → Type 0 = λ x. Ordinary (do_link s n d name i x) in
+    let P : Result Room Refusal → Type 0 = λ x. Ordinary (do_link s n d name i x) in
     by_pick P (not (legal_name name)) refl
     (by_pick P (not (is_directory s n d && is_file s n i)) refl
     (by_found P (find_slot s n d name) (λ t. refl)
-    (by_room (λ x. P (on_room x Add NoLink)) s n b d (λ r. refl) refl refl)))
+    (by_room P s n b d (λ r. refl) refl refl)))
 
 unlink_ordinary : (s : List ℕ) (n d : ℕ) (name : List ℕ) → Ordinary (do_unlink s n d (unlink_plan s n d name))
 unfolding unlink_plan
 unlink_ordinary s n d name =
-    let P : UnlinkPlan → Type 0 = λ x. Ordinary (do_unlink s n d x) in
+    let P : Result UnlinkPlan Refusal → Type 0 = λ x. Ordinary (do_unlink s n d x) in
     by_pick P (not (legal_name name)) refl
     (by_pick P (not (is_directory s n d)) refl
     (by_found P (find_slot s n d name)
@@ -128,7 +122,7 @@ unlink_ordinary s n d name =
 rename_new_ordinary : (s : List ℕ) (n b d : ℕ) (name : List ℕ) (e : ℕ) (other : List ℕ) → Ordinary (do_rename_new s n b d name e other)
 unfolding rename_new_plan rename_to
 rename_new_ordinary s n b d name e other =
-    let P : RenamePlan → Type 0 = λ x. Ordinary (do_rename s n d e other x) in
+    let P : Result RenamePlan Refusal → Type 0 = λ x. Ordinary (do_rename s n d e other x) in
     by_pick P (not (legal_name name && legal_name other)) refl
     (by_pick P (not (is_directory s n d && is_directory s n e)) refl
     (by_found P (find_slot s n d name)
@@ -136,7 +130,7 @@ rename_new_ordinary s n b d name e other =
     (by_found P (find_slot s n e other) (λ u. by_pick P (eqb u t) refl refl) refl)
     (by_found P (find_slot s n e other) (λ u. refl)
     (by_pick P (is_below s n (inode_at s n d t) e) refl
-    (by_room (λ x. P (on_room x (λ r. Move t (inode_at s n d t) r) NoRename)) s n b e (λ r. refl) refl refl))))
+    (by_room (λ x. P (on_room x (λ r. Ok (Move t (inode_at s n d t) r)) Err)) s n b e (λ r. refl) refl refl))))
     refl))
 
 -- of two that follow each other
@@ -152,19 +146,19 @@ over_ordinary : (s : List ℕ) (n b d : ℕ) (name : List ℕ) (e : ℕ) (other 
 unfolding over_plan over_of
 over_ordinary s n b d name e other = go (look_up_plan s n d name) (look_up_ordinary s n d name) (unlink_plan s n e other) (unlink_ordinary s n e other)
   where
-    P : OverPlan → Type 0
+    P : Result OverPlan Refusal → Type 0
     P x = Ordinary (do_over s n b d name e other x)
 
-    both : (i h : ℕ) → P (Over i h)
+    both : (i h : ℕ) → P (Ok (Over i h))
     both i h = then_ordinary (do_unlink s n e (unlink_plan s n e other)) (λ t. do_rename_new t n b d name e other) (unlink_ordinary s n e other) (λ t. rename_new_ordinary t n b d name e other)
 
-    go : (p : NumberPlan) → Ordinary (do_look_up s p) → (u : UnlinkPlan) → Ordinary (do_unlink s n e u) → P (on_number p (λ i. on_unlink u (λ t h. over_of s n d i e h) NoOver) NoOver)
-    go (NoNumber f) a u c = a
-    go (To i) a (NoUnlink f) c = c
-    go (To i) a (Take t h) c =
+    go : (p : Answer) → Ordinary (do_look_up s p) → (u : Result UnlinkPlan Refusal) → Ordinary (do_unlink s n e u) → P (on_number p (λ i. on_unlink u (λ t h. over_of s n d i e h) Err) Err)
+    go (Err f) a u c = a
+    go (Ok i) a (Err f) c = c
+    go (Ok i) a (Ok x) c =
         by_pick P (not (eqb d e) && is_below s n i e) refl
-        (by_pick P (not (eqb (kind_of s i) (kind_of s h))) refl
-        (by_pick P (eqb i h) refl (both i h)))
+        (by_pick P (not (eqb (kind_of s i) (kind_of s x.inode))) refl
+        (by_pick P (eqb i x.inode) refl (both i x.inode)))
 
 rename_ordinary : (s : List ℕ) (n b d : ℕ) (name : List ℕ) (e : ℕ) (other : List ℕ) → Ordinary (planned (rename d name e other) s n b)
 rename_ordinary s n b d name e other = go (do_rename_new s n b d name e other) (rename_new_ordinary s n b d name e other)

@@ -1,4 +1,5 @@
 -- A live file call is the plain store's call between its guards, and so a list's file calls are the plain store's.
+use Rattle.std.specs.Prelude.{Err, Ok, Result}
 use Prim.Native.Nat.{ℕ}
 use mathlib.Core.Path.{◌≡◌, refl, sym, ap, ◌∙◌}
 use mathlib.Core.Bool.{Bool, true, false}
@@ -14,8 +15,6 @@ use Rattle.answers.specs.Refusal.{refusal_number}
 use Rattle.answers.specs.Told.{Told}
 use Rattle.files.specs.Effect.{Call, Planned, refused, does, on_planned, plain_decision, given}
 use Rattle.files.specs.Plain.{leaves, plain}
-use Rattle.files.specs.declared.Guard.{Guard}
-use Rattle.files.specs.declared.Guard.TheVariants.{Pass, Stop}
 use Rattle.checkpoint.specs.Fit.{is_running}
 use Rattle.checkpoint.specs.Copier.{Step, lock, copy, close, finish, full, step_of}
 use Rattle.checkpoint.specs.Live.{World, Outcome, refuse, leaves_in, live, out_of, guarded, do_step, started, start, step, three_guards, start_guards}
@@ -23,6 +22,7 @@ use Rattle.checkpoint.specs.List.{Event, Ready, call, advances, asks, starts, ou
 use Rattle.checkpoint.proofs.OfEvents.{is_busy, replies, heard, AsPlain}
 use Rattle.checkpoint.proofs.DecisionLaws.{OfGuards, lengths, soundness, notes, same, busy, unfit, beside}
 use Rattle.checkpoint.proofs.PlainAnswers.{StoreFits, plainly, plain_never}
+use Rattle.layout.specs.declared.header.Counts.{Counts}
 
 -- ---- one live call beside the plain one
 -- they agree, or the live one is busy, or a guard refused
@@ -131,9 +131,9 @@ busy_keeps c w h = elim (between c w) [
 ]
 
 -- ---- the other events leave the store
-guarded_store : (g : Guard) (s m d : List ℕ) (o : Outcome) → o.store ≡ s → (guarded g s m d o).store ≡ s
-guarded_store (Pass n b) s m d o h = h
-guarded_store (Stop e) s m d o h = refl
+guarded_store : (g : Result Counts Refusal) (s m d : List ℕ) (o : Outcome) → o.store ≡ s → (guarded g s m d o).store ≡ s
+guarded_store (Ok c) s m d o h = h
+guarded_store (Err e) s m d o h = refl
 
 step_store : (s m d : List ℕ) (n : ℕ) (x : Step) → (do_step s m d n x).store ≡ s
 step_store s m d n (lock i) = refl

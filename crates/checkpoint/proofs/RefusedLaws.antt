@@ -1,4 +1,5 @@
 -- A refusal "changes no lent buffer, save that 16 marks the copy stopped and unlocks what was being copied".
+use Rattle.std.specs.Prelude.{Ok}
 use mathlib.Core.Path.{◌≡◌, refl, sym, ap, subst}
 use mathlib.Core.Bool.{Bool, false, not}
 use mathlib.Core.List.{List}
@@ -14,7 +15,6 @@ use Rattle.sound.specs.declared.Form.TheVariants.{Store}
 use Rattle.sound.specs.Test.{is_sound}
 use Rattle.answers.specs.declared.Refusal.{Refusal}
 use Rattle.answers.specs.declared.Refusal.TheVariants.{BadBuffer, UnsoundStore, BadDesk, WrongState, ImageFull, BadCount}
-use Rattle.answers.specs.declared.Answer.TheVariants.{Done}
 use Rattle.answers.specs.Told.{Told}
 use Rattle.answers.specs.Refusal.{refusal_number}
 use Rattle.files.specs.Effect.{Call, Planned, refused, does}
@@ -56,7 +56,7 @@ module _ (w : World) where
   not_16 : (f : Refusal) → eqb (refusal_number f) (refusal_number ImageFull) ≡ false → KeepsBut16 w (refuse f w.store w.image w.desk)
   not_16 f e = record { keeps = λ n g. refl; stops = λ h. absurd (eqb-false (refusal_number f) (refusal_number ImageFull) e h) }
 
-  done : (x : ℕ) (s m d : List ℕ) → KeepsBut16 w (left (Done x) s m d)
+  done : (x : ℕ) (s m d : List ℕ) → KeepsBut16 w (left (Ok x) s m d)
   done x s m d = record { keeps = λ n g. absurd (n refl); stops = λ h. absurd (omega arith) }
 
   step_does : (p : Step) → KeepsBut16 w (do_step w.store w.image w.desk (inodes_in w.store) p)

@@ -1,4 +1,5 @@
 -- A step that leaves the copy running leaves all that 1, 2 and 3 ask, the steps' bound apart, on any bytes that passed the guards. A lock alone may not: the inode that it locks goes by its store size from then on, so that bytes count as addresses which did not before. s is the store, m the image, d the desk, n the inode count.
+use Rattle.std.specs.Prelude.{Some}
 use Prim.Native.Nat.{ℕ, ◌+◌, ◌*◌, ◌-◌, ◌/◌, ◌%◌, ◌≤◌, ◌<◌}
 use mathlib.Core.Path.{◌≡◌, refl, sym, ap, ◌∙◌, subst}
 use mathlib.Core.Logic.{◌≢◌, ◌⊎◌, inl, inr}
@@ -10,7 +11,6 @@ use borrow.Author.Tests.{eqb-true, ne_eqb}
 use lib.Dec.{eqb, leb}
 use lib.ListN.{length, replicate}
 use Rattle.bounded.specs.Below.{all_below}
-use Rattle.bounded.specs.declared.Found.TheVariants.{At}
 use Rattle.bounded.proofs.BoolLaws.{clash, holds}
 use Rattle.bounded.proofs.ReflectLaws.{r_and, r_le, r_true, r_all, r_says, r_fails, reflects_ext}
 use Rattle.octets.proofs.PartLaws.{length_inside}
@@ -314,7 +314,7 @@ module _ (s m d : List ℕ) (z : Steady (world s m d)) (n : ℕ) (e : n ≡ inod
     stored = blocks_of_lem (sound_store ((is_sound_lem Store s).to z.sound) e) l locked_low locked_high
 
     -- ---- 3
-    module _ (c : ℕ) (more : k < blocks_used (size_of s l)) (goes : target_block (image_long s m d) m n (desk_of d).blocks (kth_block s n l k) ≡ At c) where
+    module _ (c : ℕ) (more : k < blocks_used (size_of s l)) (goes : target_block (image_long s m d) m n (desk_of d).blocks (kth_block s n l k) ≡ Some c) where
       abbrev after : List ℕ
       after = step_image s m d n (copy l k c)
 

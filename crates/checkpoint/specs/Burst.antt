@@ -1,5 +1,5 @@
 -- "The radio works in bursts, so the post wants up to 64 steps in one call. The call does what that many single steps would". k is a number of steps, c of steps accepted before.
-use Rattle.std.specs.Prelude.{ℕ, zero, suc, ◌+◌, ◌≤◌, ◌<◌, ◌≡◌, Bool, true, not, ◌&&◌, List, [], ◌∷◌, ◌++◌, eqb, leb}
+use Rattle.std.specs.Prelude.{ℕ, zero, suc, ◌+◌, ◌≤◌, ◌<◌, ◌≡◌, Bool, true, not, ◌&&◌, List, [], ◌∷◌, ◌++◌, eqb, leb, Ok}
 use Rattle.bounded.specs.Search.{pick}
 use Rattle.layout.specs.Sizes.{most_blocks}
 use Rattle.desk.specs.Desk.{desk_of, copied_of, desk_rest_zero}
@@ -7,7 +7,6 @@ use Rattle.sound.specs.Sound.{inodes_in}
 use Rattle.sound.specs.declared.Form.TheVariants.{Store}
 use Rattle.sound.specs.Test.{framed_b, is_sound}
 use Rattle.answers.specs.declared.Refusal.TheVariants.{BadBuffer, BadCount}
-use Rattle.answers.specs.declared.Answer.TheVariants.{Done}
 use Rattle.checkpoint.specs.Fit.{desk_framed, is_running, blocks_fit, image_fits, both_framed}
 use Rattle.checkpoint.specs.Live.{World, Outcome, left, refuse, step}
 use Rattle.checkpoint.specs.List.{Event, advances, next, accepted, completes, run}
@@ -21,12 +20,12 @@ count_allowed k = leb 1 k && leb k most_burst
 
 -- what single steps would do, k of them left: "ends early when the copy finishes or a step is refused, and reports how many were accepted. If the very first is refused, that refusal is the answer."
 unfoldable pub burst_from : ℕ → ℕ → World → Outcome
-burst_from zero c w = left (Done c) w.store w.image w.desk
+burst_from zero c w = left (Ok c) w.store w.image w.desk
 burst_from (suc k) c w =
     let o = step w.store w.image w.desk in
     pick (accepted advances w)
-    (pick (completes advances w) (left (Done (suc c)) o.store o.image o.desk) (burst_from k (suc c) (next advances w)))
-    (pick (eqb c 0) o (left (Done c) o.store o.image o.desk))
+    (pick (completes advances w) (left (Ok (suc c)) o.store o.image o.desk) (burst_from k (suc c) (next advances w)))
+    (pick (eqb c 0) o (left (Ok c) o.store o.image o.desk))
 
 -- 1, then 17, which "comes right after 1", then the steps' own 2, 3, 15 and 16
 unfoldable pub burst : ℕ → World → Outcome

@@ -1,9 +1,7 @@
 -- "The copier": start, and the five things that a step does. s is the store, m the image, n the inode count.
-use Rattle.std.specs.Prelude.{ℕ, zero, suc, ◌+◌, ◌*◌, Bool, not, ◌&&◌, List, eqb, leb, ltb, replicate}
+use Rattle.std.specs.Prelude.{ℕ, zero, suc, ◌+◌, ◌*◌, Bool, not, ◌&&◌, List, eqb, leb, ltb, replicate, Option, Some}
 use Rattle.bounded.specs.Search.{pick, first_from, on_found}
 use Rattle.bounded.specs.Count.{tally, count_to}
-use Rattle.bounded.specs.declared.Found.{Found}
-use Rattle.bounded.specs.declared.Found.TheVariants.{At}
 use Rattle.octets.specs.Octets.{part, splice}
 use Rattle.layout.specs.Sizes.{root_inode, is_complete, not_complete, address_place, block_bytes}
 use Rattle.layout.specs.Header.{put_header, put_free, put_complete}
@@ -35,13 +33,13 @@ pub data Step : Type 0 where
   full : Step
 
 -- 2: "some uncopied inode is named by an image directory of kind 2: lock the lowest such"
-unfoldable pub next_inode : List ℕ → List ℕ → ℕ → Found
+unfoldable pub next_inode : List ℕ → List ℕ → ℕ → Option ℕ
 next_inode m desk n = first_from (λ i. not (is_copied desk n i) && inode_named m n i) 1 n
 
 -- 3: "It goes to the image block of its own number if that exists and no image address names it, else to the lowest block unnamed"
 -- long tells which inodes of the image have an address block
-unfoldable pub target_block : (ℕ → Bool) → List ℕ → ℕ → ℕ → ℕ → Found
-target_block long m n b c = pick (leb 1 c && (leb c b && not (named_by long m n c))) (At c) (lowest_by long m n b)
+unfoldable pub target_block : (ℕ → Bool) → List ℕ → ℕ → ℕ → ℕ → Option ℕ
+target_block long m n b c = pick (leb 1 c && (leb c b && not (named_by long m n c))) (Some c) (lowest_by long m n b)
 
 -- 3 and 4: inode i is locked, k of its blocks are copied; 16 where every image block is named
 unfoldable pub locked_step : List ℕ → List ℕ → ℕ → ℕ → ℕ → ℕ → Step

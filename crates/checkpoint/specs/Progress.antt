@@ -1,5 +1,5 @@
 -- The copy gets done, is out of the way, and stays; and what the next event does. w is the world at any moment of a list.
-use Rattle.std.specs.Prelude.{ℕ, ◌*◌, ◌≤◌, ◌<◌, ◌≡◌, Bool, true, false, not, ◌&&◌, List, [], ◌∷◌, length, get_or}
+use Rattle.std.specs.Prelude.{ℕ, ◌*◌, ◌≤◌, ◌<◌, ◌≡◌, Bool, true, false, not, ◌&&◌, List, [], ◌∷◌, length, get_or, Err, Ok}
 use Rattle.octets.specs.Octets.{Octets}
 use Rattle.layout.specs.Sizes.{most_blocks}
 use Rattle.layout.specs.Inode.{size_of}
@@ -8,12 +8,10 @@ use Rattle.blocks.specs.Free.{named_by}
 use Rattle.desk.specs.Sizes.{finished, stopped}
 use Rattle.desk.specs.Desk.{desk_of}
 use Rattle.answers.specs.declared.Refusal.TheVariants.{BadBuffer, UnsoundStore, BadDesk, Busy, WrongState, ImageFull}
-use Rattle.answers.specs.declared.Answer.TheVariants.{Done, Refused}
 use Rattle.answers.specs.Refusal.{refusal_number}
 use Rattle.answers.specs.Told.{told}
 use Rattle.sound.specs.Sound.{inodes_in}
 use Rattle.sound.specs.Place.{filled, naming}
-use Rattle.content.specs.declared.NumberPlan.TheVariants.{To}
 use Rattle.entries.specs.declared.Kind.{Kind}
 use Rattle.entries.specs.Plan.{look_up_plan}
 use Rattle.files.specs.Effect.{Call, create, write, shorten, link, unlink, rename, rename_new, given}
@@ -54,9 +52,9 @@ Roomy w = store_length (count_of w) (most_blocks * count_of w) ≤ length w.imag
 
 -- "15 start while running, step while not", and else a start is accepted, inside a list; a question changes nothing
 pub record Timing (w : World) : Type 0 where
-  pub early : is_running w.desk ≡ true → (outcome starts w).answer ≡ told (Refused WrongState)
-  pub again : is_running w.desk ≡ false → (outcome starts w).answer ≡ told (Done 0)
-  pub late : is_running w.desk ≡ false → (outcome advances w).answer ≡ told (Refused WrongState)
+  pub early : is_running w.desk ≡ true → (outcome starts w).answer ≡ told (Err WrongState)
+  pub again : is_running w.desk ≡ false → (outcome starts w).answer ≡ told (Ok 0)
+  pub late : is_running w.desk ≡ false → (outcome advances w).answer ≡ told (Err WrongState)
   pub question : next asks w ≡ w
 
 -- ---- it is out of the way
@@ -78,10 +76,10 @@ pub data Hinders (s : List ℕ) (l : ℕ) : Call → Type 0 where
   renames_to : {c : Call} {name other : List ℕ} {d : ℕ} → Renaming d name l other c → Hinders s l c
   -- "a link to, unlink or move of the locked inode"
   links_it : {d : ℕ} {name : List ℕ} → Hinders s l (link d name l)
-  unlinks_it : {d : ℕ} {name : List ℕ} → look_up_plan s (inodes_in s) d name ≡ To l → Hinders s l (unlink d name)
-  moves_it : {c : Call} {d e : ℕ} {name other : List ℕ} → Renaming d name e other c → (d ≡ e → ⊥) → look_up_plan s (inodes_in s) d name ≡ To l → Hinders s l c
+  unlinks_it : {d : ℕ} {name : List ℕ} → look_up_plan s (inodes_in s) d name ≡ Ok l → Hinders s l (unlink d name)
+  moves_it : {c : Call} {d e : ℕ} {name other : List ℕ} → Renaming d name e other c → (d ≡ e → ⊥) → look_up_plan s (inodes_in s) d name ≡ Ok l → Hinders s l c
   -- F-3: "A locked holder that would be replaced is busy": the new name stands for it, and the old one for another
-  replaces_it : {d e i : ℕ} {name other : List ℕ} → look_up_plan s (inodes_in s) d name ≡ To i → (i ≡ l → ⊥) → look_up_plan s (inodes_in s) e other ≡ To l
+  replaces_it : {d e i : ℕ} {name other : List ℕ} → look_up_plan s (inodes_in s) d name ≡ Ok i → (i ≡ l → ⊥) → look_up_plan s (inodes_in s) e other ≡ Ok l
       → Hinders s l (rename d name e other)
 
 -- 14 comes only while an inode is locked, to such a call that the plain store would accept
@@ -124,7 +122,7 @@ pub record Refusals (e : Event) (w : World) : Type 0 where
 -- the slot p of an entry that e takes: it is empty or, where a rename replaced the entry (F-3: "being replaced is being unlinked"), it stands for what was renamed
 pub data Lost (w : World) (p : ℕ) : Event → Type 0 where
   emptied : {e : Event} → filled (next e w).store (count_of w) p ≡ false → Lost w p e
-  refilled : {d e i : ℕ} {name other : List ℕ} → look_up_plan w.store (count_of w) d name ≡ To i → (naming w.store (count_of w) p ≡ i → ⊥)
+  refilled : {d e i : ℕ} {name other : List ℕ} → look_up_plan w.store (count_of w) d name ≡ Ok i → (naming w.store (count_of w) p ≡ i → ⊥)
       → naming (next (call (rename d name e other)) w).store (count_of w) p ≡ i → Lost w p (call (rename d name e other))
 
 -- an entry that is taken stood, and is lost; all others stand for the same inode. p is a place

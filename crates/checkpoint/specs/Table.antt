@@ -1,11 +1,9 @@
 -- "Given by number, looked at lowest first, when and only when the condition holds for that call": the conditions of each call on a store in a table. s is the store, m the image.
-use Rattle.std.specs.Prelude.{ℕ, ◌+◌, ◌-◌, max, Bool, true, false, not, ◌&&◌, ◌||◌, eqb, ltb, length}
+use Rattle.std.specs.Prelude.{ℕ, ◌+◌, ◌-◌, max, Bool, true, false, not, ◌&&◌, ◌||◌, eqb, ltb, length, None, Option, Some}
 use mathlib.Core.List.{List, [], ◌∷◌, ◌++◌, tail}
 use Rattle.files.specs.Guard.{store_rows}
 use Rattle.bounded.specs.Below.{all_to}
 use Rattle.bounded.specs.Search.{pick}
-use Rattle.bounded.specs.declared.Found.{Found}
-use Rattle.bounded.specs.declared.Found.TheVariants.{At, Absent}
 use Rattle.layout.specs.Sizes.{most_file_bytes, most_directory_blocks}
 use Rattle.layout.specs.Header.{header_of}
 use Rattle.layout.specs.Inode.{kind_of, size_of, directory_kind, is_file, is_directory, free_inode}
@@ -25,13 +23,13 @@ use Rattle.checkpoint.specs.Live.{guard_rows}
 use Rattle.checkpoint.specs.Burst.{count_allowed}
 
 -- ---- conditions
-abbrev pub found : Found → Bool
-found (At t) = true
-found Absent = false
+abbrev pub found : Option ℕ → Bool
+found (Some t) = true
+found None = false
 
-abbrev pub or_zero : Found → ℕ
-or_zero (At t) = t
-or_zero Absent = 0
+abbrev pub or_zero : Option ℕ → ℕ
+or_zero (Some t) = t
+or_zero None = 0
 
 -- 1, 2 and 3 of a call on all three buffers; the state question has no more
 abbrev pub live_rows : List ℕ → List ℕ → List ℕ → List Row

@@ -1,11 +1,10 @@
 // The copier is definitions here; of code there is what the state question answers.
 #![tactic(auto)]
 
-use answers::Refusal;
-
-// What the state question answers: state, locked inode and steps.
+// What the state question answers.
 #[derive(Clone, Copy)]
-pub enum Status {
-    Is(u8, u16, u32),
-    NoStatus(Refusal),
+pub struct Status {
+    pub state: u8,
+    pub locked: u16,
+    pub steps: u32,
 }

@@ -1,26 +1,21 @@
--- Laws of the checksum.
-use Rattle.std.proofs.Common.{◌≡◌, ℕ, ◌+◌, ◌*◌, ◌/◌, ◌%◌, ◌^◌, List, get_or, refl, add-one, arith}
-use Rattle.checksum.specs.Checksum.{basis, prime, mixed, sum_to}
+-- The checksum as a fold over the bytes.
+use Rattle.std.proofs.Common.{◌≡◌, ℕ, suc, ◌+◌, ◌<◌, List, [], ◌∷◌, length, drop, get_or, length-drop, refl, sym, ap, ◌∙◌, add-zero, zero-add, arith}
+use Rattle.std.proofs.Math.Seq.{drop-cons}
+use Rattle.std.specs.List.{fold}
+use Rattle.checksum.specs.Checksum.{basis, mixed, sum_to, checksum}
 
-pub sum_none : (s : List ℕ) → basis ≡ sum_to s 0
+-- from byte k on
+fold_from : (s : List ℕ) (k : ℕ) (r : List ℕ) → drop k s ≡ r → fold mixed (sum_to s k) r ≡ sum_to s (k + length r)
 unfolding sum_to
-sum_none s = refl
+fold_from s k [] e = sym (ap (sum_to s) (add-zero k))
+fold_from s k (x ∷ r) e =
+    let l : k < length s = omega (arith, simp length-drop at (ap length e)) in
+    let q : get_or s k 0 ∷ drop (suc k) s ≡ x ∷ r = sym (drop-cons s k 0 l) ∙ e in
+    let h : get_or s k 0 ≡ x = cc in
+    let d : drop (suc k) s ≡ r = cc in
+    let n : suc k + length r ≡ k + suc (length r) = omega arith in
+    ap (λ (y : ℕ). fold mixed (mixed (sum_to s k) y) r) (sym h) ∙ fold_from s (suc k) r d ∙ ap (sum_to s) n
 
-pub sum_more : (s : List ℕ) (k h : ℕ) → h ≡ sum_to s k → mixed h (get_or s k 0) ≡ sum_to s (k + 1)
-unfolding sum_to
-sum_more s k h e = rw (e, add-one) refl
-
--- ---- the product in 64 bits
--- h times 2^40 + 435, with h = 2^32 * u + l = 2^24 * w + b and 435 * u = 2^32 * q + r
-last : (a l q : ℕ) → (a % 2 ^ 64 + l) % 2 ^ 64 ≡ (a + l + 18446744073709551616 * q) % 2 ^ 64
-last a l q = omega arith
-
-parts : (h u l w b q r : ℕ) → h ≡ 4294967296 * u + l → h ≡ 16777216 * w + b → 435 * u ≡ 4294967296 * q + r
-    → h * prime ≡ (b * 1099511627776 + r * 4294967296) + l * 435 + 18446744073709551616 * (w + q)
-parts h u l w b q r e f g = omega arith
-
-pub by_parts : (h : ℕ) → ((h % 16777216 * 1099511627776 + h / 4294967296 * 435 % 4294967296 * 4294967296) % 2 ^ 64 + h % 4294967296 * 435) % 2 ^ 64 ≡ h * prime % 2 ^ 64
-by_parts h =
-    let e : h * prime ≡ (h % 16777216 * 1099511627776 + h / 4294967296 * 435 % 4294967296 * 4294967296) + h % 4294967296 * 435 + 18446744073709551616 * (h / 16777216 + h / 4294967296 * 435 / 4294967296)
-    = parts h (h / 4294967296) (h % 4294967296) (h / 16777216) (h % 16777216) (h / 4294967296 * 435 / 4294967296) (h / 4294967296 * 435 % 4294967296) (omega arith) (omega arith) (omega arith) in
-    rw e (last (h % 16777216 * 1099511627776 + h / 4294967296 * 435 % 4294967296 * 4294967296) (h % 4294967296 * 435) (h / 16777216 + h / 4294967296 * 435 / 4294967296))
+pub fold-checksum : (s : List ℕ) → fold mixed basis s ≡ checksum s
+unfolding sum_to checksum
+fold-checksum s = fold_from s 0 s refl ∙ ap (sum_to s) (zero-add (length s))

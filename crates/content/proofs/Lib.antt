@@ -12,3 +12,4 @@ pub mod SizeLaws
 pub mod SizePlanLaws
 pub mod TakeLaws
 pub mod WriteLaws
+pub mod FromFnLaws

@@ -1,4 +1,5 @@
 -- A shortened file keeps a store sound: the rest of its last block is zeroed, then it gives back the blocks past it. n and b are the counts of inodes and blocks, i is a file.
+use Rattle.std.specs.Prelude.{Ok}
 use Prim.Native.Nat.{ℕ, ◌+◌, ◌-◌, ◌*◌, ◌/◌, ◌%◌, ◌≤◌, ◌<◌}
 use mathlib.Core.Path.{◌≡◌, refl, ap, ◌∙◌}
 use mathlib.Core.Logic.{◌≢◌}
@@ -20,7 +21,6 @@ use Rattle.preservation.proofs.KeepLaws.{body_of}
 use Rattle.growth.specs.Extend.{file_byte}
 use Rattle.growth.proofs.FileFrame.{InFile, file_stays, file_then}
 use Rattle.growth.proofs.CutLaws.{cut_keeps, cut_file}
-use Rattle.content.specs.declared.NumberPlan.TheVariants.{To}
 use Rattle.content.specs.Content.{zero_rest, cut_to}
 use Rattle.content.specs.Plan.{shorten_plan}
 use Rattle.content.proofs.FileLaws.{Holds, holds_of, byte_few, byte_fits, byte_none, same_bytes, ZeroPast, tail_past, other_byte, content_file, content_sound}
@@ -117,7 +117,7 @@ module _ (s : List ℕ) (n b i z : ℕ) (h : Holds s n b i z) where
 
 -- ---- the call
 pub shorten_sound : (s : List ℕ) (n b i z y : ℕ) → SoundStore s n b
-    → shorten_plan s n i z ≡ To y → Sound Store (cut_to s n i y)
+    → shorten_plan s n i z ≡ Ok y → Sound Store (cut_to s n i y)
 shorten_sound s n b i z y h e =
     let w = shortens s n i z y e in
     let m = w.inside in

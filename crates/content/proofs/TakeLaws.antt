@@ -1,4 +1,5 @@
 -- The free blocks that a growing file takes, as the code finds them in one map. n and b are the counts of inodes and blocks.
+use Rattle.std.specs.Prelude.{None, Option, Some}
 use Prim.Native.Nat.{ℕ, zero, suc, ◌+◌, ◌*◌, ◌-◌, ◌≤◌, ◌<◌}
 use mathlib.Core.Path.{◌≡◌, refl, sym, ap, ◌∙◌, subst}
 use mathlib.Core.Logic.{◌≢◌}
@@ -9,8 +10,6 @@ use native.Mathlib.Omega.{arith}
 use lib.ListN.{length, replicate}
 use Rattle.bounded.specs.Count.{count_to}
 use Rattle.bounded.specs.Search.{first_from, on_found}
-use Rattle.bounded.specs.declared.Found.{Found}
-use Rattle.bounded.specs.declared.Found.TheVariants.{At, Absent}
 use Rattle.bounded.proofs.SearchLaws.{first_ext}
 use Rattle.octets.specs.Octets.{zeroed}
 use Rattle.octets.proofs.PartLaws.{length_zeroed}
@@ -93,15 +92,15 @@ module _ (free : ℕ → Bool) (b : ℕ) where
         first_ext f free (t + 1) (b + 1 - (t + 1)) (λ c l m. same c (omega arith) (omega arith))
         ∙ ap (λ (x : ℕ). first_from free (x + 1) (b + 1 - (x + 1))) e
 
-    found : (x : Found) → first_from f (t + 1) (b + 1 - (t + 1)) ≡ x → nth_free free b j ≡ on_found x (λ c. c) 0
+    found : (x : Option ℕ) → first_from f (t + 1) (b + 1 - (t + 1)) ≡ x → nth_free free b j ≡ on_found x (λ c. c) 0
     unfolding lowest_from
-    found x q = nth_last j ∙ ap (λ (y : Found). on_found y (λ c. c) 0) (sym search ∙ q)
+    found x q = nth_last j ∙ ap (λ (y : Option ℕ). on_found y (λ c. c) 0) (sym search ∙ q)
 
-    pub next_is : (r : ℕ) → first_from f (t + 1) (b + 1 - (t + 1)) ≡ At r → r ≡ nth_free free b j
-    next_is r q = sym (found (At r) q)
+    pub next_is : (r : ℕ) → first_from f (t + 1) (b + 1 - (t + 1)) ≡ Some r → r ≡ nth_free free b j
+    next_is r q = sym (found (Some r) q)
 
-    pub next_some : j < count_to free b → first_from f (t + 1) (b + 1 - (t + 1)) ≡ Absent → ⊥
-    next_some l q = let z = (nth_is free b j l).low in let w : nth_free free b j ≡ 0 = found Absent q in omega arith
+    pub next_some : j < count_to free b → first_from f (t + 1) (b + 1 - (t + 1)) ≡ None → ⊥
+    next_some l q = let z = (nth_is free b j l).low in let w : nth_free free b j ≡ 0 = found None q in omega arith
 
 -- ---- a sound store has as many as it says, each one of its blocks
 module _ {s : List ℕ} {n b : ℕ} (h : SoundStore s n b) (j : ℕ) (l : j < (header_of s).free_blocks) where

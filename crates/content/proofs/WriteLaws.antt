@@ -1,4 +1,5 @@
 -- A write keeps a store sound: the file takes its blocks and its size in one go, then its bytes. n and b are the counts of inodes and blocks, i is a file.
+use Rattle.std.specs.Prelude.{Ok}
 use Prim.Native.Nat.{ℕ, suc, ◌+◌, ◌*◌, ◌/◌, ◌%◌, ◌≤◌, ◌<◌}
 use mathlib.Core.Path.{◌≡◌, refl, sym, ap, ◌∙◌, subst}
 use mathlib.Core.Logic.{◌≢◌}
@@ -19,7 +20,6 @@ use Rattle.preservation.proofs.SameLaws.{SameFrame, SameInode, InBlock, frame_st
 use Rattle.preservation.proofs.KeepLaws.{body_of}
 use Rattle.growth.specs.Extend.{file_byte, extended}
 use Rattle.growth.proofs.FileFrame.{InFile, file_stays, file_then}
-use Rattle.content.specs.declared.NumberPlan.TheVariants.{To}
 use Rattle.content.specs.Content.{put_file}
 use Rattle.content.specs.Plan.{write_plan}
 use Rattle.content.specs.Apply.{written}
@@ -133,5 +133,5 @@ module _ (s : List ℕ) (n b i o : ℕ) (xs : List ℕ) (z : ℕ) (h : SoundStor
       subst (InFile s (written s n b i o xs z) n i) g.size (file_then (λ j l m. (blocks_of_lem h j l m).few) g put.file)
 
 pub write_sound : (s : List ℕ) (n b i o : ℕ) (xs : List ℕ) (z : ℕ) → SoundStore s n b
-    → write_plan s n i o (length xs) ≡ To z → Sound Store (written s n b i o xs z)
+    → write_plan s n i o (length xs) ≡ Ok z → Sound Store (written s n b i o xs z)
 write_sound s n b i o xs z h e = (written_sound s n b i o xs z h (writes s n i o (length xs) z e)).sound

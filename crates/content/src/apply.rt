@@ -15,22 +15,19 @@ ghost use Rattle.ledger.specs.Nth.{nth_free};
 ghost use Rattle.sound.specs.Sound.{blocks_in};
 ghost use Rattle.sound.specs.Counted.{SoundStore};
 ghost use Rattle.growth.specs.Extend.{zero_blocks, put_size, put_blocks, taken, extended, cut_blocks};
-ghost use Rattle.content.specs.declared.NumberPlan.TheVariants.{To};
 ghost use Rattle.content.specs.Fits.{byte_at, FileFits};
 ghost use Rattle.content.specs.Content.{file_bytes, put_file, add_block, zero_rest, cut_to};
 ghost use Rattle.content.specs.Plan.{write_plan};
 ghost use Rattle.content.specs.Apply.{written};
 
-use crate::plan::lesser;
 use blocks::free::named_blocks;
 use blocks::map::MAP_WORDS;
 use blocks::{block_at, blocks_used, further, is_long, kth_block, map, zero_block};
 use layout::header::{less_free, more_free};
 use layout::inode;
 use layout::inode::Inode;
-use layout::sizes::{
-    ADDRESS_COUNT, ADDRESS_PLACE, BLOCK_BYTES, FURTHER_COUNT, MOST_BLOCKS, MOST_DIRECT_BYTES,
-};
+use layout::sizes::{ADDRESS_COUNT, ADDRESS_PLACE, BLOCK_BYTES, MOST_BLOCKS, MOST_DIRECT_BYTES};
+use std::array;
 
 // ---- where bytes stand
 // The k-th block of inode i, one that its size uses.
@@ -75,7 +72,7 @@ fn byte_at(s: &[u8], n: usize, i: usize, long: bool, x: usize) -> usize
 fn run(x: usize, k: usize) -> usize
     ensures { result ≡ min k (block_bytes - x % block_bytes) }
 {
-    lesser(k, BLOCK_BYTES - x % BLOCK_BYTES)
+    k.min(BLOCK_BYTES - x % BLOCK_BYTES)
 }
 
 // The k bytes of file i from o on, to the start of out.
@@ -85,9 +82,10 @@ pub fn read_file(s: &[u8], n: usize, i: usize, o: usize, k: usize, out: &mut [u8
 {
     let long = is_long(s, n, i);
     let mut j = 0;
+    // a while: runs differ in length, and a walk with a closure would not tell what that did to out
     while j < k {
         let count = run(o + j, k - j);
-        octets::copy_range(&mut *out, j, s, byte_at(s, n, i, long, o + j), count);
+        octets::copy_range(out, j, s, byte_at(s, n, i, long, o + j), count);
         j = j + count;
     }
 }
@@ -100,10 +98,11 @@ fn put_file(s: &mut [u8], n: usize, i: usize, o: usize, xs: &[u8])
     let long = is_long(s, n, i);
     let k = xs.len();
     let mut j = 0;
+    // a while, as in read_file
     while j < k {
         let count = run(o + j, k - j);
         let p = byte_at(s, n, i, long, o + j);
-        octets::copy_range(&mut *s, p, xs, j, count);
+        octets::copy_range(s, p, xs, j, count);
         j = j + count;
     }
 }
@@ -117,10 +116,9 @@ pub fn add_block(s: &mut [u8], n: usize, b: usize, i: usize, c: usize)
     let k = blocks_used(old.size as usize);
     let mut a = old.addresses;
     a[k] = c as u16;
-    zero_block(&mut *s, n, b, c);
-    old.with_blocks(BLOCK_BYTES * (k + 1), a)
-        .write(&mut *s, n, i);
-    less_free(&mut *s, 0, 1);
+    zero_block(s, n, b, c);
+    old.with_blocks(BLOCK_BYTES * (k + 1), a).write(s, n, i);
+    less_free(s, 0, 1);
 }
 
 // ---- all blocks of a file, in their order
@@ -131,25 +129,31 @@ fn place_across(crosses: bool, k: usize) -> usize
     if !crosses {
         return k;
     }
-    if k == ADDRESS_PLACE {
-        return ADDRESS_COUNT;
+    match k {
+        ADDRESS_PLACE => ADDRESS_COUNT,
+        ADDRESS_COUNT => ADDRESS_PLACE,
+        _ => k,
     }
-    if k == ADDRESS_COUNT {
-        return ADDRESS_PLACE;
-    }
-    k
 }
 
-// The first count blocks of inode i, 0 for the rest; crosses: its address block is left out.
+// The k-th of the first count blocks of inode i, 0 behind them; crosses: its address block is left out.
+fn kept_block(s: &[u8], n: usize, i: usize, crosses: bool, count: usize, k: usize) -> u16
+    requires { SoundStore s.now n (blocks_in s.now) × (1 ≤ i) × (i ≤ n) × (count ≤ blocks_used (size_of s.now i)) × (crosses ≡ true → address_count < blocks_used (size_of s.now i)) }
+    ensures { result ≡ kept crosses (kth_block s.now n i) count k }
+{
+    if k < count {
+        kth_used(s, n, i, place_across(crosses, k))
+    } else {
+        0
+    }
+}
+
+// All of these, for the 44 places of a row.
 fn kept_row(s: &[u8], n: usize, i: usize, crosses: bool, count: usize) -> [u16; MOST_BLOCKS]
     requires { SoundStore s.now n (blocks_in s.now) × (1 ≤ i) × (i ≤ n) × (count ≤ blocks_used (size_of s.now i)) × (crosses ≡ true → address_count < blocks_used (size_of s.now i)) }
     ensures { result ≡ table (kept crosses (kth_block s.now n i) count) most_blocks }
 {
-    let mut row = [0u16; MOST_BLOCKS];
-    for k in 0..count {
-        row[k] = kth_used(s, n, i, place_across(crosses, k));
-    }
-    row
+    array::from_fn(|k| kept_block(s, n, i, crosses, count, k))
 }
 
 // The used blocks of inode i, and behind them the m lowest free ones, each zeroed first. One map tells them all, for a block that was taken is below those that are left.
@@ -168,25 +172,22 @@ fn taken_row(
     named_blocks(s, n, 0, false, &mut map);
     let mut row = kept_row(s, n, i, false, used);
     let mut taken = 0;
-    for j in 0..m {
+    for place in &mut row[used..used + m] {
         taken = map::next(&map, taken + 1, b);
-        zero_block(&mut *s, n, b, taken);
-        row[used + j] = taken as u16;
+        zero_block(s, n, b, taken);
+        *place = taken as u16;
     }
     row
 }
 
 // The row, with the address block before the block that stood in its place where the file crosses the edge.
-fn row_across(crosses: bool, row: [u16; MOST_BLOCKS]) -> [u16; MOST_BLOCKS]
+fn row_across(crosses: bool, mut row: [u16; MOST_BLOCKS]) -> [u16; MOST_BLOCKS]
     ensures { result ≡ table (λ u. get_or row (pick crosses (across u) u) 0) most_blocks }
 {
-    let mut a = row;
-    if !crosses {
-        return a;
+    if crosses {
+        row.swap(ADDRESS_PLACE, ADDRESS_COUNT);
     }
-    a[ADDRESS_PLACE] = row[ADDRESS_COUNT];
-    a[ADDRESS_COUNT] = row[ADDRESS_PLACE];
-    a
+    row
 }
 
 // The twelve addresses of the row that stand in the record.
@@ -194,9 +195,7 @@ fn direct(row: [u16; MOST_BLOCKS]) -> [u16; ADDRESS_COUNT]
     ensures { result ≡ take address_count row }
 {
     let mut a = [0u16; ADDRESS_COUNT];
-    for k in 0..ADDRESS_COUNT {
-        a[k] = row[k];
-    }
+    a.copy_from_slice(&row[..ADDRESS_COUNT]);
     a
 }
 
@@ -205,8 +204,8 @@ fn put_further(s: &mut [u8], o: usize, row: [u16; MOST_BLOCKS])
     requires { o + block_bytes ≤ length s.old }
     ensures { s.new ≡ splice s.old o (word_bytes (drop address_count row)) }
 {
-    for k in 0..FURTHER_COUNT {
-        octets::put_16(&mut *s, o + 2 * k, row[ADDRESS_COUNT + k]);
+    for (k, address) in row[ADDRESS_COUNT..].iter().enumerate() {
+        octets::put_16(s, o + 2 * k, *address);
     }
 }
 
@@ -217,11 +216,11 @@ fn put_blocks(s: &mut [u8], n: usize, i: usize, z: usize, row: [u16; MOST_BLOCKS
 {
     let old = Inode::read(s, n, i);
     let a = row[ADDRESS_PLACE] as usize;
-    old.with_blocks(z, direct(row)).write(&mut *s, n, i);
+    old.with_blocks(z, direct(row)).write(s, n, i);
     if z <= MOST_DIRECT_BYTES {
         return;
     }
-    put_further(&mut *s, block_at(n, a), row);
+    put_further(s, block_at(n, a), row);
 }
 
 // ---- fewer bytes
@@ -237,7 +236,7 @@ fn zero_rest(s: &mut [u8], n: usize, i: usize, z: usize)
     }
     let long = is_long(s, n, i);
     let p = byte_at(s, n, i, long, z);
-    octets::zero_range(&mut *s, p, BLOCK_BYTES - x);
+    octets::zero_range(s, p, BLOCK_BYTES - x);
 }
 
 // With z bytes the inode has an address block no longer.
@@ -245,10 +244,7 @@ fn crosses_down(s: &[u8], n: usize, i: usize, z: usize) -> bool
     requires { InodeFits s.now n i }
     ensures { result ≡ is_long s.now i && leb z most_direct_bytes }
 {
-    if !is_long(s, n, i) {
-        return false;
-    }
-    z <= MOST_DIRECT_BYTES
+    is_long(s, n, i) && z <= MOST_DIRECT_BYTES
 }
 
 // Leaves the blocks of the first z bytes of file i: those past them are free again.
@@ -260,8 +256,8 @@ fn cut_blocks(s: &mut [u8], n: usize, i: usize, z: usize)
     let freed = blocks_used(inode::size(s, n, i) as usize) - kept;
     let crosses = crosses_down(s, n, i, z);
     let row = kept_row(s, n, i, crosses, kept);
-    put_blocks(&mut *s, n, i, z, row);
-    more_free(&mut *s, 0, freed as u16);
+    put_blocks(s, n, i, z, row);
+    more_free(s, 0, freed as u16);
 }
 
 // Leaves the first z bytes of file i.
@@ -269,8 +265,8 @@ pub fn shorten_file(s: &mut [u8], n: usize, i: usize, z: usize)
     requires { SoundStore s.old n (blocks_in s.old) × (is_file s.old n i ≡ true) × (z ≤ size_of s.old i) }
     ensures { s.new ≡ cut_to s.old n i z }
 {
-    zero_rest(&mut *s, n, i, z);
-    cut_blocks(&mut *s, n, i, z);
+    zero_rest(s, n, i, z);
+    cut_blocks(s, n, i, z);
 }
 
 // ---- more bytes
@@ -281,9 +277,9 @@ fn grow(s: &mut [u8], n: usize, b: usize, i: usize, m: usize, z: usize)
     ensures { s.new ≡ taken s.old n b i z m }
 {
     let used = blocks_used(inode::size(s, n, i) as usize);
-    let row = taken_row(&mut *s, n, b, i, used, m);
-    put_blocks(&mut *s, n, i, z, row_across(used == ADDRESS_COUNT, row));
-    less_free(&mut *s, 0, m as u16);
+    let row = taken_row(s, n, b, i, used, m);
+    put_blocks(s, n, i, z, row_across(used == ADDRESS_COUNT, row));
+    less_free(s, 0, m as u16);
 }
 
 // The size z for inode i; its addresses stay.
@@ -292,7 +288,7 @@ fn put_size(s: &mut [u8], n: usize, i: usize, z: usize)
     ensures { s.new ≡ put_size s.old n i z }
 {
     let old = Inode::read(s, n, i);
-    old.with_size(z).write_attributes(&mut *s, n, i);
+    old.with_size(z).write_attributes(s, n, i);
 }
 
 // The size z with the blocks that it needs.
@@ -303,17 +299,17 @@ fn extend(s: &mut [u8], n: usize, b: usize, i: usize, z: usize)
 {
     let more = blocks_used(z) - blocks_used(inode::size(s, n, i) as usize);
     if more == 0 {
-        put_size(&mut *s, n, i, z);
+        put_size(s, n, i, z);
         return;
     }
-    grow(&mut *s, n, b, i, more, z);
+    grow(s, n, b, i, more, z);
 }
 
 // The bytes xs from o on, as planned: z is the new size.
 pub fn write_file(s: &mut [u8], n: usize, b: usize, i: usize, o: usize, xs: &[u8], z: usize)
-    requires { SoundStore s.old n b × (write_plan s.old n i o (length xs.now) ≡ To z) }
+    requires { SoundStore s.old n b × (write_plan s.old n i o (length xs.now) ≡ Ok z) }
     ensures { s.new ≡ written s.old n b i o xs.now z }
 {
-    extend(&mut *s, n, b, i, z);
-    put_file(&mut *s, n, i, o, xs);
+    extend(s, n, b, i, z);
+    put_file(s, n, i, o, xs);
 }

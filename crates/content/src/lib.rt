@@ -3,12 +3,3 @@
 
 pub mod apply;
 pub mod plan;
-
-use answers::Refusal;
-
-// Look up: the inode. Read: the count. Write and shorten: the new size.
-#[derive(Clone, Copy)]
-pub enum NumberPlan {
-    To(usize),
-    NoNumber(Refusal),
-}

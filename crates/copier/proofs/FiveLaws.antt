@@ -1,4 +1,5 @@
 -- Which of the five things a step does, by what the code has tested. s is the store, m the image, d the desk, n the inode count.
+use Rattle.std.specs.Prelude.{Err, None, Ok, Option, Some}
 use Prim.Native.Nat.{ℕ, ◌+◌, ◌≤◌, ◌<◌}
 use mathlib.Core.Path.{◌≡◌, refl, sym, ap, ap₂, ◌∙◌}
 use mathlib.Core.Bool.{Bool, true, false, not, ◌&&◌}
@@ -7,8 +8,6 @@ use native.Mathlib.Omega.{arith}
 use borrow.Author.Tests.{lt-ltb, le-ltb, eq-eqb, ne_eqb, not-true, not-false}
 use lib.ListN.{length}
 use Rattle.bounded.specs.Search.{pick, first_from, on_found}
-use Rattle.bounded.specs.declared.Found.{Found}
-use Rattle.bounded.specs.declared.Found.TheVariants.{At, Absent}
 use Rattle.bounded.proofs.BoolLaws.{holds}
 use Rattle.bounded.proofs.SearchLaws.{found_lowest}
 use Rattle.layout.specs.Sizes.{root_inode, most_inodes, address_count, most_blocks, block_bytes}
@@ -26,14 +25,13 @@ use Rattle.desk.specs.declared.Desk.{Desk}
 use Rattle.sound.specs.Sound.{blocks_in}
 use Rattle.sound.specs.Counted.{SoundStore}
 use Rattle.preservation.proofs.StoreLaws.{blocks_of_lem}
-use Rattle.answers.specs.declared.Answer.{Answer}
-use Rattle.answers.specs.declared.Answer.TheVariants.{Done, Refused}
 use Rattle.answers.specs.declared.Refusal.TheVariants.{ImageFull}
 use Rattle.checkpoint.specs.Image.{inode_named}
 use Rattle.checkpoint.specs.Copier.{Step, lock, copy, close, finish, full, next_inode, target_block, finish_image, free_step, locked_step, step_of, step_image, step_desk}
 use Rattle.checkpoint.specs.Live.{Outcome, left, do_step}
 use Rattle.checkpoint.proofs.Copy.TargetLaws.{target_at}
 use Rattle.copier.specs.Held.{Locked, Target, OpenImage}
+use Rattle.answers.specs.Told.{Answer}
 
 -- ---- nothing is locked
 module _ (m d : List ℕ) (n : ℕ) (r : Bool) (e : r ≡ is_copied d n root_inode) where
@@ -41,27 +39,27 @@ module _ (m d : List ℕ) (n : ℕ) (r : Bool) (e : r ≡ is_copied d n root_ino
   unfolding free_step
   free_root q = ap (λ (t : Bool). pick t (on_found (next_inode m d n) lock finish) (lock root_inode)) (sym e ∙ not-true r q)
 
-  pub free_next : not r ≡ false → (f : Found) → f ≡ next_inode m d n → free_step m d n ≡ on_found f lock finish
+  pub free_next : not r ≡ false → (f : Option ℕ) → f ≡ next_inode m d n → free_step m d n ≡ on_found f lock finish
   unfolding free_step
   free_next q f g =
       ap (λ (t : Bool). pick t (on_found (next_inode m d n) lock finish) (lock root_inode)) (sym e ∙ not-false r q)
-      ∙ ap (λ (y : Found). on_found y lock finish) (sym g)
+      ∙ ap (λ (y : Option ℕ). on_found y lock finish) (sym g)
 
-module _ (m d : List ℕ) (n : ℕ) (f : Found) (g : free_step m d n ≡ on_found f lock finish) where
-  pub free_lock : (i : ℕ) → f ≡ At i → free_step m d n ≡ lock i
-  free_lock i h = g ∙ ap (λ (y : Found). on_found y lock finish) h
+module _ (m d : List ℕ) (n : ℕ) (f : Option ℕ) (g : free_step m d n ≡ on_found f lock finish) where
+  pub free_lock : (i : ℕ) → f ≡ Some i → free_step m d n ≡ lock i
+  free_lock i h = g ∙ ap (λ (y : Option ℕ). on_found y lock finish) h
 
-  pub free_finish : f ≡ Absent → free_step m d n ≡ finish
-  free_finish h = g ∙ ap (λ (y : Found). on_found y lock finish) h
+  pub free_finish : f ≡ None → free_step m d n ≡ finish
+  free_finish h = g ∙ ap (λ (y : Option ℕ). on_found y lock finish) h
 
 -- the numbers that are locked
 pub lock_few : (m d : List ℕ) (n i : ℕ) → n ≤ most_inodes → free_step m d n ≡ lock i → i ≤ most_inodes
 unfolding free_step next_inode
 lock_few m d n i few = go (is_copied d n root_inode) (first_from (λ j. not (is_copied d n j) && inode_named m n j) 1 n) refl
   where
-    go : (t : Bool) (f : Found) → first_from (λ j. not (is_copied d n j) && inode_named m n j) 1 n ≡ f → pick t (on_found f lock finish) (lock root_inode) ≡ lock i → i ≤ 256
-    go true (At j) e q = let l = (found_lowest (λ j. not (is_copied d n j) && inode_named m n j) 1 n j e).below in let y : j ≡ i = cc in omega arith
-    go true Absent e q = let y : ◌≡◌ {A = ℕ} 0 1 = cc in absurd (omega arith)
+    go : (t : Bool) (f : Option ℕ) → first_from (λ j. not (is_copied d n j) && inode_named m n j) 1 n ≡ f → pick t (on_found f lock finish) (lock root_inode) ≡ lock i → i ≤ 256
+    go true (Some j) e q = let l = (found_lowest (λ j. not (is_copied d n j) && inode_named m n j) 1 n j e).below in let y : j ≡ i = cc in omega arith
+    go true None e q = let y : ◌≡◌ {A = ℕ} 0 1 = cc in absurd (omega arith)
     go false f e q = let y : 1 ≡ i = cc in omega arith
 
 -- ---- inode i is locked
@@ -76,18 +74,18 @@ module _ (s m : List ℕ) (n b i k u : ℕ) (e : u ≡ blocks_used (size_of s i)
   unfolding locked_step
   locked_close h = ap (λ (t : Bool). pick t copy_or (close i)) (le-ltb k (blocks_used (size_of s i)) (omega arith))
 
-  module _ (h : k < u) (l : Bool) (q : l ≡ is_long s i) (a : ℕ) (p : a ≡ kth_block s n i k) (f : Found) (g : f ≡ target_block (long_but m i l) m n b a) where
+  module _ (h : k < u) (l : Bool) (q : l ≡ is_long s i) (a : ℕ) (p : a ≡ kth_block s n i k) (f : Option ℕ) (g : f ≡ target_block (long_but m i l) m n b a) where
     locked_block : locked_step s m n b i k ≡ on_found f (λ c. copy i k c) full
     unfolding locked_step
     locked_block =
         ap (λ (t : Bool). pick t copy_or (close i)) (lt-ltb k (blocks_used (size_of s i)) (omega arith))
-        ∙ ap (λ (y : Found). on_found y (λ c. copy i k c) full) (sym (g ∙ ap₂ (λ (x : Bool) (y : ℕ). target_block (long_but m i x) m n b y) q p))
+        ∙ ap (λ (y : Option ℕ). on_found y (λ c. copy i k c) full) (sym (g ∙ ap₂ (λ (x : Bool) (y : ℕ). target_block (long_but m i x) m n b y) q p))
 
-    pub locked_copy : (c : ℕ) → f ≡ At c → locked_step s m n b i k ≡ copy i k c
-    locked_copy c e = locked_block ∙ ap (λ (y : Found). on_found y (λ c. copy i k c) full) e
+    pub locked_copy : (c : ℕ) → f ≡ Some c → locked_step s m n b i k ≡ copy i k c
+    locked_copy c e = locked_block ∙ ap (λ (y : Option ℕ). on_found y (λ c. copy i k c) full) e
 
-    pub locked_full : f ≡ Absent → locked_step s m n b i k ≡ full
-    locked_full e = locked_block ∙ ap (λ (y : Found). on_found y (λ c. copy i k c) full) e
+    pub locked_full : f ≡ None → locked_step s m n b i k ≡ full
+    locked_full e = locked_block ∙ ap (λ (y : Option ℕ). on_found y (λ c. copy i k c) full) e
 
 -- ---- both
 module _ (s m d : List ℕ) (n : ℕ) (h : Desk) (e : h ≡ desk_of d) where
@@ -103,14 +101,14 @@ module _ (s m d : List ℕ) (n : ℕ) (h : Desk) (e : h ≡ desk_of d) where
       ∙ ap (λ (v : Desk). locked_step s m n v.blocks v.locked v.transferred) (sym e)
 
 -- ---- what is left then
-pub same_left : (s : List ℕ) {x y : ℕ} {m t d e : List ℕ} → x ≡ y → m ≡ t → d ≡ e → left (Done x) s m d ≡ left (Done y) s t e
+pub same_left : (s : List ℕ) {x y : ℕ} {m t d e : List ℕ} → x ≡ y → m ≡ t → d ≡ e → left (Ok x) s m d ≡ left (Ok y) s t e
 same_left s a b c = rw (a, b, c)
 
 module _ (s m d : List ℕ) (n : ℕ) (x : Step) where
-  pub does_lock : (i : ℕ) → x ≡ lock i → (r : Answer) (e : List ℕ) → r ≡ Done ((desk_of d).steps + 1) → e ≡ step_desk d (lock i) → left r s m e ≡ do_step s m d n x
+  pub does_lock : (i : ℕ) → x ≡ lock i → (r : Answer) (e : List ℕ) → r ≡ Ok ((desk_of d).steps + 1) → e ≡ step_desk d (lock i) → left r s m e ≡ do_step s m d n x
   does_lock i q r e a b = rw (a, b, q)
 
-  pub does_full : x ≡ full → (r : Answer) (e : List ℕ) → r ≡ Refused ImageFull → e ≡ step_desk d full → left r s m e ≡ do_step s m d n x
+  pub does_full : x ≡ full → (r : Answer) (e : List ℕ) → r ≡ Err ImageFull → e ≡ step_desk d full → left r s m e ≡ do_step s m d n x
   does_full q r e a b = rw (a, b, q)
 
   pub does_same : (y : Step) → x ≡ y → (o : Outcome) → o ≡ do_step s m d n y → o ≡ do_step s m d n x
@@ -118,7 +116,7 @@ module _ (s m d : List ℕ) (n : ℕ) (x : Step) where
 
 -- ---- the five things: the desk's header is h, and next is what its method hands back
 module _ (d : List ℕ) (h next : Desk) (e : h ≡ desk_of d) where
-  pub lock_done : (i : ℕ) → next ≡ locking h i → (t : List ℕ) → t ≡ put_desk d next → (◌≡◌ {A = Answer} (Done next.steps) (Done ((desk_of d).steps + 1))) × (t ≡ step_desk d (lock i))
+  pub lock_done : (i : ℕ) → next ≡ locking h i → (t : List ℕ) → t ≡ put_desk d next → (next.steps ≡ (desk_of d).steps + 1) × (t ≡ step_desk d (lock i))
   lock_done i q t w = (rw (q, e), w ∙ ap (put_desk d) (q ∙ ap (λ (v : Desk). locking v i) e))
 
   pub stop_done : next ≡ stopping h → (t : List ℕ) → t ≡ put_desk d next → t ≡ step_desk d full
@@ -126,16 +124,16 @@ module _ (d : List ℕ) (h next : Desk) (e : h ≡ desk_of d) where
 
   module _ (m : List ℕ) (n : ℕ) (t : List ℕ) where
     pub copy_done : (s a : List ℕ) (c : ℕ) → a ≡ step_image s m d n (copy h.locked h.transferred c) → next ≡ copying_one h → t ≡ put_desk d next
-        → left (Done next.steps) s a t ≡ do_step s m d n (copy h.locked h.transferred c)
+        → left (Ok next.steps) s a t ≡ do_step s m d n (copy h.locked h.transferred c)
     copy_done s a c p q w = same_left s (rw (q, e)) p (w ∙ ap (put_desk d) (q ∙ ap copying_one e))
 
     pub close_done : (s a u : List ℕ) (v : Inode) → v ≡ inode_of s n h.locked → a ≡ put_attributes m h.locked (with_links v 0) → u ≡ put_copied d h.locked 1 → next ≡ unlocking h → t ≡ put_desk u next
-        → left (Done next.steps) s a t ≡ do_step s m d n (close h.locked)
+        → left (Ok next.steps) s a t ≡ do_step s m d n (close h.locked)
     close_done s a u v f p g q w =
         same_left s (rw (q, e)) (p ∙ ap (λ (y : Inode). put_attributes m h.locked (with_links y 0)) f) (w ∙ ap₂ put_desk g (q ∙ ap unlocking e))
 
     pub finish_done : (a : List ℕ) → a ≡ finish_image m n h.blocks → next ≡ finishing h → t ≡ put_desk d next
-        → (s : List ℕ) → left (Done next.steps) s a t ≡ do_step s m d n finish
+        → (s : List ℕ) → left (Ok next.steps) s a t ≡ do_step s m d n finish
     finish_done a p q w s = same_left s (rw (q, e)) (p ∙ ap (λ (y : Desk). finish_image m n y.blocks) e) (w ∙ ap (put_desk d) (q ∙ ap finishing e))
 
 -- ---- the block that a block step takes
@@ -148,7 +146,7 @@ used_long {s} {n} f i k l u q b =
     holds (is_long s i) (λ e. let w = ((blocks_of_lem f i l u).blocks k q).low in let z = kth_none (is_long s i) s n i k e b in omega arith)
 
 pub target_inside : {s m : List ℕ} {n : ℕ} {h : Desk} → Locked s n h → OpenImage s m n h → h.transferred < blocks_used (size_of s h.locked)
-    → (long : ℕ → Bool) (x c : ℕ) (f : Found) → f ≡ target_block long m n h.blocks x → f ≡ At c → Target m n h c
+    → (long : ℕ → Bool) (x c : ℕ) (f : Option ℕ) → f ≡ target_block long m n h.blocks x → f ≡ Some c → Target m n h c
 target_inside {s} {m} {n} {h} l o q long x c f g e =
     let t = target_at long m n h.blocks x c (sym g ∙ e) in
     let a = t.low in

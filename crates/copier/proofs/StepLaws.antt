@@ -1,4 +1,5 @@
 -- Each way that a step returns. s is the store, m the image, d the desk.
+use Rattle.std.specs.Prelude.{Err, Ok, Result}
 use Prim.Native.Nat.{ℕ}
 use mathlib.Core.Path.{◌≡◌, sym, ap, ◌∙◌}
 use mathlib.Core.Bool.{Bool, true, false, not}
@@ -10,19 +11,21 @@ use Rattle.desk.specs.Next.{runs}
 use Rattle.bounded.proofs.BoolLaws.{and_left, chain_on, chain_off}
 use Rattle.sound.specs.Sound.{inodes_in}
 use Rattle.sound.specs.declared.Form.TheVariants.{Store}
+use Rattle.std.specs.Result.{IsErrAnd}
+use Rattle.answers.proofs.RefusalLaws.{exit}
+use Rattle.answers.specs.Told.{Answer}
 use Rattle.answers.specs.declared.Refusal.{Refusal}
 use Rattle.answers.specs.declared.Refusal.TheVariants.{WrongState}
 use Rattle.sound.proofs.SoundLaws.{is_sound_lem}
 use Rattle.sound.specs.Test.{framed_b, is_sound}
 use Rattle.image.proofs.CutLaws.{running_is}
-use Rattle.guards.specs.declared.Watched.{Watched}
-use Rattle.guards.specs.declared.Watched.TheVariants.{Open, Shut}
-use Rattle.guards.specs.Handed.{handed}
+use Rattle.guards.specs.Handed.{handed, watched_by}
 use Rattle.guards.proofs.GuardLaws.{passed, desk_passed, opened, shut}
 use Rattle.checkpoint.specs.Fit.{is_running}
 use Rattle.checkpoint.specs.Copier.{step_of}
-use Rattle.checkpoint.specs.Live.{Outcome, refuse, three_guards, do_step, step, world}
+use Rattle.checkpoint.specs.Live.{left, Outcome, refuse, three_guards, do_step, step, world}
 use Rattle.checkpoint.specs.List.{Ready}
+use Rattle.guards.specs.declared.Watched.{Watched}
 
 module _ (s m d : List ℕ) where
   -- what follows the guards
@@ -44,12 +47,12 @@ module _ (s m d : List ℕ) where
   step_works n o i e = rw i e
 
   -- w is what the guards have answered
-  module _ (w : Watched) (e : w ≡ handed (three_guards s m d) (desk_of d)) where
-    pub step_stopped : (x : Refusal) → w ≡ Shut x → refuse x s m d ≡ step s m d
+  module _ (w : Result Watched Refusal) (e : w ≡ handed (three_guards s m d) (desk_of d)) where
+    pub step_stopped : (x : Refusal) (a : Answer) → IsErrAnd a (λ y. y ≡ x) → w ≡ Err x → left a s m d ≡ step s m d
     unfolding step
-    step_stopped x q = let z = shut (three_guards s m d) (desk_of d) w e q in rw z
+    step_stopped x a y q = let z = shut (three_guards s m d) (desk_of d) w e q in rw (exit a x y, z)
 
-    pub step_through : (n b : ℕ) (h : Desk) (o : Outcome) → w ≡ Open n b h → o ≡ goes_on n → o ≡ step s m d
+    pub step_through : (n b : ℕ) (h : Desk) (o : Outcome) → w ≡ Ok (watched_by n b h) → o ≡ goes_on n → o ≡ step s m d
     unfolding step
     step_through n b h o q r =
         let z = (opened (three_guards s m d) (desk_of d) w e q).0 in
@@ -57,7 +60,7 @@ module _ (s m d : List ℕ) where
         rw z ((r ∙ ap goes_on p.sound.inodes))
 
     -- what they let through
-    pub step_ready : {n b : ℕ} {h : Desk} → w ≡ Open n b h → (h ≡ desk_of d) × Ready (world s m d) × (n ≡ inodes_in s)
+    pub step_ready : {n b : ℕ} {h : Desk} → w ≡ Ok (watched_by n b h) → (h ≡ desk_of d) × Ready (world s m d) × (n ≡ inodes_in s)
     unfolding is_sound
     step_ready {n} {b} q =
         let g = opened (three_guards s m d) (desk_of d) w e q in

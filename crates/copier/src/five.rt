@@ -1,4 +1,6 @@
 // A step of the copy apart from its guards: exactly one of five things, over the desk's header and its methods. s is the store, m the image, d the desk, h the desk's header, n the count of inodes.
+// n stays beside h, whose field h.inodes it is in a run: the clauses hold of any n, and with h.inodes in its place
+// they would ask more of callers.
 ghost use Rattle.std.specs.Prelude.{◌≡◌, true, List, ℕ, ◌+◌, ◌*◌, ◌<◌, ◌≤◌, length};
 ghost use Rattle.bounded.specs.Count.{Tallied};
 ghost use Rattle.layout.specs.Sizes.{most_inodes, most_image_blocks, most_blocks};
@@ -9,7 +11,6 @@ ghost use Rattle.directory.specs.Slot.{most_slots};
 ghost use Rattle.desk.specs.Sizes.{desk_header_bytes};
 ghost use Rattle.desk.specs.Desk.{desk_of};
 ghost use Rattle.sound.specs.Sound.{inodes_in};
-ghost use Rattle.answers.specs.declared.Answer.TheVariants.{Done, Refused};
 ghost use Rattle.answers.specs.declared.Refusal.TheVariants.{ImageFull};
 ghost use Rattle.checkpoint.specs.Fit.{is_running};
 ghost use Rattle.checkpoint.specs.Image.{image_naming};
@@ -22,7 +23,6 @@ ghost use Rattle.copier.specs.Held.{Held, Locked, Target, FreeImage, OpenImage};
 use answers::{Answer, Refusal};
 use blocks::free;
 use blocks::map::MAP_WORDS;
-use bounded::Found;
 use content::apply::kth_used;
 use desk::Desk;
 use image::naming;
@@ -32,19 +32,19 @@ use layout::sizes::{BLOCK_BYTES, INODE_PLACES, ROOT};
 use transfer::target_block;
 
 // 1 and 2: inode i is locked.
-pub fn lock(d: &mut [u8], h: Desk, i: usize) -> Answer
+pub fn lock(d: &mut [u8], h: Desk, i: usize) -> usize
     requires { (h ≡ desk_of d.old) × (desk_header_bytes ≤ length d.old) × (h.steps + 1 < 4294967296) × (i < 65536) }
-    ensures { (result ≡ Done ((desk_of d.old).steps + 1)) × (d.new ≡ step_desk d.old (lock i)) }
+    ensures { (result ≡ (desk_of d.old).steps + 1) × (d.new ≡ step_desk d.old (lock i)) }
 {
     let held = h.lock(i as u16);
     held.write(&mut *d);
-    Answer::Done(held.steps as usize)
+    held.steps as usize
 }
 
 // 3: the next block of the locked inode goes to image block c.
-pub fn copy(s: &[u8], m: &mut [u8], d: &mut [u8], h: Desk, n: usize, c: usize) -> Answer
+pub fn copy(s: &[u8], m: &mut [u8], d: &mut [u8], h: Desk, n: usize, c: usize) -> usize
     requires { Held d.old n h × Locked s.now n h × (h.transferred < blocks_used (size_of s.now h.locked)) × Target m.old n h c }
-    ensures { left result s.now m.new d.new
+    ensures { left (Ok result) s.now m.new d.new
         ≡ do_step s.now m.old d.old n (copy h.locked h.transferred c) }
 {
     let i = h.locked as usize;
@@ -55,13 +55,13 @@ pub fn copy(s: &[u8], m: &mut [u8], d: &mut [u8], h: Desk, n: usize, c: usize) -
     // the header as it stands in the desk: h as a whole would be loaded from where its fields were just put one by one
     let grown = Desk::read(&*d).copied_one_more();
     grown.write(&mut *d);
-    Answer::Done(grown.steps as usize)
+    grown.steps as usize
 }
 
 // 4: the locked inode is copied.
-pub fn close(s: &[u8], m: &mut [u8], d: &mut [u8], h: Desk, n: usize) -> Answer
+pub fn close(s: &[u8], m: &mut [u8], d: &mut [u8], h: Desk, n: usize) -> usize
     requires { Held d.old n h × Locked s.now n h × Addressed m.old n }
-    ensures { left result s.now m.new d.new
+    ensures { left (Ok result) s.now m.new d.new
         ≡ do_step s.now m.old d.old n (close h.locked) }
 {
     let i = h.locked as usize;
@@ -71,7 +71,7 @@ pub fn close(s: &[u8], m: &mut [u8], d: &mut [u8], h: Desk, n: usize) -> Answer
     desk::put_copied(&mut *d, i, 1);
     let freed = h.unlock();
     freed.write(&mut *d);
-    Answer::Done(freed.steps as usize)
+    freed.steps as usize
 }
 
 // 5: nothing is left to copy. The map has the image's named blocks, counts has how often it names each inode.
@@ -82,23 +82,23 @@ pub fn finish(
     n: usize,
     map: &[u16],
     counts: &[u16; INODE_PLACES],
-) -> Answer
+) -> usize
     requires { Held d.old n h × Addressed m.old n × (h.blocks ≤ most_image_blocks) × Maps (is_long m.old) m.old n (most_blocks * n) map.now × Tallied (image_naming m.old n) 1 (most_inodes + 1) (most_slots * n) counts.now }
-    ensures { (s : List ℕ) → left result s m.new d.new ≡ do_step s m.old d.old n finish }
+    ensures { (s : List ℕ) → left (Ok result) s m.new d.new ≡ do_step s m.old d.old n finish }
 {
     naming::finish_image(&mut *m, n, h.blocks as usize, map, counts);
     let ended = h.finish();
     ended.write(&mut *d);
-    Answer::Done(ended.steps as usize)
+    ended.steps as usize
 }
 
 // 16: every image block is named.
-pub fn stop(d: &mut [u8], h: Desk) -> Answer
+pub fn stop(d: &mut [u8], h: Desk) -> Refusal
     requires { (h ≡ desk_of d.old) × (desk_header_bytes ≤ length d.old) }
-    ensures { (result ≡ Refused ImageFull) × (d.new ≡ step_desk d.old full) }
+    ensures { (result ≡ ImageFull) × (d.new ≡ step_desk d.old full) }
 {
     h.stop().write(&mut *d);
-    Answer::Refused(Refusal::ImageFull)
+    Refusal::ImageFull
 }
 
 // Nothing is locked.
@@ -107,16 +107,16 @@ fn free_step(m: &mut [u8], d: &mut [u8], h: Desk, n: usize) -> Answer
     ensures { (s : List ℕ) → left result s m.new d.new ≡ do_step s m.old d.old n (free_step m.old d.old n) }
 {
     if !desk::is_copied(&*d, n, ROOT) {
-        return lock(&mut *d, h, ROOT);
+        return Ok(lock(&mut *d, h, ROOT));
     }
     let mut counts = [0u16; INODE_PLACES];
     naming::count_names(&*m, n, &mut counts);
-    let Found::At(i) = naming::lowest_named(&counts, &*d, n) else {
+    let Some(i) = naming::lowest_named(&counts, &*d, n) else {
         let mut map = [0u16; MAP_WORDS];
         free::named_blocks(&*m, n, 0, false, &mut map);
-        return finish(&mut *m, &mut *d, h, n, &map, &counts);
+        return Ok(finish(&mut *m, &mut *d, h, n, &map, &counts));
     };
-    lock(&mut *d, h, i)
+    Ok(lock(&mut *d, h, i))
 }
 
 // An inode is locked.
@@ -128,14 +128,14 @@ fn locked_step(s: &[u8], m: &mut [u8], d: &mut [u8], h: Desk, n: usize) -> Answe
     let i = h.locked as usize;
     let k = h.transferred as usize;
     if blocks::blocks_used(inode::size(s, n, i) as usize) <= k {
-        return close(s, &mut *m, &mut *d, h, n);
+        return Ok(close(s, &mut *m, &mut *d, h, n));
     }
     let long = blocks::is_long(s, n, i);
     let own = kth_used(s, n, i, k) as usize;
-    let Found::At(c) = target_block(&*m, n, i, long, h.blocks as usize, own) else {
-        return stop(&mut *d, h);
+    let Some(c) = target_block(&*m, n, i, long, h.blocks as usize, own) else {
+        return Err(stop(&mut *d, h));
     };
-    copy(s, &mut *m, &mut *d, h, n, c)
+    Ok(copy(s, &mut *m, &mut *d, h, n, c))
 }
 
 // A step's body: refusals 1 to 3 do not come, and the copy runs.
@@ -145,7 +145,8 @@ pub fn advance(s: &[u8], m: &mut [u8], d: &mut [u8], h: Desk, n: usize) -> Answe
         ≡ do_step s.now m.old d.old n (step_of s.now m.old d.old n) }
 {
     if h.locked == 0 {
-        return free_step(&mut *m, &mut *d, h, n);
+        free_step(&mut *m, &mut *d, h, n)
+    } else {
+        locked_step(s, &mut *m, &mut *d, h, n)
     }
-    locked_step(s, &mut *m, &mut *d, h, n)
 }

@@ -29,8 +29,7 @@ fn start_image(m: &mut [u8], n: usize, b: usize)
     requires { (n ≤ most_inodes) × (image_allowed n (length m.old) ≡ true) × (b ≡ image_blocks n (length m.old)) }
     ensures { m.new ≡ start_image n (length m.old) }
 {
-    let length = m.len();
-    octets::zero_range(&mut *m, 0, length);
+    m.fill(0);
     let fresh = Header {
         inodes: n as u16,
         blocks: b as u16,
@@ -51,49 +50,45 @@ fn start_desk(d: &mut [u8], h: Desk, n: usize, b: usize)
     h.start(b as u16).write(&mut *d);
 }
 
-// Refuses with 15, or starts the copy: of the store only its count of inodes, n, plays a part.
-fn begin(h: Desk, n: usize, m: &mut [u8], d: &mut [u8]) -> Answer
-    requires { (h ≡ desk_of d.old) × (n ≤ most_inodes) × (image_allowed n (length m.old) ≡ true) × (desk_length n ≤ length d.old) }
-    ensures { (s : List ℕ) → n ≡ inodes_in s → left result s m.new d.new ≡ started s m.old d.old }
+// Refuses with 15, or starts the copy: of the store only its count of inodes plays a part.
+fn begin(w: Watched, m: &mut [u8], d: &mut [u8]) -> Answer
+    requires { (w.desk ≡ desk_of d.old) × (w.inodes ≤ most_inodes) × (image_allowed w.inodes (length m.old) ≡ true) × (desk_length w.inodes ≤ length d.old) }
+    ensures { (s : List ℕ) → w.inodes ≡ inodes_in s → left result s m.new d.new ≡ started s m.old d.old }
 {
-    if h.runs() {
-        return Answer::Refused(Refusal::WrongState);
+    if w.desk.runs() {
+        return Err(Refusal::WrongState);
     }
-    let b = fit::image_blocks(n, m.len());
-    start_image(&mut *m, n, b);
-    start_desk(&mut *d, h, n, b);
-    Answer::Done(0)
+    let b = fit::image_blocks(w.inodes, m.len());
+    start_image(&mut *m, w.inodes, b);
+    start_desk(&mut *d, w.desk, w.inodes, b);
+    Ok(0)
 }
 
 pub fn start(store: &[u8], image: &mut [u8], desk: &mut [u8]) -> Answer
     ensures { left result store.now image.new desk.new
         ≡ start store.now image.old desk.old }
 {
-    match guards::start_guards(store, &*image, &*desk) {
-        Watched::Open(n, _, h) => begin(h, n, &mut *image, &mut *desk),
-        Watched::Shut(why) => Answer::Refused(why),
-    }
+    let w = guards::start_guards(store, &*image, &*desk)?;
+    begin(w, &mut *image, &mut *desk)
 }
 
 // ---- step
 // 15, or the step itself.
-fn go_on(s: &[u8], m: &mut [u8], d: &mut [u8], h: Desk, n: usize) -> Answer
-    requires { (h ≡ desk_of d.old) × Ready (world s.now m.old d.old) × (n ≡ inodes_in s.now) }
+fn go_on(s: &[u8], m: &mut [u8], d: &mut [u8], w: Watched) -> Answer
+    requires { (w.desk ≡ desk_of d.old) × Ready (world s.now m.old d.old) × (w.inodes ≡ inodes_in s.now) }
     ensures { left result s.now m.new d.new
-        ≡ pick (is_running d.old) (do_step s.now m.old d.old n (step_of s.now m.old d.old n)) (refuse WrongState s.now m.old d.old) }
+        ≡ pick (is_running d.old) (do_step s.now m.old d.old w.inodes (step_of s.now m.old d.old w.inodes)) (refuse WrongState s.now m.old d.old) }
 {
-    if !h.runs() {
-        return Answer::Refused(Refusal::WrongState);
+    if !w.desk.runs() {
+        return Err(Refusal::WrongState);
     }
-    five::advance(s, &mut *m, &mut *d, h, n)
+    five::advance(s, &mut *m, &mut *d, w.desk, w.inodes)
 }
 
 pub fn step(store: &[u8], image: &mut [u8], desk: &mut [u8]) -> Answer
     ensures { left result store.now image.new desk.new
         ≡ step store.now image.old desk.old }
 {
-    match guards::three_guards(store, &*image, &*desk) {
-        Watched::Open(n, _, h) => go_on(store, &mut *image, &mut *desk, h, n),
-        Watched::Shut(why) => Answer::Refused(why),
-    }
+    let w = guards::three_guards(store, &*image, &*desk)?;
+    go_on(store, &mut *image, &mut *desk, w)
 }

@@ -1,4 +1,5 @@
 -- What the promise of a call says of its answer and of its counts.
+use Rattle.std.specs.Prelude.{Err, Ok}
 use Prim.Native.Nat.{ℕ, ◌<◌}
 use mathlib.Core.Path.{◌≡◌, refl, sym, ap, subst, ◌∙◌}
 use mathlib.Core.Bool.{Bool, true, false}
@@ -7,7 +8,6 @@ use lib.ListN.{get_or, replicate, get_or-replicate}
 use Rattle.bounded.specs.Search.{pick}
 use Rattle.bounded.specs.Table.{table}
 use Rattle.bounded.proofs.TableLaws.{get_or_table}
-use Rattle.answers.specs.declared.Answer.TheVariants.{Done, Refused}
 use Rattle.answers.specs.declared.Refusal.TheVariants.{BadTurn}
 use Rattle.answers.specs.Refusal.{refusal_number}
 use Rattle.answers.specs.Told.{Told}
@@ -32,8 +32,8 @@ module _ (c : Call) where
 
   abbrev of : Bool → Dealt
   of v =
-      pick v (turn (Done (served c.flags c.last c.steps)) (table (gets c.flags c.last c.steps) bays))
-      (turn (Refused BadTurn) (replicate bays 0))
+      pick v (turn (Ok (served c.flags c.last c.steps)) (table (gets c.flags c.last c.steps) bays))
+      (turn (Err BadTurn) (replicate bays 0))
 
   -- the counts, refused or not
   pub data Gave : Type 0 where

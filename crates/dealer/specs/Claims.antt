@@ -1,12 +1,10 @@
 -- What a charging case may rely on, of calls of the dealer's code. Of the code this knows the contract
 -- of `deal`, and nothing else: each call has it as its one hypothesis (proofs/Contract.antt holds it to
 -- the code's).
-use Rattle.std.specs.Prelude.{ℕ, ◌+◌, ◌≤◌, ◌<◌, ◌≡◌, Bool, true, false, length, get_or}
+use Rattle.std.specs.Prelude.{ℕ, ◌+◌, ◌≤◌, ◌<◌, ◌≡◌, Bool, true, false, length, get_or, Ok}
 use mathlib.Core.List.{List, [], ◌∷◌, Memᴰ}
 use Rattle.bounded.specs.Sum.{sum}
-use Rattle.answers.specs.declared.Answer.{Answer}
-use Rattle.answers.specs.declared.Answer.TheVariants.{Done}
-use Rattle.answers.specs.Told.{told}
+use Rattle.answers.specs.Told.{Answer, told}
 use Rattle.dealer.specs.Deal.{bays, runs, turn, turn_allowed, dealt}
 
 -- a call: what the dealer was told, what it answered, and what its contract promises
@@ -20,7 +18,7 @@ pub record Call : Type 0 where
 
 -- it answered bay x, and so was not refused
 abbrev pub Answers : Call → ℕ → Type 0
-Answers c x = told c.answer ≡ told (Done x)
+Answers c x = told c.answer ≡ told (Ok x)
 
 -- the steps that bay x got
 abbrev pub given : Call → ℕ → ℕ

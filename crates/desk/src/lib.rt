@@ -18,6 +18,7 @@ const MARK_BYTES: usize = 8;
 // A copy has at most so many steps for each inode, and one more: a lock, its blocks and a close.
 pub const STEPS_AN_INODE: u32 = (MOST_BLOCKS + 2) as u32;
 
+// Bytes and no enum: any byte can stand there, and `Desk::read` promises it as it stands.
 pub const IDLE: u8 = 0;
 
 pub const RUNNING: u8 = 1;
@@ -27,16 +28,11 @@ pub const FINISHED: u8 = 2;
 pub const STOPPED: u8 = 3;
 
 // A desk for n inodes may be k bytes long.
+#[tactic(auto, unfolding(crate::specs::Sizes::desk_allowed))]
 pub fn allowed(n: usize, k: usize) -> bool
     ensures { result ≡ desk_allowed n k }
 {
-    if n < 1 {
-        return false;
-    }
-    if MOST_INODES < n {
-        return false;
-    }
-    k == DESK_HEADER_BYTES + DESK_INODE_BYTES * n
+    (1..=MOST_INODES).contains(&n) && k == DESK_HEADER_BYTES + DESK_INODE_BYTES * n
 }
 
 #[derive(Clone, Copy)]
@@ -84,18 +80,11 @@ impl Desk {
     }
 
     // A running copy has locked one of the inodes.
+    #[tactic(auto, using(crate::proofs::LockLaws::locks_listed))]
     pub fn locks_any(self, inodes: &[usize]) -> bool
         ensures { result ≡ locks_any self inodes.now }
     {
-        if self.state != RUNNING {
-            return false;
-        }
-        for k in 0..inodes.len() {
-            if self.locked as usize == inodes[k] {
-                return true;
-            }
-        }
-        false
+        self.runs() && inodes.contains(&usize::from(self.locked))
     }
 
     pub fn start(mut self, blocks: u16) -> Desk
@@ -156,6 +145,7 @@ impl Desk {
 }
 
 // The bytes of the header that no field takes are 0.
+#[tactic(auto, unfolding(crate::specs::Desk::desk_rest_zero))]
 pub fn reserved_zero(d: &[u8]) -> bool
     requires { desk_header_bytes ≤ length d.now }
     ensures { result ≡ desk_rest_zero d.now }
@@ -171,17 +161,12 @@ pub fn copied_byte(d: &[u8], i: usize) -> u8
 }
 
 // Inode i, which may be no inode, is copied.
+#[tactic(auto, unfolding(crate::specs::Desk::is_copied))]
 pub fn is_copied(d: &[u8], n: usize, i: usize) -> bool
     requires { desk_length n ≤ length d.now }
     ensures { result ≡ is_copied d.now n i }
 {
-    if i < 1 {
-        return false;
-    }
-    if n < i {
-        return false;
-    }
-    copied_byte(d, i) == 1
+    (1..=n).contains(&i) && copied_byte(d, i) == 1
 }
 
 pub fn put_copied(d: &mut [u8], i: usize, v: u8)
@@ -212,6 +197,7 @@ pub fn is_marked(d: &[u8], n: usize, i: usize, slot: usize) -> bool
     marks::marked(mark_word(d, n, i), slot)
 }
 
+// Two lines, and `clear_mark` two: one function with a closure for the bit would leave as many.
 pub fn set_mark(d: &mut [u8], n: usize, i: usize, slot: usize)
     requires { (1 ≤ i) × (i ≤ n) × (desk_length n ≤ length d.old) × (slot < mark_bits) }
     ensures { d.new ≡ set_mark d.old n i slot }

@@ -1,4 +1,5 @@
 -- Laws of a directory's slots: where they lie, how they are searched block by block, and what a write leaves. n is the inode count.
+use Rattle.std.specs.Prelude.{None, Option, Some}
 use Prim.Native.Nat.{ℕ, ◌+◌, ◌*◌, ◌-◌, ◌/◌, ◌%◌, ◌≤◌, ◌<◌}
 use mathlib.Core.Path.{◌≡◌, sym, ap, ◌∙◌}
 use mathlib.Core.Logic.{◌≢◌}
@@ -7,8 +8,6 @@ use mathlib.Core.List.{List}
 use native.Mathlib.Omega.{arith}
 use lib.ListN.{length, take, drop, replicate, length-replicate}
 use Rattle.bounded.specs.Search.{first, first_from, on_found}
-use Rattle.bounded.specs.declared.Found.{Found}
-use Rattle.bounded.specs.declared.Found.TheVariants.{At, Absent}
 use Rattle.bounded.proofs.SearchLaws.{Lowest, found_lowest, none_below, first_begin, first_end, first_ext, first_skip, first_hit, first_shift}
 use Rattle.octets.specs.Octets.{Octets, part, splice, Apart}
 use Rattle.octets.proofs.PartLaws.{length_splice, cut, part_part, part_apart, part_same, octets_part}
@@ -66,38 +65,38 @@ apart_slots s n d t e u p q r = apart_in_block s n d t e u (cc) (λ m. r (omega 
 -- ---- searches
 -- what a search that ended says
 module _ (s : List ℕ) (n d : ℕ) (name : List ℕ) where
-  pub find_lowest : (t : ℕ) → find_slot s n d name ≡ At t → Lowest (slot_has_name s n d name) 0 (slots s d) t
+  pub find_lowest : (t : ℕ) → find_slot s n d name ≡ Some t → Lowest (slot_has_name s n d name) 0 (slots s d) t
   unfolding find_slot first
   find_lowest t e = found_lowest (slot_has_name s n d name) 0 (slots s d) t e
 
-  pub find_below : (t : ℕ) → find_slot s n d name ≡ At t → t < slots s d
+  pub find_below : (t : ℕ) → find_slot s n d name ≡ Some t → t < slots s d
   find_below t e = let l = find_lowest t e in omega arith
 
-  pub find_named : (t : ℕ) → find_slot s n d name ≡ At t → same_name (entry_of s n d t) name ≡ true
+  pub find_named : (t : ℕ) → find_slot s n d name ≡ Some t → same_name (entry_of s n d t) name ≡ true
   find_named t e = unfold slot_has_name in (find_lowest t e).holds
 
-  pub find_absent : find_slot s n d name ≡ Absent → (t : ℕ) → t < slots s d → slot_has_name s n d name t ≡ false
+  pub find_absent : find_slot s n d name ≡ None → (t : ℕ) → t < slots s d → slot_has_name s n d name t ≡ false
   unfolding find_slot first
   find_absent e t l = none_below (slot_has_name s n d name) 0 (slots s d) e t (omega arith) (omega arith)
 
 module _ (s : List ℕ) (n d : ℕ) where
-  pub empty_lowest : (t : ℕ) → empty_slot s n d ≡ At t → Lowest (slot_empty s n d) 0 (slots s d) t
+  pub empty_lowest : (t : ℕ) → empty_slot s n d ≡ Some t → Lowest (slot_empty s n d) 0 (slots s d) t
   unfolding empty_slot first
   empty_lowest t e = found_lowest (slot_empty s n d) 0 (slots s d) t e
 
-  pub empty_below : (t : ℕ) → empty_slot s n d ≡ At t → t < slots s d
+  pub empty_below : (t : ℕ) → empty_slot s n d ≡ Some t → t < slots s d
   empty_below t e = let l = empty_lowest t e in omega arith
 
-  pub empty_at : (t : ℕ) → empty_slot s n d ≡ At t → is_empty (entry_of s n d t) ≡ true
+  pub empty_at : (t : ℕ) → empty_slot s n d ≡ Some t → is_empty (entry_of s n d t) ≡ true
   empty_at t e = unfold slot_empty in (empty_lowest t e).holds
 
-  pub empty_absent : empty_slot s n d ≡ Absent → (t : ℕ) → t < slots s d → slot_empty s n d t ≡ false
+  pub empty_absent : empty_slot s n d ≡ None → (t : ℕ) → t < slots s d → slot_empty s n d t ≡ false
   unfolding empty_slot first
   empty_absent e t l = none_below (slot_empty s n d) 0 (slots s d) e t (omega arith) (omega arith)
 
 -- ---- searches block by block, of a test p on entries
 -- what is left to search from block k on
-unfoldable pub from_block : (List ℕ → Bool) → List ℕ → ℕ → ℕ → ℕ → Found
+unfoldable pub from_block : (List ℕ → Bool) → List ℕ → ℕ → ℕ → ℕ → Option ℕ
 from_block p s n d k = first_from (λ t. p (entry_of s n d t)) (4 * k) (slots s d - 4 * k)
 
 module _ (p : List ℕ → Bool) (s : List ℕ) (n d : ℕ) where
@@ -105,12 +104,12 @@ module _ (p : List ℕ → Bool) (s : List ℕ) (n d : ℕ) where
   unfolding from_block
   blocks_begin = first_begin (λ t. p (entry_of s n d t)) (slots s d)
 
-  pub blocks_end : (k : ℕ) → slots s d / 4 ≤ k → from_block p s n d k ≡ Absent
+  pub blocks_end : (k : ℕ) → slots s d / 4 ≤ k → from_block p s n d k ≡ None
   unfolding from_block slots
   blocks_end k l = first_end (λ t. p (entry_of s n d t)) (4 * k) (slots s d) (omega arith)
 
   -- block k starts at o, and r is what the search of its four entries says
-  module _ (k : ℕ) {o : ℕ} {r : Found} (h : o ≡ block_at n (kth_block s n d k)) (g : r ≡ first (λ j. p (part (take (o + 64 - o) (drop o s)) (16 * j) 16)) 4) where
+  module _ (k : ℕ) {o : ℕ} {r : Option ℕ} (h : o ≡ block_at n (kth_block s n d k)) (g : r ≡ first (λ j. p (part (take (o + 64 - o) (drop o s)) (16 * j) 16)) 4) where
     entry_in_block : (j : ℕ) → j < 4 → part (take (o + 64 - o) (drop o s)) (16 * j) 16 ≡ entry_of s n d (4 * k + j)
     unfolding entry_of slot_at
     entry_in_block j m =
@@ -118,46 +117,37 @@ module _ (p : List ℕ → Bool) (s : List ℕ) (n d : ℕ) where
         let b : (4 * k + j) % 4 ≡ j = omega arith in
         rw (a, b, cut, ← h) (part_part s o 64 (16 * j) 16 (omega arith))
 
-    four : on_found r (λ j. At (4 * k + j)) Absent ≡ first_from (λ t. p (entry_of s n d t)) (4 * k) 4
+    four : on_found r (λ j. Some (4 * k + j)) None ≡ first_from (λ t. p (entry_of s n d t)) (4 * k) 4
     unfolding first
     four =
         let z : 4 * k + 0 ≡ 4 * k = omega arith in
-        ap (λ (x : Found). on_found x (λ j. At (4 * k + j)) Absent)
+        ap (λ (x : Option ℕ). on_found x (λ j. Some (4 * k + j)) None)
         (g ∙ first_ext (λ j. p (part (take (o + 64 - o) (drop o s)) (16 * j) 16)) (λ j. p (entry_of s n d (4 * k + j))) 0 4 (λ j a b. ap p (entry_in_block j (omega arith))))
         ∙ first_shift (λ t. p (entry_of s n d t)) (4 * k) 0 4
         ∙ ap (λ (i : ℕ). first_from (λ t. p (entry_of s n d t)) i 4) z
 
-    pub block_hit : k < slots s d / 4 → {j : ℕ} → r ≡ At j → from_block p s n d k ≡ At (4 * k + j)
+    pub block_hit : k < slots s d / 4 → {j : ℕ} → r ≡ Some j → from_block p s n d k ≡ Some (4 * k + j)
     unfolding from_block
     block_hit l {j} e =
         first_hit (λ t. p (entry_of s n d t)) (4 * k) 4 (slots s d - 4 * k) (4 * k + j) (omega arith) (sym four ∙ rw e)
 
-    pub block_skip : k < slots s d / 4 → r ≡ Absent → from_block p s n d k ≡ from_block p s n d (k + 1)
+    pub block_skip : k < slots s d / 4 → r ≡ None → from_block p s n d k ≡ from_block p s n d (k + 1)
     unfolding from_block
     block_skip l e =
         let a : 4 * k + 4 ≡ 4 * (k + 1) = omega arith in
         let b : slots s d - 4 * k - 4 ≡ slots s d - 4 * (k + 1) = omega arith in
         first_skip (λ t. p (entry_of s n d t)) (4 * k) 4 (slots s d - 4 * k) (omega arith) (sym four ∙ rw e) ∙ rw (a, b)
 
--- the two searches where they begin; names are compared as words
+-- names are compared as words
 abbrev pub words_test : Name → List ℕ → Bool
 words_test w e = same_words (words_at e 2) w
 
-find_words : (s : List ℕ) (n d : ℕ) (name : List ℕ) → Octets s → Octets name → find_slot s n d name ≡ first (λ t. words_test (words_at name 0) (entry_of s n d t)) (slots s d)
+pub find_words : (s : List ℕ) (n d : ℕ) (name : List ℕ) (w : Name) → Octets s → Octets name → w ≡ words_at name 0 → first (λ t. words_test w (entry_of s n d t)) (slots s d) ≡ find_slot s n d name
 unfolding find_slot first slot_has_name entry_of
-find_words s n d name hs hn =
-    first_ext (slot_has_name s n d name) (λ t. words_test (words_at name 0) (entry_of s n d t)) 0 (slots s d)
-    (λ t a b. sym (same_words_lem (entry_of s n d t) name (octets_part s (slot_at s n d t) 16 hs) hn))
-
-pub find_blocks : (s : List ℕ) (n d : ℕ) (name : List ℕ) (w : Name) → Octets s → Octets name → w ≡ words_at name 0 → find_slot s n d name ≡ from_block (words_test w) s n d 0
-find_blocks s n d name w hs hn e =
-    find_words s n d name hs hn
-    ∙ blocks_begin (words_test (words_at name 0)) s n d
-    ∙ ap (λ (v : Name). from_block (words_test v) s n d 0) (sym e)
-
-pub empty_blocks : (s : List ℕ) (n d : ℕ) → empty_slot s n d ≡ from_block is_empty s n d 0
-unfolding empty_slot slot_empty
-empty_blocks s n d = blocks_begin is_empty s n d
+find_words s n d name w hs hn e =
+    ap (λ (v : Name). first (λ t. words_test v (entry_of s n d t)) (slots s d)) e
+    ∙ first_ext (λ t. words_test (words_at name 0) (entry_of s n d t)) (slot_has_name s n d name) 0 (slots s d)
+    (λ t a b. same_words_lem (entry_of s n d t) name (octets_part s (slot_at s n d t) 16 hs) hn)
 
 -- ---- a write past the inodes
 module _ (s : List ℕ) (n p : ℕ) (xs : List ℕ) (h : 16 + 32 * n ≤ p) where

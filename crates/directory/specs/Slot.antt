@@ -1,7 +1,6 @@
 -- The slots of a directory, counted from 0: their entries read, searched and written. n is the inode count, d a directory.
-use Rattle.std.specs.Prelude.{ℕ, ◌+◌, ◌*◌, ◌/◌, ◌%◌, Bool, List, replicate}
+use Rattle.std.specs.Prelude.{ℕ, ◌+◌, ◌*◌, ◌/◌, ◌%◌, Bool, List, replicate, Option}
 use Rattle.bounded.specs.Search.{first}
-use Rattle.bounded.specs.declared.Found.{Found}
 use Rattle.octets.specs.Octets.{part, splice}
 use Rattle.layout.specs.Sizes.{most_directory_blocks}
 use Rattle.layout.specs.Inode.{size_of}
@@ -37,7 +36,7 @@ unfoldable pub slot_has_name : List ℕ → ℕ → ℕ → List ℕ → ℕ →
 slot_has_name s n d name t = same_name (entry_of s n d t) name
 
 -- the slot of the name
-unfoldable pub find_slot : List ℕ → ℕ → ℕ → List ℕ → Found
+unfoldable pub find_slot : List ℕ → ℕ → ℕ → List ℕ → Option ℕ
 find_slot s n d name = first (slot_has_name s n d name) (slots s d)
 
 -- slot t is empty
@@ -45,7 +44,7 @@ unfoldable pub slot_empty : List ℕ → ℕ → ℕ → ℕ → Bool
 slot_empty s n d t = is_empty (entry_of s n d t)
 
 -- the lowest empty slot
-unfoldable pub empty_slot : List ℕ → ℕ → ℕ → Found
+unfoldable pub empty_slot : List ℕ → ℕ → ℕ → Option ℕ
 empty_slot s n d = first (slot_empty s n d) (slots s d)
 
 -- s with an entry in slot t that names inode i by name

@@ -1,7 +1,7 @@
 // The slots of a directory: entries read, searched and written. The 16 bytes of a slot, starting mid-block, are handed to the entry's functions.
 #![tactic(auto)]
 
-ghost use Rattle.std.specs.Prelude.{◌≡◌, ◌+◌, ◌*◌, ◌<◌, ◌≤◌, length};
+ghost use Rattle.std.specs.Prelude.{◌≡◌, ℕ, Bool, List, IfSome, ◌+◌, ◌*◌, ◌<◌, ◌≤◌, length};
 ghost use Rattle.octets.specs.Octets.{part};
 ghost use Rattle.bounded.specs.Search.{first};
 ghost use Rattle.layout.specs.Sizes.{block_bytes};
@@ -11,8 +11,8 @@ ghost use Rattle.names.specs.Entry.{entry_bytes, name_at, is_empty, entry_inode}
 ghost use Rattle.names.specs.Words.{words_at, same_words};
 ghost use Rattle.directory.specs.Slot.{slots_in_block, most_slots, slots, slot_at, entry_of, find_slot, empty_slot, put_entry, clear_entry};
 ghost use Rattle.directory.specs.Fits.{DirFits};
+ghost use Rattle.directory.specs.Test.{Tests};
 
-use bounded::Found;
 use layout::sizes::{BLOCK_BYTES, MOST_DIRECTORY_BLOCKS};
 use names::{ENTRY_BYTES, Name};
 
@@ -45,66 +45,56 @@ pub fn slot_at(s: &[u8], n: usize, d: usize, t: usize) -> usize
     block_start(s, n, d, t / SLOTS_IN_BLOCK) + ENTRY_BYTES * (t % SLOTS_IN_BLOCK)
 }
 
-// The lowest slot of a block that has the name.
-fn named_in_block(block: &[u8], name: Name) -> Found
-    requires { length block.now ≡ block_bytes }
-    ensures { result
-        ≡ first (λ j. same_words (words_at (part block.now (entry_bytes * j) entry_bytes) name_at) name) slots_in_block }
+// The lowest slot of a block whose entry passes.
+fn first_in_block<F: Fn(&[u8]) -> bool + Copy>(block: &[u8], passes: F) -> Option<usize>
+    requires long { length block.now ≡ block_bytes }
+    requires asked { (e : _) → length e.now ≡ entry_bytes → F.pre passes e }
+    ensures below { IfSome result (λ j. j < slots_in_block) }
+    ensures lowest { (p : List ℕ → Bool) → Tests F.Fn passes p
+        → result ≡ first (λ j. p (part block.now (entry_bytes * j) entry_bytes)) slots_in_block }
 {
     for j in 0..SLOTS_IN_BLOCK {
         let o = ENTRY_BYTES * j;
-        if names::same_name(&block[o..o + ENTRY_BYTES], name) {
-            return Found::At(j);
+        if passes(&block[o..o + ENTRY_BYTES]) {
+            return Some(j);
         }
     }
-    Found::Absent
+    None
 }
 
-// The lowest empty slot of a block.
-fn empty_in_block(block: &[u8]) -> Found
-    requires { length block.now ≡ block_bytes }
-    ensures { result ≡ first (λ j. is_empty (part block.now (entry_bytes * j) entry_bytes)) slots_in_block }
+// The lowest slot whose entry passes: an address is read once for its four slots.
+fn first_slot<F: Fn(&[u8]) -> bool + Copy>(s: &[u8], n: usize, d: usize, passes: F) -> Option<usize>
+    requires fits { DirFits s.now n d }
+    requires asked { (e : _) → length e.now ≡ entry_bytes → F.pre passes e }
+    ensures { (p : List ℕ → Bool) → Tests F.Fn passes p
+        → result ≡ first (λ t. p (entry_of s.now n d t)) (slots s.now d) }
 {
-    for j in 0..SLOTS_IN_BLOCK {
-        let o = ENTRY_BYTES * j;
-        if names::is_empty(&block[o..o + ENTRY_BYTES]) {
-            return Found::At(j);
+    let count = slot_count(s, n, d);
+    for k in 0..count / SLOTS_IN_BLOCK {
+        let o = block_start(s, n, d, k);
+        let found = first_in_block(&s[o..o + BLOCK_BYTES], passes);
+        if let Some(j) = found {
+            return Some(SLOTS_IN_BLOCK * k + j);
         }
     }
-    Found::Absent
+    None
 }
 
-// The slot of the name: an address is read once for its four slots.
-pub fn find_slot(s: &[u8], n: usize, d: usize, name: &[u8]) -> Found
+// The slot of the name.
+pub fn find_slot(s: &[u8], n: usize, d: usize, name: &[u8]) -> Option<usize>
     requires { DirFits s.now n d × (length name.now ≤ name_bytes) }
     ensures { result ≡ find_slot s.now n d name.now }
 {
     let words = Name::of(name);
-    let count = slot_count(s, n, d);
-    for k in 0..count / SLOTS_IN_BLOCK {
-        let o = block_start(s, n, d, k);
-        let found = named_in_block(&s[o..o + BLOCK_BYTES], words);
-        if let Found::At(j) = found {
-            return Found::At(SLOTS_IN_BLOCK * k + j);
-        }
-    }
-    Found::Absent
+    first_slot(s, n, d, |entry| names::same_name(entry, words))
 }
 
 // The lowest empty slot.
-pub fn empty_slot(s: &[u8], n: usize, d: usize) -> Found
+pub fn empty_slot(s: &[u8], n: usize, d: usize) -> Option<usize>
     requires { DirFits s.now n d }
     ensures { result ≡ empty_slot s.now n d }
 {
-    let count = slot_count(s, n, d);
-    for k in 0..count / SLOTS_IN_BLOCK {
-        let o = block_start(s, n, d, k);
-        let found = empty_in_block(&s[o..o + BLOCK_BYTES]);
-        if let Found::At(j) = found {
-            return Found::At(SLOTS_IN_BLOCK * k + j);
-        }
-    }
-    Found::Absent
+    first_slot(s, n, d, names::is_empty)
 }
 
 // The inode that slot t names.

@@ -1,11 +1,11 @@
 -- A create keeps a store sound. n is the inode count.
+use Rattle.std.specs.Prelude.{None, Some}
 use Prim.Native.Nat.{ℕ, ◌-◌, ◌*◌, ◌≤◌, ◌<◌}
 use mathlib.Core.Path.{◌≡◌, refl, sym, ap, ◌∙◌}
 use mathlib.Core.Bool.{true, false}
 use mathlib.Core.List.{List}
 use native.Mathlib.Omega.{arith}
 use lib.ListN.{replicate}
-use Rattle.bounded.specs.declared.Found.TheVariants.{At, Absent}
 use Rattle.bounded.proofs.BoolLaws.{fails}
 use Rattle.bounded.proofs.TallyLaws.{one_same, one_other}
 use Rattle.layout.specs.Sizes.{address_count}
@@ -70,8 +70,8 @@ new_parent File d e = absurd (omega arith)
 new_parent Directory d e = refl
 
 module _ (s : List ℕ) (n d t i : ℕ) (k : Kind) (name : List ℕ) {b : ℕ} (h : SoundStore s n b)
-    (dir : is_directory s n d ≡ true) (new : free_inode s n ≡ At i) (inside : t < slots s d) (empty : slot_empty s n d t ≡ true)
-    (legal : legal_name name ≡ true) (absent : find_slot s n d name ≡ Absent) where
+    (dir : is_directory s n d ≡ true) (new : free_inode s n ≡ Some i) (inside : t < slots s d) (empty : slot_empty s n d t ≡ true)
+    (legal : legal_name name ≡ true) (absent : find_slot s n d name ≡ None) where
   low : 1 ≤ i
   low = (free_inode_lem s n i new).low
 

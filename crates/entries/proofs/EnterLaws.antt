@@ -1,14 +1,13 @@
 -- The stores between the writes of create, link, unlink and rename: what the next write asks of them. n and b are the counts of inodes and blocks.
+use Rattle.std.specs.Prelude.{Ok, Some, None, Option}
 use Prim.Native.Nat.{ℕ, ◌+◌, ◌*◌, ◌-◌, ◌/◌, ◌≤◌, ◌<◌}
 use mathlib.Core.Path.{◌≡◌, refl, sym, ap, ◌∙◌, subst}
-use mathlib.Core.Logic.{◌≢◌}
 use mathlib.Core.Bool.{true}
 use mathlib.Core.List.{List}
 use native.Mathlib.Decide.{ℕ_discrete}
 use native.Mathlib.Omega.{arith}
 use borrow.Author.Tests.{eq-eqb, ne_eqb, le-leb, lt-leb}
 use lib.ListN.{length}
-use Rattle.bounded.specs.declared.Found.TheVariants.{At}
 use Rattle.bounded.proofs.CountLaws.{tally_le}
 use Rattle.bounded.proofs.BoolLaws.{clash}
 use Rattle.layout.specs.Sizes.{header_bytes, most_inodes, most_store_blocks, address_count}
@@ -37,7 +36,6 @@ use Rattle.preservation.proofs.FreeLaws.{free_inode_lem, inode_counted, free_blo
 use Rattle.preservation.proofs.RecordLaws.{header_inode}
 use Rattle.content.specs.Content.{add_block}
 use Rattle.entries.specs.declared.Room.{Room}
-use Rattle.entries.specs.declared.RoomPlan.TheVariants.{Has}
 use Rattle.entries.specs.declared.Kind.{Kind}
 use Rattle.entries.specs.Room.{room_in, make_room}
 use Rattle.entries.specs.Apply.{new_inode, enter, drop_link, set_parent}
@@ -52,14 +50,14 @@ few_links s h i l m =
     omega arith
 
 -- ---- the room in d
-module _ (s : List ℕ) (n b d : ℕ) (r : Room) (h : SoundStore s n b) (k : is_directory s n d ≡ true) (e : room_in s n b d ≡ Has r) where
-  pub room_none : r.block ≡ 0 → s ≡ make_room s n d r
+module _ (s : List ℕ) (n b d : ℕ) (r : Room) (h : SoundStore s n b) (k : is_directory s n d ≡ true) (e : room_in s n b d ≡ Ok r) where
+  pub room_none : r.block ≡ None → s ≡ make_room s n d r
   unfolding make_room
-  room_none q = rw (eq-eqb r.block 0 q)
+  room_none q = rw q
 
-  pub room_some : r.block ≢ 0 → add_block s n d r.block ≡ make_room s n d r
+  pub room_some : (c : ℕ) → r.block ≡ Some c → add_block s n d c ≡ make_room s n d r
   unfolding make_room
-  room_some q = rw (ne_eqb r.block 0 q)
+  room_some c q = rw q
 
   -- what taking the block asks
   pub record Takes (c : ℕ) : Type 0 where
@@ -70,14 +68,16 @@ module _ (s : List ℕ) (n b d : ℕ) (r : Room) (h : SoundStore s n b) (k : is_
     pub few : blocks_used (size_of s d) < address_count
     pub free : 1 ≤ (header_of s).free_blocks
 
-  pub room_takes : r.block ≢ 0 → Takes r.block
-  room_takes q = go (is_room s n b d r e)
+  pub room_takes : (x : ℕ) → r.block ≡ Some x → Takes x
+  room_takes x q = go (is_room s n b d r e)
     where
-      go : IsRoom s n b d r → Takes r.block
-      go (slot t f z) = absurd (q (ap (λ (v : Room). v.block) z))
+      go : IsRoom s n b d r → Takes x
+      go (slot t f z) = let o : ◌≡◌ {A = Option ℕ} None (Some x) = sym (ap (λ (v : Room). v.block) z) ∙ q in absurd (let y : ◌≡◌ {A = ℕ} 0 1 = cc in omega arith)
       go (block c u f z) =
           let w = free_block_lem s n b c f in
-          subst Takes (sym (ap (λ (v : Room). v.block) z))
+          let o : ◌≡◌ {A = Option ℕ} (Some c) (Some x) = sym (ap (λ (v : Room). v.block) z) ∙ q in
+          let y : c ≡ x = cc in
+          subst Takes y
           (record { inode = kind_fits h directory_kind d k; sized = sized_at h; low = w.low; high = w.high; few = u; free = let f = (body_of h).free_blocks in let o = block_counted s n b c w in omega arith })
 
   -- t is the store with the room
@@ -127,7 +127,7 @@ module _ (s : List ℕ) (n d v : ℕ) {b : ℕ} (h : SoundStore s n b) (k : IsDi
   clear_header = (clear_entry_lem s n d v in_block none).header
 
 -- ---- t is the sound store s with the entry in its room
-module _ (s : List ℕ) (n b d : ℕ) (r : Room) (h : SoundStore s n b) (k : is_directory s n d ≡ true) (e : room_in s n b d ≡ Has r) (i : ℕ) (name : List ℕ) (t : List ℕ) (q : t ≡ enter s n d r i name) where
+module _ (s : List ℕ) (n b d : ℕ) (r : Room) (h : SoundStore s n b) (k : is_directory s n d ≡ true) (e : room_in s n b d ≡ Ok r) (i : ℕ) (name : List ℕ) (t : List ℕ) (q : t ≡ enter s n d r i name) where
   abbrev grown : List ℕ
   grown = make_room s n d r
 
@@ -180,8 +180,8 @@ module _ (s : List ℕ) (n i e : ℕ) (v : Inode) (q : v ≡ inode_of s n i) whe
   parent_directory h w r ew er = rw (eq-eqb (kind_of s i) directory_kind (sym kind_is ∙ h), er, ew, q)
 
 -- the new inode written: one that is free is there to be counted off
-pub create_counts : (s : List ℕ) (n b d : ℕ) (r : Room) → SoundStore s n b → is_directory s n d ≡ true → room_in s n b d ≡ Has r → (i : ℕ) (name t : List ℕ) → t ≡ enter s n d r i name
-    → free_inode s n ≡ At i → (k : Kind) (u : List ℕ) → u ≡ put_inode t n i (new_inode k d) → (header_bytes ≤ length u) × (1 ≤ (header_of u).free_inodes)
+pub create_counts : (s : List ℕ) (n b d : ℕ) (r : Room) → SoundStore s n b → is_directory s n d ≡ true → room_in s n b d ≡ Ok r → (i : ℕ) (name t : List ℕ) → t ≡ enter s n d r i name
+    → free_inode s n ≡ Some i → (k : Kind) (u : List ℕ) → u ≡ put_inode t n i (new_inode k d) → (header_bytes ≤ length u) × (1 ≤ (header_of u).free_inodes)
 create_counts s n b d r h g e i name t q f k u w =
     let o = free_inode_lem s n i f in
     let fit = entered_fits s n b d r h g e i name t q i o.low o.high in
@@ -194,7 +194,7 @@ create_counts s n b d r h g e i name t q f k u w =
     (omega arith, omega arith)
 
 -- ---- a move: t has the room in e, u has slot v of d empty too, w has the entry
-module _ (s : List ℕ) (n b e : ℕ) (r : Room) (h : SoundStore s n b) (k : is_directory s n e ≡ true) (g : room_in s n b e ≡ Has r) (t : List ℕ) (q : t ≡ make_room s n e r) (d v : ℕ) (u : List ℕ) (p : u ≡ clear_entry t n d v) where
+module _ (s : List ℕ) (n b e : ℕ) (r : Room) (h : SoundStore s n b) (k : is_directory s n e ≡ true) (g : room_in s n b e ≡ Ok r) (t : List ℕ) (q : t ≡ make_room s n e r) (d v : ℕ) (u : List ℕ) (p : u ≡ clear_entry t n d v) where
   to_dir : DirFits t n e
   to_dir = roomed_dir s n b e r h k g t q e k
 

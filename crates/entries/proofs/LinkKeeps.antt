@@ -1,10 +1,10 @@
 -- A link keeps a store sound. n is the inode count.
+use Rattle.std.specs.Prelude.{None}
 use Prim.Native.Nat.{ℕ, ◌+◌, ◌≤◌, ◌<◌}
 use mathlib.Core.Path.{◌≡◌, ap, ◌∙◌}
 use mathlib.Core.Bool.{true}
 use mathlib.Core.List.{List}
 use native.Mathlib.Omega.{arith}
-use Rattle.bounded.specs.declared.Found.TheVariants.{Absent}
 use Rattle.layout.specs.Inode.{kind_of, links_of, parent_of, put_links, file_kind, is_file, is_directory}
 use Rattle.blocks.proofs.ViewLaws.{inode_fits}
 use Rattle.layout.specs.Fits.{InodeFits}
@@ -28,7 +28,7 @@ use Rattle.preservation.proofs.StockLaws.{entries_stock, relinked_stock, stock_s
 
 module _ (s : List ℕ) (n d t i : ℕ) (name : List ℕ) {b : ℕ} (h : SoundStore s n b)
     (dir : is_directory s n d ≡ true) (file : is_file s n i ≡ true) (inside : t < slots s d) (empty : slot_empty s n d t ≡ true)
-    (legal : legal_name name ≡ true) (absent : find_slot s n d name ≡ Absent) where
+    (legal : legal_name name ≡ true) (absent : find_slot s n d name ≡ None) where
   low : 1 ≤ i
   low = kind_some s n file_kind i file
 

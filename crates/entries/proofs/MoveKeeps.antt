@@ -1,4 +1,5 @@
 -- A move to another directory keeps a store sound. n is the inode count.
+use Rattle.std.specs.Prelude.{None}
 use Prim.Native.Nat.{ℕ, ◌*◌, ◌≤◌, ◌<◌}
 use mathlib.Core.Path.{◌≡◌, refl, sym, ap, ◌∙◌, subst}
 use mathlib.Core.Logic.{◌≢◌}
@@ -9,7 +10,6 @@ use borrow.Author.Tests.{eq-eqb, eqb-true, eqb-false}
 use lib.Dec.{eqb}
 use Rattle.bounded.specs.Climb.{Leads, leads_b, Closed}
 use Rattle.bounded.specs.Search.{pick}
-use Rattle.bounded.specs.declared.Found.TheVariants.{Absent}
 use Rattle.bounded.proofs.BoolLaws.{clash, fails, and_left, and_right}
 use Rattle.bounded.proofs.ClimbLaws.{leads_bool, leads_prop, leads_kept, leads_on, leads_top}
 use Rattle.layout.specs.Sizes.{root_inode}
@@ -87,7 +87,7 @@ module _ (s : List ℕ) (n i e : ℕ) {b : ℕ} (h : SoundStore s n b) (low : 1 
 module _ (s : List ℕ) (n d t i e u : ℕ) (other : List ℕ) {b : ℕ} (h : SoundStore s n b)
     (from : is_directory s n d ≡ true) (inside : t < slots s d) (full : slot_empty s n d t ≡ false) (is : i ≡ inode_at s n d t)
     (into : is_directory s n e ≡ true) (room : u < slots s e) (empty : slot_empty s n e u ≡ true)
-    (legal : legal_name other ≡ true) (absent : find_slot s n e other ≡ Absent) (apart : is_below s n i e ≡ false) where
+    (legal : legal_name other ≡ true) (absent : find_slot s n e other ≡ None) (apart : is_below s n i e ≡ false) where
   old : EntryHere s n d t i
   old = entry_here h d t i from inside full is
 

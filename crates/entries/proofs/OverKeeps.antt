@@ -1,5 +1,6 @@
 -- A replacing rename: once the old holder is gone the store is sound, and the lap recorder's rename is accepted there, so neither 12 nor 13 comes. n and b are the counts of inodes and blocks.
-use Prim.Native.Nat.{ℕ, ◌≤◌, ◌<◌}
+use Rattle.std.specs.Prelude.{None, Ok, Some}
+use Prim.Native.Nat.{ℕ, ◌<◌}
 use mathlib.Core.Path.{◌≡◌, refl, sym, ap, ◌∙◌, subst}
 use mathlib.Core.Logic.{◌≢◌}
 use mathlib.Core.Bool.{Bool, true, false, ◌&&◌}
@@ -10,22 +11,18 @@ use borrow.Author.Tests.{eqb-true, leb-true, leb-false}
 use lib.Dec.{eqb, leb}
 use Rattle.bounded.specs.Climb.{leads_b}
 use Rattle.bounded.specs.Search.{first}
-use Rattle.bounded.specs.declared.Found.TheVariants.{At, Absent}
-use Rattle.bounded.proofs.BoolLaws.{clash, fails, holds, holds_or_fails, and_left, and_right}
+use Rattle.bounded.proofs.BoolLaws.{clash, fails, holds, and_left, and_right}
 use Rattle.bounded.proofs.ClimbLaws.{leads_prop}
 use Rattle.bounded.proofs.SearchLaws.{lowest_of, lowest_found, absent_of}
-use Rattle.layout.specs.Sizes.{root_inode}
 use Rattle.layout.specs.Inode.{kind_of, links_of, parent_of, free_kind, directory_kind, is_directory, zero_inode}
 use Rattle.layout.proofs.KindLaws.{kind_some, kind_most, kind_is, kind_of_lem}
 use Rattle.names.specs.Name.{legal_name}
-use Rattle.names.specs.Entry.{same_name, entry_inode, is_empty}
+use Rattle.names.specs.Entry.{same_name, entry_inode}
 use Rattle.names.proofs.EntryLaws.{empty_not_named}
-use Rattle.directory.specs.Slot.{most_slots, slots, entry_of, slot_has_name, find_slot, slot_empty, empty_slot, inode_at}
+use Rattle.directory.specs.Slot.{slots, entry_of, slot_has_name, find_slot, slot_empty, empty_slot, inode_at}
 use Rattle.directory.proofs.SlotLaws.{find_below, find_named}
 use Rattle.sound.specs.Place.{entry_at, filled, naming, place_of}
-use Rattle.sound.specs.Sound.{Sound}
 use Rattle.sound.specs.Counted.{SoundStore}
-use Rattle.sound.specs.declared.Form.TheVariants.{Store}
 use Rattle.sound.proofs.PlaceLaws.{place_dir, entry_place}
 use Rattle.preservation.proofs.SameLaws.{OtherInodes}
 use Rattle.preservation.proofs.KeepLaws.{body_of, same_slots}
@@ -35,8 +32,6 @@ use Rattle.preservation.proofs.SoundTreeLaws.{nodes_of, names_at, above_at, tree
 use Rattle.preservation.proofs.EntryWriteLaws.{SlotIn, slot_in, place_below}
 use Rattle.preservation.proofs.SlotPlaceLaws.{EntryHere, entry_here, found_full, place_filled}
 use Rattle.entries.specs.declared.Room.{Room}
-use Rattle.entries.specs.declared.RoomPlan.TheVariants.{Has}
-use Rattle.entries.specs.declared.RenamePlan.TheVariants.{Rename, Move}
 use Rattle.entries.specs.Room.{room, room_in}
 use Rattle.entries.specs.Plan.{holds_none, is_below, rename_new_plan}
 use Rattle.entries.specs.Apply.{unlinked}
@@ -45,6 +40,7 @@ use Rattle.entries.proofs.PlanFacts.{Onto, unlinks}
 use Rattle.entries.proofs.TakePlanLaws.{within_new, move_room, rename_here, rename_away}
 use Rattle.entries.proofs.UnlinkKeeps.{unfilled, unlink_emptied, unlink_others, unlink_less, unlink_last, unlink_frame, unlink_sound}
 use Rattle.entries.proofs.MoveKeeps.{not_below, leads_other}
+use Rattle.entries.specs.declared.RenamePlan.TheVariants.{Move, Rename}
 
 -- ---- searches of a sound store
 module _ (s : List ℕ) (n b d : ℕ) (h : SoundStore s n b) (dir : is_directory s n d ≡ true) (name : List ℕ) (legal : legal_name name ≡ true) (t : ℕ) (inside : t < slots s d)
@@ -66,13 +62,13 @@ module _ (s : List ℕ) (n b d : ℕ) (h : SoundStore s n b) (dir : is_directory
           ∙ new (place_of d u) (place_below k) (λ e. z (omega arith)) (place_dir d u x y ∙ sym (place_dir d t x w)) (place_filled s n d u k q)
 
   -- a search finds it there, or nowhere
-  pub found_there : same_name (entry_of s n d t) name ≡ true → find_slot s n d name ≡ At t
+  pub found_there : same_name (entry_of s n d t) name ≡ true → find_slot s n d name ≡ Some t
   unfolding find_slot first slot_has_name
   found_there own =
       lowest_found (slot_has_name s n d name) 0 (slots s d) t
       (record { from = omega arith; below = omega arith; holds = own; before = λ u _ m. else_unnamed u (omega arith) (λ e. omega arith) })
 
-  pub found_nowhere : slot_empty s n d t ≡ true → find_slot s n d name ≡ Absent
+  pub found_nowhere : slot_empty s n d t ≡ true → find_slot s n d name ≡ None
   unfolding find_slot first slot_has_name slot_empty
   found_nowhere bare = absent_of (slot_has_name s n d name) 0 (slots s d) (λ u _ m. at u (omega arith) (ℕ_discrete u t))
     where
@@ -81,16 +77,16 @@ module _ (s : List ℕ) (n b d : ℕ) (h : SoundStore s n b) (dir : is_directory
       at u l (no e) = else_unnamed u l e
 
 -- a directory with an empty slot has room
-room_had : (s : List ℕ) (n b d t : ℕ) → t < slots s d → slot_empty s n d t ≡ true → (r : Room) × (room_in s n b d ≡ Has r)
+room_had : (s : List ℕ) (n b d t : ℕ) → t < slots s d → slot_empty s n d t ≡ true → (r : Room) × (room_in s n b d ≡ Ok r)
 unfolding room_in empty_slot first
 room_had s n b d t l e =
     let f = lowest_of (slot_empty s n d) 0 (slots s d) t (omega arith) (omega arith) e in
-    (room f.0 0, rw (lowest_found (slot_empty s n d) 0 (slots s d) f.0 f.1) refl)
+    (room f.0 None, rw (lowest_found (slot_empty s n d) 0 (slots s d) f.0 f.1) refl)
 
 -- the rename that is left to do: within the directory, or to another
 pub data Onward (s : List ℕ) (n b d : ℕ) (name : List ℕ) (e : ℕ) (other : List ℕ) (t i : ℕ) : Type 0 where
-  within : d ≡ e → rename_new_plan s n b d name e other ≡ Rename t i → Onward s n b d name e other t i
-  to : (d ≡ e → ⊥) → (r : Room) → rename_new_plan s n b d name e other ≡ Move t i r → Onward s n b d name e other t i
+  within : d ≡ e → rename_new_plan s n b d name e other ≡ Ok (Rename t i) → Onward s n b d name e other t i
+  to : (d ≡ e → ⊥) → (r : Room) → rename_new_plan s n b d name e other ≡ Ok (Move t i r) → Onward s n b d name e other t i
 
 module _ (s : List ℕ) (n b d : ℕ) (name : List ℕ) (e : ℕ) (other : List ℕ) (i h : ℕ) (k : SoundStore s n b) (p : Onto s n d name e other i h) (differ : i ≢ h) where
   -- the old holder's entry, which goes
@@ -103,7 +99,7 @@ module _ (s : List ℕ) (n b d : ℕ) (name : List ℕ) (e : ℕ) (other : List 
   into : is_directory s n e ≡ true
   into = (unlinks s n e other u h p.goes).entry.directory
 
-  found : find_slot s n e other ≡ At u
+  found : find_slot s n e other ≡ Some u
   found = (unlinks s n e other u h p.goes).entry.found
 
   inside : u < slots s e
@@ -194,7 +190,7 @@ module _ (s : List ℕ) (n b d : ℕ) (name : List ℕ) (e : ℕ) (other : List 
       new_emptied s gone n (place_of e u) (place_of e u) other emptied
       (own_new s n (place_of e u) other (names_at k) (place_below holder.slot) (place_filled s n e u holder.slot full) (named_here e u other holder.slot (find_named s n e other u found)))
 
-  absent : find_slot gone n e other ≡ Absent
+  absent : find_slot gone n e other ≡ None
   absent = found_nowhere gone n b e gone_sound into_gone other legal_other u inside_gone new_name bare
 
   -- the renamed entry stands as it stood
@@ -210,7 +206,7 @@ module _ (s : List ℕ) (n b d : ℕ) (name : List ℕ) (e : ℕ) (other : List 
       new_emptied s gone n (place_of e u) (place_of d t) name emptied
       (own_new s n (place_of d t) name (names_at k) (place_below mover.slot) (place_filled s n d t mover.slot full_from) (named_here d t name mover.slot (find_named s n d name t p.entry.found)))
 
-  there : find_slot gone n d name ≡ At t
+  there : find_slot gone n d name ≡ Some t
   there = found_there gone n b d gone_sound from_gone name p.entry.legal t inside_from_gone own_name (ap (λ (y : List ℕ). same_name y name) same_entry ∙ find_named s n d name t p.entry.found)
 
   inode_there : i ≡ inode_at gone n d t
@@ -254,7 +250,7 @@ module _ (s : List ℕ) (n b d : ℕ) (name : List ℕ) (e : ℕ) (other : List 
   onward = go (ℕ_discrete d e)
     where
       go : Dec (d ≡ e) → Onward gone n b d name e other t i
-      go (yes q) = within q (sym (rename_here gone n b d e name other p.entry.legal legal_other from_gone into_gone t i (Rename t i) there inode_there q (within_new gone n t i e other absent)))
+      go (yes q) = within q (sym (rename_here gone n b d e name other p.entry.legal legal_other from_gone into_gone t i (Ok (Rename t i)) there inode_there q (within_new gone n t i e other absent)))
       go (no q) =
           let r = room_had gone n b e u inside_gone bare in
-          to q r.0 (sym (rename_away gone n b d e name other p.entry.legal legal_other from_gone into_gone t i (Move t i r.0) there inode_there q (move_room gone n b t i e other absent (outside q) r.0 r.1)))
+          to q r.0 (sym (rename_away gone n b d e name other p.entry.legal legal_other from_gone into_gone t i (Ok (Move t i r.0)) there inode_there q (move_room gone n b t i e other absent (outside q) r.0 r.1)))

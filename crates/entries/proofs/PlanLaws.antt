@@ -1,25 +1,25 @@
 -- A rename within a directory: its plan and its bytes.
+use Rattle.std.specs.Prelude.{None, Some, Ok}
 use Prim.Native.Nat.{ℕ, ◌<◌}
 use mathlib.Core.Path.{◌≡◌, refl}
 use mathlib.Core.Bool.{true}
 use mathlib.Core.List.{List}
 use native.Mathlib.Omega.{arith}
 use borrow.Author.Tests.{eq-eqb}
-use Rattle.bounded.specs.declared.Found.TheVariants.{At, Absent}
 use Rattle.names.specs.Name.{legal_name}
 use Rattle.names.specs.Entry.{entry_for}
 use Rattle.layout.specs.Inode.{is_directory}
 use Rattle.directory.specs.Slot.{slots, entry_of, find_slot, inode_at}
 use Rattle.directory.proofs.SlotLaws.{slot_fits, few_slots, entry_put}
 use Rattle.directory.specs.Fits.{DirFits}
-use Rattle.entries.specs.declared.RenamePlan.TheVariants.{Rename}
 use Rattle.entries.specs.Plan.{rename_to, rename_new_plan}
 use Rattle.entries.specs.Apply.{renamed}
+use Rattle.entries.specs.declared.RenamePlan.TheVariants.{Rename}
 
 -- ---- "A rename within a directory keeps its slot"
 module _ (s : List ℕ) (n b d t : ℕ) (name other : List ℕ) where
-  pub rename_keeps : legal_name name ≡ true → legal_name other ≡ true → is_directory s n d ≡ true → find_slot s n d name ≡ At t → find_slot s n d other ≡ Absent
-      → rename_new_plan s n b d name d other ≡ Rename t (inode_at s n d t)
+  pub rename_keeps : legal_name name ≡ true → legal_name other ≡ true → is_directory s n d ≡ true → find_slot s n d name ≡ Some t → find_slot s n d other ≡ None
+      → rename_new_plan s n b d name d other ≡ Ok (Rename t (inode_at s n d t))
   unfolding rename_new_plan rename_to
   rename_keeps l m f g h = rw (l, m, f, g, eq-eqb d d refl, h)
 

@@ -1,15 +1,14 @@
 -- Room for an entry: a directory with an empty slot, or with a block more. n and b are the counts of inodes and blocks.
+use Rattle.std.specs.Prelude.{Err, None, Ok, Option, Some}
 use Prim.Native.Nat.{ℕ, ◌+◌, ◌-◌, ◌≤◌, ◌<◌}
 use mathlib.Core.Path.{◌≡◌, refl, sym, ap, ◌∙◌}
 use mathlib.Core.Bool.{Bool, true, false}
 use mathlib.Core.List.{List}
 use native.Mathlib.Decide.{dec_lt}
 use native.Mathlib.Omega.{arith}
-use borrow.Author.Tests.{ltb-true, ne_eqb}
+use borrow.Author.Tests.{ltb-true}
 use lib.Dec.{eqb, ltb}
 use Rattle.bounded.specs.Search.{pick, first, first_from, on_found}
-use Rattle.bounded.specs.declared.Found.{Found}
-use Rattle.bounded.specs.declared.Found.TheVariants.{At, Absent}
 use Rattle.bounded.proofs.SearchLaws.{first_ext, first_split, absent_of, found_else}
 use Rattle.layout.specs.Sizes.{most_directory_blocks}
 use Rattle.layout.specs.Header.{header_of}
@@ -33,24 +32,23 @@ use Rattle.preservation.proofs.FreeLaws.{FreeBlock, free_block_lem}
 use Rattle.content.specs.Content.{add_block}
 use Rattle.content.proofs.GrowLaws.{block_added, add_block_sound, grown_tree, grown_slots, grown_entry, grown_empty}
 use Rattle.entries.specs.declared.Room.{Room}
-use Rattle.entries.specs.declared.RoomPlan.TheVariants.{Has, NoRoom}
 use Rattle.entries.specs.Room.{room, room_in, make_room}
 
 -- ---- the two rooms
 pub data IsRoom (s : List ℕ) (n b d : ℕ) (r : Room) : Type 0 where
-  slot : (t : ℕ) → empty_slot s n d ≡ At t → r ≡ room t 0 → IsRoom s n b d r
-  block : (c : ℕ) → blocks_used (size_of s d) < most_directory_blocks → free_block s n b ≡ At c → r ≡ room (slots s d) c → IsRoom s n b d r
+  slot : (t : ℕ) → empty_slot s n d ≡ Some t → r ≡ room t None → IsRoom s n b d r
+  block : (c : ℕ) → blocks_used (size_of s d) < most_directory_blocks → free_block s n b ≡ Some c → r ≡ room (slots s d) (Some c) → IsRoom s n b d r
 
-pub is_room : (s : List ℕ) (n b d : ℕ) (r : Room) → room_in s n b d ≡ Has r → IsRoom s n b d r
+pub is_room : (s : List ℕ) (n b d : ℕ) (r : Room) → room_in s n b d ≡ Ok r → IsRoom s n b d r
 unfolding room_in
 is_room s n b d r = go (empty_slot s n d) refl (ltb (blocks_used (size_of s d)) most_directory_blocks) refl (free_block s n b) refl
   where
-    go : (x : Found) → empty_slot s n d ≡ x → (y : Bool) → ltb (blocks_used (size_of s d)) most_directory_blocks ≡ y → (z : Found) → free_block s n b ≡ z
-        → on_found x (λ t. Has (room t 0)) (pick y (on_found z (λ c. Has (room (slots s d) c)) (NoRoom NoBlocks)) (NoRoom NoSlot)) ≡ Has r → IsRoom s n b d r
-    go (At t) e y f z g q = slot t e (cc)
-    go Absent e true f (At c) g q = block c (ltb-true (blocks_used (size_of s d)) most_directory_blocks f) g (cc)
-    go Absent e true f Absent g q = let w : ◌≡◌ {A = ℕ} 0 1 = cc in absurd (omega arith)
-    go Absent e false f z g q = let w : ◌≡◌ {A = ℕ} 0 1 = cc in absurd (omega arith)
+    go : (x : Option ℕ) → empty_slot s n d ≡ x → (y : Bool) → ltb (blocks_used (size_of s d)) most_directory_blocks ≡ y → (z : Option ℕ) → free_block s n b ≡ z
+        → on_found x (λ t. Ok (room t None)) (pick y (on_found z (λ c. Ok (room (slots s d) (Some c))) (Err NoBlocks)) (Err NoSlot)) ≡ Ok r → IsRoom s n b d r
+    go (Some t) e y f z g q = slot t e (cc)
+    go None e true f (Some c) g q = block c (ltb-true (blocks_used (size_of s d)) most_directory_blocks f) g (cc)
+    go None e true f None g q = let w : ◌≡◌ {A = ℕ} 0 1 = cc in absurd (omega arith)
+    go None e false f z g q = let w : ◌≡◌ {A = ℕ} 0 1 = cc in absurd (omega arith)
 
 -- ---- t is the sound store s with room in slot u of the directory d
 pub record Roomed (s t : List ℕ) (n d u : ℕ) : Type 0 where
@@ -77,7 +75,7 @@ module _ (s : List ℕ) (n b d : ℕ) (h : SoundStore s n b) (k : is_directory s
   dir : IsDir s n d
   dir = record { low = low; high = high; kind = kind_is s n directory_kind d k }
 
-  room_slot : (t : ℕ) → empty_slot s n d ≡ At t → Roomed s s n d t
+  room_slot : (t : ℕ) → empty_slot s n d ≡ Some t → Roomed s s n d t
   room_slot t e = record {
     sound = h.sound;
     frame = frame_stays s;
@@ -110,7 +108,7 @@ module _ (s : List ℕ) (n b d : ℕ) (h : SoundStore s n b) (k : is_directory s
         empty = unfold slot_empty in e (slots s d) (omega arith) (omega arith);
       }
 
-  pub make_room_lem : (r : Room) → room_in s n b d ≡ Has r → Roomed s (make_room s n d r) n d r.slot
+  pub make_room_lem : (r : Room) → room_in s n b d ≡ Ok r → Roomed s (make_room s n d r) n d r.slot
   unfolding make_room
   make_room_lem r e = go (is_room s n b d r e)
     where
@@ -118,8 +116,7 @@ module _ (s : List ℕ) (n b d : ℕ) (h : SoundStore s n b) (k : is_directory s
       go (slot t f q) = rw q (room_slot t f)
       go (block c u f q) =
           let w = free_block_lem s n b c f in
-          let z : eqb c 0 ≡ false = ne_eqb c 0 (let l = w.low in (λ o. omega arith)) in
-          rw (q, z) (room_block c u w)
+          rw q (room_block c u w)
 
 -- ---- what follows
 -- a number is of the kind it was
@@ -153,5 +150,5 @@ module _ (s t : List ℕ) (n d u : ℕ) (r : Roomed s t n d u) (name : List ℕ)
       let e : slots t d ≡ slots s d + k = omega arith in
       let w = absent_of (slot_has_name t n d name) (0 + slots s d) k (λ v p q. empty_not_named (entry_of t n d v) name (r.new v (omega arith) (omega arith)) g) in
       ap (first_from (slot_has_name t n d name) 0) e ∙ first_split (slot_has_name t n d name) 0 (slots s d) k
-      ∙ ap (on_found (first_from (slot_has_name t n d name) 0 (slots s d)) At) w
+      ∙ ap (on_found (first_from (slot_has_name t n d name) 0 (slots s d)) Some) w
       ∙ found_else (first_from (slot_has_name t n d name) 0 (slots s d)) ∙ find_among

@@ -1,4 +1,5 @@
 -- Each way that the plans for an entry that is there return: unlink and rename.
+use Rattle.std.specs.Prelude.{Err, None, Ok, Some, Result}
 use Prim.Native.Nat.{ℕ, ◌+◌, ◌-◌, ◌≤◌, ◌<◌}
 use mathlib.Core.Path.{◌≡◌, ap, ◌∙◌}
 use mathlib.Core.Bool.{Bool, true, false, not, ◌&&◌}
@@ -9,7 +10,6 @@ use lib.ListN.{take, drop}
 use Rattle.bounded.specs.Below.{all_below}
 use Rattle.bounded.specs.Search.{pick}
 use Rattle.bounded.specs.Climb.{leads_b}
-use Rattle.bounded.specs.declared.Found.TheVariants.{At, Absent}
 use Rattle.bounded.proofs.BoolLaws.{chain_on, chain_off}
 use Rattle.bounded.proofs.BelowLaws.{all_more, all_stopped, all_done}
 use Rattle.octets.proofs.PartLaws.{cut}
@@ -19,17 +19,14 @@ use Rattle.names.specs.Entry.{is_empty}
 use Rattle.directory.specs.Slot.{slots, slot_at, slot_empty, entry_of, find_slot, inode_at}
 use Rattle.answers.specs.declared.Refusal.{Refusal}
 use Rattle.answers.specs.declared.Refusal.TheVariants.{IllegalName, WrongInode, NameAbsent, NameTaken, NotEmpty, IntoItself, KindsDiffer}
-use Rattle.content.specs.declared.NumberPlan.TheVariants.{To, NoNumber}
 use Rattle.entries.specs.declared.Room.{Room}
-use Rattle.entries.specs.declared.RoomPlan.TheVariants.{Has, NoRoom}
-use Rattle.entries.specs.declared.UnlinkPlan.{UnlinkPlan}
-use Rattle.entries.specs.declared.UnlinkPlan.TheVariants.{Take, NoUnlink}
-use Rattle.entries.specs.declared.RenamePlan.{RenamePlan}
-use Rattle.entries.specs.declared.RenamePlan.TheVariants.{Rename, Move, NoRename}
-use Rattle.entries.specs.declared.OverPlan.{OverPlan}
-use Rattle.entries.specs.declared.OverPlan.TheVariants.{Over, Same, NoOver}
-use Rattle.entries.specs.Room.{room_in}
+use Rattle.entries.specs.Room.{room_in, removal}
 use Rattle.entries.specs.Plan.{look_up_plan, holds_none, unlink_plan, is_below, rename_within, move_to, rename_to, rename_new_plan, over_of, over_plan}
+use Rattle.entries.specs.declared.RenamePlan.TheVariants.{Move, Rename}
+use Rattle.entries.specs.declared.OverPlan.TheVariants.{Over, Same}
+use Rattle.entries.specs.declared.UnlinkPlan.{UnlinkPlan}
+use Rattle.entries.specs.declared.RenamePlan.{RenamePlan}
+use Rattle.entries.specs.declared.OverPlan.{OverPlan}
 
 -- the test of slot t's bytes, as the code cuts them out at o
 pub empty_read : (s : List ℕ) (n d t o : ℕ) (r : Bool) → o ≡ slot_at s n d t → r ≡ is_empty (take (o + 16 - o) (drop o s)) → r ≡ slot_empty s n d t
@@ -51,46 +48,46 @@ module _ (s : List ℕ) (n d t : ℕ) where
 
 -- ---- unlink
 -- of the entry in slot t, which names i
-abbrev taking : List ℕ → ℕ → ℕ → ℕ → UnlinkPlan
-taking s n t i = pick (eqb (kind_of s i) directory_kind && not (holds_none s n i)) (NoUnlink NotEmpty) (Take t i)
+abbrev taking : List ℕ → ℕ → ℕ → ℕ → Result UnlinkPlan Refusal
+taking s n t i = pick (eqb (kind_of s i) directory_kind && not (holds_none s n i)) (Err NotEmpty) (Ok (removal t i))
 
 module _ (s : List ℕ) (n t i : ℕ) where
-  taking_full : kind_of s i ≡ directory_kind → holds_none s n i ≡ false → NoUnlink NotEmpty ≡ taking s n t i
+  taking_full : kind_of s i ≡ directory_kind → holds_none s n i ≡ false → Err NotEmpty ≡ taking s n t i
   taking_full g h = rw (eq-eqb (kind_of s i) directory_kind g, h)
 
-  taking_empty : kind_of s i ≡ directory_kind → holds_none s n i ≡ true → Take t i ≡ taking s n t i
+  taking_empty : kind_of s i ≡ directory_kind → holds_none s n i ≡ true → Ok (removal t i) ≡ taking s n t i
   taking_empty g h = rw (eq-eqb (kind_of s i) directory_kind g, h)
 
-  taking_file : (kind_of s i ≡ directory_kind → ⊥) → Take t i ≡ taking s n t i
+  taking_file : (kind_of s i ≡ directory_kind → ⊥) → Ok (removal t i) ≡ taking s n t i
   taking_file g = rw (ne_eqb (kind_of s i) directory_kind g)
 
 module _ (s : List ℕ) (n d : ℕ) (name : List ℕ) where
-  pub unlink_illegal : legal_name name ≡ false → NoUnlink IllegalName ≡ unlink_plan s n d name
+  pub unlink_illegal : legal_name name ≡ false → Err IllegalName ≡ unlink_plan s n d name
   unfolding unlink_plan
   unlink_illegal l = rw l
 
   module _ (l : legal_name name ≡ true) where
-    pub unlink_wrong : is_directory s n d ≡ false → NoUnlink WrongInode ≡ unlink_plan s n d name
+    pub unlink_wrong : is_directory s n d ≡ false → Err WrongInode ≡ unlink_plan s n d name
     unfolding unlink_plan
     unlink_wrong k = rw (l, k)
 
     module _ (k : is_directory s n d ≡ true) where
-      pub unlink_absent : find_slot s n d name ≡ Absent → NoUnlink NameAbsent ≡ unlink_plan s n d name
+      pub unlink_absent : find_slot s n d name ≡ None → Err NameAbsent ≡ unlink_plan s n d name
       unfolding unlink_plan
       unlink_absent f = rw (l, k, f)
 
-      module _ (t i : ℕ) (f : find_slot s n d name ≡ At t) (e : i ≡ inode_at s n d t) where
+      module _ (t i : ℕ) (f : find_slot s n d name ≡ Some t) (e : i ≡ inode_at s n d t) where
         unlink_there : taking s n t i ≡ unlink_plan s n d name
         unfolding unlink_plan
         unlink_there = rw (l, k, f) (ap (taking s n t) e)
 
-        pub unlink_full : kind_of s i ≡ directory_kind → holds_none s n i ≡ false → NoUnlink NotEmpty ≡ unlink_plan s n d name
+        pub unlink_full : kind_of s i ≡ directory_kind → holds_none s n i ≡ false → Err NotEmpty ≡ unlink_plan s n d name
         unlink_full g h = taking_full s n t i g h ∙ unlink_there
 
-        pub unlink_file : (kind_of s i ≡ directory_kind → ⊥) → Take t i ≡ unlink_plan s n d name
+        pub unlink_file : (kind_of s i ≡ directory_kind → ⊥) → Ok (removal t i) ≡ unlink_plan s n d name
         unlink_file g = taking_file s n t i g ∙ unlink_there
 
-        pub unlink_empty : kind_of s i ≡ directory_kind → holds_none s n i ≡ true → Take t i ≡ unlink_plan s n d name
+        pub unlink_empty : kind_of s i ≡ directory_kind → holds_none s n i ≡ true → Ok (removal t i) ≡ unlink_plan s n d name
         unlink_empty g h = taking_empty s n t i g h ∙ unlink_there
 
 -- ---- refusal 10
@@ -105,58 +102,58 @@ module _ (s : List ℕ) (n i e : ℕ) where
 
 -- ---- the entry in slot t, which names i, is to have another name in its directory e
 module _ (s : List ℕ) (n t i e : ℕ) (other : List ℕ) where
-  pub within_new : find_slot s n e other ≡ Absent → Rename t i ≡ rename_within s n t i e other
+  pub within_new : find_slot s n e other ≡ None → Ok (Rename t i) ≡ rename_within s n t i e other
   within_new f = rw f
 
-  pub within_own : (u : ℕ) → find_slot s n e other ≡ At u → u ≡ t → Rename t i ≡ rename_within s n t i e other
+  pub within_own : (u : ℕ) → find_slot s n e other ≡ Some u → u ≡ t → Ok (Rename t i) ≡ rename_within s n t i e other
   within_own u f r = rw (f, eq-eqb u t r)
 
-  pub within_taken : (u : ℕ) → find_slot s n e other ≡ At u → (u ≡ t → ⊥) → NoRename NameTaken ≡ rename_within s n t i e other
+  pub within_taken : (u : ℕ) → find_slot s n e other ≡ Some u → (u ≡ t → ⊥) → Err NameTaken ≡ rename_within s n t i e other
   within_taken u f r = rw (f, ne_eqb u t r)
 
 -- ---- it is to go to another directory e
 module _ (s : List ℕ) (n b t i e : ℕ) (other : List ℕ) where
-  pub move_taken : (u : ℕ) → find_slot s n e other ≡ At u → NoRename NameTaken ≡ move_to s n b t i e other
+  pub move_taken : (u : ℕ) → find_slot s n e other ≡ Some u → Err NameTaken ≡ move_to s n b t i e other
   move_taken u f = rw f
 
-  module _ (f : find_slot s n e other ≡ Absent) where
-    pub move_itself : is_below s n i e ≡ true → NoRename IntoItself ≡ move_to s n b t i e other
+  module _ (f : find_slot s n e other ≡ None) where
+    pub move_itself : is_below s n i e ≡ true → Err IntoItself ≡ move_to s n b t i e other
     move_itself g = rw (f, g)
 
     module _ (g : is_below s n i e ≡ false) where
-      pub move_room : (r : Room) → room_in s n b e ≡ Has r → Move t i r ≡ move_to s n b t i e other
+      pub move_room : (r : Room) → room_in s n b e ≡ Ok r → Ok (Move t i r) ≡ move_to s n b t i e other
       move_room r h = rw (f, g, h)
 
-      pub move_roomless : (w : Refusal) → room_in s n b e ≡ NoRoom w → NoRename w ≡ move_to s n b t i e other
+      pub move_roomless : (w : Refusal) → room_in s n b e ≡ Err w → Err w ≡ move_to s n b t i e other
       move_roomless w h = rw (f, g, h)
 
 -- ---- rename
 module _ (s : List ℕ) (n b d e : ℕ) (name other : List ℕ) where
-  pub rename_illegal : legal_name name ≡ false → NoRename IllegalName ≡ rename_new_plan s n b d name e other
+  pub rename_illegal : legal_name name ≡ false → Err IllegalName ≡ rename_new_plan s n b d name e other
   unfolding rename_new_plan
   rename_illegal l = rw l
 
   module _ (l : legal_name name ≡ true) where
-    pub rename_illegal_new : legal_name other ≡ false → NoRename IllegalName ≡ rename_new_plan s n b d name e other
+    pub rename_illegal_new : legal_name other ≡ false → Err IllegalName ≡ rename_new_plan s n b d name e other
     unfolding rename_new_plan
     rename_illegal_new m = rw (l, m)
 
     module _ (m : legal_name other ≡ true) where
-      pub rename_wrong : is_directory s n d ≡ false → NoRename WrongInode ≡ rename_new_plan s n b d name e other
+      pub rename_wrong : is_directory s n d ≡ false → Err WrongInode ≡ rename_new_plan s n b d name e other
       unfolding rename_new_plan
       rename_wrong k = rw (l, m, k)
 
       module _ (k : is_directory s n d ≡ true) where
-        pub rename_wrong_new : is_directory s n e ≡ false → NoRename WrongInode ≡ rename_new_plan s n b d name e other
+        pub rename_wrong_new : is_directory s n e ≡ false → Err WrongInode ≡ rename_new_plan s n b d name e other
         unfolding rename_new_plan
         rename_wrong_new j = rw (l, m, k, j)
 
         module _ (j : is_directory s n e ≡ true) where
-          pub rename_absent : find_slot s n d name ≡ Absent → NoRename NameAbsent ≡ rename_new_plan s n b d name e other
+          pub rename_absent : find_slot s n d name ≡ None → Err NameAbsent ≡ rename_new_plan s n b d name e other
           unfolding rename_new_plan
           rename_absent f = rw (l, m, k, j, f)
 
-          module _ (t i : ℕ) (r : RenamePlan) (f : find_slot s n d name ≡ At t) (q : i ≡ inode_at s n d t) where
+          module _ (t i : ℕ) (r : Result RenamePlan Refusal) (f : find_slot s n d name ≡ Some t) (q : i ≡ inode_at s n d t) where
             rename_there : r ≡ rename_to s n b d t i e other → r ≡ rename_new_plan s n b d name e other
             unfolding rename_new_plan
             rename_there h = rw (l, m, k, j, f) (h ∙ ap (λ (x : ℕ). rename_to s n b d t x e other) q)
@@ -177,34 +174,34 @@ module _ (s : List ℕ) (n d i e h : ℕ) where
   pub below_away : (r : Bool) → (d ≡ e → ⊥) → r ≡ is_below s n i e → r ≡ not (eqb d e) && is_below s n i e
   below_away r g q = rw (ne_eqb d e g) q
 
-  pub over_itself : not (eqb d e) && is_below s n i e ≡ true → NoOver IntoItself ≡ over_of s n d i e h
+  pub over_itself : not (eqb d e) && is_below s n i e ≡ true → Err IntoItself ≡ over_of s n d i e h
   unfolding over_of
   over_itself g = rw g
 
   module _ (g : not (eqb d e) && is_below s n i e ≡ false) where
-    pub over_kinds : (kind_of s i ≡ kind_of s h → ⊥) → NoOver KindsDiffer ≡ over_of s n d i e h
+    pub over_kinds : (kind_of s i ≡ kind_of s h → ⊥) → Err KindsDiffer ≡ over_of s n d i e h
     unfolding over_of
     over_kinds k = rw (g, ne_eqb (kind_of s i) (kind_of s h) k)
 
     module _ (k : kind_of s i ≡ kind_of s h) where
-      pub over_same : i ≡ h → Same i ≡ over_of s n d i e h
+      pub over_same : i ≡ h → Ok (Same i) ≡ over_of s n d i e h
       unfolding over_of
       over_same q = rw (g, eq-eqb (kind_of s i) (kind_of s h) k, eq-eqb i h q)
 
-      pub over_other : (i ≡ h → ⊥) → Over i h ≡ over_of s n d i e h
+      pub over_other : (i ≡ h → ⊥) → Ok (Over i h) ≡ over_of s n d i e h
       unfolding over_of
       over_other q = rw (g, eq-eqb (kind_of s i) (kind_of s h) k, ne_eqb i h q)
 
 module _ (s : List ℕ) (n d e : ℕ) (name other : List ℕ) where
-  pub over_unknown : (w : Refusal) → look_up_plan s n d name ≡ NoNumber w → NoOver w ≡ over_plan s n d name e other
+  pub over_unknown : (w : Refusal) → look_up_plan s n d name ≡ Err w → Err w ≡ over_plan s n d name e other
   unfolding over_plan
   over_unknown w f = rw f
 
-  module _ (i : ℕ) (f : look_up_plan s n d name ≡ To i) where
-    pub over_held : (w : Refusal) → unlink_plan s n e other ≡ NoUnlink w → NoOver w ≡ over_plan s n d name e other
+  module _ (i : ℕ) (f : look_up_plan s n d name ≡ Ok i) where
+    pub over_held : (w : Refusal) → unlink_plan s n e other ≡ Err w → Err w ≡ over_plan s n d name e other
     unfolding over_plan
     over_held w g = rw (f, g)
 
-    pub over_onto : (u h : ℕ) (r : OverPlan) → unlink_plan s n e other ≡ Take u h → r ≡ over_of s n d i e h → r ≡ over_plan s n d name e other
+    pub over_onto : (u h : ℕ) (r : Result OverPlan Refusal) → unlink_plan s n e other ≡ Ok (removal u h) → r ≡ over_of s n d i e h → r ≡ over_plan s n d name e other
     unfolding over_plan
     over_onto u h r g q = rw (f, g) q

@@ -1,6 +1,5 @@
 // Entries made, taken and moved, as planned: the bytes of create, link, unlink and rename. n and b are the store's counts.
 ghost use Rattle.std.specs.Prelude.{◌≡◌, true, ◌<◌, ◌≤◌, length};
-ghost use Rattle.bounded.specs.declared.Found.TheVariants.{At};
 ghost use Rattle.layout.specs.Sizes.{most_inodes, most_store_blocks};
 ghost use Rattle.layout.specs.Header.{header_of, more_free};
 ghost use Rattle.layout.specs.Inode.{size_of, put_inode, is_file, is_directory, zero_inode, free_inode};
@@ -10,7 +9,6 @@ ghost use Rattle.names.specs.Name.{name_bytes};
 ghost use Rattle.directory.specs.Slot.{slots};
 ghost use Rattle.sound.specs.Sound.{blocks_in};
 ghost use Rattle.sound.specs.Counted.{SoundStore};
-ghost use Rattle.entries.specs.declared.RoomPlan.TheVariants.{Has};
 ghost use Rattle.entries.specs.Room.{room_in, make_room};
 ghost use Rattle.entries.specs.Apply.{new_inode, enter, created, linked, drop_link, unlinked, renamed, set_parent, moved};
 
@@ -24,19 +22,17 @@ use layout::sizes::{DIRECTORY, FILE, FREE};
 
 // The directory takes its block first, where the room has one.
 fn make_room(s: &mut [u8], n: usize, b: usize, d: usize, room: Room)
-    requires { SoundStore s.old n b × (is_directory s.old n d ≡ true) × (room_in s.old n b d ≡ Has room) }
+    requires { SoundStore s.old n b × (is_directory s.old n d ≡ true) × (room_in s.old n b d ≡ Ok room) }
     ensures { s.new ≡ make_room s.old n d room }
 {
-    let c = room.block;
-    if c == 0 {
-        return;
+    if let Some(c) = room.block {
+        add_block(&mut *s, n, b, d, c);
     }
-    add_block(&mut *s, n, b, d, c);
 }
 
 // An entry in the room, which names i.
 fn enter(s: &mut [u8], n: usize, b: usize, d: usize, room: Room, i: usize, name: &[u8])
-    requires sound_store { SoundStore s.old n b × (is_directory s.old n d ≡ true) × (room_in s.old n b d ≡ Has room) }
+    requires sound_store { SoundStore s.old n b × (is_directory s.old n d ≡ true) × (room_in s.old n b d ≡ Ok room) }
     requires i_le_n { (i ≤ n) × (length name.now ≤ name_bytes) }
     ensures { s.new ≡ enter s.old n d room i name.now }
 {
@@ -67,8 +63,8 @@ pub fn create(
     i: usize,
     room: Room,
 )
-    requires sound_store { SoundStore s.old n b × (is_directory s.old n d ≡ true) × (room_in s.old n b d ≡ Has room) }
-    requires n_value { (free_inode s.old n ≡ At i) × (length name.now ≤ name_bytes) }
+    requires sound_store { SoundStore s.old n b × (is_directory s.old n d ≡ true) × (room_in s.old n b d ≡ Ok room) }
+    requires n_value { (free_inode s.old n ≡ Some i) × (length name.now ≤ name_bytes) }
     ensures { s.new ≡ created s.old n d name.now kind i room }
 {
     enter(&mut *s, n, b, d, room, i, name);
@@ -78,7 +74,7 @@ pub fn create(
 
 // File i has an entry more, in the room.
 pub fn link(s: &mut [u8], n: usize, b: usize, d: usize, name: &[u8], i: usize, room: Room)
-    requires sound_store { SoundStore s.old n b × (is_directory s.old n d ≡ true) × (room_in s.old n b d ≡ Has room) }
+    requires sound_store { SoundStore s.old n b × (is_directory s.old n d ≡ true) × (room_in s.old n b d ≡ Ok room) }
     requires i_value { (is_file s.old n i ≡ true) × (length name.now ≤ name_bytes) }
     ensures { s.new ≡ linked s.old n d name.now i room }
 {
@@ -152,7 +148,7 @@ pub fn move_entry(
     i: usize,
     room: Room,
 )
-    requires sound_store { SoundStore s.old n b × (is_directory s.old n e ≡ true) × (room_in s.old n b e ≡ Has room) }
+    requires sound_store { SoundStore s.old n b × (is_directory s.old n e ≡ true) × (room_in s.old n b e ≡ Ok room) }
     requires d_value { (is_directory s.old n d ≡ true) × (t < slots s.old d) × (1 ≤ i) × (i ≤ n) × (length other.now ≤ name_bytes) }
     ensures { s.new ≡ moved s.old n d e other.now t i room }
 {

@@ -4,43 +4,28 @@
 pub mod apply;
 pub mod plan;
 
-use answers::Refusal;
-
-// Where a new entry goes: a slot, and the block that the directory takes first, 0 for none.
+// Where a new entry goes: a slot, and the block that the directory takes first, if it needs one.
 #[derive(Clone, Copy)]
 pub struct Room {
     pub slot: usize,
-    pub block: usize,
+    pub block: Option<usize>,
 }
 
+// What a create is to do: the inode that it makes, and where its entry goes.
 #[derive(Clone, Copy)]
-pub enum RoomPlan {
-    Has(Room),
-    NoRoom(Refusal),
+pub struct CreatePlan {
+    pub inode: usize,
+    pub room: Room,
 }
 
-// Create: the inode, and where its entry goes.
+// What an unlink is to do: the slot that it empties, and the inode that it names.
 #[derive(Clone, Copy)]
-pub enum CreatePlan {
-    Make { inode: usize, room: Room },
-    NoCreate(Refusal),
+pub struct UnlinkPlan {
+    pub slot: usize,
+    pub inode: usize,
 }
 
-// Link: where the entry goes.
-#[derive(Clone, Copy)]
-pub enum LinkPlan {
-    Add(Room),
-    NoLink(Refusal),
-}
-
-// Unlink: the slot, and the inode that it names.
-#[derive(Clone, Copy)]
-pub enum UnlinkPlan {
-    Take { slot: usize, inode: usize },
-    NoUnlink(Refusal),
-}
-
-// Rename: the slot and its inode under another name; or these and where the entry goes in another directory.
+// What a rename is to do: the slot and its inode get another name; or the entry goes to another directory.
 #[derive(Clone, Copy)]
 pub enum RenamePlan {
     Rename {
@@ -52,7 +37,6 @@ pub enum RenamePlan {
         inode: usize,
         room: Room,
     },
-    NoRename(Refusal),
 }
 
 // Rename onto a name that another entry has: the holder's entry goes, and inode has the name; or both names stand for inode already.
@@ -60,7 +44,6 @@ pub enum RenamePlan {
 pub enum OverPlan {
     Over { inode: usize, holder: usize },
     Same { inode: usize },
-    NoOver(Refusal),
 }
 
 // What a created inode is to be.

@@ -9,95 +9,104 @@ ghost use Rattle.sound.specs.Counted.{SoundStore};
 ghost use Rattle.entries.specs.Room.{room_in};
 ghost use Rattle.entries.specs.Plan.{look_up_plan, create_plan, link_plan, holds_none, unlink_plan, is_below, rename_within, move_to, rename_new_plan, over_of, over_plan};
 
-use crate::{CreatePlan, LinkPlan, OverPlan, RenamePlan, Room, RoomPlan, UnlinkPlan};
-use answers::Refusal;
+use crate::{CreatePlan, OverPlan, RenamePlan, Room, UnlinkPlan};
+use answers::{Answer, Refusal};
 use blocks::free;
-use bounded::Found;
-use content::NumberPlan;
 use layout::inode;
 use layout::inode::is_kind;
 use layout::sizes::{DIRECTORY, FILE, ROOT};
 use names::ENTRY_BYTES;
 
-pub fn look_up_plan(s: &[u8], n: usize, d: usize, name: &[u8]) -> NumberPlan
+pub fn look_up_plan(s: &[u8], n: usize, d: usize, name: &[u8]) -> Answer
     requires { SoundStore s.now n (blocks_in s.now) }
     ensures { result ≡ look_up_plan s.now n d name.now }
 {
     if !names::legal_name(name) {
-        return NumberPlan::NoNumber(Refusal::IllegalName);
+        return Err(Refusal::IllegalName);
     }
     if !is_kind(s, n, DIRECTORY, d) {
-        return NumberPlan::NoNumber(Refusal::WrongInode);
+        return Err(Refusal::WrongInode);
     }
-    let Found::At(t) = directory::find_slot(s, n, d, name) else {
-        return NumberPlan::NoNumber(Refusal::NameAbsent);
+    let Some(t) = directory::find_slot(s, n, d, name) else {
+        return Err(Refusal::NameAbsent);
     };
-    NumberPlan::To(directory::slot_inode(s, n, d, t) as usize)
+    Ok(directory::slot_inode(s, n, d, t) as usize)
 }
 
 // Where an entry more in directory d goes.
-fn room_in(s: &[u8], n: usize, b: usize, d: usize) -> RoomPlan
+fn room_in(s: &[u8], n: usize, b: usize, d: usize) -> Result<Room, Refusal>
     requires { SoundStore s.now n b × (is_directory s.now n d ≡ true) }
     ensures { result ≡ room_in s.now n b d }
 {
-    if let Found::At(t) = directory::empty_slot(s, n, d) {
-        return RoomPlan::Has(Room { slot: t, block: 0 });
+    if let Some(t) = directory::empty_slot(s, n, d) {
+        return Ok(Room {
+            slot: t,
+            block: None,
+        });
     }
     let slots = directory::slot_count(s, n, d);
     if directory::MOST_SLOTS <= slots {
-        return RoomPlan::NoRoom(Refusal::NoSlot);
+        return Err(Refusal::NoSlot);
     }
-    let Found::At(c) = free::free_block(s, n, 0, false, b) else {
-        return RoomPlan::NoRoom(Refusal::NoBlocks);
+    let Some(c) = free::free_block(s, n, 0, false, b) else {
+        return Err(Refusal::NoBlocks);
     };
-    RoomPlan::Has(Room {
+    Ok(Room {
         slot: slots,
-        block: c,
+        block: Some(c),
     })
 }
 
-pub fn create_plan(s: &[u8], n: usize, b: usize, d: usize, name: &[u8]) -> CreatePlan
+pub fn create_plan(
+    s: &[u8],
+    n: usize,
+    b: usize,
+    d: usize,
+    name: &[u8],
+) -> Result<CreatePlan, Refusal>
     requires { SoundStore s.now n b }
     ensures { result ≡ create_plan s.now n b d name.now }
 {
     if !names::legal_name(name) {
-        return CreatePlan::NoCreate(Refusal::IllegalName);
+        return Err(Refusal::IllegalName);
     }
     if !is_kind(s, n, DIRECTORY, d) {
-        return CreatePlan::NoCreate(Refusal::WrongInode);
+        return Err(Refusal::WrongInode);
     }
-    let Found::Absent = directory::find_slot(s, n, d, name) else {
-        return CreatePlan::NoCreate(Refusal::NameTaken);
+    let None = directory::find_slot(s, n, d, name) else {
+        return Err(Refusal::NameTaken);
     };
-    let Found::At(i) = inode::free_inode(s, n) else {
-        return CreatePlan::NoCreate(Refusal::NoInode);
+    let Some(i) = inode::free_inode(s, n) else {
+        return Err(Refusal::NoInode);
     };
-    match room_in(s, n, b, d) {
-        RoomPlan::Has(room) => CreatePlan::Make { inode: i, room },
-        RoomPlan::NoRoom(why) => CreatePlan::NoCreate(why),
-    }
+    let room = room_in(s, n, b, d)?;
+    Ok(CreatePlan { inode: i, room })
 }
 
-pub fn link_plan(s: &[u8], n: usize, b: usize, d: usize, name: &[u8], i: usize) -> LinkPlan
+pub fn link_plan(
+    s: &[u8],
+    n: usize,
+    b: usize,
+    d: usize,
+    name: &[u8],
+    i: usize,
+) -> Result<Room, Refusal>
     requires { SoundStore s.now n b }
     ensures { result ≡ link_plan s.now n b d name.now i }
 {
     if !names::legal_name(name) {
-        return LinkPlan::NoLink(Refusal::IllegalName);
+        return Err(Refusal::IllegalName);
     }
     if !is_kind(s, n, DIRECTORY, d) {
-        return LinkPlan::NoLink(Refusal::WrongInode);
+        return Err(Refusal::WrongInode);
     }
     if !is_kind(s, n, FILE, i) {
-        return LinkPlan::NoLink(Refusal::WrongInode);
+        return Err(Refusal::WrongInode);
     }
-    let Found::Absent = directory::find_slot(s, n, d, name) else {
-        return LinkPlan::NoLink(Refusal::NameTaken);
+    let None = directory::find_slot(s, n, d, name) else {
+        return Err(Refusal::NameTaken);
     };
-    match room_in(s, n, b, d) {
-        RoomPlan::Has(room) => LinkPlan::Add(room),
-        RoomPlan::NoRoom(why) => LinkPlan::NoLink(why),
-    }
+    room_in(s, n, b, d)
 }
 
 // No entry stands in directory d.
@@ -115,26 +124,26 @@ fn holds_none(s: &[u8], n: usize, d: usize) -> bool
 }
 
 #[tactic(auto, using(crate::proofs::TakePlanLaws::unlink_file))]
-pub fn unlink_plan(s: &[u8], n: usize, d: usize, name: &[u8]) -> UnlinkPlan
+pub fn unlink_plan(s: &[u8], n: usize, d: usize, name: &[u8]) -> Result<UnlinkPlan, Refusal>
     requires { SoundStore s.now n (blocks_in s.now) }
     ensures { result ≡ unlink_plan s.now n d name.now }
 {
     if !names::legal_name(name) {
-        return UnlinkPlan::NoUnlink(Refusal::IllegalName);
+        return Err(Refusal::IllegalName);
     }
     if !is_kind(s, n, DIRECTORY, d) {
-        return UnlinkPlan::NoUnlink(Refusal::WrongInode);
+        return Err(Refusal::WrongInode);
     }
-    let Found::At(t) = directory::find_slot(s, n, d, name) else {
-        return UnlinkPlan::NoUnlink(Refusal::NameAbsent);
+    let Some(t) = directory::find_slot(s, n, d, name) else {
+        return Err(Refusal::NameAbsent);
     };
     let i = directory::slot_inode(s, n, d, t) as usize;
     if inode::kind(s, n, i) == DIRECTORY {
         if !holds_none(s, n, i) {
-            return UnlinkPlan::NoUnlink(Refusal::NotEmpty);
+            return Err(Refusal::NotEmpty);
         }
     }
-    UnlinkPlan::Take { slot: t, inode: i }
+    Ok(UnlinkPlan { slot: t, inode: i })
 }
 
 // Directory e is i or below it: up from e, no further than the root.
@@ -168,38 +177,51 @@ fn is_below(s: &[u8], n: usize, i: usize, e: usize) -> bool
 
 // The entry in slot t, which names i, is to have another name in its directory e.
 #[tactic(auto, using(crate::proofs::TakePlanLaws::within_own))]
-fn rename_within(s: &[u8], n: usize, t: usize, i: usize, e: usize, other: &[u8]) -> RenamePlan
+fn rename_within(
+    s: &[u8],
+    n: usize,
+    t: usize,
+    i: usize,
+    e: usize,
+    other: &[u8],
+) -> Result<RenamePlan, Refusal>
     requires { DirFits s.now n e × (length other.now ≤ name_bytes) }
     ensures { result ≡ rename_within s.now n t i e other.now }
 {
-    let Found::At(u) = directory::find_slot(s, n, e, other) else {
-        return RenamePlan::Rename { slot: t, inode: i };
+    let Some(u) = directory::find_slot(s, n, e, other) else {
+        return Ok(RenamePlan::Rename { slot: t, inode: i });
     };
     if u == t {
-        return RenamePlan::Rename { slot: t, inode: i };
+        return Ok(RenamePlan::Rename { slot: t, inode: i });
     }
-    RenamePlan::NoRename(Refusal::NameTaken)
+    Err(Refusal::NameTaken)
 }
 
 // It is to go to another directory e.
-fn move_to(s: &[u8], n: usize, b: usize, t: usize, i: usize, e: usize, other: &[u8]) -> RenamePlan
+fn move_to(
+    s: &[u8],
+    n: usize,
+    b: usize,
+    t: usize,
+    i: usize,
+    e: usize,
+    other: &[u8],
+) -> Result<RenamePlan, Refusal>
     requires { SoundStore s.now n b × (is_directory s.now n e ≡ true) × (length other.now ≤ name_bytes) × (1 ≤ i) × (i ≤ n) }
     ensures { result ≡ move_to s.now n b t i e other.now }
 {
-    let Found::Absent = directory::find_slot(s, n, e, other) else {
-        return RenamePlan::NoRename(Refusal::NameTaken);
+    let None = directory::find_slot(s, n, e, other) else {
+        return Err(Refusal::NameTaken);
     };
     if is_below(s, n, i, e) {
-        return RenamePlan::NoRename(Refusal::IntoItself);
+        return Err(Refusal::IntoItself);
     }
-    match room_in(s, n, b, e) {
-        RoomPlan::Has(room) => RenamePlan::Move {
-            slot: t,
-            inode: i,
-            room,
-        },
-        RoomPlan::NoRoom(why) => RenamePlan::NoRename(why),
-    }
+    let room = room_in(s, n, b, e)?;
+    Ok(RenamePlan::Move {
+        slot: t,
+        inode: i,
+        room,
+    })
 }
 
 // The lap recorder's rename, which keeps what has the new name.
@@ -211,24 +233,24 @@ pub fn rename_new_plan(
     name: &[u8],
     e: usize,
     other: &[u8],
-) -> RenamePlan
+) -> Result<RenamePlan, Refusal>
     requires { SoundStore s.now n b }
     ensures { result ≡ rename_new_plan s.now n b d name.now e other.now }
 {
     if !names::legal_name(name) {
-        return RenamePlan::NoRename(Refusal::IllegalName);
+        return Err(Refusal::IllegalName);
     }
     if !names::legal_name(other) {
-        return RenamePlan::NoRename(Refusal::IllegalName);
+        return Err(Refusal::IllegalName);
     }
     if !is_kind(s, n, DIRECTORY, d) {
-        return RenamePlan::NoRename(Refusal::WrongInode);
+        return Err(Refusal::WrongInode);
     }
     if !is_kind(s, n, DIRECTORY, e) {
-        return RenamePlan::NoRename(Refusal::WrongInode);
+        return Err(Refusal::WrongInode);
     }
-    let Found::At(t) = directory::find_slot(s, n, d, name) else {
-        return RenamePlan::NoRename(Refusal::NameAbsent);
+    let Some(t) = directory::find_slot(s, n, d, name) else {
+        return Err(Refusal::NameAbsent);
     };
     let i = directory::slot_inode(s, n, d, t) as usize;
     if d == e {
@@ -249,35 +271,38 @@ fn moves_below(s: &[u8], n: usize, d: usize, i: usize, e: usize) -> bool
 }
 
 // Inode i, of directory d, is to have a name in e that stands for h.
-fn over_of(s: &[u8], n: usize, d: usize, i: usize, e: usize, h: usize) -> OverPlan
+fn over_of(s: &[u8], n: usize, d: usize, i: usize, e: usize, h: usize) -> Result<OverPlan, Refusal>
     requires { SoundStore s.now n (blocks_in s.now) × (is_directory s.now n e ≡ true) × (1 ≤ i) × (i ≤ n) × (1 ≤ h) × (h ≤ n) }
     ensures { result ≡ over_of s.now n d i e h }
 {
     if moves_below(s, n, d, i, e) {
-        return OverPlan::NoOver(Refusal::IntoItself);
+        return Err(Refusal::IntoItself);
     }
     if inode::kind(s, n, i) != inode::kind(s, n, h) {
-        return OverPlan::NoOver(Refusal::KindsDiffer);
+        return Err(Refusal::KindsDiffer);
     }
     if i == h {
-        return OverPlan::Same { inode: i };
+        return Ok(OverPlan::Same { inode: i });
     }
-    OverPlan::Over {
+    Ok(OverPlan::Over {
         inode: i,
         holder: h,
-    }
+    })
 }
 
 // Rename onto a name that another entry has: what the lap recorder's refuses with 7.
-pub fn over_plan(s: &[u8], n: usize, d: usize, name: &[u8], e: usize, other: &[u8]) -> OverPlan
+pub fn over_plan(
+    s: &[u8],
+    n: usize,
+    d: usize,
+    name: &[u8],
+    e: usize,
+    other: &[u8],
+) -> Result<OverPlan, Refusal>
     requires { SoundStore s.now n (blocks_in s.now) }
     ensures { result ≡ over_plan s.now n d name.now e other.now }
 {
-    match look_up_plan(s, n, d, name) {
-        NumberPlan::NoNumber(why) => OverPlan::NoOver(why),
-        NumberPlan::To(i) => match unlink_plan(s, n, e, other) {
-            UnlinkPlan::NoUnlink(why) => OverPlan::NoOver(why),
-            UnlinkPlan::Take { slot: _, inode: h } => over_of(s, n, d, i, e, h),
-        },
-    }
+    let i = look_up_plan(s, n, d, name)?;
+    let h = unlink_plan(s, n, e, other)?.inode;
+    over_of(s, n, d, i, e, h)
 }

@@ -1,4 +1,5 @@
 -- The laws of the effects of create and link: an entry made. n and b are the counts of inodes and blocks.
+use Rattle.std.specs.Prelude.{Err, None, Ok, Result, Some}
 use Prim.Native.Nat.{ℕ, ◌+◌, ◌*◌, ◌<◌}
 use mathlib.Core.Path.{◌≡◌, refl, sym, ap, ◌∙◌}
 use mathlib.Core.Logic.{◌≢◌, inl}
@@ -7,7 +8,6 @@ use mathlib.Core.List.{List, [], ◌∷◌}
 use Rattle.layout.specs.Inode.{links_of, file_kind, is_file, free_inode}
 use Rattle.blocks.proofs.ViewLaws.{inode_fits}
 use Rattle.directory.specs.Slot.{most_slots, slot_empty, find_slot}
-use Rattle.bounded.specs.declared.Found.TheVariants.{At, Absent}
 use Rattle.bounded.proofs.BoolLaws.{clash, fails}
 use Rattle.names.specs.Entry.{is_empty}
 use Rattle.sound.specs.Place.{entry_at, filled, place_of}
@@ -21,22 +21,19 @@ use Rattle.preservation.proofs.EntryWriteLaws.{SlotIn, place_below}
 use Rattle.preservation.proofs.ChangeLaws.{Filled}
 use Rattle.entries.specs.declared.Room.{Room}
 use Rattle.entries.specs.declared.Kind.{Kind}
-use Rattle.entries.specs.declared.RoomPlan.TheVariants.{Has}
 use Rattle.entries.specs.Room.{room_in, make_room}
 use Rattle.entries.specs.Plan.{create_plan, link_plan}
 use Rattle.entries.specs.Apply.{new_inode, enter, created, linked}
-use Rattle.entries.specs.declared.CreatePlan.{CreatePlan}
-use Rattle.entries.specs.declared.LinkPlan.{LinkPlan}
-use Rattle.entries.specs.declared.CreatePlan.TheVariants.{Make, NoCreate}
-use Rattle.entries.specs.declared.LinkPlan.TheVariants.{Add, NoLink}
 use Rattle.entries.proofs.PlanFacts.{NewIn, links, creates}
-use Rattle.entries.proofs.RoomLaws.{slot, Roomed, same_kind, same_find, same_free_inode}
+use Rattle.entries.proofs.RoomLaws.{Roomed, same_kind, same_find, same_free_inode}
 use Rattle.entries.proofs.LinkKeeps.{link_filled}
 use Rattle.entries.proofs.CreateKeeps.{create_filled, new_addresses}
 use Rattle.entries.proofs.PlanKeeps.{linked_sound, created_sound}
 use Rattle.files.specs.Effect.{entry, changes, do_create, do_link, planned, create, link}
 use Rattle.files.proofs.Lawful.{Stands, SameNaming, Lawful, Each}
 use Rattle.files.proofs.LawfulSteady.{store_blocks, put_slot, Steady, steady_then, put_steady, links_steady, new_steady, roomed, room_steady, room_sound, room_dir, room_slot}
+use Rattle.answers.specs.declared.Refusal.{Refusal}
+use Rattle.entries.specs.declared.CreatePlan.{CreatePlan}
 
 -- ---- an entry made in the room: link and create. m is the store with room, w the store after
 pub made_stands : (m w : List ℕ) (n d t i : ℕ) (name : List ℕ) → SlotIn m n d t → Filled m w n (place_of d t) i name → Stands w n (entry d t i)
@@ -49,7 +46,7 @@ bare_slot s n d t y e =
     (λ f. clash (is_empty (entry_at s n (place_of d t))) (ap is_empty (entry_place s n d t y.low y.small) ∙ e) ((filled_is s n (place_of d t)).to f).1)
 
 module _ (s : List ℕ) (n b d : ℕ) (name : List ℕ) (r : Room) (h : SoundStore s n b)
-    (new : NewIn s n d name) (e : room_in s n b d ≡ Has r) where
+    (new : NewIn s n d name) (e : room_in s n b d ≡ Ok r) where
   abbrev m : List ℕ
   m = make_room s n d r
 
@@ -62,7 +59,7 @@ module _ (s : List ℕ) (n b d : ℕ) (name : List ℕ) (r : Room) (h : SoundSto
   grown : SoundStore m n b
   grown = room_sound s n b d r h new.directory e
 
-  pub still : find_slot m n d name ≡ Absent
+  pub still : find_slot m n d name ≡ None
   still = same_find s m n d r.slot room name new.legal (is_dir s n d new.directory) ∙ new.absent
 
   pub was_bare : filled s n (place_of d r.slot) ≡ false
@@ -109,7 +106,7 @@ module _ (s : List ℕ) (n b d : ℕ) (name : List ℕ) (r : Room) (h : SoundSto
       let a = steady_then {ks = d ∷ i ∷ []} (store_blocks h) g (links_steady (enter s n d r i name) n i (links_of (enter s n d r i name) i + 1) f) (λ j z. ((z.0, tt), (z.1.0, tt))) in
       made_lawful _ _ i _ o a sound
 
-  create_lawful : (k : Kind) (i : ℕ) → free_inode s n ≡ At i → Sound Store (created s n d name k i r) → Lawful s n (changes i (created s n d name k i r) (d ∷ []) [] (entry d r.slot i ∷ []))
+  create_lawful : (k : Kind) (i : ℕ) → free_inode s n ≡ Some i → Sound Store (created s n d name k i r) → Lawful s n (changes i (created s n d name k i r) (d ∷ []) [] (entry d r.slot i ∷ []))
   unfolding created enter
   create_lawful k i free sound =
       let o = create_filled m n d r.slot i k name grown (room_dir s n b d r h new.directory e) (same_free_inode s m n room.tree.kinds ∙ free) room.slot room.empty new.legal still in
@@ -123,13 +120,13 @@ module _ (s : List ℕ) (n b d : ℕ) (name : List ℕ) (r : Room) (h : SoundSto
 pub lawful_link : (s : List ℕ) (n b d : ℕ) (name : List ℕ) (i : ℕ) → SoundStore s n b → Each (Lawful s n) (planned (link d name i) s n b)
 lawful_link s n b d name i h = go (link_plan s n b d name i) refl
   where
-    go : (p : LinkPlan) → link_plan s n b d name i ≡ p → Each (Lawful s n) (do_link s n d name i p)
-    go (NoLink w) e = tt
-    go (Add r) e = let c = links s n b d name i r e in link_lawful s n b d name r h c.new c.room i c.file (linked_sound s n b h d name i r e)
+    go : (p : Result Room Refusal) → link_plan s n b d name i ≡ p → Each (Lawful s n) (do_link s n d name i p)
+    go (Err w) e = tt
+    go (Ok r) e = let c = links s n b d name i r e in link_lawful s n b d name r h c.new c.room i c.file (linked_sound s n b h d name i r e)
 
 pub lawful_create : (s : List ℕ) (n b d : ℕ) (name : List ℕ) (k : Kind) → SoundStore s n b → Each (Lawful s n) (planned (create d name k) s n b)
 lawful_create s n b d name k h = go (create_plan s n b d name) refl
   where
-    go : (p : CreatePlan) → create_plan s n b d name ≡ p → Each (Lawful s n) (do_create s n d name k p)
-    go (NoCreate w) e = tt
-    go (Make i r) e = let c = creates s n b d name i r e in create_lawful s n b d name r h c.new c.room k i c.inode (created_sound s n b h d name k i r e)
+    go : (p : Result CreatePlan Refusal) → create_plan s n b d name ≡ p → Each (Lawful s n) (do_create s n d name k p)
+    go (Err w) e = tt
+    go (Ok x) e = let c = creates s n b d name x.inode x.room e in create_lawful s n b d name x.room h c.new c.room k x.inode c.inode (created_sound s n b h d name k x.inode x.room e)

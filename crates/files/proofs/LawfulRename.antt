@@ -1,4 +1,5 @@
 -- The laws of the renames' effects: within a directory, a move, and one that replaces. n and b are the counts of inodes and blocks.
+use Rattle.std.specs.Prelude.{Err, Ok, Result}
 use Prim.Native.Nat.{ℕ, ◌<◌}
 use mathlib.Core.Path.{◌≡◌, refl, sym, ap, ◌∙◌, subst}
 use mathlib.Core.Logic.{inl}
@@ -10,9 +11,8 @@ use Rattle.layout.specs.Inode.{kind_of, spare_of, inode_of, put_attributes, dire
 use Rattle.blocks.specs.Block.{kth_block}
 use Rattle.blocks.proofs.ViewLaws.{inode_fits}
 use Rattle.layout.specs.Fits.{InodeFits}
-use Rattle.directory.specs.Slot.{slots, slot_empty, find_slot, put_entry, clear_entry, inode_at}
+use Rattle.directory.specs.Slot.{slots, slot_empty, put_entry, clear_entry, inode_at}
 use Rattle.directory.proofs.SlotLaws.{find_below}
-use Rattle.bounded.specs.declared.Found.TheVariants.{Absent}
 use Rattle.bounded.proofs.CaseLaws.{each_else}
 use Rattle.bounded.proofs.EachLaws.{all_map}
 use Rattle.bounded.proofs.SearchLaws.{by_pick}
@@ -31,12 +31,8 @@ use Rattle.entries.specs.declared.Room.{Room}
 use Rattle.entries.specs.Room.{make_room}
 use Rattle.entries.specs.Plan.{rename_new_plan, over_plan}
 use Rattle.entries.specs.Apply.{unlinked, renamed, set_parent, moved}
-use Rattle.entries.specs.declared.RenamePlan.{RenamePlan}
-use Rattle.entries.specs.declared.RenamePlan.TheVariants.{Rename, Move, NoRename}
-use Rattle.entries.specs.declared.OverPlan.{OverPlan}
-use Rattle.entries.specs.declared.OverPlan.TheVariants.{Over, Same, NoOver}
 use Rattle.entries.proofs.PlanFacts.{FreeFor, renames, moves}
-use Rattle.entries.proofs.RoomLaws.{slot, same_kind}
+use Rattle.entries.proofs.RoomLaws.{same_kind}
 use Rattle.entries.proofs.PlanKeeps.{moved_sound}
 use Rattle.entries.proofs.MoveKeeps.{not_below, below_kept, move_emptied, move_filled}
 use Rattle.entries.proofs.RenameKeeps.{rename_filled, rename_sound}
@@ -50,6 +46,11 @@ use Rattle.files.proofs.LawfulStays.{same_store}
 use Rattle.files.proofs.LawfulUnlink.{lawful_unlink}
 use Rattle.files.proofs.LawfulThen.{lawful_then}
 use Rattle.files.proofs.OverLaws.{replaced, over_does}
+use Rattle.entries.specs.declared.RenamePlan.TheVariants.{Move, Rename}
+use Rattle.entries.specs.declared.OverPlan.TheVariants.{Over, Same}
+use Rattle.answers.specs.declared.Refusal.{Refusal}
+use Rattle.entries.specs.declared.RenamePlan.{RenamePlan}
+use Rattle.entries.specs.declared.OverPlan.{OverPlan}
 
 -- ---- rename within a directory
 module _ (s : List ℕ) (n d t i : ℕ) (other : List ℕ) {b : ℕ} (h : SoundStore s n b)
@@ -104,7 +105,7 @@ slot_same : (s t : List ℕ) (n d u : ℕ) → SameInode s t n d → SlotIn s n 
 slot_same s t n d u a y = record { low = y.low; high = y.high; dir = a.kind ∙ y.dir; inside = subst (λ (z : ℕ). u < z) (sym (same_slots a)) y.inside; small = y.small }
 
 module _ (s : List ℕ) (n b d : ℕ) (name : List ℕ) (e : ℕ) (other : List ℕ) (t i : ℕ) (r : Room) (h : SoundStore s n b)
-    (q : rename_new_plan s n b d name e other ≡ Move t i r) where
+    (q : rename_new_plan s n b d name e other ≡ Ok (Move t i r)) where
   move_lawful : Lawful s n (changes 0 (moved s n d e other t i r) (d ∷ e ∷ i ∷ []) (entry d t i ∷ []) (entry e r.slot i ∷ []))
   unfolding moved slot_empty
   move_lawful =
@@ -168,21 +169,21 @@ module _ (s : List ℕ) (n b d : ℕ) (name : List ℕ) (e : ℕ) (other : List 
 pub lawful_rename_new : (s : List ℕ) (n b d : ℕ) (name : List ℕ) (e : ℕ) (other : List ℕ) → SoundStore s n b → Each (Lawful s n) (planned (rename_new d name e other) s n b)
 lawful_rename_new s n b d name e other h = go (rename_new_plan s n b d name e other) refl
   where
-    go : (p : RenamePlan) → rename_new_plan s n b d name e other ≡ p → Each (Lawful s n) (do_rename s n d e other p)
-    go (NoRename w) q = tt
-    go (Rename t i) q =
+    go : (p : Result RenamePlan Refusal) → rename_new_plan s n b d name e other ≡ p → Each (Lawful s n) (do_rename s n d e other p)
+    go (Err w) q = tt
+    go (Ok (Rename t i)) q =
         let c = renames s n b d name e other t i q in
         let w = c.0.entry in
         rename_lawful s n d t i other h w.directory (find_below s n d name t w.found) (found_full s n d name t w.legal w.found) w.inode
         c.0.legal c.0.free
-    go (Move t i r) q = move_lawful s n b d name e other t i r h q
+    go (Ok (Move t i r)) q = move_lawful s n b d name e other t i r h q
 
 -- ---- onto a name that another entry has: an unlink, and then that rename
 module _ (s : List ℕ) (n b d : ℕ) (name : List ℕ) (e : ℕ) (other : List ℕ) (k : SoundStore s n b) where
-  lawful_over : (p : OverPlan) → over_plan s n d name e other ≡ p → Each (Lawful s n) (do_over s n b d name e other (over_plan s n d name e other))
-  lawful_over (NoOver f) q = subst (λ (p : OverPlan). Each (Lawful s n) (do_over s n b d name e other p)) (sym q) tt
-  lawful_over (Same i) q = subst (λ (p : OverPlan). Each (Lawful s n) (do_over s n b d name e other p)) (sym q) (same_store s n 0 [] (watched d e i) k.sound)
-  lawful_over (Over i h) q =
+  lawful_over : (p : Result OverPlan Refusal) → over_plan s n d name e other ≡ p → Each (Lawful s n) (do_over s n b d name e other (over_plan s n d name e other))
+  lawful_over (Err f) q = subst (λ (p : Result OverPlan Refusal). Each (Lawful s n) (do_over s n b d name e other p)) (sym q) tt
+  lawful_over (Ok (Same i)) q = subst (λ (p : Result OverPlan Refusal). Each (Lawful s n) (do_over s n b d name e other p)) (sym q) (same_store s n 0 [] (watched d e i) k.sound)
+  lawful_over (Ok (Over i h)) q =
       let r = replaced s n b d name e other i h k q in
       let y = r.renames in
       subst (Each (Lawful s n)) (sym (over_does s n b d name e other i h k q))

@@ -1,12 +1,11 @@
 -- Changes that keep all kinds, all of every inode in use but some, and the bytes of every file. n and b are the counts of inodes and blocks.
+use Rattle.std.specs.Prelude.{Ok}
 use Prim.Native.Nat.{ℕ, ◌/◌, ◌≤◌, ◌<◌}
 use mathlib.Core.Path.{◌≡◌, refl, sym, ap, ◌∙◌, subst}
 use mathlib.Core.Logic.{◌≢◌}
-use mathlib.Core.Bool.{true, false}
+use mathlib.Core.Bool.{true}
 use mathlib.Core.List.{List, [], ◌∷◌}
 use native.Mathlib.Omega.{arith}
-use borrow.Author.Tests.{ne_eqb}
-use lib.Dec.{eqb}
 use lib.ListN.{replicate}
 use Rattle.bounded.proofs.CaseLaws.{each_else}
 use Rattle.bounded.proofs.BoolLaws.{clash}
@@ -32,7 +31,6 @@ use Rattle.preservation.proofs.BaredLaws.{put_bared}
 use Rattle.content.specs.Content.{add_block}
 use Rattle.content.proofs.GrowLaws.{grown_bytes, block_added}
 use Rattle.entries.specs.declared.Room.{Room}
-use Rattle.entries.specs.declared.RoomPlan.TheVariants.{Has}
 use Rattle.entries.specs.Room.{room_in, make_room}
 use Rattle.entries.proofs.RoomLaws.{IsRoom, slot, block, is_room, Roomed, make_room_lem, same_kind}
 use Rattle.files.proofs.Lawful.{Apart, Stays, Keeps, stays_keeps}
@@ -170,7 +168,7 @@ new_steady s n i v f e a =
 
 -- room in d
 module _ (s : List ℕ) (n b d : ℕ) (r : Room) (h : SoundStore s n b)
-    (k : is_directory s n d ≡ true) (e : room_in s n b d ≡ Has r) where
+    (k : is_directory s n d ≡ true) (e : room_in s n b d ≡ Ok r) where
   pub roomed : Roomed s (make_room s n d r) n d r.slot
   roomed = make_room_lem s n b d h k r e
 
@@ -182,9 +180,8 @@ module _ (s : List ℕ) (n b d : ℕ) (r : Room) (h : SoundStore s n b)
       go (slot t f q) = rw q refl
       go (block c w f q) =
           let o = free_block_lem s n b c f in
-          let z : eqb c 0 ≡ false = ne_eqb c 0 (let l = o.low in (λ o. omega arith)) in
           let dir = is_dir s n d k in
-          rw (q, z) (grown_bytes s (add_block s n d c) n b d c h (block_added s n b d c h dir w o) dir w o j a l m u)
+          rw q (grown_bytes s (add_block s n d c) n b d c h (block_added s n b d c h dir w o) dir w o j a l m u)
 
   pub room_steady : Steady s (make_room s n d r) n (d ∷ [])
   room_steady = record {

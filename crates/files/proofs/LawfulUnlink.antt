@@ -1,4 +1,5 @@
 -- The laws of unlink's effect. n and b are the counts of inodes and blocks.
+use Rattle.std.specs.Prelude.{Err, Ok, Result}
 use Prim.Native.Nat.{ℕ, ◌-◌, ◌<◌}
 use mathlib.Core.Path.{◌≡◌, refl, sym, ◌∙◌, subst}
 use mathlib.Core.Logic.{◌≢◌, ◌⊎◌, inl, inr}
@@ -27,14 +28,13 @@ use Rattle.preservation.proofs.BaredLaws.{put_bared}
 use Rattle.preservation.proofs.SlotPlaceLaws.{EntryHere, entry_here, found_full, place_filled}
 use Rattle.entries.specs.Plan.{holds_none, unlink_plan}
 use Rattle.entries.specs.Apply.{drop_link, unlinked}
-use Rattle.entries.specs.declared.UnlinkPlan.{UnlinkPlan}
-use Rattle.entries.specs.declared.UnlinkPlan.TheVariants.{Take, NoUnlink}
 use Rattle.entries.proofs.PlanFacts.{unlinks}
-use Rattle.entries.proofs.RoomLaws.{slot}
 use Rattle.entries.proofs.UnlinkKeeps.{unlink_emptied, unlink_others, unlink_less, unlink_last, unlink_sound}
 use Rattle.files.specs.Effect.{entry, changes, do_unlink, planned, unlink}
 use Rattle.files.proofs.Lawful.{Lawful, Each}
 use Rattle.files.proofs.LawfulSteady.{store_blocks, clear_steady}
+use Rattle.answers.specs.declared.Refusal.{Refusal}
+use Rattle.entries.specs.declared.UnlinkPlan.{UnlinkPlan}
 
 -- ---- a link less: the frame and the bytes of all blocks stay
 module _ (m : List ℕ) (n i : ℕ) (there : InodeFits m n i) where
@@ -118,9 +118,9 @@ module _ (s : List ℕ) (n d t i : ℕ) {b : ℕ} (h : SoundStore s n b)
 pub lawful_unlink : (s : List ℕ) (n b d : ℕ) (name : List ℕ) → SoundStore s n b → Each (Lawful s n) (planned (unlink d name) s n b)
 lawful_unlink s n b d name h = go (unlink_plan s n d name) refl
   where
-    go : (p : UnlinkPlan) → unlink_plan s n d name ≡ p → Each (Lawful s n) (do_unlink s n d p)
-    go (NoUnlink w) e = tt
-    go (Take t i) e =
-        let c = unlinks s n d name t i e in
+    go : (p : Result UnlinkPlan Refusal) → unlink_plan s n d name ≡ p → Each (Lawful s n) (do_unlink s n d p)
+    go (Err w) e = tt
+    go (Ok x) e =
+        let c = unlinks s n d name x.slot x.inode e in
         let w = c.entry in
-        unlink_lawful s n d t i h w.directory (find_below s n d name t w.found) (found_full s n d name t w.legal w.found) w.inode c.empty
+        unlink_lawful s n d x.slot x.inode h w.directory (find_below s n d name x.slot w.found) (found_full s n d name x.slot w.legal w.found) w.inode c.empty

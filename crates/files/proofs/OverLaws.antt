@@ -1,4 +1,5 @@
 -- A rename onto a name that another entry has, as the code does it: the recorder's rename first, and where that answers 7 an unlink of the holder and then that rename again. n and b are the counts of inodes and blocks.
+use Rattle.std.specs.Prelude.{Ok, Err}
 use Prim.Native.Nat.{ℕ}
 use mathlib.Core.Path.{◌≡◌, refl, sym, ap, ◌∙◌, subst}
 use mathlib.Core.Logic.{◌≢◌}
@@ -12,17 +13,18 @@ use Rattle.bounded.proofs.EachLaws.{All}
 use Rattle.layout.specs.Inode.{kind_of, free_kind}
 use Rattle.sound.specs.Counted.{SoundStore}
 use Rattle.answers.specs.declared.Refusal.TheVariants.{NameTaken}
-use Rattle.answers.specs.declared.Answer.{Answer}
 use Rattle.answers.specs.Refusal.{refusal_number}
-use Rattle.answers.specs.Told.{told}
-use Rattle.entries.specs.declared.RenamePlan.{RenamePlan}
-use Rattle.entries.specs.declared.OverPlan.TheVariants.{Over}
-use Rattle.entries.specs.Plan.{unlink_plan, rename_new_plan, over_plan}
+use Rattle.answers.specs.declared.Refusal.{Refusal}
+use Rattle.answers.specs.Told.{Answer, told}
+use Rattle.answers.proofs.RefusalLaws.{number_range}
+use native.Mathlib.Omega.{arith}
+use Rattle.entries.specs.Plan.{unlink_plan, over_plan}
 use Rattle.entries.specs.Apply.{unlinked}
-use Rattle.entries.proofs.PlanFacts.{Onto, replaces}
+use Rattle.entries.proofs.PlanFacts.{replaces}
 use Rattle.entries.proofs.OverKeeps.{Onward, within, to, onward, gone_sound, mover_used}
-use Rattle.files.specs.Effect.{Entry, entry, Effect, changes, and_then, Planned, refused, does, plan_then, if_taken, watched, do_unlink, do_rename, do_rename_new, do_over}
+use Rattle.files.specs.Effect.{entry, Effect, changes, and_then, Planned, refused, does, plan_then, if_taken, watched, do_unlink, do_rename, do_rename_new, do_over}
 use Rattle.files.specs.Plain.{PlainOutcome, plain_left, leaves}
+use Rattle.entries.specs.declared.OverPlan.TheVariants.{Over}
 
 -- ---- where the recorder's rename answers 7, and where it does not: s is the store before it, t after it
 module _ (s t : List ℕ) (p : Planned) (a : Answer) (left : plain_left a t [] ≡ leaves s [] p) where
@@ -81,7 +83,7 @@ pub record Replaced (s : List ℕ) (n b d : ℕ) (name : List ℕ) (e : ℕ) (ot
   pub differ : i ≢ h
   pub used : kind_of (unlinked s n e slot h) i ≢ free_kind
 
-module _ (s : List ℕ) (n b d : ℕ) (name : List ℕ) (e : ℕ) (other : List ℕ) (i h : ℕ) (k : SoundStore s n b) (q : over_plan s n d name e other ≡ Over i h) where
+module _ (s : List ℕ) (n b d : ℕ) (name : List ℕ) (e : ℕ) (other : List ℕ) (i h : ℕ) (k : SoundStore s n b) (q : over_plan s n d name e other ≡ Ok (Over i h)) where
   pub replaced : Replaced s n b d name e other i h
   replaced =
       let r = replaces s n d name e other i h q in
@@ -109,6 +111,14 @@ module _ (s : List ℕ) (n b d : ℕ) (name : List ℕ) (e : ℕ) (other : List 
 
     pub still_sound : SoundStore t n b
     still_sound = subst (λ (v : List ℕ). SoundStore v n b) (sym after_unlink) replaced.sound
+
+    -- so it is not refused
+    pub goes_unrefused : (w : Refusal) → a ≡ Err w → ⊥
+    goes_unrefused w r =
+        let z : refusal_number w ≡ 0 =
+        ap (λ (x : Answer). (told x).number) (sym r) ∙ ap (λ (o : PlainOutcome). o.answer.number) left ∙ ap (λ (p : Planned). (leaves s [] p).answer.number) replaced.unlinks in
+        let l = (number_range w).0 in
+        omega arith
 
     pub over_leaves : (o : PlainOutcome) → o ≡ leaves t [] (do_rename_new t n b d name e other) → o ≡ leaves s [] (do_over s n b d name e other (over_plan s n d name e other))
     over_leaves o z =

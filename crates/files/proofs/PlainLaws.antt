@@ -1,4 +1,5 @@
 -- The plain store's guards as a chain of tests.
+use Rattle.std.specs.Prelude.{Err, Ok}
 use Prim.Native.Nat.{ℕ}
 use mathlib.Core.Path.{◌≡◌, refl}
 use mathlib.Core.Bool.{Bool, true, false, not}
@@ -9,8 +10,8 @@ use Rattle.sound.specs.declared.Form.TheVariants.{Store}
 use Rattle.sound.specs.Test.{framed_b, is_sound}
 use Rattle.answers.specs.declared.Refusal.{Refusal}
 use Rattle.answers.specs.declared.Refusal.TheVariants.{BadBuffer, UnsoundStore}
-use Rattle.files.specs.declared.Guard.TheVariants.{Pass, Stop}
 use Rattle.files.specs.Guard.{guard_of, on_guard}
+use Rattle.layout.specs.Header.{counts}
 
 -- refusals 1 and 2, one after the other
 pub on_guard_lem : {A : Type 0} (s : List ℕ) (f : ℕ → ℕ → A) (g : Refusal → A)
@@ -18,7 +19,7 @@ pub on_guard_lem : {A : Type 0} (s : List ℕ) (f : ℕ → ℕ → A) (g : Refu
 unfolding guard_of
 on_guard_lem {A} s f g = go (framed_b Store s) (is_sound Store s)
   where
-    go : (x y : Bool) → on_guard (pick (not x) (Stop BadBuffer) (pick (not y) (Stop UnsoundStore) (Pass (inodes_in s) (blocks_in s)))) f g
+    go : (x y : Bool) → on_guard (pick (not x) (Err BadBuffer) (pick (not y) (Err UnsoundStore) (Ok (counts (inodes_in s) (blocks_in s))))) f g
         ≡ pick (not x) (g BadBuffer) (pick (not y) (g UnsoundStore) (f (inodes_in s) (blocks_in s)))
     go true true = refl
     go true false = refl

@@ -1,4 +1,5 @@
 -- A place from which a call takes is filled anew by a rename alone, for what is renamed. n and b are the counts of inodes and blocks.
+use Rattle.std.specs.Prelude.{Err, Ok, Result}
 use Prim.Native.Nat.{ℕ}
 use mathlib.Core.Path.{◌≡◌, refl, sym, ap, ◌∙◌, subst}
 use mathlib.Core.Logic.{◌≢◌}
@@ -11,25 +12,22 @@ use Rattle.bounded.proofs.SearchLaws.{by_pick}
 use Rattle.sound.specs.Counted.{SoundStore}
 use Rattle.answers.specs.declared.Refusal.TheVariants.{NameTaken}
 use Rattle.answers.specs.Refusal.{refusal_number}
-use Rattle.content.specs.declared.NumberPlan.{NumberPlan}
-use Rattle.content.specs.declared.NumberPlan.TheVariants.{To, NoNumber}
 use Rattle.content.specs.Plan.{read_plan, write_plan, shorten_plan}
-use Rattle.entries.specs.declared.CreatePlan.{CreatePlan}
-use Rattle.entries.specs.declared.CreatePlan.TheVariants.{Make, NoCreate}
-use Rattle.entries.specs.declared.LinkPlan.{LinkPlan}
-use Rattle.entries.specs.declared.LinkPlan.TheVariants.{Add, NoLink}
-use Rattle.entries.specs.declared.UnlinkPlan.{UnlinkPlan}
-use Rattle.entries.specs.declared.UnlinkPlan.TheVariants.{Take, NoUnlink}
-use Rattle.entries.specs.declared.RenamePlan.{RenamePlan}
-use Rattle.entries.specs.declared.RenamePlan.TheVariants.{Rename, Move, NoRename}
-use Rattle.entries.specs.declared.OverPlan.{OverPlan}
-use Rattle.entries.specs.declared.OverPlan.TheVariants.{Over, Same, NoOver}
 use Rattle.entries.specs.Plan.{look_up_plan, create_plan, link_plan, unlink_plan, rename_new_plan, over_plan}
 use Rattle.entries.proofs.PlanFacts.{looks_up, moves, replaces}
 use Rattle.files.specs.Effect.{Call, look_up, read, create, write, shorten, link, unlink, rename, rename_new, Entry, entry, place_in, Effect, Planned, refused, does, if_taken, planned, do_look_up, do_read, do_create, do_write, do_shorten, do_link, do_unlink, do_rename, do_rename_new, do_over}
 use Rattle.files.proofs.Lawful.{Stands, Lawful, Each}
 use Rattle.files.proofs.LawfulRename.{lawful_rename_new}
 use Rattle.files.proofs.OverLaws.{replaced, over_does}
+use Rattle.answers.specs.Told.{Answer}
+use Rattle.answers.specs.declared.Refusal.{Refusal}
+use Rattle.entries.specs.declared.Room.{Room}
+use Rattle.entries.specs.declared.CreatePlan.{CreatePlan}
+use Rattle.entries.specs.declared.RenamePlan.TheVariants.{Move, Rename}
+use Rattle.entries.specs.declared.OverPlan.TheVariants.{Over, Same}
+use Rattle.entries.specs.declared.UnlinkPlan.{UnlinkPlan}
+use Rattle.entries.specs.declared.RenamePlan.{RenamePlan}
+use Rattle.entries.specs.declared.OverPlan.{OverPlan}
 
 -- z is made where the call c, on the store s, has taken an entry out
 abbrev pub Refills : Call → List ℕ → ℕ → Entry → Type 0
@@ -40,7 +38,7 @@ Refills (write i o xs) s n z = ⊥
 Refills (shorten i k) s n z = ⊥
 Refills (link d name i) s n z = ⊥
 Refills (unlink d name) s n z = ⊥
-Refills (rename d name e other) s n z = look_up_plan s n d name ≡ To z.inode
+Refills (rename d name e other) s n z = look_up_plan s n d name ≡ Ok z.inode
 Refills (rename_new d name e other) s n z = ⊥
 
 abbrev pub Refilling : Call → List ℕ → ℕ → Effect → Type 0
@@ -61,57 +59,57 @@ module _ (s : List ℕ) (n b : ℕ) (k : SoundStore s n b) where
     apart : (c : Call) → Each (Refilling c s n) (do_rename_new s n b d name e other)
     apart c = go (rename_new_plan s n b d name e other) refl (lawful_rename_new s n b d name e other k)
       where
-        go : (p : RenamePlan) → rename_new_plan s n b d name e other ≡ p → Each (Lawful s n) (do_rename s n d e other p) → Each (Refilling c s n) (do_rename s n d e other p)
-        go (Rename t i) q l = tt
-        go (Move t i r) q l = (((λ z. absurd (other_place s _ n _ _ l.stood.0 l.stands.0 (moves s n b d name e other t i r q).1.other z)), tt), tt)
-        go (NoRename f) q l = tt
+        go : (p : Result RenamePlan Refusal) → rename_new_plan s n b d name e other ≡ p → Each (Lawful s n) (do_rename s n d e other p) → Each (Refilling c s n) (do_rename s n d e other p)
+        go (Ok (Rename t i)) q l = tt
+        go (Ok (Move t i r)) q l = (((λ z. absurd (other_place s _ n _ _ l.stood.0 l.stands.0 (moves s n b d name e other t i r q).1.other z)), tt), tt)
+        go (Err f) q l = tt
 
-    onto : (p : OverPlan) → over_plan s n d name e other ≡ p → Each (Refilling (rename d name e other) s n) (do_over s n b d name e other (over_plan s n d name e other))
-    onto (NoOver f) q = subst (λ (p : OverPlan). Each (Refilling (rename d name e other) s n) (do_over s n b d name e other p)) (sym q) tt
-    onto (Same i) q = subst (λ (p : OverPlan). Each (Refilling (rename d name e other) s n) (do_over s n b d name e other p)) (sym q) tt
-    onto (Over i h) q =
+    onto : (p : Result OverPlan Refusal) → over_plan s n d name e other ≡ p → Each (Refilling (rename d name e other) s n) (do_over s n b d name e other (over_plan s n d name e other))
+    onto (Err f) q = subst (λ (p : Result OverPlan Refusal). Each (Refilling (rename d name e other) s n) (do_over s n b d name e other p)) (sym q) tt
+    onto (Ok (Same i)) q = subst (λ (p : Result OverPlan Refusal). Each (Refilling (rename d name e other) s n) (do_over s n b d name e other p)) (sym q) tt
+    onto (Ok (Over i h)) q =
         let y = (replaced s n b d name e other i h k q).renames in
         let p = (replaces s n d name e other i h q).0 in
         let u = looks_up s n d name p.slot i p.entry in
         subst (Each (Refilling (rename d name e other) s n)) (sym (over_does s n b d name e other i h k q))
-        (of_all (λ z. look_up_plan s n d name ≡ To z.inode) (entry e (replaced s n b d name e other i h k q).slot h ∷ y.effect.taken) y.effect.made (all_map _ _ y.effect.made (λ z m. u ∙ ap To (sym m)) y.mover))
+        (of_all (λ z. look_up_plan s n d name ≡ Ok z.inode) (entry e (replaced s n b d name e other i h k q).slot h ∷ y.effect.taken) y.effect.made (all_map _ _ y.effect.made (λ z m. u ∙ ap Ok (sym m)) y.mover))
 
   pub refilling : (c : Call) → Each (Refilling c s n) (planned c s n b)
   refilling (look_up d name) = go (look_up_plan s n d name)
     where
-      go : (p : NumberPlan) → Each (Refilling (look_up d name) s n) (do_look_up s p)
-      go (To i) = tt
-      go (NoNumber f) = tt
+      go : (p : Answer) → Each (Refilling (look_up d name) s n) (do_look_up s p)
+      go (Ok i) = tt
+      go (Err f) = tt
   refilling (read i o out) = go (read_plan s n i o (length out))
     where
-      go : (p : NumberPlan) → Each (Refilling (read i o out) s n) (do_read s n i o out p)
-      go (To m) = tt
-      go (NoNumber f) = tt
+      go : (p : Answer) → Each (Refilling (read i o out) s n) (do_read s n i o out p)
+      go (Ok m) = tt
+      go (Err f) = tt
   refilling (create d name m) = go (create_plan s n b d name)
     where
-      go : (p : CreatePlan) → Each (Refilling (create d name m) s n) (do_create s n d name m p)
-      go (Make i r) = tt
-      go (NoCreate f) = tt
+      go : (p : Result CreatePlan Refusal) → Each (Refilling (create d name m) s n) (do_create s n d name m p)
+      go (Ok c) = tt
+      go (Err f) = tt
   refilling (write i o xs) = go (write_plan s n i o (length xs))
     where
-      go : (p : NumberPlan) → Each (Refilling (write i o xs) s n) (do_write s n b i o xs p)
-      go (To z) = tt
-      go (NoNumber f) = tt
+      go : (p : Answer) → Each (Refilling (write i o xs) s n) (do_write s n b i o xs p)
+      go (Ok z) = tt
+      go (Err f) = tt
   refilling (shorten i z) = go (shorten_plan s n i z)
     where
-      go : (p : NumberPlan) → Each (Refilling (shorten i z) s n) (do_shorten s n i p)
-      go (To y) = tt
-      go (NoNumber f) = tt
+      go : (p : Answer) → Each (Refilling (shorten i z) s n) (do_shorten s n i p)
+      go (Ok y) = tt
+      go (Err f) = tt
   refilling (link d name i) = go (link_plan s n b d name i)
     where
-      go : (p : LinkPlan) → Each (Refilling (link d name i) s n) (do_link s n d name i p)
-      go (Add r) = tt
-      go (NoLink f) = tt
+      go : (p : Result Room Refusal) → Each (Refilling (link d name i) s n) (do_link s n d name i p)
+      go (Ok r) = tt
+      go (Err f) = tt
   refilling (unlink d name) = go (unlink_plan s n d name)
     where
-      go : (p : UnlinkPlan) → Each (Refilling (unlink d name) s n) (do_unlink s n d p)
-      go (Take t i) = (tt, tt)
-      go (NoUnlink f) = tt
+      go : (p : Result UnlinkPlan Refusal) → Each (Refilling (unlink d name) s n) (do_unlink s n d p)
+      go (Ok c) = (tt, tt)
+      go (Err f) = tt
   refilling (rename d name e other) = go (do_rename_new s n b d name e other) (apart d name e other (rename d name e other))
     where
       go : (p : Planned) → Each (Refilling (rename d name e other) s n) p → Each (Refilling (rename d name e other) s n) (if_taken p (do_over s n b d name e other (over_plan s n d name e other)))

@@ -1,30 +1,26 @@
 -- A file call, and what it does to a sound store: a refusal, or one effect. n and b are the counts of inodes and blocks, which the guard tells.
-use Rattle.std.specs.Prelude.{ℕ, Bool, List, [], ◌∷◌, ◌++◌, eqb, length}
+use Rattle.std.specs.Prelude.{ℕ, List, [], ◌∷◌, ◌++◌, eqb, length, Err, Ok, Result}
 use Rattle.bounded.specs.Search.{pick}
 use Rattle.octets.specs.Octets.{splice}
 use Rattle.sound.specs.Place.{place_of}
 use Rattle.answers.specs.declared.Refusal.{Refusal}
 use Rattle.answers.specs.declared.Refusal.TheVariants.{NameTaken}
 use Rattle.answers.specs.Refusal.{refusal_number}
-use Rattle.content.specs.declared.NumberPlan.{NumberPlan}
-use Rattle.content.specs.declared.NumberPlan.TheVariants.{To, NoNumber}
 use Rattle.content.specs.Content.{file_bytes, cut_to}
 use Rattle.content.specs.Plan.{read_plan, write_plan, shorten_plan}
 use Rattle.content.specs.Apply.{written}
 use Rattle.entries.specs.declared.Kind.{Kind}
-use Rattle.entries.specs.declared.CreatePlan.{CreatePlan}
-use Rattle.entries.specs.declared.LinkPlan.{LinkPlan}
-use Rattle.entries.specs.declared.UnlinkPlan.{UnlinkPlan}
-use Rattle.entries.specs.declared.RenamePlan.{RenamePlan}
-use Rattle.entries.specs.declared.OverPlan.{OverPlan}
-use Rattle.entries.specs.declared.CreatePlan.TheVariants.{Make, NoCreate}
-use Rattle.entries.specs.declared.LinkPlan.TheVariants.{Add, NoLink}
-use Rattle.entries.specs.declared.UnlinkPlan.TheVariants.{Take, NoUnlink}
-use Rattle.entries.specs.declared.RenamePlan.TheVariants.{Rename, Move, NoRename}
-use Rattle.entries.specs.declared.OverPlan.TheVariants.{Over, Same, NoOver}
 use Rattle.entries.specs.Plan.{look_up_plan, create_plan, link_plan, unlink_plan, rename_new_plan, over_plan}
 use Rattle.entries.specs.Apply.{created, linked, unlinked, renamed, moved}
 use Rattle.files.specs.Guard.{guard_of, on_guard}
+use Rattle.answers.specs.Told.{Answer}
+use Rattle.entries.specs.declared.Room.{Room}
+use Rattle.entries.specs.declared.CreatePlan.{CreatePlan}
+use Rattle.entries.specs.declared.RenamePlan.TheVariants.{Move, Rename}
+use Rattle.entries.specs.declared.OverPlan.TheVariants.{Over, Same}
+use Rattle.entries.specs.declared.UnlinkPlan.{UnlinkPlan}
+use Rattle.entries.specs.declared.RenamePlan.{RenamePlan}
+use Rattle.entries.specs.declared.OverPlan.{OverPlan}
 
 -- "File calls are look up, create, read, write, shorten, link, unlink and rename", with their arguments; a read has its out-buffer as it comes in.
 -- F-3: "The lap recorder relied on 7 to keep yesterday's run, so it gets a file call of its own with the old rule."
@@ -105,40 +101,40 @@ if_taken (does x) q = does x
 if_taken (refused e) q = pick (eqb (refusal_number e) (refusal_number NameTaken)) q (refused e)
 
 -- ---- what a plan does to the store s: "Create and look up answer the inode, read its count, write and shorten the new size"
-abbrev pub do_look_up : List ℕ → NumberPlan → Planned
-do_look_up s (To i) = does (looks i s [])
-do_look_up s (NoNumber e) = refused e
+abbrev pub do_look_up : List ℕ → Answer → Planned
+do_look_up s (Ok i) = does (looks i s [])
+do_look_up s (Err e) = refused e
 
 -- "other out-bytes stay"
-abbrev pub do_read : List ℕ → ℕ → ℕ → ℕ → List ℕ → NumberPlan → Planned
-do_read s n i o out (To k) = does (looks k s (splice out 0 (file_bytes s n i o k)))
-do_read s n i o out (NoNumber e) = refused e
+abbrev pub do_read : List ℕ → ℕ → ℕ → ℕ → List ℕ → Answer → Planned
+do_read s n i o out (Ok k) = does (looks k s (splice out 0 (file_bytes s n i o k)))
+do_read s n i o out (Err e) = refused e
 
-abbrev pub do_create : List ℕ → ℕ → ℕ → List ℕ → Kind → CreatePlan → Planned
-do_create s n d name k (Make i r) = does (changes i (created s n d name k i r) (d ∷ []) [] (entry d r.slot i ∷ []))
-do_create s n d name k (NoCreate e) = refused e
+abbrev pub do_create : List ℕ → ℕ → ℕ → List ℕ → Kind → Result CreatePlan Refusal → Planned
+do_create s n d name k (Ok c) = does (changes c.inode (created s n d name k c.inode c.room) (d ∷ []) [] (entry d c.room.slot c.inode ∷ []))
+do_create s n d name k (Err e) = refused e
 
-abbrev pub do_write : List ℕ → ℕ → ℕ → ℕ → ℕ → List ℕ → NumberPlan → Planned
-do_write s n b i o xs (To z) = does (rewrites z (written s n b i o xs z) i)
-do_write s n b i o xs (NoNumber e) = refused e
+abbrev pub do_write : List ℕ → ℕ → ℕ → ℕ → ℕ → List ℕ → Answer → Planned
+do_write s n b i o xs (Ok z) = does (rewrites z (written s n b i o xs z) i)
+do_write s n b i o xs (Err e) = refused e
 
-abbrev pub do_shorten : List ℕ → ℕ → ℕ → NumberPlan → Planned
-do_shorten s n i (To z) = does (rewrites z (cut_to s n i z) i)
-do_shorten s n i (NoNumber e) = refused e
+abbrev pub do_shorten : List ℕ → ℕ → ℕ → Answer → Planned
+do_shorten s n i (Ok z) = does (rewrites z (cut_to s n i z) i)
+do_shorten s n i (Err e) = refused e
 
-abbrev pub do_link : List ℕ → ℕ → ℕ → List ℕ → ℕ → LinkPlan → Planned
-do_link s n d name i (Add r) = does (changes 0 (linked s n d name i r) (d ∷ i ∷ []) [] (entry d r.slot i ∷ []))
-do_link s n d name i (NoLink e) = refused e
+abbrev pub do_link : List ℕ → ℕ → ℕ → List ℕ → ℕ → Result Room Refusal → Planned
+do_link s n d name i (Ok r) = does (changes 0 (linked s n d name i r) (d ∷ i ∷ []) [] (entry d r.slot i ∷ []))
+do_link s n d name i (Err e) = refused e
 
-abbrev pub do_unlink : List ℕ → ℕ → ℕ → UnlinkPlan → Planned
-do_unlink s n d (Take t i) = does (changes 0 (unlinked s n d t i) (d ∷ i ∷ []) (entry d t i ∷ []) [])
-do_unlink s n d (NoUnlink e) = refused e
+abbrev pub do_unlink : List ℕ → ℕ → ℕ → Result UnlinkPlan Refusal → Planned
+do_unlink s n d (Ok c) = does (changes 0 (unlinked s n d c.slot c.inode) (d ∷ c.inode ∷ []) (entry d c.slot c.inode ∷ []) [])
+do_unlink s n d (Err e) = refused e
 
 -- "A rename within a directory keeps its slot and its mark". A move takes the old entry and makes the new one.
-abbrev pub do_rename : List ℕ → ℕ → ℕ → ℕ → List ℕ → RenamePlan → Planned
-do_rename s n d e other (Rename t i) = does (changes 0 (renamed s n d other t i) (d ∷ []) [] [])
-do_rename s n d e other (Move t i r) = does (changes 0 (moved s n d e other t i r) (d ∷ e ∷ i ∷ []) (entry d t i ∷ []) (entry e r.slot i ∷ []))
-do_rename s n d e other (NoRename f) = refused f
+abbrev pub do_rename : List ℕ → ℕ → ℕ → ℕ → List ℕ → Result RenamePlan Refusal → Planned
+do_rename s n d e other (Ok (Rename t i)) = does (changes 0 (renamed s n d other t i) (d ∷ []) [] [])
+do_rename s n d e other (Ok (Move t i r)) = does (changes 0 (moved s n d e other t i r) (d ∷ e ∷ i ∷ []) (entry d t i ∷ []) (entry e r.slot i ∷ []))
+do_rename s n d e other (Err f) = refused f
 
 abbrev pub do_rename_new : List ℕ → ℕ → ℕ → ℕ → List ℕ → ℕ → List ℕ → Planned
 do_rename_new s n b d name e other = do_rename s n d e other (rename_new_plan s n b d name e other)
@@ -149,10 +145,10 @@ watched d e i = pick (eqb d e) (d ∷ []) (d ∷ e ∷ i ∷ [])
 
 -- "unlinks this old holder and then renames"; "Blocks and slots are judged as they are once the old holder is gone."
 -- "If both names already stand for the same file, nothing changes, but refusals come as for any rename."
-abbrev pub do_over : List ℕ → ℕ → ℕ → ℕ → List ℕ → ℕ → List ℕ → OverPlan → Planned
-do_over s n b d name e other (Over i h) = plan_then (do_unlink s n e (unlink_plan s n e other)) (λ t. do_rename_new t n b d name e other)
-do_over s n b d name e other (Same i) = does (changes 0 s (watched d e i) [] [])
-do_over s n b d name e other (NoOver f) = refused f
+abbrev pub do_over : List ℕ → ℕ → ℕ → ℕ → List ℕ → ℕ → List ℕ → Result OverPlan Refusal → Planned
+do_over s n b d name e other (Ok (Over i h)) = plan_then (do_unlink s n e (unlink_plan s n e other)) (λ t. do_rename_new t n b d name e other)
+do_over s n b d name e other (Ok (Same i)) = does (changes 0 s (watched d e i) [] [])
+do_over s n b d name e other (Err f) = refused f
 
 -- ---- a call on a sound store: a refusal of its plan, or what is done
 abbrev pub planned : Call → List ℕ → ℕ → ℕ → Planned

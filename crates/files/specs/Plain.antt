@@ -1,8 +1,6 @@
 -- The plain store of demand 3: bytes alone, "with no copy running and no desk to look at; a refused call changes nothing".
-use Rattle.std.specs.Prelude.{ℕ, List}
-use Rattle.answers.specs.declared.Answer.{Answer}
-use Rattle.answers.specs.Told.{Told, told}
-use Rattle.answers.specs.declared.Answer.TheVariants.{Done, Refused}
+use Rattle.std.specs.Prelude.{ℕ, List, Err, Ok}
+use Rattle.answers.specs.Told.{Answer, Told, told}
 use Rattle.files.specs.Effect.{Call, Planned, refused, does, plain_decision, given}
 
 -- what a caller gets: the answer by the paper's numbers, and a read's out-buffer ([] for the other calls)
@@ -24,8 +22,8 @@ plain_left a s o = record { answer = told a; store = s; out = o }
 
 -- what is left of the store s and the out-buffer out by what was decided
 abbrev pub leaves : List ℕ → List ℕ → Planned → PlainOutcome
-leaves s out (does x) = plain_left (Done x.answer) x.store x.out
-leaves s out (refused e) = plain_left (Refused e) s out
+leaves s out (does x) = plain_left (Ok x.answer) x.store x.out
+leaves s out (refused e) = plain_left (Err e) s out
 
 -- a file call: guards 1 and 2, then refusal or effect
 unfoldable pub plain : Call → List ℕ → PlainOutcome

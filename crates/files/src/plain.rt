@@ -8,27 +8,23 @@ ghost use Rattle.files.specs.Guard.{guard_of};
 ghost use Rattle.files.specs.Effect.{look_up, read, create, write, shorten, link, unlink, rename, rename_new, do_look_up, do_read, do_create, do_write, do_shorten, do_link, do_unlink, do_rename_new, do_over, planned};
 ghost use Rattle.files.specs.Plain.{plain_left, leaves, plain};
 
-use crate::Guard;
 use answers::{Answer, Refusal};
-use content::NumberPlan;
-use entries::{CreatePlan, Kind, LinkPlan, OverPlan, RenamePlan, UnlinkPlan};
-use layout::header::Header;
+use entries::{Kind, OverPlan, RenamePlan};
+use layout::header::{Counts, Header};
 use sound::Form;
 
-// Refusals 1 and 2, which come before all others.
-pub fn guard(s: &[u8]) -> Guard
+// Refusals 1 and 2, which come before all others; a store that passes tells its counts.
+pub fn guard(s: &[u8]) -> Result<Counts, Refusal>
     ensures { result ≡ guard_of s.now }
 {
     if !checker::framed(Form::Store, s) {
-        return Guard::Stop(Refusal::BadBuffer);
+        return Err(Refusal::BadBuffer);
     }
-    let h = Header::read(s);
-    let n = h.inodes as usize;
-    let b = h.blocks as usize;
-    if !checker::body_right(Form::Store, s, n, b) {
-        return Guard::Stop(Refusal::UnsoundStore);
+    let counts = Header::read(s).counts();
+    if !checker::body_right(Form::Store, s, counts.inodes, counts.blocks) {
+        return Err(Refusal::UnsoundStore);
     }
-    Guard::Pass(n, b)
+    Ok(counts)
 }
 
 // ---- look up
@@ -37,19 +33,14 @@ fn do_look_up(s: &[u8], n: usize, d: usize, name: &[u8]) -> Answer
     ensures { plain_left result s.now []
         ≡ leaves s.now [] (do_look_up s.now (look_up_plan s.now n d name.now)) }
 {
-    match entries::plan::look_up_plan(s, n, d, name) {
-        NumberPlan::To(i) => Answer::Done(i),
-        NumberPlan::NoNumber(why) => Answer::Refused(why),
-    }
+    entries::plan::look_up_plan(s, n, d, name)
 }
 
 pub fn look_up(store: &[u8], dir: usize, name: &[u8]) -> Answer
     ensures { plain_left result store.now [] ≡ plain (look_up dir name.now) store.now }
 {
-    match guard(store) {
-        Guard::Pass(n, _) => do_look_up(store, n, dir, name),
-        Guard::Stop(why) => Answer::Refused(why),
-    }
+    let n = guard(store)?.inodes;
+    do_look_up(store, n, dir, name)
 }
 
 // ---- read
@@ -58,23 +49,17 @@ fn do_read(s: &[u8], n: usize, i: usize, o: usize, out: &mut [u8]) -> Answer
     ensures { plain_left result s.now out.new
         ≡ leaves s.now out.old (do_read s.now n i o out.old (read_plan s.now n i o (length out.old))) }
 {
-    match content::plan::read_plan(s, n, i, o, out.len()) {
-        NumberPlan::To(count) => {
-            content::apply::read_file(s, n, i, o, count, &mut *out);
-            Answer::Done(count)
-        }
-        NumberPlan::NoNumber(why) => Answer::Refused(why),
-    }
+    let count = content::plan::read_plan(s, n, i, o, out.len())?;
+    content::apply::read_file(s, n, i, o, count, &mut *out);
+    Ok(count)
 }
 
 pub fn read(store: &[u8], inode: usize, offset: usize, out: &mut [u8]) -> Answer
     ensures { plain_left result store.now out.new
         ≡ plain (read inode offset out.old) store.now }
 {
-    match guard(store) {
-        Guard::Pass(n, _) => do_read(store, n, inode, offset, &mut *out),
-        Guard::Stop(why) => Answer::Refused(why),
-    }
+    let n = guard(store)?.inodes;
+    do_read(store, n, inode, offset, &mut *out)
 }
 
 // ---- create
@@ -83,22 +68,16 @@ fn do_create(s: &mut [u8], n: usize, b: usize, d: usize, name: &[u8], kind: Kind
     ensures { plain_left result s.new []
         ≡ leaves s.old [] (do_create s.old n d name.now kind (create_plan s.old n b d name.now)) }
 {
-    match entries::plan::create_plan(s, n, b, d, name) {
-        CreatePlan::Make { inode: i, room } => {
-            entries::apply::create(&mut *s, n, b, d, name, kind, i, room);
-            Answer::Done(i)
-        }
-        CreatePlan::NoCreate(why) => Answer::Refused(why),
-    }
+    let plan = entries::plan::create_plan(s, n, b, d, name)?;
+    entries::apply::create(&mut *s, n, b, d, name, kind, plan.inode, plan.room);
+    Ok(plan.inode)
 }
 
 pub fn create(store: &mut [u8], dir: usize, name: &[u8], kind: Kind) -> Answer
     ensures { plain_left result store.new [] ≡ plain (create dir name.now kind) store.old }
 {
-    match guard(store) {
-        Guard::Pass(n, b) => do_create(&mut *store, n, b, dir, name, kind),
-        Guard::Stop(why) => Answer::Refused(why),
-    }
+    let counts = guard(store)?;
+    do_create(&mut *store, counts.inodes, counts.blocks, dir, name, kind)
 }
 
 // ---- write
@@ -107,22 +86,23 @@ fn do_write(s: &mut [u8], n: usize, b: usize, i: usize, o: usize, xs: &[u8]) -> 
     ensures { plain_left result s.new []
         ≡ leaves s.old [] (do_write s.old n b i o xs.now (write_plan s.old n i o (length xs.now))) }
 {
-    match content::plan::write_plan(s, n, i, o, xs.len()) {
-        NumberPlan::To(z) => {
-            content::apply::write_file(&mut *s, n, b, i, o, xs, z);
-            Answer::Done(z)
-        }
-        NumberPlan::NoNumber(why) => Answer::Refused(why),
-    }
+    let z = content::plan::write_plan(s, n, i, o, xs.len())?;
+    content::apply::write_file(&mut *s, n, b, i, o, xs, z);
+    Ok(z)
 }
 
 pub fn write(store: &mut [u8], inode: usize, offset: usize, bytes: &[u8]) -> Answer
     ensures { plain_left result store.new [] ≡ plain (write inode offset bytes.now) store.old }
 {
-    match guard(store) {
-        Guard::Pass(n, b) => do_write(&mut *store, n, b, inode, offset, bytes),
-        Guard::Stop(why) => Answer::Refused(why),
-    }
+    let counts = guard(store)?;
+    do_write(
+        &mut *store,
+        counts.inodes,
+        counts.blocks,
+        inode,
+        offset,
+        bytes,
+    )
 }
 
 // ---- shorten
@@ -131,22 +111,16 @@ fn do_shorten(s: &mut [u8], n: usize, i: usize, z: usize) -> Answer
     ensures { plain_left result s.new []
         ≡ leaves s.old [] (do_shorten s.old n i (shorten_plan s.old n i z)) }
 {
-    match content::plan::shorten_plan(s, n, i, z) {
-        NumberPlan::To(y) => {
-            content::apply::shorten_file(&mut *s, n, i, y);
-            Answer::Done(y)
-        }
-        NumberPlan::NoNumber(why) => Answer::Refused(why),
-    }
+    let y = content::plan::shorten_plan(s, n, i, z)?;
+    content::apply::shorten_file(&mut *s, n, i, y);
+    Ok(y)
 }
 
 pub fn shorten(store: &mut [u8], inode: usize, size: usize) -> Answer
     ensures { plain_left result store.new [] ≡ plain (shorten inode size) store.old }
 {
-    match guard(store) {
-        Guard::Pass(n, _) => do_shorten(&mut *store, n, inode, size),
-        Guard::Stop(why) => Answer::Refused(why),
-    }
+    let n = guard(store)?.inodes;
+    do_shorten(&mut *store, n, inode, size)
 }
 
 // ---- link
@@ -155,22 +129,16 @@ fn do_link(s: &mut [u8], n: usize, b: usize, d: usize, name: &[u8], i: usize) ->
     ensures { plain_left result s.new []
         ≡ leaves s.old [] (do_link s.old n d name.now i (link_plan s.old n b d name.now i)) }
 {
-    match entries::plan::link_plan(s, n, b, d, name, i) {
-        LinkPlan::Add(room) => {
-            entries::apply::link(&mut *s, n, b, d, name, i, room);
-            Answer::Done(0)
-        }
-        LinkPlan::NoLink(why) => Answer::Refused(why),
-    }
+    let room = entries::plan::link_plan(s, n, b, d, name, i)?;
+    entries::apply::link(&mut *s, n, b, d, name, i, room);
+    Ok(0)
 }
 
 pub fn link(store: &mut [u8], dir: usize, name: &[u8], inode: usize) -> Answer
     ensures { plain_left result store.new [] ≡ plain (link dir name.now inode) store.old }
 {
-    match guard(store) {
-        Guard::Pass(n, b) => do_link(&mut *store, n, b, dir, name, inode),
-        Guard::Stop(why) => Answer::Refused(why),
-    }
+    let counts = guard(store)?;
+    do_link(&mut *store, counts.inodes, counts.blocks, dir, name, inode)
 }
 
 // ---- unlink
@@ -179,22 +147,16 @@ fn do_unlink(s: &mut [u8], n: usize, d: usize, name: &[u8]) -> Answer
     ensures { plain_left result s.new []
         ≡ leaves s.old [] (do_unlink s.old n d (unlink_plan s.old n d name.now)) }
 {
-    match entries::plan::unlink_plan(s, n, d, name) {
-        UnlinkPlan::Take { slot: t, inode: i } => {
-            entries::apply::unlink(&mut *s, n, d, t, i);
-            Answer::Done(0)
-        }
-        UnlinkPlan::NoUnlink(why) => Answer::Refused(why),
-    }
+    let plan = entries::plan::unlink_plan(s, n, d, name)?;
+    entries::apply::unlink(&mut *s, n, d, plan.slot, plan.inode);
+    Ok(0)
 }
 
 pub fn unlink(store: &mut [u8], dir: usize, name: &[u8]) -> Answer
     ensures { plain_left result store.new [] ≡ plain (unlink dir name.now) store.old }
 {
-    match guard(store) {
-        Guard::Pass(n, _) => do_unlink(&mut *store, n, dir, name),
-        Guard::Stop(why) => Answer::Refused(why),
-    }
+    let n = guard(store)?.inodes;
+    do_unlink(&mut *store, n, dir, name)
 }
 
 // ---- rename
@@ -212,21 +174,15 @@ fn do_rename_new(
     ensures { plain_left result s.new []
         ≡ leaves s.old [] (do_rename_new s.old n b d name.now e other.now) }
 {
-    match entries::plan::rename_new_plan(s, n, b, d, name, e, other) {
-        RenamePlan::Rename { slot: t, inode: i } => {
-            entries::apply::rename(&mut *s, n, d, other, t, i);
-            Answer::Done(0)
+    match entries::plan::rename_new_plan(s, n, b, d, name, e, other)? {
+        RenamePlan::Rename { slot, inode } => {
+            entries::apply::rename(&mut *s, n, d, other, slot, inode);
         }
-        RenamePlan::Move {
-            slot: t,
-            inode: i,
-            room,
-        } => {
-            entries::apply::move_entry(&mut *s, n, b, d, e, other, t, i, room);
-            Answer::Done(0)
+        RenamePlan::Move { slot, inode, room } => {
+            entries::apply::move_entry(&mut *s, n, b, d, e, other, slot, inode, room);
         }
-        RenamePlan::NoRename(why) => Answer::Refused(why),
     }
+    Ok(0)
 }
 
 // Onto a name that another entry has: the old holder goes, and then the entry is renamed.
@@ -243,16 +199,12 @@ fn do_over(
     ensures { plain_left result s.new []
         ≡ leaves s.old [] (do_over s.old n b d name.now e other.now (over_plan s.old n d name.now e other.now)) }
 {
-    match entries::plan::over_plan(s, n, d, name, e, other) {
-        OverPlan::Over {
-            inode: _,
-            holder: _,
-        } => {
-            do_unlink(&mut *s, n, e, other);
+    match entries::plan::over_plan(s, n, d, name, e, other)? {
+        OverPlan::Over { .. } => {
+            do_unlink(&mut *s, n, e, other)?;
             do_rename_new(&mut *s, n, b, d, name, e, other)
         }
-        OverPlan::Same { inode: _ } => Answer::Done(0),
-        OverPlan::NoOver(why) => Answer::Refused(why),
+        OverPlan::Same { .. } => Ok(0),
     }
 }
 
@@ -271,7 +223,7 @@ fn do_rename(
         ≡ leaves s.old [] (planned (rename d name.now e other.now) s.old n b) }
 {
     let answer = do_rename_new(&mut *s, n, b, d, name, e, other);
-    if answers::refused_with(answer, Refusal::NameTaken) {
+    if answer == Err(Refusal::NameTaken) {
         return do_over(&mut *s, n, b, d, name, e, other);
     }
     answer
@@ -281,10 +233,16 @@ pub fn rename(store: &mut [u8], dir: usize, name: &[u8], to_dir: usize, to_name:
     ensures { plain_left result store.new []
         ≡ plain (rename dir name.now to_dir to_name.now) store.old }
 {
-    match guard(store) {
-        Guard::Pass(n, b) => do_rename(&mut *store, n, b, dir, name, to_dir, to_name),
-        Guard::Stop(why) => Answer::Refused(why),
-    }
+    let counts = guard(store)?;
+    do_rename(
+        &mut *store,
+        counts.inodes,
+        counts.blocks,
+        dir,
+        name,
+        to_dir,
+        to_name,
+    )
 }
 
 pub fn rename_new(
@@ -297,8 +255,14 @@ pub fn rename_new(
     ensures { plain_left result store.new []
         ≡ plain (rename_new dir name.now to_dir to_name.now) store.old }
 {
-    match guard(store) {
-        Guard::Pass(n, b) => do_rename_new(&mut *store, n, b, dir, name, to_dir, to_name),
-        Guard::Stop(why) => Answer::Refused(why),
-    }
+    let counts = guard(store)?;
+    do_rename_new(
+        &mut *store,
+        counts.inodes,
+        counts.blocks,
+        dir,
+        name,
+        to_dir,
+        to_name,
+    )
 }

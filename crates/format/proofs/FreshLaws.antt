@@ -1,4 +1,5 @@
 -- A store or a desk as it is laid out: what each reader gives, and that the store is sound.
+use Rattle.std.specs.Prelude.{Err, Ok}
 use Prim.Native.Nat.{ℕ, zero, suc, ◌+◌, ◌*◌, ◌-◌, ◌/◌, ◌%◌, ◌≤◌, ◌<◌}
 use mathlib.Core.Path.{◌≡◌, refl, sym, ap, ◌∙◌}
 use mathlib.Core.Bool.{Bool, true, false, not, true≢false}
@@ -40,7 +41,6 @@ use Rattle.desk.specs.Desk as desk
 use Rattle.desk.proofs.DeskLaws.{length_put_desk, desk_put_desk, reserved_put_desk, copied_put_desk, marks_put_desk}
 use Rattle.answers.specs.declared.Refusal.TheVariants.{BadBuffer}
 use Rattle.answers.specs.Told.{Told, told}
-use Rattle.answers.specs.declared.Answer.TheVariants.{Done, Refused}
 use Rattle.format.specs.Format.{laid_out, fresh_header, empty_root, fresh_store, fresh_desk, lay_out_store}
 use Rattle.blocks.proofs.AllowedLaws.{allowed_is}
 
@@ -270,12 +270,12 @@ fresh_sound n b h i k l =
     }
 
 -- a store that the call laid out
-pub laid_out_sound : (s : List ℕ) (n b : ℕ) → (lay_out_store s n b).answer ≡ told (Done 0) → Sound Store (lay_out_store s n b).buffer
+pub laid_out_sound : (s : List ℕ) (n b : ℕ) → (lay_out_store s n b).answer ≡ told (Ok 0) → Sound Store (lay_out_store s n b).buffer
 unfolding lay_out_store
 laid_out_sound s n b e = go (allowed most_store_blocks n b (length s)) refl e
   where
-    go : (t : Bool) → allowed most_store_blocks n b (length s) ≡ t → (pick t (laid_out (Done 0) (fresh_store n b)) (laid_out (Refused BadBuffer) s)).answer ≡ told (Done 0)
-        → Sound Store (pick t (laid_out (Done 0) (fresh_store n b)) (laid_out (Refused BadBuffer) s)).buffer
+    go : (t : Bool) → allowed most_store_blocks n b (length s) ≡ t → (pick t (laid_out (Ok 0) (fresh_store n b)) (laid_out (Err BadBuffer) s)).answer ≡ told (Ok 0)
+        → Sound Store (pick t (laid_out (Ok 0) (fresh_store n b)) (laid_out (Err BadBuffer) s)).buffer
     go true a r = let q = (allowed_is most_store_blocks n b (length s)).to a in fresh_sound n b q.some_inodes q.most_inodes_lem q.some_blocks q.most_blocks_lem
     go false a r = let z : ◌≡◌ {A = ℕ} 1 0 = ap (λ (x : Told). x.number) r in absurd (omega arith)
 

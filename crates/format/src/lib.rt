@@ -12,6 +12,7 @@ use layout::header::Header;
 use layout::inode::Inode;
 use layout::sizes::{COMPLETE, DIRECTORY, MOST_STORE_BLOCKS, ROOT};
 
+#[tactic(auto, unfolding(crate::specs::Format::fresh_header))]
 fn fresh_header(n: usize, b: usize) -> Header
     requires { (1 ≤ n) × (n ≤ most_inodes) × (b ≤ most_store_blocks) }
     ensures { result ≡ fresh_header n b }
@@ -31,12 +32,12 @@ pub fn lay_out_store(buffer: &mut [u8], inodes: usize, blocks: usize) -> Answer
 {
     let length = buffer.len();
     if !allowed(MOST_STORE_BLOCKS, inodes, blocks, length) {
-        return Answer::Refused(Refusal::BadBuffer);
+        return Err(Refusal::BadBuffer);
     }
-    octets::zero_range(&mut *buffer, 0, length);
-    fresh_header(inodes, blocks).write(&mut *buffer);
-    Inode::empty(DIRECTORY).write(&mut *buffer, inodes, ROOT);
-    Answer::Done(0)
+    octets::zero_range(buffer, 0, length);
+    fresh_header(inodes, blocks).write(buffer);
+    Inode::empty(DIRECTORY).write(buffer, inodes, ROOT);
+    Ok(0)
 }
 
 pub fn lay_out_desk(buffer: &mut [u8], inodes: usize) -> Answer
@@ -44,9 +45,9 @@ pub fn lay_out_desk(buffer: &mut [u8], inodes: usize) -> Answer
 {
     let length = buffer.len();
     if !desk::allowed(inodes, length) {
-        return Answer::Refused(Refusal::BadBuffer);
+        return Err(Refusal::BadBuffer);
     }
-    octets::zero_range(&mut *buffer, 0, length);
+    octets::zero_range(buffer, 0, length);
     let fresh = Desk {
         inodes: inodes as u16,
         blocks: 0,
@@ -55,6 +56,6 @@ pub fn lay_out_desk(buffer: &mut [u8], inodes: usize) -> Answer
         transferred: 0,
         steps: 0,
     };
-    fresh.write(&mut *buffer);
-    Answer::Done(0)
+    fresh.write(buffer);
+    Ok(0)
 }

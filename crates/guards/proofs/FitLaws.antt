@@ -1,16 +1,16 @@
 -- Each way that the tests of the desk, and of desk and image, return. s is the store, m the image, d the desk.
 use Prim.Native.Nat.{ℕ, ◌+◌, ◌*◌, ◌≤◌, ◌<◌}
-use mathlib.Core.Path.{◌≡◌, refl, sym, ap, ◌∙◌}
+use mathlib.Core.Path.{◌≡◌, sym, ap, ◌∙◌}
 use mathlib.Core.Bool.{Bool, true, false, ◌&&◌}
 use mathlib.Core.List.{List}
 use native.Mathlib.Omega.{arith}
-use borrow.Author.Tests.{le-leb, lt-leb, eq-eqb, ne_eqb}
-use lib.Dec.{eqb, leb}
+use borrow.Author.Tests.{le-leb, eq-eqb, ne_eqb}
+use lib.Dec.{eqb}
 use lib.ListN.{length}
 use Rattle.bounded.proofs.BoolLaws.{clash, and_false_l, chain_end}
 use Rattle.bounded.proofs.ReflectLaws.{r_fails}
-use Rattle.layout.specs.Sizes.{header_bytes, inode_bytes, most_image_blocks, most_blocks}
-use Rattle.desk.specs.Sizes.{desk_header_bytes, idle, running, stopped, steps_an_inode, desk_allowed}
+use Rattle.layout.specs.Sizes.{header_bytes, inode_bytes}
+use Rattle.desk.specs.Sizes.{desk_header_bytes, running, stopped, desk_allowed}
 use Rattle.desk.specs.declared.Desk.{Desk}
 use Rattle.desk.specs.Desk.{desk_of, desk_rest_zero}
 use Rattle.checkpoint.specs.Fit.{desk_framed, is_running, blocks_fit, desk_fits, image_fits}
@@ -24,43 +24,6 @@ framed_short d h = sym (r_fails (desk_framed_is d) (λ t. let l = t.1.1 in omega
 pub framed_read : (d : List ℕ) (h : Desk) → h ≡ desk_of d → (x : Bool) → x ≡ desk_allowed h.inodes (length d) → x ≡ desk_framed d
 unfolding desk_framed
 framed_read d h e x q = q ∙ ap (λ (y : Desk). desk_allowed y.inodes (length d)) e
-
--- ---- the desk's header
-module _ (h : Desk) where
-  pub blocks_idle : h.state ≡ idle → eqb h.blocks 0 ≡ blocks_right h
-  blocks_idle e = rw (eq-eqb h.state idle e)
-
-  module _ (e : h.state ≡ idle → ⊥) where
-    pub blocks_none : h.blocks < 1 → false ≡ blocks_right h
-    blocks_none l = rw (ne_eqb h.state idle e) (sym (and_false_l _ _ (lt-leb 1 h.blocks l)))
-
-    pub blocks_most : 1 ≤ h.blocks → leb h.blocks most_image_blocks ≡ blocks_right h
-    blocks_most l = rw (ne_eqb h.state idle e) (chain_end _ _ _ (le-leb 1 h.blocks l) refl)
-
-  pub counts_locked : h.inodes < h.locked → false ≡ counts_right h
-  counts_locked l = sym (and_false_l _ _ (lt-leb h.locked h.inodes l))
-
-  module _ (a : h.locked ≤ h.inodes) where
-    pub counts_transferred : most_blocks < h.transferred → false ≡ counts_right h
-    counts_transferred l = chain_end _ _ _ (le-leb h.locked h.inodes a) (sym (and_false_l _ _ (lt-leb h.transferred most_blocks l)))
-
-    module _ (b : h.transferred ≤ most_blocks) where
-      -- past the first two conditions
-      counts_on : (x rest : Bool) → x ≡ rest → x ≡ leb h.locked h.inodes && (leb h.transferred most_blocks && rest)
-      counts_on x rest q = chain_end _ _ _ (le-leb h.locked h.inodes a) (chain_end _ _ _ (le-leb h.transferred most_blocks b) q)
-
-      pub counts_running : h.state ≡ running → leb h.steps (steps_an_inode * h.inodes) ≡ counts_right h
-      counts_running e = counts_on _ _ (rw (eq-eqb h.state running e))
-
-      module _ (e : h.state ≡ running → ⊥) where
-        pub counts_held : (h.locked ≡ 0 → ⊥) → false ≡ counts_right h
-        counts_held f = counts_on _ _ (rw (ne_eqb h.state running e, ne_eqb h.locked 0 f))
-
-        pub counts_begun : h.locked ≡ 0 → (h.transferred ≡ 0 → ⊥) → false ≡ counts_right h
-        counts_begun f g = counts_on _ _ (rw (ne_eqb h.state running e, eq-eqb h.locked 0 f, ne_eqb h.transferred 0 g))
-
-        pub counts_idle : h.locked ≡ 0 → h.transferred ≡ 0 → leb h.steps (steps_an_inode * h.inodes + 1) ≡ counts_right h
-        counts_idle f g = counts_on _ _ (rw (ne_eqb h.state running e, eq-eqb h.locked 0 f, eq-eqb h.transferred 0 g))
 
 -- ---- the desk: h is its header as the code has read it
 module _ (d : List ℕ) (h : Desk) (e : h ≡ desk_of d) where
@@ -105,9 +68,6 @@ module _ (n : ℕ) (s m d : List ℕ) where
   notes_desk q = sym (and_false_l _ _ q)
 
   module _ (a : desk_fits d ≡ true) (h : Desk) (e : h ≡ desk_of d) where
-    pub notes_inodes : (h.inodes ≡ n → ⊥) → false ≡ notes_right n s m d
-    notes_inodes x = chain_end _ _ _ a (sym (and_false_l _ _ (ne_eqb (desk_of d).inodes n (λ z. x (ap (λ (z : Desk). z.inodes) e ∙ z)))))
-
     module _ (b : h.inodes ≡ n) where
       notes_on : (x rest : Bool) → x ≡ rest → x ≡ desk_fits d && (eqb (desk_of d).inodes n && rest)
       notes_on x rest q = chain_end _ _ _ a (chain_end _ _ _ (eq-eqb (desk_of d).inodes n (sym (ap (λ (z : Desk). z.inodes) e) ∙ b)) q)

@@ -1,10 +1,13 @@
 -- What the guards hand on to the call behind them: with the counts of a store that passes, the desk's header.
+use Rattle.std.specs.Prelude.{ℕ, Result, Ok, Err}
 use Rattle.desk.specs.declared.Desk.{Desk}
-use Rattle.files.specs.declared.Guard.{Guard}
-use Rattle.files.specs.declared.Guard.TheVariants.{Pass, Stop}
+use Rattle.layout.specs.declared.header.Counts.{Counts}
+use Rattle.answers.specs.declared.Refusal.{Refusal}
 use Rattle.guards.specs.declared.Watched.{Watched}
-use Rattle.guards.specs.declared.Watched.TheVariants.{Open, Shut}
 
-abbrev pub handed : Guard → Desk → Watched
-handed (Pass n b) h = Open n b h
-handed (Stop w) h = Shut w
+abbrev pub watched_by : ℕ → ℕ → Desk → Watched
+watched_by n b h = record { inodes = n; blocks = b; desk = h }
+
+abbrev pub handed : Result Counts Refusal → Desk → Result Watched Refusal
+handed (Ok c) h = Ok (watched_by c.inodes c.blocks h)
+handed (Err w) h = Err w

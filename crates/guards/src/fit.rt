@@ -1,5 +1,5 @@
 // Whether the desk fits, and with it the image: refusals 1 and 3. Any bytes may be lent.
-ghost use Rattle.std.specs.Prelude.{◌≡◌, true, ◌+◌, ◌*◌, ◌<◌, ◌≤◌, max, length};
+ghost use Rattle.std.specs.Prelude.{◌≡◌, true, ◌+◌, ◌*◌, ◌<◌, ◌≤◌, length};
 ghost use Rattle.layout.specs.Sizes.{header_bytes, inode_bytes, most_inodes};
 ghost use Rattle.desk.specs.Sizes.{desk_header_bytes};
 ghost use Rattle.checkpoint.specs.Fit.{desk_framed, desk_fits};
@@ -10,25 +10,11 @@ use image::fit::image_fits;
 use layout::sizes::{MOST_BLOCKS, MOST_IMAGE_BLOCKS};
 
 // ---- the desk
-// The larger of two: a loop that keeps the largest has no early exit, so it compiles to vector code.
-fn larger_byte(x: u8, y: u8) -> u8
-    ensures { result ≡ max x y }
-{
-    if x < y {
-        return y;
-    }
-    x
-}
-
 // Its count of inodes is allowed, and the length is theirs.
 pub fn desk_framed(d: &[u8]) -> bool
     ensures { result ≡ desk_framed d.now }
 {
-    if d.len() < DESK_HEADER_BYTES {
-        return false;
-    }
-    let h = Desk::read(d);
-    desk::allowed(h.inodes as usize, d.len())
+    d.len() >= DESK_HEADER_BYTES && desk::allowed(Desk::read(d).inodes as usize, d.len())
 }
 
 // The image's count of blocks is one that the state allows.
@@ -36,24 +22,19 @@ fn blocks_fit(h: Desk) -> bool
     ensures { result ≡ blocks_right h }
 {
     if h.state == IDLE {
-        return h.blocks == 0;
+        h.blocks == 0
+    } else {
+        h.blocks >= 1 && h.blocks as usize <= MOST_IMAGE_BLOCKS
     }
-    if h.blocks < 1 {
-        return false;
-    }
-    h.blocks as usize <= MOST_IMAGE_BLOCKS
 }
 
-// Copied bytes are 0 or 1: the largest is.
+// Copied bytes are 0 or 1: the largest is. A fold that keeps the largest has no early exit, so it
+// compiles to vector code.
 fn copied_fit(d: &[u8], n: usize) -> bool
     requires { desk_header_bytes + n ≤ length d.now }
     ensures { result ≡ copied_right d.now n }
 {
-    let mut most = 0u8;
-    for k in 0..n {
-        most = larger_byte(most, desk::copied_byte(d, k + 1));
-    }
-    most <= 1
+    (0..n).fold(0u8, |most, k| most.max(desk::copied_byte(d, k + 1))) <= 1
 }
 
 // The locked inode, its blocks copied so far, and the steps.
@@ -61,23 +42,15 @@ fn counts_fit(h: Desk) -> bool
     requires { h.inodes ≤ most_inodes }
     ensures { result ≡ counts_right h }
 {
-    if h.inodes < h.locked {
-        return false;
-    }
-    if MOST_BLOCKS < h.transferred as usize {
+    if h.inodes < h.locked || MOST_BLOCKS < h.transferred as usize {
         return false;
     }
     let most = STEPS_AN_INODE * (h.inodes as u32);
     if h.state == RUNNING {
-        return h.steps <= most;
+        h.steps <= most
+    } else {
+        h.locked == 0 && h.transferred == 0 && h.steps <= most + 1
     }
-    if h.locked != 0 {
-        return false;
-    }
-    if h.transferred != 0 {
-        return false;
-    }
-    h.steps <= most + 1
 }
 
 // A desk whose length is right is laid out as it must be.
@@ -86,19 +59,11 @@ fn desk_fits(d: &[u8]) -> bool
     ensures { result ≡ desk_fits d.now }
 {
     let h = Desk::read(d);
-    if STOPPED < h.state {
-        return false;
-    }
-    if !blocks_fit(h) {
-        return false;
-    }
-    if !desk::reserved_zero(d) {
-        return false;
-    }
-    if !copied_fit(d, h.inodes as usize) {
-        return false;
-    }
-    counts_fit(h)
+    h.state <= STOPPED
+        && blocks_fit(h)
+        && desk::reserved_zero(d)
+        && copied_fit(d, h.inodes as usize)
+        && counts_fit(h)
 }
 
 // ---- both
@@ -111,11 +76,5 @@ pub fn notes_fit(n: usize, s: &[u8], m: &[u8], d: &[u8]) -> bool
         return false;
     }
     let h = Desk::read(d);
-    if h.inodes as usize != n {
-        return false;
-    }
-    if h.state != RUNNING {
-        return true;
-    }
-    image_fits(s, m, d)
+    h.inodes as usize == n && (h.state != RUNNING || image_fits(s, m, d))
 }

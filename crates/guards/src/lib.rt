@@ -17,70 +17,72 @@ use image::fit::image_allowed;
 use layout::header::Header;
 use sound::Form;
 
-// What the guards answer: the store's counts of inodes and blocks and the desk's header, for the call behind them; or a refusal.
+// What the guards hand to the call behind them: the store's counts of inodes and blocks, and the desk's header.
 #[derive(Clone, Copy)]
-pub enum Watched {
-    Open(usize, usize, Desk),
-    Shut(Refusal),
+pub struct Watched {
+    pub inodes: usize,
+    pub blocks: usize,
+    pub desk: Desk,
 }
 
 // What 1 asks of every call on the three buffers.
 pub fn both_framed(store: &[u8], desk: &[u8]) -> bool
     ensures { result ≡ both_framed store.now desk.now }
 {
-    if !checker::framed(Form::Store, store) {
-        return false;
-    }
-    fit::desk_framed(desk)
+    checker::framed(Form::Store, store) && fit::desk_framed(desk)
 }
 
 // 2 and 3, where 1 does not come: one check of the store, then the desk and the image of a running copy, beside the store that is sound by then.
-pub fn after_lengths(store: &[u8], image: &[u8], desk: &[u8]) -> Watched
+pub fn after_lengths(store: &[u8], image: &[u8], desk: &[u8]) -> Result<Watched, Refusal>
     requires { both_framed store.now desk.now ≡ true }
     ensures { result
         ≡ handed (guard_by store.now (guard_rows true store.now image.now desk.now)) (desk_of desk.now) }
 {
-    let h = Header::read(store);
-    let n = h.inodes as usize;
-    let b = h.blocks as usize;
-    if !checker::body_right(Form::Store, store, n, b) {
-        return Watched::Shut(Refusal::UnsoundStore);
+    let counts = Header::read(store).counts();
+    if !checker::body_right(Form::Store, store, counts.inodes, counts.blocks) {
+        return Err(Refusal::UnsoundStore);
     }
-    if !fit::notes_fit(n, store, image, desk) {
-        return Watched::Shut(Refusal::BadDesk);
+    if !fit::notes_fit(counts.inodes, store, image, desk) {
+        return Err(Refusal::BadDesk);
     }
-    Watched::Open(n, b, Desk::read(desk))
+    Ok(Watched {
+        inodes: counts.inodes,
+        blocks: counts.blocks,
+        desk: Desk::read(desk),
+    })
 }
 
-pub fn three_guards(store: &[u8], image: &[u8], desk: &[u8]) -> Watched
+pub fn three_guards(store: &[u8], image: &[u8], desk: &[u8]) -> Result<Watched, Refusal>
     ensures { result ≡ handed (three_guards store.now image.now desk.now) (desk_of desk.now) }
 {
     if !both_framed(store, desk) {
-        return Watched::Shut(Refusal::BadBuffer);
+        return Err(Refusal::BadBuffer);
     }
     after_lengths(store, image, desk)
 }
 
 // A start looks at the image's length too.
-pub fn start_guards(store: &[u8], image: &[u8], desk: &[u8]) -> Watched
+pub fn start_guards(store: &[u8], image: &[u8], desk: &[u8]) -> Result<Watched, Refusal>
     ensures { result ≡ handed (start_guards store.now image.now desk.now) (desk_of desk.now) }
 {
     if !both_framed(store, desk) {
-        return Watched::Shut(Refusal::BadBuffer);
+        return Err(Refusal::BadBuffer);
     }
     let h = Header::read(store);
     if !image_allowed(h.inodes as usize, image.len()) {
-        return Watched::Shut(Refusal::BadBuffer);
+        return Err(Refusal::BadBuffer);
     }
     after_lengths(store, image, desk)
 }
 
 // The state question.
-pub fn state(store: &[u8], image: &[u8], desk: &[u8]) -> Status
+pub fn state(store: &[u8], image: &[u8], desk: &[u8]) -> Result<Status, Refusal>
     ensures { told_status result ≡ status store.now image.now desk.now }
 {
-    match three_guards(store, image, desk) {
-        Watched::Open(_, _, h) => Status::Is(h.state, h.locked, h.steps),
-        Watched::Shut(why) => Status::NoStatus(why),
-    }
+    let h = three_guards(store, image, desk)?.desk;
+    Ok(Status {
+        state: h.state,
+        locked: h.locked,
+        steps: h.steps,
+    })
 }

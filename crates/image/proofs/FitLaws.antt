@@ -10,6 +10,7 @@ use lib.Dec.{eqb, leb}
 use lib.ListN.{length}
 use Rattle.bounded.specs.Search.{pick}
 use Rattle.bounded.specs.Most.{most}
+use Rattle.bounded.specs.Reflect.{Reflects}
 use Rattle.bounded.proofs.BoolLaws.{clash, and_false_l, chain_end}
 use Rattle.bounded.proofs.BelowLaws.{all_of, all_ext}
 use Rattle.bounded.proofs.MostLaws.{most_within}
@@ -23,12 +24,12 @@ use Rattle.blocks.specs.Free.{long_but}
 use Rattle.blocks.specs.Fits.{Sized}
 use Rattle.blocks.proofs.LongLaws.{row_direct}
 use Rattle.blocks.proofs.KthLaws.{kth_direct, kth_none, kth_bare, kth_behind, row_next}
-use Rattle.desk.specs.Sizes.{desk_length, idle, running}
+use Rattle.desk.specs.Sizes.{desk_length, idle}
 use Rattle.desk.specs.declared.Desk.{Desk}
 use Rattle.desk.specs.Desk.{desk_of}
 use Rattle.checkpoint.specs.Fit.{desk_framed, image_blocks, image_allowed, blocks_fit, desk_fits, image_long, lacks_addresses, image_fits}
 use Rattle.checkpoint.proofs.Copy.FitLaws.{desk_framed_is, desk_fits_is, image_fits_is}
-use Rattle.image.specs.Fit.{addresses_right, direct_right, further_right_of, further_right, locked_long, addresses_lacking, rows_right}
+use Rattle.image.specs.Fit.{addresses_right, direct_right, further_right_of, further_right, locked_long, addresses_lacking, header_right, rows_right}
 
 -- ---- the desk's frame
 -- what a desk that passed has
@@ -82,8 +83,8 @@ module _ (long : ℕ → Bool) (m : List ℕ) (n b : ℕ) where
               subst (λ (u : ℕ). kth_by (long (x / 44 + 1)) m n (x / 44 + 1) u ≤ b) z (g (x / 44) (omega arith) (x % 44 - 12) (omega arith))
 
 -- the address block's number is a direct address
-pub direct_place : (m : List ℕ) (n b : ℕ) → direct_right m n b ≡ true → (k : ℕ) → k < n → address_block m n (k + 1) ≤ b
-direct_place m n b h k l = (r_all (address_count * n) (λ x. r_le (address_of m n x) b)).to h (address_index (k + 1) address_place) (omega arith)
+pub direct_place : (m : List ℕ) (n b : ℕ) → direct_right m n b ≡ true → (i : ℕ) → 1 ≤ i → i ≤ n → address_block m n i ≤ b
+direct_place m n b h i l k = (r_all (address_count * n) (λ x. r_le (address_of m n x) b)).to h (address_index i address_place) (omega arith)
 
 module _ (long : Bool) (m : List ℕ) (n b i : ℕ) where
   -- of an inode with no address block there are no more to look at
@@ -107,14 +108,6 @@ module _ (s : List ℕ) (l : ℕ) where
 
   pub locked_some : (l ≡ 0 → ⊥) → is_long s l ≡ locked_long s l
   locked_some e = rw (ne_eqb l 0 e)
-
-  -- there is one, if it has an address block
-  pub locked_low : locked_long s l ≡ true → 1 ≤ l
-  locked_low q = go (ℕ_discrete l 0)
-    where
-      go : Dec (l ≡ 0) → 1 ≤ l
-      go (yes e) = absurd (clash (locked_long s l) q (sym (locked_none e)))
-      go (no e) = omega arith
 
   -- with none locked it makes no difference what is told of it
   pub told : (m : List ℕ) (i : ℕ) → 1 ≤ i → long_but m l (locked_long s l) i ≡ long_but m l (is_long s l) i
@@ -166,27 +159,29 @@ module _ (s m d : List ℕ) (h : Desk) (e : h ≡ desk_of d) where
         (record { inodes = omega arith; blocks = omega arith; long = l ∙ q }, omega arith, omega arith)
 
   module _ (t : Header) (f : t ≡ header_of m) where
-    pub image_inodes : (t.inodes ≡ h.inodes → ⊥) → false ≡ image_fits s m d
-    image_inodes x = sym (r_fails (image_fits_is s m d) (λ w. x (ap (λ (z : Header). z.inodes) f ∙ w.1.0 ∙ sym n_is)))
+    header_is : Reflects (header_right t h) ((t.inodes ≡ h.inodes) × ((t.blocks ≡ h.blocks) × ((t.root ≡ root_inode) × (t.complete ≡ not_complete))))
+    header_is = r_and (r_eq t.inodes h.inodes) (r_and (r_eq t.blocks h.blocks) (r_and (r_eq t.root root_inode) (r_eq t.complete not_complete)))
+
+    pub image_other : header_right t h ≡ false → false ≡ image_fits s m d
+    image_other x =
+        sym
+        (r_fails (image_fits_is s m d) (λ w.
+        clash (header_right t h)
+        (header_is.from (ap (λ (z : Header). z.inodes) f ∙ w.1.0 ∙ sym n_is, (ap (λ (z : Header). z.blocks) f ∙ w.1.1.0 ∙ sym b_is, (ap (λ (z : Header). z.root) f ∙ w.1.1.1.0, ap (λ (z : Header). z.complete) f ∙ w.1.1.1.1.0))))
+        x))
 
     pub image_blocks_lem : (t.blocks ≡ h.blocks → ⊥) → false ≡ image_fits s m d
-    image_blocks_lem x = sym (r_fails (image_fits_is s m d) (λ w. x (ap (λ (z : Header). z.blocks) f ∙ w.1.1.0 ∙ sym b_is)))
+    image_blocks_lem x = image_other (r_fails header_is (λ w. x w.1.0))
 
-    pub image_root : (t.root ≡ root_inode → ⊥) → false ≡ image_fits s m d
-    image_root x = sym (r_fails (image_fits_is s m d) (λ w. x (ap (λ (z : Header). z.root) f ∙ w.1.1.1.0)))
-
-    pub image_complete : (t.complete ≡ not_complete → ⊥) → false ≡ image_fits s m d
-    image_complete x = sym (r_fails (image_fits_is s m d) (λ w. x (ap (λ (z : Header). z.complete) f ∙ w.1.1.1.1.0)))
-
-    pub image_addresses : (r : ℕ) → r ≡ store_length h.inodes h.blocks → length m ≡ r → t.inodes ≡ h.inodes → t.blocks ≡ h.blocks → t.root ≡ root_inode → t.complete ≡ not_complete
-        → rows_right s m h ≡ image_fits s m d
+    pub image_addresses : (r : ℕ) → r ≡ store_length h.inodes h.blocks → length m ≡ r → header_right t h ≡ true → rows_right s m h ≡ image_fits s m d
     unfolding image_fits lacks_addresses
-    image_addresses r q l a b c g =
+    image_addresses r q l x =
         let y = n_is in
         let z = b_is in
+        let k = header_is.to x in
         chain_end _ _ _ (eq-eqb (length m) (store_length (desk_of d).inodes (desk_of d).blocks) (omega arith))
-        (chain_end _ _ _ (eq-eqb (header_of m).inodes (desk_of d).inodes (sym (ap (λ (z : Header). z.inodes) f) ∙ a ∙ n_is))
-        (chain_end _ _ _ (eq-eqb (header_of m).blocks (desk_of d).blocks (sym (ap (λ (z : Header). z.blocks) f) ∙ b ∙ b_is))
-        (chain_end _ _ _ (eq-eqb (header_of m).root root_inode (sym (ap (λ (z : Header). z.root) f) ∙ c))
-        (chain_end _ _ _ (eq-eqb (header_of m).complete not_complete (sym (ap (λ (z : Header). z.complete) f) ∙ g))
+        (chain_end _ _ _ (eq-eqb (header_of m).inodes (desk_of d).inodes (sym (ap (λ (z : Header). z.inodes) f) ∙ k.0 ∙ n_is))
+        (chain_end _ _ _ (eq-eqb (header_of m).blocks (desk_of d).blocks (sym (ap (λ (z : Header). z.blocks) f) ∙ k.1.0 ∙ b_is))
+        (chain_end _ _ _ (eq-eqb (header_of m).root root_inode (sym (ap (λ (z : Header). z.root) f) ∙ k.1.1.0))
+        (chain_end _ _ _ (eq-eqb (header_of m).complete not_complete (sym (ap (λ (z : Header). z.complete) f) ∙ k.1.1.1))
         (ap (rows_right s m) e ∙ ap (λ (z : Bool). addresses_right (image_long s m d) m (desk_of d).inodes (desk_of d).blocks && not z) (and_assoc (not (eqb (desk_of d).locked 0)) (is_long s (desk_of d).locked) _))))))

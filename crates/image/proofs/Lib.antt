@@ -1,3 +1,4 @@
+pub mod ChainLaws
 pub mod NamingLaws
 pub mod FitLaws
 pub mod CutLaws

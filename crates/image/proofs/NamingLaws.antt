@@ -5,6 +5,7 @@ use mathlib.Core.Logic.{◌≢◌}
 use mathlib.Core.Bool.{Bool, false, not, ◌&&◌}
 use mathlib.Core.List.{List}
 use native.Mathlib.Numerals.{add-one}
+use native.Mathlib.Decide.{dec_lt}
 use native.Mathlib.Omega.{arith}
 use lib.Dec.{eqb}
 use lib.ListN.{length, get_or, set, take, drop}
@@ -43,11 +44,13 @@ module _ (m : List ℕ) (o i : ℕ) (counts : List ℕ) (a : i ≡ entry_inode (
   read : f p ≡ i
   read = e ∙ ap entry_inode (sym (cut m o 16)) ∙ sym a
 
-  pub entry_none : i < 1 → Tallied f 1 257 (p + 1) counts
-  entry_none h = let r = read in tally_skip f 1 257 p counts (omega arith) t
-
-  pub entry_past : 256 < i → Tallied f 1 257 (p + 1) counts
-  entry_past h = let r = read in tally_past f 1 257 p counts (omega arith) t
+  pub entry_out : (1 ≤ i → i ≤ 256 → ⊥) → Tallied f 1 257 (p + 1) counts
+  entry_out h =
+      let r = read in
+      elim (dec_lt i 1) as (λ _. Tallied f 1 257 (p + 1) counts) [
+        | yes l ↦ tally_skip f 1 257 p counts (omega arith) t
+        | no l ↦ tally_past f 1 257 p counts (elim (dec_lt 256 i) as (λ _. 257 ≤ f p) [ yes u ↦ omega arith | no u ↦ absurd (h (omega arith) (omega arith)) ]) t
+      ]
 
   pub entry_one : 1 ≤ i → i ≤ 256 → Tallied f 1 257 (p + 1) (set counts i (get_or counts i 0 + 1))
   entry_one l h = tally_one f 1 257 p i counts (sym read) l (omega arith) t

@@ -1,7 +1,8 @@
 -- Parts of the paper's tests of the image, as the code goes through them: what is told by the desk's header, and what is a loop. n is the inode count, s the store, m the image.
 use Rattle.std.specs.Prelude.{ℕ, ◌+◌, ◌*◌, Bool, not, ◌&&◌, List, eqb, leb}
 use Rattle.bounded.specs.Below.{all_below, all_to}
-use Rattle.layout.specs.Sizes.{address_count, further_count, most_blocks}
+use Rattle.layout.specs.Sizes.{address_count, further_count, most_blocks, root_inode, not_complete}
+use Rattle.layout.specs.declared.header.Header.{Header}
 use Rattle.layout.specs.Inode.{address_of}
 use Rattle.blocks.specs.Block.{is_long, address_block, kth_by, row_by}
 use Rattle.blocks.specs.Free.{long_but}
@@ -35,3 +36,7 @@ abbrev pub rows_right : List ℕ → List ℕ → Desk → Bool
 rows_right s m h =
     addresses_right (long_but m h.locked (is_long s h.locked)) m h.inodes h.blocks
     && not (addresses_lacking (locked_long s h.locked) m h.inodes h.locked h.transferred)
+
+-- the image's header t is that of the running copy, by the desk's header h
+abbrev pub header_right : Header → Desk → Bool
+header_right t h = eqb t.inodes h.inodes && (eqb t.blocks h.blocks && (eqb t.root root_inode && eqb t.complete not_complete))

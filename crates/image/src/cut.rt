@@ -1,5 +1,5 @@
 // The image's entries as a file call finds and cuts them. m is the image, n the inode count.
-ghost use Rattle.std.specs.Prelude.{◌≡◌, ◌+◌, ◌/◌, ◌<◌, ◌≤◌, length};
+ghost use Rattle.std.specs.Prelude.{◌≡◌, ◌+◌, ◌/◌, ◌<◌, ◌≤◌, eqb, length};
 ghost use Rattle.blocks.specs.Block.{kth_block};
 ghost use Rattle.names.specs.Entry.{entry_bytes};
 ghost use Rattle.directory.specs.Slot.{slots_in_block, most_slots, slot_at};
@@ -24,20 +24,16 @@ fn image_slot(m: &[u8], n: usize, e: usize, t: usize) -> usize
     blocks::block_at(n, c) + ENTRY_BYTES * (t % SLOTS_IN_BLOCK)
 }
 
-// The inode that slot t of e names in the image, 0 for none.
-#[tactic(auto, using(crate::proofs::CutLaws::names_other))]
-fn slot_names(m: &[u8], n: usize, e: usize, t: usize) -> usize
-    requires { Addressed m.now n × (1 ≤ e) × (e ≤ n) × (t < most_slots) }
-    ensures { result ≡ slot_names m.now n e t }
+// Slot t of e names inode i in the image.
+fn is_named(m: &[u8], n: usize, e: usize, t: usize, i: usize) -> bool
+    requires { Addressed m.now n × (1 ≤ e) × (e ≤ n) × (t < most_slots) × (1 ≤ i) }
+    ensures { result ≡ eqb (slot_names m.now n e t) i }
 {
-    if inode::kind(m, n, e) != DIRECTORY {
-        return 0;
-    }
-    if blocks::kth_block(m, n, e, t / SLOTS_IN_BLOCK) == 0 {
-        return 0;
+    if inode::kind(m, n, e) != DIRECTORY || blocks::kth_block(m, n, e, t / SLOTS_IN_BLOCK) == 0 {
+        return false;
     }
     let o = image_slot(m, n, e, t);
-    names::entry_inode(&m[o..o + ENTRY_BYTES]) as usize
+    names::entry_inode(&m[o..o + ENTRY_BYTES]) as usize == i
 }
 
 // Inode i was taken from slot t of directory e, beside a desk d whose header is h: if e is copied and i is not, the entry that names i in the same slot of the image goes too.
@@ -45,18 +41,12 @@ pub fn cut_image(m: &mut [u8], d: &[u8], h: Desk, n: usize, e: usize, t: usize, 
     requires { (h ≡ desk_of d.now) × Readable m.old h n × (desk_length n ≤ length d.now) × (1 ≤ e) × (e ≤ n) × (t < most_slots) × (1 ≤ i) }
     ensures { m.new ≡ cut_image m.old d.now n e t i }
 {
-    if !h.runs() {
-        return;
+    if h.runs()
+        && desk::is_copied(d, n, e)
+        && !desk::is_copied(d, n, i)
+        && is_named(m, n, e, t, i)
+    {
+        let o = image_slot(m, n, e, t);
+        octets::zero_range(&mut *m, o, ENTRY_BYTES);
     }
-    if !desk::is_copied(d, n, e) {
-        return;
-    }
-    if desk::is_copied(d, n, i) {
-        return;
-    }
-    if slot_names(m, n, e, t) != i {
-        return;
-    }
-    let o = image_slot(m, n, e, t);
-    octets::zero_range(&mut *m, o, ENTRY_BYTES);
 }

@@ -17,7 +17,6 @@ ghost use Rattle.checkpoint.specs.Copier.{put_counts, finish_image};
 ghost use Rattle.image.specs.Addressed.{Addressed};
 
 use blocks::map;
-use bounded::Found;
 use directory::SLOTS_IN_BLOCK;
 use layout::sizes::{ADDRESS_COUNT, COMPLETE, DIRECTORY, INODE_PLACES, MOST_INODES};
 use layout::{header, inode};
@@ -29,13 +28,9 @@ fn count_entry(m: &[u8], o: usize, counts: &mut [u16])
     ensures { (f : ℕ → ℕ) (p : ℕ) → f p ≡ entry_inode (part m.now o entry_bytes) → Tallied f 1 (most_inodes + 1) p counts.old → Tallied f 1 (most_inodes + 1) (p + 1) counts.new }
 {
     let i = names::entry_inode(&m[o..o + ENTRY_BYTES]) as usize;
-    if i < 1 {
-        return;
+    if (1..=MOST_INODES).contains(&i) {
+        counts[i] += 1;
     }
-    if MOST_INODES < i {
-        return;
-    }
-    counts[i] = counts[i] + 1;
 }
 
 // The four slots of the k-th block of directory e, which may have no such block.
@@ -44,10 +39,11 @@ fn count_block(m: &[u8], n: usize, e: usize, k: usize, counts: &mut [u16])
     ensures { Tallied (image_naming m.now n) 1 (most_inodes + 1) (place_of e (slots_in_block * (k + 1))) counts.new }
 {
     let a = blocks::kth_block(m, n, e, k) as usize;
-    if a < 1 {
+    if a == 0 {
         return;
     }
     let o = blocks::block_at(n, a);
+    // by offset and no chunks_exact: the counts are told by the turn's number, which its chunks don't give
     for j in 0..SLOTS_IN_BLOCK {
         count_entry(m, o + ENTRY_BYTES * j, &mut *counts);
     }
@@ -78,18 +74,11 @@ pub fn count_names(m: &[u8], n: usize, counts: &mut [u16; INODE_PLACES])
 }
 
 // The lowest uncopied inode that the counts have.
-pub fn lowest_named(counts: &[u16; INODE_PLACES], d: &[u8], n: usize) -> Found
+pub fn lowest_named(counts: &[u16; INODE_PLACES], d: &[u8], n: usize) -> Option<usize>
     requires { (n ≤ most_inodes) × (desk_length n ≤ length d.now) }
     ensures { result ≡ first_from (λ i. not (is_copied d.now n i) && not (eqb (get_or counts.now i 0) 0)) 1 n }
 {
-    for i in 1..n + 1 {
-        if counts[i] != 0 {
-            if !desk::is_copied(d, n, i) {
-                return Found::At(i);
-            }
-        }
-    }
-    Found::Absent
+    (1..n + 1).find(|&i| counts[i] != 0 && !desk::is_copied(d, n, i))
 }
 
 // The link counts of all inodes.
@@ -97,6 +86,7 @@ fn put_counts(m: &mut [u8], n: usize, counts: &[u16; INODE_PLACES])
     requires { Addressed m.old n × Tallied (image_naming m.old n) 1 (most_inodes + 1) (most_slots * n) counts.now }
     ensures { m.new ≡ put_counts m.old m.old n n }
 {
+    // the number is the inode's too: a chain would skip place 0, stop at n and count from 1
     for k in 0..n {
         inode::put_links(&mut *m, n, k + 1, counts[k + 1]);
     }

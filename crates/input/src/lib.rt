@@ -1,135 +1,80 @@
 // Standard input, line by line.
 #![tactic(auto)]
 
-ghost use Rattle.std.specs.Prelude.{◌<◌, ◌≤◌};
-ghost use Rattle.input.specs.Within.{Within};
+ghost use Rattle.std.specs.Prelude.{◌≤◌};
+ghost use Rattle.std.specs.Option.{unwrap_or};
 
 use std::io::{Read, Stdin};
 
 const NEWLINE: u8 = 10;
 
-// Between two bytes of the input: the place in the piece that was read last and where that ends, how much of a line came and whether more than
-// there is room for, whether the line is at its end, and whether the input goes on.
-#[derive(Clone, Copy)]
-pub struct Input {
-    pub at: usize,
-    pub end: usize,
-    pub used: usize,
-    pub long: bool,
-    pub ended: bool,
-    pub open: bool,
+const ROOM: usize = 65536;
+
+// What came of a line: how many bytes, none if there was no room for all, and these bytes.
+#[derive(Drop)]
+struct Line {
+    length: Option<usize>,
+    bytes: [u8; ROOM],
+    ghost within: { unwrap_or length 0 ≤ 65536 },
 }
 
-impl Input {
-    pub fn new() -> Input
-        ensures { Within result }
-    {
-        Input {
-            at: 0,
-            end: 0,
-            used: 0,
-            long: false,
-            ended: false,
-            open: true,
+impl Line {
+    fn new() -> Line {
+        Line {
+            length: Some(0),
+            bytes: [0u8; ROOM],
         }
     }
 
-    // A new line, from here on.
-    fn begun(mut self) -> Input
-        requires { Within self }
-        ensures { Within result }
-    {
-        self.used = 0;
-        self.long = false;
-        self.ended = false;
-        self
+    fn clear(&mut self) {
+        self.length = Some(0);
     }
 
-    // How much of the line is looked at: nothing of one that there was no room for.
-    pub fn taken(self) -> usize
-        requires { Within self }
-        ensures { result ≤ 65536 }
-    {
-        if self.long { 0 } else { self.used }
+    fn is_empty(&self) -> bool {
+        self.length == Some(0)
     }
 
-    // n bytes were read; none at the end of the input.
-    fn read(mut self, n: usize) -> Input
-        requires { Within self × (n ≤ 65536) }
-        ensures { Within result }
-    {
-        self.at = 0;
-        self.end = n;
-        self.ended = n == 0;
-        self.open = n != 0;
-        self
+    // One byte more; what there is no room for is left out.
+    fn push(&mut self, b: u8) {
+        match self.length {
+            Some(n) if n < ROOM => {
+                self.bytes[n] = b;
+                self.length = Some(n + 1);
+            }
+            _ => self.length = None,
+        }
+    }
+
+    // What is looked at: nothing of a line that there was no room for.
+    fn text(&self) -> &[u8] {
+        let n = self.length.unwrap_or(0);
+        &self.bytes[..n]
     }
 }
 
-// The next piece; a read that fails counts as the end of the input.
-fn refill(stdin: &mut Stdin, piece: &mut [u8; 65536], input: Input) -> Input
-    requires { Within input }
-    ensures { Within result }
+// Each line goes to `answer` as soon as it is there, without its newline; one that there was no room
+// for as an empty one. Nothing after the last newline is no line. A read that fails counts as the
+// end. Nothing says that an input ends, so the reads are counted up to a number that no run reaches.
+pub fn each_line<F: FnMut(&[u8])>(stdin: &mut Stdin, mut answer: F)
+    requires { F.IsAlwaysCallable answer }
 {
-    let n = match stdin.read(&mut *piece) {
-        Ok(n) => n,
-        Err(_) => 0,
-    };
-    input.read(n)
-}
-
-// The byte b of the line; what there is no room for is left out.
-fn take_byte(b: u8, line: &mut [u8; 65536], mut input: Input) -> Input
-    requires { Within input × (input.at < 65536) }
-    ensures { Within result }
-{
-    let used = input.used;
-    input.at = input.at + 1;
-    if b == NEWLINE {
-        input.ended = true;
-        return input;
+    let mut piece = [0u8; ROOM];
+    let mut line = Line::new();
+    for _ in 0..u64::MAX {
+        let n = stdin.read(&mut piece).unwrap_or(0);
+        if n == 0 {
+            break;
+        }
+        for &b in &piece[..n] {
+            if b == NEWLINE {
+                answer(line.text());
+                line.clear();
+            } else {
+                line.push(b);
+            }
+        }
     }
-    if used < 65536 {
-        line[used] = b;
-        input.used = used + 1;
-        return input;
+    if !line.is_empty() {
+        answer(line.text());
     }
-    input.long = true;
-    input
-}
-
-// A byte, or the next piece if the last one is used up.
-fn advance(
-    stdin: &mut Stdin,
-    piece: &mut [u8; 65536],
-    line: &mut [u8; 65536],
-    input: Input,
-) -> Input
-    requires { Within input }
-    ensures { Within result }
-{
-    let at = input.at;
-    if at < input.end {
-        return take_byte(piece[at], line, input);
-    }
-    refill(stdin, piece, input)
-}
-
-// The next line. Nothing says that an input ends, so the turns are counted down from a number that no run uses up.
-pub fn next_line(
-    stdin: &mut Stdin,
-    piece: &mut [u8; 65536],
-    line: &mut [u8; 65536],
-    input: Input,
-) -> Input
-    requires { Within input }
-    ensures { Within result }
-{
-    let mut s = input.begun();
-    let mut turns = u64::MAX;
-    while turns > 0 && !s.ended {
-        s = advance(&mut *stdin, &mut *piece, &mut *line, s);
-        turns -= 1;
-    }
-    s
 }

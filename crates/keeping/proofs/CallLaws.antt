@@ -1,4 +1,5 @@
 -- What the call answers and leaves, by what was found before.
+use Rattle.std.specs.Prelude.{Err, None, Ok, Some}
 use Prim.Native.Nat.{ℕ, ◌*◌, ◌%◌, ◌≤◌, ◌<◌}
 use mathlib.Core.Path.{◌≡◌, refl, sym, ap, subst, ◌∙◌}
 use mathlib.Core.Bool.{Bool, true, false, not, ◌&&◌}
@@ -14,28 +15,27 @@ use Rattle.bounded.proofs.BelowLaws.{all_at}
 use Rattle.bounded.proofs.BoolLaws.{and_left, and_right, or_false_l, or_false_r}
 use Rattle.bounded.proofs.TableLaws.{length_table, get_or_table}
 use Rattle.octets.specs.Octets.{splice}
+use Rattle.std.specs.Prelude.{None, Some, Option}
 use Rattle.calendar.specs.Date as date
 use Rattle.calendar.specs.Date.{date_of, is_date, day_number, reckoned}
-use Rattle.calendar.specs.declared.Reckoned.TheVariants as found
 use Rattle.calendar.proofs.DayLaws.{days_end}
 use Rattle.answers.specs.declared.Refusal.TheVariants.{BadBuffer, NoDate, BadTerms, AfterAsked}
-use Rattle.answers.specs.declared.Answer.{Answer}
-use Rattle.answers.specs.declared.Answer.TheVariants.{Done, Refused}
 use Rattle.keeping.specs.Call.{most_copies, most_terms, wrong_lengths, all_dates, day_at, in_days, wrong_terms, after_asked, kept_count, flags, left, keep_call}
-use Rattle.keeping.specs.Days.{InYears, Ready, asked_day, days_call}
+use Rattle.keeping.specs.Days.{InYears, Ready, AllRead, asked_day, days_call}
+use Rattle.answers.specs.Told.{Answer}
 
 -- ---- from 24 on
 module _ (cs ts : List ℕ) (today : ℕ) (out : List ℕ) where
-  pub terms_refused : wrong_terms ts ≡ true → left (Refused BadTerms) out ≡ days_call cs ts today out
+  pub terms_refused : wrong_terms ts ≡ true → left (Err BadTerms) out ≡ days_call cs ts today out
   unfolding days_call
   terms_refused h = rw h
 
-  pub asked_refused : wrong_terms ts ≡ false → after_asked cs today ≡ true → left (Refused AfterAsked) out ≡ days_call cs ts today out
+  pub asked_refused : wrong_terms ts ≡ false → after_asked cs today ≡ true → left (Err AfterAsked) out ≡ days_call cs ts today out
   unfolding days_call
   asked_refused h k = rw (h, k)
 
   pub decided : wrong_terms ts ≡ false → after_asked cs today ≡ false → (n : ℕ) (v : List ℕ) → n ≡ kept_count cs ts today → v ≡ splice out 0 (flags cs ts today)
-      → left (Done n) v ≡ days_call cs ts today out
+      → left (Ok n) v ≡ days_call cs ts today out
   unfolding days_call
   decided h k n v e f = rw (h, k, e, f)
 
@@ -44,11 +44,11 @@ module _ (copies terms : List ℕ) (asked : ℕ) (out : List ℕ) where
   abbrev wrong : Bool
   wrong = wrong_lengths (length copies) (length terms) (length out)
 
-  pub lengths_refused : wrong ≡ true → left (Refused BadBuffer) out ≡ keep_call copies terms asked out
+  pub lengths_refused : wrong ≡ true → left (Err BadBuffer) out ≡ keep_call copies terms asked out
   unfolding keep_call
   lengths_refused h = rw h
 
-  pub dates_refused : wrong ≡ false → all_dates copies && (all_dates terms && is_date (date_of asked)) ≡ false → left (Refused NoDate) out ≡ keep_call copies terms asked out
+  pub dates_refused : wrong ≡ false → all_dates copies && (all_dates terms && is_date (date_of asked)) ≡ false → left (Err NoDate) out ≡ keep_call copies terms asked out
   unfolding keep_call
   dates_refused h k = rw (h, k)
 
@@ -76,11 +76,11 @@ module _ (copies terms : List ℕ) (asked : ℕ) (out : List ℕ) where
 
 -- ---- all dates, as they are read
 module _ (copies terms : List ℕ) (asked : ℕ) where
-  pub no_copies : all_dates copies ≡ false → found.NoDate ≡ asked_day copies terms asked
+  pub no_copies : all_dates copies ≡ false → None ≡ asked_day copies terms asked
   unfolding asked_day
   no_copies h = rw h
 
-  pub no_terms : all_dates copies ≡ true → all_dates terms ≡ false → found.NoDate ≡ asked_day copies terms asked
+  pub no_terms : all_dates copies ≡ true → all_dates terms ≡ false → None ≡ asked_day copies terms asked
   unfolding asked_day
   no_terms h k = rw (h, k)
 
@@ -88,27 +88,27 @@ module _ (copies terms : List ℕ) (asked : ℕ) where
   unfolding asked_day reckoned
   lists_read h k = rw (h, k) (go (is_date (date_of asked)))
     where
-      go : (b : Bool) → pick b (found.Day (day_number (date_of asked))) found.NoDate ≡ pick (not b) found.NoDate (found.Day (day_number (date_of asked)))
+      go : (b : Bool) → pick b (Some (day_number (date_of asked))) None ≡ pick (not b) None (Some (day_number (date_of asked)))
       go true = refl
       go false = refl
 
   -- what an answer says
-  pub asked_none : asked_day copies terms asked ≡ found.NoDate → all_dates copies && (all_dates terms && is_date (date_of asked)) ≡ false
+  pub asked_none : asked_day copies terms asked ≡ None → all_dates copies && (all_dates terms && is_date (date_of asked)) ≡ false
   unfolding asked_day
   asked_none e = go (all_dates copies && (all_dates terms && is_date (date_of asked))) e
     where
-      go : (b : Bool) → pick (not b) found.NoDate (found.Day (day_number (date_of asked))) ≡ found.NoDate → b ≡ false
+      go : (b : Bool) → pick (not b) None (Some (day_number (date_of asked))) ≡ None → b ≡ false
       go true r = let z : ◌≡◌ {A = ℕ} 0 1 = cc in absurd (omega arith)
       go false r = refl
 
-  pub asked_day_lem : (d : ℕ) → asked_day copies terms asked ≡ found.Day d → (all_dates copies ≡ true) × (all_dates terms ≡ true) × (is_date (date_of asked) ≡ true) × (d ≡ day_number (date_of asked))
+  pub asked_day_lem : (d : ℕ) → asked_day copies terms asked ≡ Some d → (all_dates copies ≡ true) × (all_dates terms ≡ true) × (is_date (date_of asked) ≡ true) × (d ≡ day_number (date_of asked))
   unfolding asked_day
   asked_day_lem d e =
       let h = go (all_dates copies && (all_dates terms && is_date (date_of asked))) e in
       let r = and_right (all_dates copies) _ h.0 in
       (and_left (all_dates copies) _ h.0, and_left (all_dates terms) _ r, and_right (all_dates terms) _ r, h.1)
     where
-      go : (b : Bool) → pick (not b) found.NoDate (found.Day (day_number (date_of asked))) ≡ found.Day d → (b ≡ true) × (d ≡ day_number (date_of asked))
+      go : (b : Bool) → pick (not b) None (Some (day_number (date_of asked))) ≡ Some d → (b ≡ true) × (d ≡ day_number (date_of asked))
       go true r = (refl, cc)
       go false r = let z : ◌≡◌ {A = ℕ} 0 1 = cc in absurd (omega arith)
 
@@ -144,4 +144,40 @@ ready copies terms out cs ts a b e f h k =
       terms_fit = subst InYears (sym f) (in_years terms b);
       few_terms = omega arith;
       room = omega arith;
+    }
+
+-- ---- what the code knows once the lengths are right and all dates are read: day is the day asked, cs and ts hold the lists' days at their fronts
+pub record Read (copies terms : List ℕ) (asked : ℕ) (out cs ts : List ℕ) (day : ℕ) : Type 0 where
+  pub right : wrong_lengths (length copies) (length terms) (length out) ≡ false
+  pub copies_dated : all_dates copies ≡ true
+  pub terms_dated : all_dates terms ≡ true
+  pub asked_dated : is_date (date_of asked) ≡ true
+  pub day_is : day ≡ day_number (date_of asked)
+  pub copies_long : length copies ≤ length cs
+  pub terms_long : length terms ≤ length ts
+  pub copies_are : take (length copies) cs ≡ in_days copies
+  pub terms_are : take (length terms) ts ≡ in_days terms
+  pub fits : Ready (take (length copies) cs) (take (length terms) ts) out
+
+pub all_read : (copies terms : List ℕ) (asked : ℕ) (out : List ℕ) {before after cs ts : List ℕ} {r : Option ℕ} {day : ℕ} → wrong_lengths (length copies) (length terms) (length out) ≡ false
+    → length before ≡ most_copies → length after ≡ 2 * most_terms → AllRead copies terms asked before after cs ts r → r ≡ Some day → Read copies terms asked out cs ts day
+all_read copies terms asked out {cs = cs} {ts = ts} {day = day} w p q h e =
+    let l = lengths copies terms asked out w in
+    let d = asked_day_lem copies terms asked day (sym h.told ∙ e) in
+    let t = h.days d.0 d.1 in
+    let m = t.0.long ∙ p in
+    let n = t.1.long ∙ q in
+    let a = front_days copies most_copies cs l.0 (subst (λ (x : ℕ). Tabulated (day_at copies) x (length copies) cs) p t.0) in
+    let b = front_days terms (2 * most_terms) ts l.1 (subst (λ (x : ℕ). Tabulated (day_at terms) x (length terms) ts) q t.1) in
+    record {
+      right = w;
+      copies_dated = d.0;
+      terms_dated = d.1;
+      asked_dated = d.2;
+      day_is = d.3;
+      copies_long = omega arith;
+      terms_long = omega arith;
+      copies_are = a;
+      terms_are = b;
+      fits = ready copies terms out _ _ d.0 d.1 a b l.1 l.2;
     }

@@ -1,32 +1,30 @@
--- Loops: one that looks for a number that passes a test, and one that fills a list from its end on.
+-- Loops and chains: one that fills a list from its end on, and what a test or a fold over a list finds.
+use Rattle.std.specs.List.{list_all, filter, fold}
+use Rattle.std.specs.Int.{from_bool}
+use Rattle.std.proofs.Common.{max, cond}
 use Prim.Native.Nat.{ℕ, ◌+◌, ◌≤◌, ◌<◌}
 use mathlib.Core.Path.{◌≡◌, refl, sym, ap, ◌∙◌}
 use mathlib.Core.Bool.{Bool, true, false, not}
 use mathlib.Core.List.{List, [], ◌∷◌, ◌++◌}
 use native.Mathlib.Decide.{ℕ_discrete, dec_lt}
 use native.Mathlib.Omega.{arith}
+use lib.Dec.{leb, ltb}
 use lib.ListN.{length, get_or, set, length-set}
 use lib.Seq.{ext_get_or, get_or-set_same, get_or-set_other}
 use Rattle.octets.specs.Octets.{splice}
 use Rattle.octets.proofs.PartLaws.{length_splice, splice_in, splice_out, splice_snoc}
-use Rattle.bounded.specs.Below.{some_below}
+use Rattle.bounded.specs.Below.{all_below, some_below}
+use Rattle.bounded.specs.Count.{one}
+use Rattle.bounded.specs.Most.{most}
+use Rattle.bounded.specs.Search.{pick}
+use Rattle.bounded.proofs.ListLaws.{list_all-below, fold-steps}
+use Rattle.bounded.proofs.MostLaws.{most_none, most_more}
+use Rattle.keeping.specs.Call.{after_asked}
+use Rattle.keeping.specs.Days.{up_to, latest_by}
+use Rattle.keeping.proofs.TestLaws.{no_more}
 use Rattle.bounded.specs.Table.{table}
-use Rattle.bounded.proofs.BelowLaws.{some_of, none_some, all_ext}
+use Rattle.bounded.proofs.BelowLaws.{all_ext}
 use Rattle.bounded.proofs.TableLaws.{length_table, get_or_table, table_more}
-use Rattle.bounded.proofs.SeenLaws.{some_skip}
-
-module _ (p : ℕ → Bool) where
-  pub some_begin : some_below p 0 ≡ false
-  some_begin = none_some p 0 (λ k l. absurd (omega arith))
-
-  pub some_on : (i : ℕ) → some_below p i ≡ false → p i ≡ false → some_below p (i + 1) ≡ false
-  some_on i a h = some_skip p i h ∙ a
-
-  pub some_found : (n i : ℕ) → i < n → p i ≡ true → true ≡ some_below p n
-  some_found n i l h = sym (some_of p n i l h)
-
-  pub some_done : (n i : ℕ) → i ≤ n → n ≤ i → some_below p i ≡ false → false ≡ some_below p n
-  some_done n i l m a = let e : i ≡ n = omega arith in sym a ∙ ap (some_below p) e
 
 pub some_ext : (p q : ℕ → Bool) (n : ℕ) → ((k : ℕ) → k < n → p k ≡ q k) → some_below p n ≡ some_below q n
 unfolding some_below
@@ -83,3 +81,40 @@ module _ (f : ℕ → ℕ) (n : ℕ) where
       at : (j : ℕ) → Dec (j < n) → get_or new j 0 ≡ get_or (splice old 0 (table f n)) j 0
       at j (yes l) = t.from j (omega arith) l ∙ sym (front_at old j h l)
       at j (no l) = t.past j (omega arith) ∙ sym (front_rest f old n j (omega arith))
+
+-- ---- as the code's chains find them
+pub none_over : (cs : List ℕ) (today : ℕ) → list_all (λ d. leb d today) cs ≡ not (after_asked cs today)
+unfolding after_asked some_below
+none_over cs today =
+    list_all-below (λ d. leb d today) 0 cs
+    ∙ all_ext (λ j. leb (get_or cs j 0) today) (λ j. not (ltb today (get_or cs j 0))) (length cs) (λ j l. no_more (get_or cs j 0) today)
+    ∙ twice (all_below (λ j. not (ltb today (get_or cs j 0))) (length cs))
+  where
+    twice : (b : Bool) → b ≡ not (not b)
+    twice true = refl
+    twice false = refl
+
+-- a fold over the elements that pass
+fold_passing : (p : ℕ → Bool) (h : ℕ → ℕ → ℕ) (b : ℕ) (xs : List ℕ) → fold h b (filter p xs) ≡ fold (λ m d. cond (p d) (h m d) m) b xs
+fold_passing p h b [] = refl
+fold_passing p h b (x ∷ xs) = pass (p x) (fold_passing p h (h b x) xs) (fold_passing p h b xs)
+  where
+    pass : (q : Bool) → fold h (h b x) (filter p xs) ≡ fold (λ m d. cond (p d) (h m d) m) (h b x) xs → fold h b (filter p xs) ≡ fold (λ m d. cond (p d) (h m d) m) b xs
+        → fold h b (cond q (x ∷ filter p xs) (filter p xs)) ≡ fold (λ m d. cond (p d) (h m d) m) (cond q (h b x) b) xs
+    pass true e f = e
+    pass false e f = f
+
+pub latest_folds : (cs : List ℕ) (end : ℕ) → fold max 0 (filter (λ d. leb d end) cs) ≡ latest_by cs end
+latest_folds cs end =
+    fold_passing (λ d. leb d end) max 0 cs
+    ∙ ap (λ (z : ℕ). fold (λ m d. cond (leb d end) (max m d) m) z cs) (most_none (up_to cs end))
+    ∙ fold-steps (λ m d. cond (leb d end) (max m d) m) (most (up_to cs end)) 0 cs
+    (λ k l. one_more (leb (get_or cs k 0) end) (most (up_to cs end) k) (get_or cs k 0) ∙ most_more (up_to cs end) k _ (most (up_to cs end) k) refl refl)
+  where
+    one_more : (b : Bool) (m d : ℕ) → cond b (max m d) m ≡ max m (pick b d 0)
+    one_more true m d = refl
+    one_more false m d = omega arith
+
+pub byte_one : (b : Bool) → from_bool b ≡ one b
+byte_one true = refl
+byte_one false = refl

@@ -1,15 +1,13 @@
 -- What the call answers and leaves in the list that it is lent, refused or not.
-use Rattle.std.specs.Prelude.{ℕ, ◌*◌, ◌%◌, min, max, Bool, not, ◌&&◌, ◌||◌, List, [], ◌∷◌, eqb, leb, ltb, length, get_or}
+use Rattle.std.specs.Prelude.{ℕ, ◌*◌, ◌%◌, min, max, Bool, not, ◌&&◌, ◌||◌, List, [], ◌∷◌, eqb, leb, ltb, length, get_or, Err, Ok}
 use Rattle.bounded.specs.Below.{all_below, some_below}
 use Rattle.bounded.specs.Count.{one, count}
 use Rattle.bounded.specs.Table.{table}
 use Rattle.octets.specs.Octets.{splice}
 use Rattle.calendar.specs.Date.{date_of, is_date, day_number}
 use Rattle.answers.specs.declared.Refusal.TheVariants.{BadBuffer, NoDate, BadTerms, AfterAsked}
-use Rattle.answers.specs.declared.Answer.{Answer}
-use Rattle.answers.specs.declared.Answer.TheVariants.{Done, Refused}
 use Rattle.answers.specs.Order.{Row, row, first_by}
-use Rattle.answers.specs.Told.{Told, told}
+use Rattle.answers.specs.Told.{Answer, Told, told}
 use Rattle.keeping.specs.Keeping.{copy_count, day_of, term_count, first_day, last_day, keeps}
 
 -- "A case keeps up to 256 finished images"
@@ -91,5 +89,5 @@ left a o = record { answer = told a; out = o }
 unfoldable pub keep_call : List ℕ → List ℕ → ℕ → List ℕ → Left
 keep_call copies terms asked out =
     let today = day_number (date_of asked) in
-    first_by (λ e. left (Refused e) out) (keep_table copies terms asked out)
-    (left (Done (kept_count (in_days copies) (in_days terms) today)) (splice out 0 (flags (in_days copies) (in_days terms) today)))
+    first_by (λ e. left (Err e) out) (keep_table copies terms asked out)
+    (left (Ok (kept_count (in_days copies) (in_days terms) today)) (splice out 0 (flags (in_days copies) (in_days terms) today)))

@@ -1,14 +1,12 @@
 -- What a school may rely on. Of the code this knows the contract of `keep`, and nothing else.
-use Rattle.std.specs.Prelude.{ℕ, suc, ◌+◌, ◌≤◌, ◌<◌, ◌≡◌, Bool, true, false, List, [], ◌∷◌, length, get_or}
+use Rattle.std.specs.Prelude.{ℕ, suc, ◌+◌, ◌≤◌, ◌<◌, ◌≡◌, Bool, true, false, List, [], ◌∷◌, length, get_or, Err, Ok}
 use Rattle.bounded.specs.Reflect.{Reflects}
 use Rattle.bounded.specs.Search.{pick}
 use Rattle.bounded.specs.Count.{one}
 use Rattle.calendar.specs.Date.{date_of, is_date, day_number, week}
 use Rattle.answers.specs.declared.Refusal.TheVariants.{BadBuffer, NoDate, BadTerms, AfterAsked}
-use Rattle.answers.specs.declared.Answer.{Answer}
-use Rattle.answers.specs.declared.Answer.TheVariants.{Done, Refused}
 use Rattle.answers.specs.Order.{is_in_order}
-use Rattle.answers.specs.Told.{Told, told}
+use Rattle.answers.specs.Told.{Answer, Told, told}
 use Rattle.keeping.specs.Keeping.{copy_count, day_of, term_count, first_day, last_day, young_days, term_days, keeps}
 use Rattle.keeping.specs.Call.{wrong_lengths, all_dates, in_days, wrong_terms, kept_count, left, keep_table, keep_call}
 
@@ -98,12 +96,12 @@ module _ (copies terms : List ℕ) (asked : ℕ) (out v : List ℕ) where
 
   -- or refused for the first of four reasons; then nothing was written
   pub data Delivered : Told → Type 0 where
-    answered : Answered → Delivered (told (Done (kept_count (in_days copies) (in_days terms) (day_number (date_of asked)))))
-    bad_lengths : lengths_wrong ≡ true → v ≡ out → Delivered (told (Refused BadBuffer))
-    no_date : lengths_wrong ≡ false → (AllDates → ⊥) → v ≡ out → Delivered (told (Refused NoDate))
-    bad_terms : lengths_wrong ≡ false → AllDates → TermsWrong (in_days terms) → v ≡ out → Delivered (told (Refused BadTerms))
+    answered : Answered → Delivered (told (Ok (kept_count (in_days copies) (in_days terms) (day_number (date_of asked)))))
+    bad_lengths : lengths_wrong ≡ true → v ≡ out → Delivered (told (Err BadBuffer))
+    no_date : lengths_wrong ≡ false → (AllDates → ⊥) → v ≡ out → Delivered (told (Err NoDate))
+    bad_terms : lengths_wrong ≡ false → AllDates → TermsWrong (in_days terms) → v ≡ out → Delivered (told (Err BadTerms))
     after_asked_lem : lengths_wrong ≡ false → AllDates → (TermsWrong (in_days terms) → ⊥)
-        → (i : ℕ) → i < length copies → day_number (date_of asked) < day_of (in_days copies) i → v ≡ out → Delivered (told (Refused AfterAsked))
+        → (i : ℕ) → i < length copies → day_number (date_of asked) < day_of (in_days copies) i → v ≡ out → Delivered (told (Err AfterAsked))
 
 pub record Claims : Type 0 where
   pub terms : Terms

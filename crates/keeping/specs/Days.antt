@@ -1,6 +1,6 @@
 -- What the code keeps while it looks at copies: a bit for each day on which a copy is dated, and for
 -- each term the last such day up to the term's end.
-use Rattle.std.specs.Prelude.{ℕ, ◌+◌, ◌-◌, ◌/◌, ◌%◌, ◌≤◌, ◌<◌, min, ◌≡◌, Bool, true, not, ◌&&◌, ◌||◌, List, [], ◌∷◌, eqb, leb, length, get_or, set}
+use Rattle.std.specs.Prelude.{ℕ, ◌+◌, ◌-◌, ◌/◌, ◌%◌, ◌≤◌, ◌<◌, min, ◌≡◌, Bool, true, not, ◌&&◌, ◌||◌, List, [], ◌∷◌, eqb, leb, length, get_or, set, Err, None, Ok, Option, Some}
 use Rattle.bounded.specs.Below.{some_below}
 use Rattle.bounded.specs.Most.{most}
 use Rattle.bounded.specs.Search.{pick}
@@ -8,11 +8,8 @@ use Rattle.bounded.specs.Count.{one}
 use Rattle.bounded.specs.Table.{table, Tabulated}
 use Rattle.octets.specs.Octets.{splice}
 use Rattle.answers.specs.declared.Refusal.TheVariants.{BadTerms, AfterAsked}
-use Rattle.answers.specs.declared.Answer.TheVariants.{Done, Refused}
 use Rattle.answers.specs.Order.{row, first_by}
 use Rattle.marks.specs.Mark.{marked, with_mark}
-use Rattle.calendar.specs.declared.Reckoned.{Reckoned}
-use Rattle.calendar.specs.declared.Reckoned.TheVariants.{Day, NoDate}
 use Rattle.calendar.specs.Date.{date_of, day_number, within, sunday}
 use Rattle.calendar.specs.Date as date
 use Rattle.keeping.specs.Keeping.{copy_count, day_of, looked_at, term_count, first_day, last_day, young_days, term_days}
@@ -69,11 +66,11 @@ pub record DaysRead (dates before after : List ℕ) (answer : Bool) : Type 0 whe
   pub days : answer ≡ true → Tabulated (day_at dates) (length before) (length dates) after
 
 -- the day asked, if every date is one
-unfoldable pub asked_day : List ℕ → List ℕ → ℕ → Reckoned
-asked_day copies terms asked = pick (wrong_date copies terms asked) NoDate (Day (day_number (date_of asked)))
+unfoldable pub asked_day : List ℕ → List ℕ → ℕ → Option ℕ
+asked_day copies terms asked = pick (wrong_date copies terms asked) None (Some (day_number (date_of asked)))
 
 -- what reading all dates answers, and where the days of the lists go
-pub record AllRead (copies terms : List ℕ) (asked : ℕ) (cs ts cs' ts' : List ℕ) (answer : Reckoned) : Type 0 where
+pub record AllRead (copies terms : List ℕ) (asked : ℕ) (cs ts cs' ts' : List ℕ) (answer : Option ℕ) : Type 0 where
   pub told : answer ≡ asked_day copies terms asked
   pub days : all_dates copies ≡ true → all_dates terms ≡ true
       → Tabulated (day_at copies) (length cs) (length copies) cs' × Tabulated (day_at terms) (length ts) (length terms) ts'
@@ -118,5 +115,5 @@ settled_flags cs ts today map latest out n = table (λ i. one (settled cs ts tod
 -- ---- the call from 24 on, by the days of its dates
 unfoldable pub days_call : List ℕ → List ℕ → ℕ → List ℕ → Left
 days_call cs ts today out =
-    first_by (λ e. left (Refused e) out) (row (wrong_terms ts) BadTerms ∷ row (after_asked cs today) AfterAsked ∷ [])
-    (left (Done (kept_count cs ts today)) (splice out 0 (flags cs ts today)))
+    first_by (λ e. left (Err e) out) (row (wrong_terms ts) BadTerms ∷ row (after_asked cs today) AfterAsked ∷ [])
+    (left (Ok (kept_count cs ts today)) (splice out 0 (flags cs ts today)))

@@ -4,12 +4,6 @@ ghost use Rattle.keeping.specs.Days.{day_bits, noted, noting, noted_after};
 
 pub const DAY_WORDS: usize = 286;
 
-pub fn wide(day: u16) -> usize
-    ensures { result ≡ day }
-{
-    day as usize
-}
-
 pub fn noted(map: &[u64; DAY_WORDS], day: usize) -> bool
     requires { day < day_bits }
     ensures { result ≡ noted map.now day }
@@ -29,10 +23,5 @@ pub fn noted_after(map: &[u64; DAY_WORDS], day: usize, count: usize) -> bool
     requires { day + count < day_bits }
     ensures { result ≡ noted_after map.now day count }
 {
-    for k in 0..count {
-        if noted(map, day + 1 + k) {
-            return true;
-        }
-    }
-    false
+    (0..count).any(|k| noted(map, day + 1 + k))
 }

@@ -11,7 +11,6 @@ ghost use Rattle.keeping.specs.Call.{wrong_lengths, kept_count, flags, left, kee
 ghost use Rattle.keeping.specs.Days.{Ready, days_call};
 
 use answers::{Answer, Refusal};
-use calendar::Reckoned;
 
 const MOST_COPIES: usize = 256;
 
@@ -20,16 +19,7 @@ const MOST_TERM_DAYS: usize = 2 * rule::MOST_TERMS;
 fn allowed_lengths(copies: usize, terms: usize, out: usize) -> bool
     ensures { result ≡ not (wrong_lengths copies terms out) }
 {
-    if MOST_COPIES < copies {
-        return false;
-    }
-    if MOST_TERM_DAYS < terms {
-        return false;
-    }
-    if terms % 2 != 0 {
-        return false;
-    }
-    copies <= out
+    copies <= MOST_COPIES && terms <= MOST_TERM_DAYS && terms % 2 == 0 && copies <= out
 }
 
 // Says of each copy whether it is kept, and answers how many are: one walk to see which are looked at,
@@ -52,12 +42,12 @@ fn answer(days: &[u16], terms: &[u16], today: usize, out: &mut [u8]) -> Answer
     ensures { left result out.new ≡ days_call days.now terms.now today out.old }
 {
     if !dates::in_order(terms) {
-        return Answer::Refused(Refusal::BadTerms);
+        return Err(Refusal::BadTerms);
     }
     if !dates::none_after(days, today) {
-        return Answer::Refused(Refusal::AfterAsked);
+        return Err(Refusal::AfterAsked);
     }
-    Answer::Done(decide(days, terms, today, out))
+    Ok(decide(days, terms, today, out))
 }
 
 // Copies in list order, terms as first and last day; a date is year × 10,000 + month × 100 + day.
@@ -68,13 +58,12 @@ pub fn keep(copies: &[u32], terms: &[u32], asked: u32, out: &mut [u8]) -> Answer
     let n = copies.len();
     let m = terms.len();
     if !allowed_lengths(n, m, out.len()) {
-        return Answer::Refused(Refusal::BadBuffer);
+        return Err(Refusal::BadBuffer);
     }
     let mut copy_days = [0u16; MOST_COPIES];
     let mut term_days = [0u16; MOST_TERM_DAYS];
-    let Reckoned::Day(day) = dates::read_all(copies, terms, asked, &mut copy_days, &mut term_days)
-    else {
-        return Answer::Refused(Refusal::NoDate);
+    let Some(day) = dates::read_all(copies, terms, asked, &mut copy_days, &mut term_days) else {
+        return Err(Refusal::NoDate);
     };
-    answer(&copy_days[..n], &term_days[..m], days::wide(day), out)
+    answer(&copy_days[..n], &term_days[..m], usize::from(day), out)
 }

@@ -8,7 +8,7 @@ ghost use Rattle.keeping.specs.Keeping.{copy_count, term_count};
 ghost use Rattle.keeping.specs.Call.{most_terms};
 ghost use Rattle.keeping.specs.Days.{Ready, Unseen, NotedFrom, look_flags, latest_by, Latest, term_test, Askable, copy_test, settled, settled_flags};
 
-use crate::days::{DAY_WORDS, note, noted, noted_after, wide};
+use crate::days::{DAY_WORDS, note, noted, noted_after};
 
 pub const MOST_TERMS: usize = 12;
 
@@ -16,51 +16,30 @@ const YOUNG_DAYS: usize = 13;
 
 const TERM_DAYS: usize = 56;
 
-fn flag(b: bool) -> u8
-    ensures { result ≡ one b }
-{
-    if b { 1 } else { 0 }
-}
-
 // Notes the day of each copy, from the list's end on: one whose day is noted already is not looked at.
 pub fn look_at(days: &[u16], map: &mut [u64; DAY_WORDS], out: &mut [u8])
     requires { Unseen days.now map.old out.old }
     ensures noted_from { NotedFrom days.now 0 map.new }
     ensures out_after { out.new ≡ splice out.old 0 (look_flags days.now) }
 {
-    let mut i = days.len();
-    while 0 < i {
-        i -= 1;
-        let day = wide(days[i]);
-        out[i] = flag(!noted(map, day));
+    for i in (0..days.len()).rev() {
+        let day = usize::from(days[i]);
+        out[i] = u8::from(!noted(map, day));
         note(map, day);
     }
-}
-
-fn later(latest: u16, day: u16, end: u16) -> u16
-    ensures { result ≡ max latest (pick (leb day end) day 0) }
-{
-    if end < day {
-        return latest;
-    }
-    if latest < day {
-        return day;
-    }
-    latest
 }
 
 // The last day up to `end` on which a copy is dated.
 fn latest_by(days: &[u16], end: u16) -> u16
     ensures { result ≡ latest_by days.now end }
 {
-    let mut latest: u16 = 0;
-    for i in 0..days.len() {
-        latest = later(latest, days[i], end);
-    }
-    latest
+    days.iter()
+        .filter(|day| **day <= end)
+        .fold(0, |latest, day| latest.max(*day))
 }
 
-// For each term the day of its last copy, if it has one.
+// For each term the day of its last copy, if it has one. By places: over `chunks_exact(2).enumerate()` the proof stopped
+// at the list that is left, which would need an invariant in the iterator's own parts.
 pub fn latest_days(days: &[u16], terms: &[u16], latest: &mut [u16; MOST_TERMS])
     requires { (term_count terms.now ≤ most_terms) × (length latest.old ≡ most_terms) }
     ensures { Latest days.now terms.now (term_count terms.now) latest.new }
@@ -68,12 +47,6 @@ pub fn latest_days(days: &[u16], terms: &[u16], latest: &mut [u16; MOST_TERMS])
     for t in 0..terms.len() / 2 {
         latest[t] = latest_by(days, terms[2 * t + 1]);
     }
-}
-
-fn lesser(a: usize, b: usize) -> usize
-    ensures { result ≡ min a b }
-{
-    if a <= b { a } else { b }
 }
 
 // A term keeps its last copy for ever, and for a while the last of each week.
@@ -100,10 +73,10 @@ fn term_keeps(
     if last + TERM_DAYS < today {
         return false;
     }
-    !noted_after(map, day, lesser(calendar::sunday(day), last) - day)
+    !noted_after(map, day, calendar::sunday(day).min(last) - day)
 }
 
-// Whether a copy of this day is kept; `looked` is 1 if it is looked at.
+// Whether a copy of this day is kept; `looked` is 1 if it is looked at: a byte of C's list, as copy_test has it.
 #[tactic(auto, using(crate::proofs::TestLaws::not_looked))]
 fn copy_keeps(
     looked: u8,
@@ -122,14 +95,11 @@ fn copy_keeps(
     if today <= day + YOUNG_DAYS {
         return true;
     }
-    for t in 0..terms.len() / 2 {
-        let first = wide(terms[2 * t]);
-        let last = wide(terms[2 * t + 1]);
-        if term_keeps(map, first, last, wide(latest[t]), today, day) {
-            return true;
-        }
-    }
-    false
+    (0..terms.len() / 2).any(|t| {
+        let first = usize::from(terms[2 * t]);
+        let last = usize::from(terms[2 * t + 1]);
+        term_keeps(map, first, last, usize::from(latest[t]), today, day)
+    })
 }
 
 // Of the copies that are looked at, those that the rule does not keep go. Answers how many are kept.
@@ -148,10 +118,10 @@ pub fn settle(
         ≡ splice out.old 0 (settled_flags days.now terms.now today map.now latest.now out.old (copy_count days.now)) }
 {
     let mut kept: usize = 0;
-    for i in 0..days.len() {
-        let keeps = flag(copy_keeps(out[i], map, terms, latest, today, wide(days[i])));
-        out[i] = keeps;
-        kept += keeps as usize;
+    for (i, day) in days.iter().enumerate() {
+        let keeps = copy_keeps(out[i], map, terms, latest, today, usize::from(*day));
+        out[i] = u8::from(keeps);
+        kept += usize::from(keeps);
     }
     kept
 }

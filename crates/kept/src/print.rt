@@ -1,10 +1,8 @@
 // The line that answers a command.
 ghost use Rattle.std.specs.Prelude.{◌≡◌, ◌+◌, ◌≤◌, length};
 
-use text::pieces::front;
+use text::print::print_line;
 use text::put::{put, put_numbered};
-
-const STDOUT_FILENO: i32 = 1;
 
 fn letter(flag: u8) -> u8 {
     if flag == 1 { b'k' } else { b'g' }
@@ -14,8 +12,8 @@ fn put_letters(out: &mut [u8], o: usize, flags: &[u8]) -> usize
     requires { (o + length flags.now ≤ length out.old) × (length flags.now ≤ 300) }
     ensures { result ≡ o + length flags.now }
 {
-    for k in 0..flags.len() {
-        out[o + k] = letter(flags[k]);
+    for (k, &flag) in flags.iter().enumerate() {
+        out[o + k] = letter(flag);
     }
     o + flags.len()
 }
@@ -25,7 +23,7 @@ fn put_flags(out: &mut [u8], o: usize, flags: &[u8]) -> usize
     requires { (o + 1 + length flags.now ≤ length out.old) × (length flags.now ≤ 300) }
     ensures { result ≤ o + 1 + length flags.now }
 {
-    if flags.len() == 0 {
+    if flags.is_empty() {
         return o;
     }
     let e = put(&mut *out, o, b" ");
@@ -39,17 +37,5 @@ pub fn print_kept(kept: usize, flags: &[u8])
     let mut out = [0u8; 400];
     let a = put_numbered(&mut out, 0, b"ok ", kept);
     let e = put_flags(&mut out, a, flags);
-    let end = put(&mut out, e, b"\n");
-    io::write_all(STDOUT_FILENO, front(&out, end));
-}
-
-pub fn print_refusal(number: usize) {
-    let mut out = [0u8; 24];
-    let e = put_numbered(&mut out, 0, b"no ", number);
-    let end = put(&mut out, e, b"\n");
-    io::write_all(STDOUT_FILENO, front(&out, end));
-}
-
-pub fn print_error() {
-    io::write_all(STDOUT_FILENO, b"err\n");
+    print_line(&mut out, e);
 }

@@ -1,4 +1,5 @@
 -- What is claimed of the call follows from its definition, and so of the code from its contract.
+use Rattle.std.specs.Prelude.{Ok}
 use Prim.Native.Nat.{ℕ, ◌-◌, ◌≤◌}
 use mathlib.Core.Path.{◌≡◌, refl, sym, ap, subst}
 use mathlib.Core.Bool.{true, false, ◌&&◌}
@@ -14,9 +15,7 @@ use Rattle.octets.proofs.PartLaws.{part_same}
 use Rattle.bounded.specs.Reflect.{Reflects}
 use Rattle.bounded.proofs.BoolLaws.{clash, holds_or_fails}
 use Rattle.bounded.proofs.ReflectLaws.{r_and}
-use Rattle.answers.specs.declared.Answer.{Answer}
-use Rattle.answers.specs.declared.Answer.TheVariants.{Done}
-use Rattle.answers.specs.Told.{Told, told}
+use Rattle.answers.specs.Told.{Answer, Told, told}
 use Rattle.laps.specs.Times.{Allowed, allowed}
 use Rattle.laps.specs.Walk.{Lists, lists, report}
 use Rattle.laps.specs.Reported.{Reported}
@@ -49,7 +48,7 @@ module _ (w m : List ℕ) (o : Lists) where
   both_decide : Reflects (allowed w && allowed m) (Allowed w × Allowed m)
   both_decide = r_and (allowed_decides w) (allowed_decides m)
 
-  delivered_done : Allowed w × Allowed m → Room w m o → Delivered w m o (over (report w m) o) (told (Done (length (report w m).paired_watch)))
+  delivered_done : Allowed w × Allowed m → Room w m o → Delivered w m o (over (report w m) o) (told (Ok (length (report w m).paired_watch)))
   delivered_done h f =
       let e = counted_is f in
       matched (length (report w m).paired_watch)
@@ -94,7 +93,7 @@ pub match_laps_delivers : (κs : Lfts 6) (a : Dens κs match-laps-kinds.ps) (z :
 match_laps_delivers κs a z e h = claim.delivered _ _ _ _ z h
 
 -- no more pairs than times: for callers that go on with the answer
-within : {w m : List ℕ} {o v : Lists} {t : Told} → Delivered w m o v t → (p : ℕ) → t ≡ told (Done p) → (p ≤ length w) × (p ≤ length m)
+within : {w m : List ℕ} {o v : Lists} {t : Told} → Delivered w m o v t → (p : ℕ) → t ≡ told (Ok p) → (p ≤ length w) × (p ≤ length m)
 within (matched q x) p e =
     let same : q ≡ p = ap (λ (t : Told). get_or t.values 0 0) e in
     let a = parted_length x.reported.one_place.0 in
@@ -105,5 +104,5 @@ within (matched q x) p e =
 within (bad_times h k) p e = let z : ◌≡◌ {A = ℕ} 26 0 = ap (λ (t : Told). t.number) e in absurd (omega arith)
 within (no_room h f k) p e = let z : ◌≡◌ {A = ℕ} 1 0 = ap (λ (t : Told). t.number) e in absurd (omega arith)
 
-pub pairs_within : (w m : List ℕ) (o v : Lists) (a : Answer) (p : ℕ) → left a v ≡ match_laps w m o → a ≡ Done p → (p ≤ length w) × (p ≤ length m)
+pub pairs_within : (w m : List ℕ) (o v : Lists) (a : Answer) (p : ℕ) → left a v ≡ match_laps w m o → a ≡ Ok p → (p ≤ length w) × (p ≤ length m)
 pairs_within w m o v a p h e = within (delivered w m o v a h) p (ap told e)

@@ -1,7 +1,7 @@
 -- Rising lists: the test decides the proposition, and the parts of a rising list rise.
 use Prim.Native.Nat.{ℕ, zero, suc, ◌+◌, ◌-◌, ◌<◌}
 use mathlib.Core.Path.{◌≡◌, refl, sym, subst}
-use mathlib.Core.Bool.{true}
+use mathlib.Core.Bool.{Bool, true, false}
 use mathlib.Core.List.{List, ◌∷◌}
 use mathlib.Core.Logic.{⊎_elim}
 use native.Mathlib.Nat.{lt_trans, eq-or-lt_of_le}
@@ -9,7 +9,9 @@ use native.Mathlib.Omega.{arith}
 use borrow.Author.Tests.{ltb-true, lt-ltb}
 use lib.ListN.{length, get_or}
 use Rattle.bounded.specs.Reflect.{Reflects}
-use Rattle.bounded.proofs.BelowLaws.{to_at, to_of}
+use Rattle.std.specs.List.{IsAllAdjacentAnswer}
+use lib.Dec.{ltb}
+use Rattle.bounded.proofs.BelowLaws.{to_at, to_of, to_stopped}
 use Rattle.bounded.proofs.ReflectLaws.{r_and, r_le}
 use Rattle.laps.specs.Times.{most_times, Rising, above, rising, Allowed, allowed}
 use Rattle.laps.specs.Reported.{Parted, nothing, one, other}
@@ -80,3 +82,14 @@ pub parted_length : {l xs ys : List ℕ} → Parted l xs ys → length xs + leng
 parted_length nothing = refl
 parted_length (one x p) = let e = parted_length p in omega arith
 parted_length (other x p) = let e = parted_length p in omega arith
+
+-- ---- as the library tests it
+pub rising_answer : (l : List ℕ) (r : Bool) → IsAllAdjacentAnswer (λ x y b. b ≡ ltb x y) l r → r ≡ rising l
+unfolding rising
+rising_answer l true h =
+    sym (to_of (above l) (length l - 1) (λ i z u. let e : i - 1 + 1 ≡ i = omega arith in subst (λ (j : ℕ). ltb (get_or l (i - 1) 0) (get_or l j 0) ≡ true) e (sym (h (i - 1) 0 (omega arith)))))
+rising_answer l false h =
+    let b : h.0 + 1 < length l = h.1 in
+    let e : h.0 ≡ h.0 + 1 - 1 = omega arith in
+    to_stopped (above l) (length l - 1) (h.0 + 1) (omega arith) (omega arith)
+    (subst (λ (j : ℕ). ltb (get_or l j 0) (get_or l (h.0 + 1) 0) ≡ false) e (sym (h.2 0)))

@@ -1,11 +1,9 @@
 -- What the call answers and leaves in the four lists that it is lent, refused or not.
-use Rattle.std.specs.Prelude.{ℕ, ◌≤◌, Bool, not, ◌&&◌, List, [], ◌∷◌, leb, length}
+use Rattle.std.specs.Prelude.{ℕ, ◌≤◌, Bool, not, ◌&&◌, List, [], ◌∷◌, leb, length, Err, Ok}
 use Rattle.octets.specs.Octets.{splice}
 use Rattle.answers.specs.declared.Refusal.TheVariants.{BadBuffer, BadTimes}
-use Rattle.answers.specs.declared.Answer.{Answer}
-use Rattle.answers.specs.declared.Answer.TheVariants.{Done, Refused}
 use Rattle.answers.specs.Order.{Row, row, first_by}
-use Rattle.answers.specs.Told.{Told, told}
+use Rattle.answers.specs.Told.{Answer, Told, told}
 use Rattle.laps.specs.Times.{allowed}
 use Rattle.laps.specs.Walk.{Lists, lists, report}
 
@@ -44,5 +42,5 @@ over r o =
 -- the call on watch times w and mat times m with the lists o lent: the answer is the number of pairs
 unfoldable pub match_laps : List ℕ → List ℕ → Lists → Left
 match_laps w m o =
-    first_by (λ e. left (Refused e) o) (laps_table w m o)
-    (left (Done (length (report w m).paired_watch)) (over (report w m) o))
+    first_by (λ e. left (Err e) o) (laps_table w m o)
+    (left (Ok (length (report w m).paired_watch)) (over (report w m) o))

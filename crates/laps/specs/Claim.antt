@@ -1,12 +1,10 @@
 -- What is claimed of a call on watch times w and mat times m, with the lists o lent, that left the
 -- lists v.
-use Rattle.std.specs.Prelude.{ℕ, ◌-◌, ◌≡◌, true, List, length}
+use Rattle.std.specs.Prelude.{ℕ, ◌-◌, ◌≡◌, true, List, length, Err, Ok}
 use Rattle.octets.specs.Octets.{part}
 use Rattle.answers.specs.declared.Refusal.TheVariants.{BadBuffer, BadTimes}
-use Rattle.answers.specs.declared.Answer.{Answer}
-use Rattle.answers.specs.declared.Answer.TheVariants.{Done, Refused}
 use Rattle.answers.specs.Order.{is_in_order}
-use Rattle.answers.specs.Told.{Told, told}
+use Rattle.answers.specs.Told.{Answer, Told, told}
 use Rattle.laps.specs.Times.{Allowed}
 use Rattle.laps.specs.Walk.{Lists, lists}
 use Rattle.laps.specs.Reported.{Reported}
@@ -30,9 +28,9 @@ pub record Matched (w m : List ℕ) (o v : Lists) (p : ℕ) : Type 0 where
 
 -- answered, or refused; and then nothing was written
 pub data Delivered (w m : List ℕ) (o v : Lists) : Told → Type 0 where
-  matched : (p : ℕ) → Matched w m o v p → Delivered w m o v (told (Done p))
-  bad_times : (Allowed w × Allowed m → ⊥) → v ≡ o → Delivered w m o v (told (Refused BadTimes))
-  no_room : Allowed w × Allowed m → (Room w m o → ⊥) → v ≡ o → Delivered w m o v (told (Refused BadBuffer))
+  matched : (p : ℕ) → Matched w m o v p → Delivered w m o v (told (Ok p))
+  bad_times : (Allowed w × Allowed m → ⊥) → v ≡ o → Delivered w m o v (told (Err BadTimes))
+  no_room : Allowed w × Allowed m → (Room w m o → ⊥) → v ≡ o → Delivered w m o v (told (Err BadBuffer))
 
 pub record Claim : Type 0 where
   pub delivered : (w m : List ℕ) (o v : Lists) (a : Answer) → left a v ≡ match_laps w m o → Delivered w m o v (told a)

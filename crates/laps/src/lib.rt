@@ -17,21 +17,13 @@ const MOST_APART: u64 = 50;
 fn rising(times: &[u32]) -> bool
     ensures { result ≡ rising times.now }
 {
-    for k in 1..times.len() {
-        if times[k] <= times[k - 1] {
-            return false;
-        }
-    }
-    true
+    times.is_sorted_by(|a, b| a < b)
 }
 
 fn allowed(times: &[u32]) -> bool
     ensures { result ≡ allowed times.now }
 {
-    if MOST_TIMES < times.len() {
-        return false;
-    }
-    rising(times)
+    times.len() <= MOST_TIMES && rising(times)
 }
 
 fn room_for(times: &[u32], pairs: &[u32], alone: &[u32]) -> bool
@@ -45,10 +37,11 @@ fn room_for(times: &[u32], pairs: &[u32], alone: &[u32]) -> bool
 fn too_early(a: u32, b: u32) -> bool
     ensures { result ≡ ltb (a + most_apart) b }
 {
-    (a as u64) + MOST_APART < (b as u64)
+    u64::from(a) + MOST_APART < u64::from(b)
 }
 
-// What is left of a list, from a place on, goes to the place `to` of out.
+// What is left of a list, from a place on, goes to the place `to` of out. By a loop: the library's file may
+// want no memmove from outside, which copy_from_slice compiles to.
 fn set_aside(times: &[u32], from: usize, out: &mut [u32], to: usize)
     requires { (from ≤ length times.now) × (to + (length times.now - from) ≤ length out.old) }
     ensures { out.new ≡ pasted out.old to times.now from (length times.now - from) }
@@ -58,7 +51,9 @@ fn set_aside(times: &[u32], from: usize, out: &mut [u32], to: usize)
     }
 }
 
-// Of the i watch times and j mat times behind it the walk has paired p, and set aside i - p and j - p.
+// Of the i watch times and j mat times behind it the walk has paired p, and set aside i - p and j - p. By
+// three counts: each list goes on at its own pace, and an iterator peeked at would need the same counts for
+// the places written to. The four lists are handed on as C lends them: a struct would be taken apart at once.
 fn walk(
     watch: &[u32],
     mat: &[u32],
@@ -111,16 +106,16 @@ pub fn match_laps(
         ≡ match_laps watch.now mat.now (lists paired_watch.old paired_mat.old alone_watch.old alone_mat.old) }
 {
     if !allowed(watch) {
-        return Answer::Refused(Refusal::BadTimes);
+        return Err(Refusal::BadTimes);
     }
     if !allowed(mat) {
-        return Answer::Refused(Refusal::BadTimes);
+        return Err(Refusal::BadTimes);
     }
     if !room_for(watch, paired_watch, alone_watch) {
-        return Answer::Refused(Refusal::BadBuffer);
+        return Err(Refusal::BadBuffer);
     }
     if !room_for(mat, paired_mat, alone_mat) {
-        return Answer::Refused(Refusal::BadBuffer);
+        return Err(Refusal::BadBuffer);
     }
-    Answer::Done(walk(watch, mat, paired_watch, paired_mat, alone_watch, alone_mat))
+    Ok(walk(watch, mat, paired_watch, paired_mat, alone_watch, alone_mat))
 }

@@ -1,2 +1,3 @@
 pub mod InodeLaws
 pub mod KindLaws
+pub mod RangeLaws

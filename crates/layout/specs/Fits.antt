@@ -2,6 +2,10 @@
 use Rattle.std.specs.Prelude.{ℕ, ◌+◌, ◌*◌, ◌≤◌, List, length}
 use Rattle.layout.specs.Sizes.{header_bytes, inode_bytes, most_inodes}
 
+-- n inodes lie inside of s
+abbrev pub InodesFit : List ℕ → ℕ → Type 0
+InodesFit s n = (n ≤ most_inodes) × (header_bytes + inode_bytes * n ≤ length s)
+
 -- i is an inode of n, and the inodes lie inside of s
 pub record InodeFits (s : List ℕ) (n i : ℕ) : Type 0 where
   pub low : 1 ≤ i

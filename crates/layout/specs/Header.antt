@@ -2,6 +2,10 @@
 use Rattle.std.specs.Prelude.{ℕ, ◌+◌, ◌-◌, Bool, ◌&&◌, List, eqb}
 use Rattle.octets.specs.Octets.{num_at, put_num}
 use Rattle.layout.specs.declared.header.Header.{Header}
+use Rattle.layout.specs.declared.header.Counts.{Counts}
+
+abbrev pub counts : ℕ → ℕ → Counts
+counts n b = record { inodes = n; blocks = b }
 
 -- "0-1 inode count N; 2-3 block count B; 4-5 free inodes; 6-7 free blocks; 8 is 1 if complete, else 0; 10-11 root"
 unfoldable pub header_of : List ℕ → Header

@@ -1,10 +1,9 @@
 -- Inodes, numbered from 1: attributes and addresses, read and written. n is the inode count.
-use Rattle.std.specs.Prelude.{ℕ, ◌+◌, ◌*◌, ◌-◌, Bool, ◌&&◌, List, ◌++◌, eqb, leb, replicate}
+use Rattle.std.specs.Prelude.{ℕ, ◌+◌, ◌*◌, ◌-◌, Bool, ◌&&◌, List, ◌++◌, eqb, leb, replicate, Option}
 use Rattle.octets.specs.Octets.{splice, num_at, to_bytes, put_num, word_bytes}
 use Rattle.bounded.specs.Below.{all_below}
 use Rattle.bounded.specs.Search.{first_from}
 use Rattle.bounded.specs.Table.{table}
-use Rattle.bounded.specs.declared.Found.{Found}
 use Rattle.layout.specs.Sizes.{header_bytes, attribute_bytes, address_count}
 use Rattle.layout.specs.declared.inode.Inode.{Inode}
 
@@ -97,7 +96,7 @@ abbrev pub inode_free : List ℕ → ℕ → Bool
 inode_free s i = eqb (kind_of s i) free_kind
 
 -- "A call takes the lowest free inode .. that it needs"
-unfoldable pub free_inode : List ℕ → ℕ → Found
+unfoldable pub free_inode : List ℕ → ℕ → Option ℕ
 free_inode s n = first_from (inode_free s) 1 n
 
 -- "all-zero attributes and addresses": both, each by itself

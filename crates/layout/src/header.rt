@@ -1,7 +1,14 @@
 // The header of a store or an image: a struct by value.
 ghost use Rattle.std.specs.Prelude.{◌≡◌, ◌+◌, ◌<◌, ◌≤◌, length};
 ghost use Rattle.layout.specs.Sizes.{header_bytes};
-ghost use Rattle.layout.specs.Header.{header_of, put_header, put_free, more_free, less_free, put_complete, header_rest_zero};
+ghost use Rattle.layout.specs.Header.{counts, header_of, put_header, put_free, more_free, less_free, put_complete, header_rest_zero};
+
+// How many inodes and blocks a store or an image has.
+#[derive(Clone, Copy)]
+pub struct Counts {
+    pub inodes: usize,
+    pub blocks: usize,
+}
 
 #[derive(Clone, Copy)]
 pub struct Header {
@@ -28,6 +35,16 @@ impl Header {
         }
     }
 
+    // Of all inodes and blocks.
+    pub fn counts(self) -> Counts
+        ensures { result ≡ counts self.inodes self.blocks }
+    {
+        Counts {
+            inodes: usize::from(self.inodes),
+            blocks: usize::from(self.blocks),
+        }
+    }
+
     pub fn write(self, s: &mut [u8])
         requires { header_bytes ≤ length s.old }
         ensures { s.new ≡ put_header s.old self }
@@ -48,7 +65,8 @@ pub fn put_free(s: &mut [u8], inodes: u16, blocks: u16)
     octets::put_16(&mut *s, 6, blocks);
 }
 
-// So many inodes and blocks more are free, or fewer.
+// So many inodes and blocks more are free, or fewer. Two lines each: one function with a closure for
+// + or - would leave as many.
 pub fn more_free(s: &mut [u8], inodes: u16, blocks: u16)
     requires { (header_bytes ≤ length s.old) × ((header_of s.old).free_inodes + inodes < 65536) × ((header_of s.old).free_blocks + blocks < 65536) }
     ensures { s.new ≡ more_free s.old inodes blocks }
@@ -73,12 +91,10 @@ pub fn put_complete(s: &mut [u8], v: u8)
 }
 
 // The header's other bytes are 0.
+#[tactic(auto, unfolding(crate::specs::Header::header_rest_zero))]
 pub fn reserved_zero(s: &[u8]) -> bool
     requires { header_bytes ≤ length s.now }
     ensures { result ≡ header_rest_zero s.now }
 {
-    if octets::get_8(s, 9) != 0 {
-        return false;
-    }
-    octets::get_32(s, 12) == 0
+    octets::get_8(s, 9) == 0 && octets::get_32(s, 12) == 0
 }

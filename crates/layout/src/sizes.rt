@@ -35,6 +35,8 @@ pub const MOST_DIRECTORY_BLOCKS: usize = 12;
 
 pub const MOST_DIRECTORY_BYTES: usize = BLOCK_BYTES * MOST_DIRECTORY_BLOCKS;
 
+// Bytes and no enum: any byte can stand in a store, and `kind`, `is_kind` and the inode's record
+// promise it as it stands.
 pub const FREE: u8 = 0;
 
 pub const FILE: u8 = 1;

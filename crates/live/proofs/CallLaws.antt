@@ -1,6 +1,8 @@
 -- The calls behind the guards: what the guards let through, and each way that a call returns. s is the store, m the image, d the desk, n and b the counts of inodes and blocks.
+use Rattle.std.specs.Prelude.{Err, Ok, Result}
+use Rattle.std.specs.Result.{IsErrAnd}
 use Prim.Native.Nat.{ℕ, ◌+◌, ◌*◌, ◌/◌, ◌%◌, ◌≤◌, ◌<◌}
-use mathlib.Core.Path.{◌≡◌, sym, ap, ◌∙◌, subst}
+use mathlib.Core.Path.{◌≡◌, refl, sym, ap, ◌∙◌, subst}
 use mathlib.Core.Bool.{Bool, true, false}
 use mathlib.Core.List.{List}
 use native.Mathlib.Omega.{arith}
@@ -12,8 +14,9 @@ use Rattle.desk.specs.Desk.{desk_of}
 use Rattle.desk.specs.Next.{locks_any}
 use Rattle.sound.specs.Sound.{inodes_in, blocks_in}
 use Rattle.answers.specs.declared.Refusal.{Refusal}
+use Rattle.answers.specs.Told.{Answer}
+use Rattle.answers.proofs.RefusalLaws.{err_not_ok, exit}
 use Rattle.answers.specs.declared.Refusal.TheVariants.{Busy}
-use Rattle.answers.specs.declared.Answer.TheVariants.{Done}
 use Rattle.preservation.proofs.StoreLaws.{uncounted}
 use Rattle.files.specs.Effect.{Call, Effect, Planned, refused, does, planned}
 use Rattle.files.proofs.Lawful.{Lawful, Each}
@@ -24,14 +27,13 @@ use Rattle.checkpoint.specs.Fit.{desk_fits, image_long, image_fits}
 use Rattle.checkpoint.specs.Live.{World, left, refuse, three_guards, leaves_in}
 use Rattle.checkpoint.proofs.Copy.FitLaws.{desk_framed_is, image_fits_is, notes_fit_is}
 use Rattle.image.specs.Addressed.{Addressed, Readable}
-use Rattle.guards.specs.declared.Watched.{Watched}
-use Rattle.guards.specs.declared.Watched.TheVariants.{Open}
-use Rattle.guards.specs.Handed.{handed}
+use Rattle.guards.specs.Handed.{handed, watched_by}
 use Rattle.guards.proofs.GuardLaws.{passed, desk_passed, opened}
 use Rattle.blocks.proofs.LongLaws.{row_direct}
 use Rattle.image.proofs.FitLaws.{fits_few}
 use Rattle.image.proofs.CutLaws.{running_is}
-use Rattle.live.specs.Fits.{Fits}
+use Rattle.live.specs.Fits.{Fits, busy_if}
+use Rattle.guards.specs.declared.Watched.{Watched}
 
 -- ---- what the guards let through
 image_addressed : (s m d : List ℕ) → (desk_of d).inodes ≤ most_inodes → desk_fits d ≡ true → image_fits s m d ≡ true → Addressed m (desk_of d).inodes
@@ -45,7 +47,7 @@ image_addressed s m d l w f =
         subst (λ (v : ℕ). v ≤ (desk_of d).blocks) (row_direct (image_long s m d) m (desk_of d).inodes x)
         (((image_fits_is s m d).to f).1.1.1.1.1.0 (44 * (x / 12) + x % 12) (omega arith))
 
-pub let_through : (s m d : List ℕ) {n b : ℕ} {h : Desk} (r : Watched) → r ≡ handed (three_guards s m d) (desk_of d) → r ≡ Open n b h → Fits s d h n b × Readable m h n
+pub let_through : (s m d : List ℕ) {n b : ℕ} {h : Desk} (r : Result Watched Refusal) → r ≡ handed (three_guards s m d) (desk_of d) → r ≡ Ok (watched_by n b h) → Fits s d h n b × Readable m h n
 let_through s m d {n} {b} {h} r e o =
     let g = opened (three_guards s m d) (desk_of d) r e o in
     let p = passed s m d n b g.0 in
@@ -62,21 +64,45 @@ uncounted_fits f = record { sound = uncounted f.sound; read = f.read; long = f.l
 pub effect_laws : (c : Call) {s d : List ℕ} {h : Desk} {n b : ℕ} → Fits s d h n b → (x : Effect) → does x ≡ planned c s n b → Lawful s n x
 effect_laws c {s} {n = n} f x q = subst (Each (Lawful s n)) (sym q) (lawful c f.sound)
 
+-- ---- 14, as the code asks it: k says whether an inode is locked
+module _ (k : Result (Unit {0}) Refusal) (b : Bool) (q : k ≡ busy_if b) where
+  by_busy : (b : Bool) (e : Refusal) → busy_if b ≡ Err e → (b ≡ true) × (e ≡ Busy)
+  by_busy true e z = (refl, sym (cc z))
+  by_busy false e z = absurd (err_not_ok e _ (sym z))
+
+  pub is_busy : (e : Refusal) → k ≡ Err e → b ≡ true
+  is_busy e z = (by_busy b e (sym q ∙ z)).0
+
+  pub busy_exit : (e : Refusal) → k ≡ Err e → (a : Answer) → IsErrAnd a (λ y. y ≡ e) → (s m d : List ℕ) → left a s m d ≡ refuse Busy s m d
+  busy_exit e z a x s m d = ap (λ (r : Answer). left r s m d) (exit a e x ∙ ap Err (by_busy b e (sym q ∙ z)).1)
+
+  pub is_free : (u : Unit {0}) → k ≡ Ok u → b ≡ false
+  is_free u z = go b (sym q ∙ z)
+    where
+      go : (b : Bool) → busy_if b ≡ Ok u → b ≡ false
+      go true y = absurd (err_not_ok Busy u y)
+      go false y = refl
+
 -- ---- behind the guards: p is what was planned, w what was lent
 module _ (w : World) (p : Planned) where
-  -- the plan refuses
-  pub ends_refused : (e : Refusal) → refused e ≡ p → refuse e w.store w.image w.desk ≡ leaves_in w (unless_busy w.desk p)
-  ends_refused e q = ap (λ (z : Planned). leaves_in w (unless_busy w.desk z)) q
+  -- the plan refuses, and the call hands that on
+  pub ends_refused : (e : Refusal) (a : Answer) → IsErrAnd a (λ y. y ≡ e) → refused e ≡ p → left a w.store w.image w.desk ≡ leaves_in w (unless_busy w.desk p)
+  ends_refused e a x q = ap (λ (r : Answer). left r w.store w.image w.desk) (exit a e x) ∙ ap (λ (z : Planned). leaves_in w (unless_busy w.desk z)) q
 
-  -- it has an effect; h is the desk's header, r says whether an inode that the effect touches is locked
-  module _ (x : Effect) (q : does x ≡ p) (h : Desk) (i : h ≡ desk_of w.desk) (r : Bool) (l : r ≡ locks_any h x.touches) where
-    by_lock : leaves_in w (pick r (refused Busy) (does x)) ≡ leaves_in w (unless_busy w.desk p)
-    by_lock = ap (λ (z : Bool). leaves_in w (pick z (refused Busy) (does x))) (l ∙ ap (λ (y : Desk). locks_any y x.touches) i) ∙ ap (λ (z : Planned). leaves_in w (unless_busy w.desk z)) q
+  -- it has an effect; h is the desk's header
+  module _ (x : Effect) (q : does x ≡ p) (h : Desk) (i : h ≡ desk_of w.desk) where
+    by_lock : leaves_in w (pick (locks_any h x.touches) (refused Busy) (does x)) ≡ leaves_in w (unless_busy w.desk p)
+    by_lock = ap (λ (y : Desk). leaves_in w (pick (locks_any y x.touches) (refused Busy) (does x))) i ∙ ap (λ (z : Planned). leaves_in w (unless_busy w.desk z)) q
 
-    pub ends_busy : r ≡ true → refuse Busy w.store w.image w.desk ≡ leaves_in w (unless_busy w.desk p)
-    ends_busy e = ap (λ (z : Bool). leaves_in w (pick z (refused Busy) (does x))) (sym e) ∙ by_lock
+    pub locked_ends : locks_any h x.touches ≡ true → refuse Busy w.store w.image w.desk ≡ leaves_in w (unless_busy w.desk p)
+    locked_ends z = ap (λ (b : Bool). leaves_in w (pick b (refused Busy) (does x))) (sym z) ∙ by_lock
 
-    pub ends_done : r ≡ false → (n : ℕ) → n ≡ inodes_in w.store → (s m d : List ℕ)
+    -- k says whether an inode that the effect touches is locked
+    pub ends_busy : (k : Result (Unit {0}) Refusal) → k ≡ busy_if (locks_any h x.touches) → (e : Refusal) → k ≡ Err e → (a : Answer) → IsErrAnd a (λ y. y ≡ e) → left a w.store w.image w.desk ≡ leaves_in w (unless_busy w.desk p)
+    ends_busy k l e z a y =
+        busy_exit k _ l e z a y w.store w.image w.desk ∙ locked_ends (is_busy k _ l e z)
+
+    pub ends_done : (k : Result (Unit {0}) Refusal) → k ≡ busy_if (locks_any h x.touches) → (u : Unit {0}) → k ≡ Ok u → (n : ℕ) → n ≡ inodes_in w.store → (s m d : List ℕ)
         → s ≡ x.store → m ≡ cut_entries w.image w.desk n x.taken → d ≡ set_marks (clear_marks w.desk n x.taken) n x.made
-        → left (Done x.answer) s m d ≡ leaves_in w (unless_busy w.desk p)
-    ends_done e n k s m d a b c = rw (a, b, c, k) (ap (λ (z : Bool). leaves_in w (pick z (refused Busy) (does x))) (sym e) ∙ by_lock)
+        → left (Ok x.answer) s m d ≡ leaves_in w (unless_busy w.desk p)
+    ends_done k l u z n g s m d a b c = rw (a, b, c, g) (ap (λ (y : Bool). leaves_in w (pick y (refused Busy) (does x))) (sym (is_free k _ l u z)) ∙ by_lock)

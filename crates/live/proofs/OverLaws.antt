@@ -1,11 +1,11 @@
 -- A rename over the three buffers: the recorder's first, and where that answers 7 an unlink of the old holder and then that rename again. n and b are the counts of inodes and blocks.
-use Prim.Native.Nat.{ℕ, ◌+◌, ◌*◌, ◌≤◌, ◌<◌}
+use Rattle.std.specs.Prelude.{Ok, Err}
+use Prim.Native.Nat.{ℕ, ◌*◌, ◌<◌}
 use mathlib.Core.Path.{◌≡◌, refl, sym, ap, ap₂, ◌∙◌, subst}
 use mathlib.Core.Bool.{Bool, true, false, ◌||◌}
 use mathlib.Core.List.{List, [], ◌∷◌}
 use native.Mathlib.Omega.{arith}
 use lib.Dec.{eqb}
-use lib.ListN.{length}
 use Rattle.bounded.specs.Search.{pick}
 use Rattle.bounded.proofs.BoolLaws.{clash}
 use Rattle.layout.specs.Inode.{address_of}
@@ -18,22 +18,23 @@ use Rattle.desk.specs.Next.{locks_any}
 use Rattle.sound.specs.Sound.{inodes_in}
 use Rattle.sound.specs.Counted.{SoundStore}
 use Rattle.answers.specs.declared.Refusal.TheVariants.{NameTaken, Busy}
-use Rattle.answers.specs.declared.Answer.{Answer}
+use Rattle.answers.specs.declared.Refusal.{Refusal}
 use Rattle.answers.specs.Refusal.{refusal_number}
-use Rattle.answers.specs.Told.{told}
-use Rattle.entries.specs.declared.OverPlan.TheVariants.{Over}
+use Rattle.answers.proofs.RefusalLaws.{number_range}
+use Rattle.answers.specs.Told.{Answer, told}
 use Rattle.entries.specs.Plan.{unlink_plan, over_plan}
 use Rattle.entries.specs.Apply.{unlinked}
 use Rattle.files.specs.Effect.{entry, Effect, changes, and_then, Planned, refused, does, if_taken, watched, do_unlink, do_rename_new, do_over}
 use Rattle.files.proofs.OverLaws.{replaced, over_does}
 use Rattle.checkpoint.specs.Busy.{any_locked, unless_busy}
 use Rattle.checkpoint.specs.Notes.{cuts_image, cut_image, cut_entries, clear_marks, set_marks}
-use Rattle.checkpoint.specs.Live.{World, world, Outcome, left, world_in, refuse, leaves_in}
+use Rattle.checkpoint.specs.Live.{World, Outcome, left, world_in, refuse, leaves_in}
 use Rattle.checkpoint.proofs.Call.CallNotes.{MarksAlone, cleared_notes}
 use Rattle.checkpoint.proofs.Call.ThenLaws.{busy_marks, busy_then, leaves_then}
 use Rattle.image.specs.Addressed.{Addressed, Readable}
 use Rattle.live.specs.Fits.{Fits}
-use Rattle.live.proofs.CallLaws.{ends_busy}
+use Rattle.live.proofs.CallLaws.{locked_ends}
+use Rattle.entries.specs.declared.OverPlan.TheVariants.{Over}
 
 -- ---- where the recorder's rename answers 7, and where it does not: w are the buffers before it
 module _ (w : World) where
@@ -95,7 +96,7 @@ cut_addressed m d n e t i a = go (cuts_image m d n e t i)
     go false = a
 
 -- ---- the old holder goes
-module _ (w : World) (n b d : ℕ) (name : List ℕ) (e : ℕ) (other : List ℕ) (i h : ℕ) (k : SoundStore w.store n b) (q : over_plan w.store n d name e other ≡ Over i h) where
+module _ (w : World) (n b d : ℕ) (name : List ℕ) (e : ℕ) (other : List ℕ) (i h : ℕ) (k : SoundStore w.store n b) (q : over_plan w.store n d name e other ≡ Ok (Over i h)) where
   abbrev s : List ℕ
   s = w.store
 
@@ -129,7 +130,7 @@ module _ (w : World) (n b d : ℕ) (name : List ℕ) (e : ℕ) (other : List ℕ
         ∙ ap (λ (y : Desk). locks_any y (and_then takes renames).touches) (sym r)
 
     pub over_busy : a || c ≡ true → refuse Busy w.store w.image w.desk ≡ leaves_in w (unless_busy w.desk planned)
-    over_busy z = ends_busy w planned (and_then takes renames) does_both x r (a || c) in_the_way z
+    over_busy z = locked_ends w planned (and_then takes renames) does_both x r (sym in_the_way ∙ z)
 
     module _ (free : a ≡ false) (idle : c ≡ false) where
       holder_free : any_locked w.desk (e ∷ h ∷ []) ≡ false
@@ -145,6 +146,16 @@ module _ (w : World) (n b d : ℕ) (name : List ℕ) (e : ℕ) (other : List ℕ
             ap world_in ends
             ∙ ap (λ (p : Planned). world_in (leaves_in w (unless_busy w.desk p))) (replaced s n b d name e other i h k q).unlinks
             ∙ ap (λ (y : Bool). world_in (leaves_in w (pick y (refused Busy) (does takes)))) holder_free
+
+        -- so it is not refused
+        pub over_unrefused : (f : Refusal) → z ≡ Err f → ⊥
+        over_unrefused f y =
+            let e : refusal_number f ≡ 0 =
+            ap (λ (u : Answer). (told u).number) (sym y) ∙ ap (λ (o : Outcome). o.answer.number) ends
+            ∙ ap (λ (p : Planned). (leaves_in w (unless_busy w.desk p)).answer.number) (replaced s n b d name e other i h k q).unlinks
+            ∙ ap (λ (c : Bool). (leaves_in w (pick c (refused Busy) (does takes))).answer.number) holder_free in
+            let l = (number_range f).0 in
+            omega arith
 
         counted : n ≡ inodes_in s
         counted = k.inodes

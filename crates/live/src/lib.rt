@@ -11,7 +11,7 @@ ghost use Rattle.checkpoint.specs.Live.{left, live, world};
 
 use answers::Answer;
 use entries::Kind;
-use guards::{Watched, three_guards};
+use guards::three_guards;
 
 pub fn create(
     store: &mut [u8],
@@ -24,10 +24,8 @@ pub fn create(
     ensures { left result store.new image.new desk.new
         ≡ live (create dir name.now kind) (world store.old image.old desk.old) }
 {
-    match three_guards(store, image, desk) {
-        Watched::Open(n, b, h) => work::create(&mut *store, &mut *desk, h, n, b, dir, name, kind),
-        Watched::Shut(why) => Answer::Refused(why),
-    }
+    let w = three_guards(store, image, desk)?;
+    work::create(&mut *store, &mut *desk, w, dir, name, kind)
 }
 
 pub fn write(
@@ -41,10 +39,8 @@ pub fn write(
     ensures { left result store.new image.new desk.new
         ≡ live (write inode offset bytes.now) (world store.old image.old desk.old) }
 {
-    match three_guards(store, image, desk) {
-        Watched::Open(n, b, h) => work::write(&mut *store, h, n, b, inode, offset, bytes),
-        Watched::Shut(why) => Answer::Refused(why),
-    }
+    let w = three_guards(store, image, desk)?;
+    work::write(&mut *store, w, inode, offset, bytes)
 }
 
 pub fn shorten(
@@ -57,10 +53,8 @@ pub fn shorten(
     ensures { left result store.new image.new desk.new
         ≡ live (shorten inode size) (world store.old image.old desk.old) }
 {
-    match three_guards(store, image, desk) {
-        Watched::Open(n, _, h) => work::shorten(&mut *store, h, n, inode, size),
-        Watched::Shut(why) => Answer::Refused(why),
-    }
+    let w = three_guards(store, image, desk)?;
+    work::shorten(&mut *store, w, inode, size)
 }
 
 pub fn link(
@@ -74,10 +68,8 @@ pub fn link(
     ensures { left result store.new image.new desk.new
         ≡ live (link dir name.now inode) (world store.old image.old desk.old) }
 {
-    match three_guards(store, image, desk) {
-        Watched::Open(n, b, h) => work::link(&mut *store, &mut *desk, h, n, b, dir, name, inode),
-        Watched::Shut(why) => Answer::Refused(why),
-    }
+    let w = three_guards(store, image, desk)?;
+    work::link(&mut *store, &mut *desk, w, dir, name, inode)
 }
 
 pub fn unlink(
@@ -90,18 +82,8 @@ pub fn unlink(
     ensures { left result store.new image.new desk.new
         ≡ live (unlink dir name.now) (world store.old image.old desk.old) }
 {
-    match three_guards(store, image, desk) {
-        Watched::Open(n, _, h) => work::unlink(
-            &mut *store,
-            &mut *image,
-            &mut *desk,
-            h,
-            n,
-            dir,
-            name,
-        ),
-        Watched::Shut(why) => Answer::Refused(why),
-    }
+    let w = three_guards(store, image, desk)?;
+    work::unlink(&mut *store, &mut *image, &mut *desk, w, dir, name)
 }
 
 // The phone app's rename, which replaces.
@@ -117,21 +99,17 @@ pub fn rename(
     ensures { left result store.new image.new desk.new
         ≡ live (rename dir name.now to_dir to_name.now) (world store.old image.old desk.old) }
 {
-    match three_guards(store, image, desk) {
-        Watched::Open(n, b, h) => work::rename(
-            &mut *store,
-            &mut *image,
-            &mut *desk,
-            h,
-            n,
-            b,
-            dir,
-            name,
-            to_dir,
-            to_name,
-        ),
-        Watched::Shut(why) => Answer::Refused(why),
-    }
+    let w = three_guards(store, image, desk)?;
+    work::rename(
+        &mut *store,
+        &mut *image,
+        &mut *desk,
+        w,
+        dir,
+        name,
+        to_dir,
+        to_name,
+    )
 }
 
 // The lap recorder's rename, which keeps what has the new name.
@@ -147,19 +125,15 @@ pub fn rename_new(
     ensures { left result store.new image.new desk.new
         ≡ live (rename_new dir name.now to_dir to_name.now) (world store.old image.old desk.old) }
 {
-    match three_guards(store, image, desk) {
-        Watched::Open(n, b, h) => work::rename_new(
-            &mut *store,
-            &mut *image,
-            &mut *desk,
-            h,
-            n,
-            b,
-            dir,
-            name,
-            to_dir,
-            to_name,
-        ),
-        Watched::Shut(why) => Answer::Refused(why),
-    }
+    let w = three_guards(store, image, desk)?;
+    work::rename_new(
+        &mut *store,
+        &mut *image,
+        &mut *desk,
+        w,
+        dir,
+        name,
+        to_dir,
+        to_name,
+    )
 }

@@ -5,12 +5,12 @@ mod parse;
 mod print;
 
 ghost use Rattle.std.specs.Prelude.{◌≤◌, length};
-ghost use Rattle.input.specs.Within.{Within};
 
-use answers::{Answer, refusal_number};
-use input::{Input, next_line};
+use input::each_line;
 use laps::match_laps;
 use replay_commands::parse::command;
+use text::fields::take_numbers;
+use text::print::{print_error, print_refusal};
 
 fn respond(watch: &[u32], mat: &[u32])
     requires { (length watch.now ≤ 600) × (length mat.now ≤ 600) }
@@ -28,7 +28,7 @@ fn respond(watch: &[u32], mat: &[u32])
         &mut alone_mat,
     );
     match answer {
-        Answer::Done(p) => {
+        Ok(p) => {
             let w = watch.len() - p;
             let m = mat.len() - p;
             print::print_report(
@@ -38,62 +38,27 @@ fn respond(watch: &[u32], mat: &[u32])
                 &alone_mat[0..m],
             );
         }
-        Answer::Refused(e) => print::print_refusal(refusal_number(e)),
+        Err(e) => print_refusal(usize::from(e)),
     }
 }
 
-// The first w of the watch times and the first m of the mat times.
-fn respond_first(watch: &[u32; 600], w: usize, mat: &[u32; 600], m: usize)
-    requires { (w ≤ 600) × (m ≤ 600) }
-{
-    let all_watch = &watch[..];
-    let all_mat = &mat[..];
-    respond(&all_watch[0..w], &all_mat[0..m]);
+// The answer that a command asks for, printed; none if it is no command.
+fn answered(cmd: &[u8]) -> Option<()> {
+    let (w, m) = parse::counts(cmd)?;
+    let mut watch = [0u32; 600];
+    let mut mat = [0u32; 600];
+    take_numbers(cmd, 3, &mut watch[..w])?;
+    take_numbers(cmd, 3 + w, &mut mat[..m])?;
+    respond(&watch[..w], &mat[..m]);
+    Some(())
 }
 
 fn answer(line: &[u8]) {
-    let cmd = command(line);
-    let asked = parse::counts(cmd);
-    let w = asked.watch;
-    let m = asked.mat;
-    let mut watch = [0u32; 600];
-    let mut mat = [0u32; 600];
-    if !asked.known {
-        return print::print_error();
+    if answered(command(line)).is_none() {
+        print_error();
     }
-    if !parse::take_times(cmd, 3, w, &mut watch) {
-        return print::print_error();
-    }
-    if !parse::take_times(cmd, 3 + w, m, &mut mat) {
-        return print::print_error();
-    }
-    respond_first(&watch, w, &mat, m);
 }
 
-// A line that there was no room for is answered like an empty one; nothing after the last newline is no
-// line.
-fn end_line(line: &[u8; 65536], input: Input)
-    requires { Within input }
-{
-    let used = input.used;
-    if used == 0 && !input.open {
-        return;
-    }
-    let whole = &line[..];
-    let end = input.taken();
-    answer(&whole[0..end]);
-}
-
-// The lines are counted down from a number that no run uses up.
 fn main(rt: HostRuntime) {
-    let mut stdin = rt.stdin();
-    let mut piece = io::large_buffer();
-    let mut line = io::large_buffer();
-    let mut input = Input::new();
-    let mut turns = u64::MAX;
-    while turns > 0 && input.open {
-        input = next_line(&mut stdin, &mut piece, &mut line, input);
-        end_line(&line, input);
-        turns -= 1;
-    }
+    each_line(&mut rt.stdin(), |line| answer(line));
 }

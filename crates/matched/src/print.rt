@@ -1,14 +1,8 @@
 // The line that answers a command.
 ghost use Rattle.std.specs.Prelude.{◌≡◌, ◌+◌, ◌*◌, ◌≤◌, length};
 
-use text::pieces::front;
-use text::put::{put, put_numbered, put_pair};
-
-const STDOUT_FILENO: i32 = 1;
-
-fn wide(time: u32) -> usize {
-    time as usize
-}
+use text::print::print_line;
+use text::put::{put_numbered, put_pair};
 
 // Each time after a space.
 fn put_times(out: &mut [u8], o: usize, times: &[u32]) -> usize
@@ -16,8 +10,8 @@ fn put_times(out: &mut [u8], o: usize, times: &[u32]) -> usize
     ensures { result ≤ o + 21 * length times.now }
 {
     let mut e = o;
-    for k in 0..times.len() {
-        e = put_numbered(&mut *out, e, b" ", wide(times[k]));
+    for &time in times {
+        e = put_numbered(&mut *out, e, b" ", time as usize);
     }
     e
 }
@@ -28,9 +22,8 @@ fn put_pairs(out: &mut [u8], o: usize, watch: &[u32], mat: &[u32]) -> usize
     ensures { result ≤ o + 42 * length watch.now }
 {
     let mut e = o;
-    for k in 0..watch.len() {
-        let a = put_numbered(&mut *out, e, b" ", wide(watch[k]));
-        e = put_numbered(&mut *out, a, b" ", wide(mat[k]));
+    for (&w, &m) in watch.iter().zip(mat) {
+        e = put_pair(&mut *out, e, b" ", w as usize, m as usize);
     }
     e
 }
@@ -45,17 +38,5 @@ pub fn print_report(watch: &[u32], mat: &[u32], alone_watch: &[u32], alone_mat: 
     let c = put_pairs(&mut out, b, watch, mat);
     let d = put_times(&mut out, c, alone_watch);
     let e = put_times(&mut out, d, alone_mat);
-    let end = put(&mut out, e, b"\n");
-    io::write_all(STDOUT_FILENO, front(&out, end));
-}
-
-pub fn print_refusal(number: usize) {
-    let mut out = [0u8; 24];
-    let e = put_numbered(&mut out, 0, b"no ", number);
-    let end = put(&mut out, e, b"\n");
-    io::write_all(STDOUT_FILENO, front(&out, end));
-}
-
-pub fn print_error() {
-    io::write_all(STDOUT_FILENO, b"err\n");
+    print_line(&mut out, e);
 }

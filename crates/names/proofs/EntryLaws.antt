@@ -119,14 +119,13 @@ filled_not_empty i name l =
     let b = entry_inode_lem i name in omega arith)
 
 -- as the code tests it: two numbers of 8 bytes
-pub empty_words : (e : List ℕ) → eqb (num_at 8 e 0) 0 && eqb (num_at 8 e 8) 0 ≡ is_empty e
+pub empty_words : (e : List ℕ) → is_empty e ≡ eqb (num_at 8 e 0) 0 && eqb (num_at 8 e 8) 0
 empty_words e =
-    reflects_ext
+    reflects_ext (empty e)
     (r_says
     (λ w k l. both w k l (dec_lt k 8))
     (λ h. (zero_num 8 e 0 (λ j l. h (0 + j) (omega arith)), zero_num 8 e 8 (λ j l. h (8 + j) (omega arith))))
     (r_and (r_eq (num_at 8 e 0) 0) (r_eq (num_at 8 e 8) 0)))
-    (empty e)
   where
     both : (num_at 8 e 0 ≡ 0) × (num_at 8 e 8 ≡ 0) → (k : ℕ) → k < entry_bytes → Dec (k < 8) → get_or e k 0 ≡ 0
     both w k l (yes h) = rw zero-add at (num_zero 8 e 0 w.0 k h)

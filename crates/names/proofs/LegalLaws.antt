@@ -1,7 +1,8 @@
 -- A legal entry by its bytes alone, with no name cut out: what the code tests.
+use Rattle.std.specs.Prelude.{None, Option, Some}
 use Prim.Native.Nat.{ℕ, zero, suc, ◌+◌, ◌-◌, ◌≤◌, ◌<◌}
 use mathlib.Core.Path.{◌≡◌, refl, sym, ap, ◌∙◌}
-use mathlib.Core.Bool.{Bool, true, false, not, ◌||◌}
+use mathlib.Core.Bool.{Bool, true, not, ◌&&◌, ◌||◌}
 use mathlib.Core.Logic.{◌⊎◌, inl, inr}
 use mathlib.Core.List.{List}
 use native.Mathlib.Omega.{arith}
@@ -9,14 +10,12 @@ use native.Mathlib.Decide.{dec_lt}
 use borrow.Author.Tests.{eqb-true, eqb-false}
 use lib.Dec.{eqb}
 use lib.ListN.{length, get_or, get_or-eq_default}
-use Rattle.bounded.specs.declared.Found.{Found}
-use Rattle.bounded.specs.declared.Found.TheVariants.{At, Absent}
 use Rattle.bounded.specs.Below.{all_below}
 use Rattle.bounded.specs.Search.{first, on_found}
 use Rattle.bounded.specs.Reflect.{Reflects}
 use Rattle.bounded.proofs.BoolLaws.{and-true}
 use Rattle.bounded.proofs.SearchLaws.{found_lowest, none_below}
-use Rattle.bounded.proofs.ReflectLaws.{r_eq, r_and, r_or, r_not, r_imp, r_all, r_says, r_fails, reflects_ext}
+use Rattle.bounded.proofs.ReflectLaws.{r_eq, r_true, r_and, r_or, r_not, r_imp, r_all, r_says, reflects_ext}
 use Rattle.octets.proofs.PartLaws.{length_inside, get_d_part}
 use Rattle.names.specs.Name.{name_bytes, slash, dot, legal_name, Legal}
 use Rattle.names.specs.Entry.{entry_bytes, name_at, spelled, name_length, entry_name, legal_entry}
@@ -28,25 +27,11 @@ use Rattle.names.specs.Words.{has_dots}
 abbrev Dotted : List ℕ → Type 0
 Dotted e = (get_or e name_at 0 ≡ dot) × ((get_or e (name_at + 1) 0 ≡ 0) ⊎ ((get_or e (name_at + 1) 0 ≡ dot) × (get_or e (name_at + 2) 0 ≡ 0)))
 
-pub dotted : (e : List ℕ) → Reflects (has_dots e) (Dotted e)
+dotted : (e : List ℕ) → Reflects (has_dots e) (Dotted e)
 unfolding has_dots
 dotted e =
     r_and (r_eq (get_or e name_at 0) dot)
     (r_or (r_eq (get_or e (name_at + 1) 0) 0) (r_and (r_eq (get_or e (name_at + 1) 0) dot) (r_eq (get_or e (name_at + 2) 0) 0)))
-
-pub dots_else : (e : List ℕ) → (get_or e (name_at + 1) 0 ≡ 0 → ⊥) → (get_or e (name_at + 1) 0 ≡ dot → ⊥) → false ≡ has_dots e
-dots_else e f g = sym (r_fails (dotted e) (λ d. go d.1))
-  where
-    go : (get_or e (name_at + 1) 0 ≡ 0) ⊎ ((get_or e (name_at + 1) 0 ≡ dot) × (get_or e (name_at + 2) 0 ≡ 0)) → ⊥
-    go (inl z) = f z
-    go (inr b) = g b.0
-
-pub dots_two : (e : List ℕ) → get_or e name_at 0 ≡ dot → get_or e (name_at + 1) 0 ≡ dot → eqb (get_or e (name_at + 2) 0) 0 ≡ has_dots e
-dots_two e a b = reflects_ext (r_eq (get_or e (name_at + 2) 0) 0) (r_says (λ d. go d.1) (λ z. (a, inr (b, z))) (dotted e))
-  where
-    go : (get_or e (name_at + 1) 0 ≡ 0) ⊎ ((get_or e (name_at + 1) 0 ≡ dot) × (get_or e (name_at + 2) 0 ≡ 0)) → get_or e (name_at + 2) 0 ≡ 0
-    go (inl z) = absurd (omega arith)
-    go (inr q) = q.1
 
 pub record Proper (e : List ℕ) : Type 0 where
   pub begins : get_or e name_at 0 ≡ 0 → ⊥
@@ -63,16 +48,16 @@ record Ends (e : List ℕ) (n : ℕ) : Type 0 where
 abbrev zero_at : List ℕ → ℕ → Bool
 zero_at e k = eqb (get_or e (name_at + k) 0) 0
 
-ends_at : (e : List ℕ) (r : Found) → first (zero_at e) name_bytes ≡ r → Ends e (on_found r (λ k. k) name_bytes)
+ends_at : (e : List ℕ) (r : Option ℕ) → first (zero_at e) name_bytes ≡ r → Ends e (on_found r (λ k. k) name_bytes)
 unfolding first
-ends_at e (At t) q =
+ends_at e (Some t) q =
     let l = found_lowest (zero_at e) 0 name_bytes t q in
     record {
       short = omega (arith, l.below);
       before = λ k m. eqb-false (get_or e (name_at + k) 0) 0 (l.before k (omega arith) m);
       end = λ m. eqb-true (get_or e (name_at + t) 0) 0 l.holds;
     }
-ends_at e Absent q =
+ends_at e None q =
     record {
       short = omega arith;
       before = λ k m. eqb-false (get_or e (name_at + k) 0) 0 (none_below (zero_at e) 0 name_bytes q k (omega arith) (omega arith));
@@ -199,12 +184,12 @@ zeros_run_lem : (e : List ℕ) (o : ℕ) → Reflects (zeros_run e o) ((j : ℕ)
 zeros_run_lem e o = r_all 8 (λ j. r_imp (r_eq (get_or e (o + j) 0) 0) (r_eq (get_or e (o + 1 + j) 0) 0))
 
 module _ (e : List ℕ) where
-  pub proper_plain : Proper e → (o : ℕ) → name_at ≤ o → o + 8 ≤ entry_bytes → plain_run e o ≡ true
+  proper_plain : Proper e → (o : ℕ) → name_at ≤ o → o + 8 ≤ entry_bytes → plain_run e o ≡ true
   proper_plain p o a b =
       (plain_run_lem e o).from
       (λ j l z. let x : name_at + (o + j - name_at) ≡ o + j = omega arith in p.plain (o + j - name_at) (omega arith) (ap (λ (i : ℕ). get_or e i 0) x ∙ z))
 
-  pub proper_zeros : Proper e → (o : ℕ) → name_at ≤ o → o + 9 ≤ entry_bytes → zeros_run e o ≡ true
+  proper_zeros : Proper e → (o : ℕ) → name_at ≤ o → o + 9 ≤ entry_bytes → zeros_run e o ≡ true
   proper_zeros p o a b =
       (zeros_run_lem e o).from
       (λ j l z.
@@ -230,8 +215,14 @@ module _ (e : List ℕ) where
             let r : name_at + suc k ≡ 7 + 1 + (k - 5) = omega arith in
             ap (λ (i : ℕ). get_or e i 0) r ∙ (zeros_run_lem e 7).to x (k - 5) (omega arith) (ap (λ (i : ℕ). get_or e i 0) q ∙ z)
 
-    -- what is left to look at
-    pub legal_dots : entry_bytes ≤ length e → not (has_dots e) ≡ legal_entry e
-    legal_dots f =
-        reflects_ext (r_not (dotted e))
-        (r_says (λ p. p.undotted) (λ d. record { begins = b; plain = all_plain; zeros = all_zeros; undotted = d }) (legal_is e f))
+    proper : (Dotted e → ⊥) → Proper e
+    proper d = record { begins = b; plain = all_plain; zeros = all_zeros; undotted = d }
+
+  -- the tests, one after the other
+  pub legal_runs : entry_bytes ≤ length e → legal_entry e ≡ not (eqb (get_or e name_at 0) 0) && (plain_run e 2 && (plain_run e 8 && (zeros_run e 2 && (zeros_run e 7 && not (has_dots e)))))
+  legal_runs f =
+      reflects_ext (legal_is e f)
+      (r_says
+      (λ t. proper t.0 t.1.0 t.1.1.0 t.1.1.1.0 t.1.1.1.1.0 t.1.1.1.1.1)
+      (λ p. (p.begins, (proper_plain p 2 (omega arith) (omega arith), (proper_plain p 8 (omega arith) (omega arith), (proper_zeros p 2 (omega arith) (omega arith), (proper_zeros p 7 (omega arith) (omega arith), p.undotted))))))
+      (r_and (r_not (r_eq (get_or e name_at 0) 0)) (r_and (r_true (plain_run e 2)) (r_and (r_true (plain_run e 8)) (r_and (r_true (zeros_run e 2)) (r_and (r_true (zeros_run e 7)) (r_not (dotted e))))))))

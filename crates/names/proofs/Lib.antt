@@ -1,5 +1,5 @@
 pub mod NameLaws
-pub mod NoNameLaws
+pub mod TestLaws
 pub mod EntryLaws
 pub mod LegalLaws
 pub mod FoldLaws

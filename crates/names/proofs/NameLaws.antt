@@ -19,10 +19,10 @@ pub plain_byte_lem : (name : List ℕ) (k : ℕ) → Reflects (plain_byte name k
 unfolding plain_byte
 plain_byte_lem name k = r_and (r_not (r_eq (get_or name k 0) 0)) (r_not (r_eq (get_or name k 0) slash))
 
-abbrev Dots : List ℕ → Type 0
+abbrev pub Dots : List ℕ → Type 0
 Dots name = (length name ≤ 2) × ((k : ℕ) → k < length name → get_or name k 0 ≡ dot)
 
-dots : (name : List ℕ) → Reflects (is_dots name) (Dots name)
+pub dots : (name : List ℕ) → Reflects (is_dots name) (Dots name)
 unfolding is_dots
 dots name = r_and (r_le (length name) 2) (r_all (length name) (λ k. r_eq (get_or name k 0) dot))
 
@@ -31,10 +31,10 @@ abbrev Tests : List ℕ → Type 0
 Tests name = (1 ≤ length name) × ((length name ≤ name_bytes) × (((k : ℕ) → k < length name → Plain name k) × (Dots name → ⊥)))
 
 -- one dot, and two
-one_dot : (name : List ℕ) → length name ≡ 1 → get_or name 0 0 ≡ dot → Dots name
+pub one_dot : (name : List ℕ) → length name ≡ 1 → get_or name 0 0 ≡ dot → Dots name
 one_dot name n a = (omega arith, λ k l. let e : k ≡ 0 = omega arith in rw e a)
 
-two_dots : (name : List ℕ) → length name ≡ 2 → get_or name 0 0 ≡ dot → get_or name 1 0 ≡ dot → Dots name
+pub two_dots : (name : List ℕ) → length name ≡ 2 → get_or name 0 0 ≡ dot → get_or name 1 0 ≡ dot → Dots name
 two_dots name n a b = (omega arith, λ k l. go k l (dec_lt k 1))
   where
     go : (k : ℕ) → k < length name → Dec (k < 1) → get_or name k 0 ≡ dot

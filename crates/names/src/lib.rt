@@ -1,9 +1,9 @@
 // Names, and the 16 bytes of a directory entry.
 #![tactic(auto)]
 
-ghost use Rattle.std.specs.Prelude.{◌≡◌, ◌+◌, ◌≤◌, length};
-ghost use Rattle.names.specs.Name.{name_bytes, plain_byte, is_dots, legal_name};
-ghost use Rattle.bounded.specs.Below.{all_below};
+ghost use Rattle.std.specs.Prelude.{◌≡◌, ◌==◌, ◌&&◌, not, ◌+◌, ◌≤◌, length};
+ghost use Rattle.std.specs.List.{list_all};
+ghost use Rattle.names.specs.Name.{name_bytes, slash, is_dots, legal_name};
 ghost use Rattle.names.specs.Entry.{entry_bytes, name_at, entry_inode, is_empty, legal_entry, entry_for};
 ghost use Rattle.names.specs.Words.{has_dots, folds, words_at, same_words};
 
@@ -32,7 +32,7 @@ fn folded(w: u64) -> u64
 }
 
 // A name in 14 bytes, zero-filled and folded, as two words: names are compared word by word.
-#[derive(Clone, Copy)]
+#[derive(Clone, Copy, PartialEq, Eq, Debug)]
 pub struct Name {
     pub low: u64,
     pub high: u64,
@@ -65,23 +65,15 @@ impl Name {
     {
         Name::at(entry, NAME_AT)
     }
-
-    pub fn same(self, other: Name) -> bool
-        ensures { result ≡ same_words self other }
-    {
-        if self.low != other.low {
-            return false;
-        }
-        self.high == other.high
-    }
 }
 
 // The entry's name is this one, without regard to case.
+#[tactic(auto, unfolding(crate::specs::Words::same_words))]
 pub fn same_name(entry: &[u8], name: Name) -> bool
     requires { entry_bytes ≤ length entry.now }
     ensures { result ≡ same_words (words_at entry.now name_at) name }
 {
-    Name::in_entry(entry).same(name)
+    Name::in_entry(entry) == name
 }
 
 pub fn entry_inode(entry: &[u8]) -> u16
@@ -91,103 +83,58 @@ pub fn entry_inode(entry: &[u8]) -> u16
     octets::get_16(entry, 0)
 }
 
+#[tactic(auto, using(crate::proofs::EntryLaws::empty_words))]
 pub fn is_empty(entry: &[u8]) -> bool
     requires { entry_bytes ≤ length entry.now }
     ensures { result ≡ is_empty entry.now }
 {
-    if octets::get_64(entry, 0) != 0 {
-        return false;
-    }
-    octets::get_64(entry, 8) == 0
+    octets::get_64(entry, 0) == 0 && octets::get_64(entry, 8) == 0
 }
 
-#[tactic(auto, using(crate::proofs::NoNameLaws::no_dot))]
+// The name is `.` or `..`.
+#[tactic(auto, using(crate::proofs::TestLaws::dots_cases))]
 fn is_dots(name: &[u8]) -> bool
+    requires { 1 ≤ length name.now }
     ensures { result ≡ is_dots name.now }
 {
-    let k = name.len();
-    if 2 < k {
-        return false;
-    }
-    for j in 0..k {
-        if name[j] != b'.' {
-            return false;
-        }
-    }
-    true
+    matches!(name, b"." | b"..")
 }
 
 // No byte is 0 or a slash.
 fn is_plain(name: &[u8]) -> bool
-    ensures { result ≡ all_below (plain_byte name.now) (length name.now) }
+    ensures { result ≡ list_all (λ x. not (x == 0) && not (x == slash)) name.now }
 {
-    for j in 0..name.len() {
-        let x = name[j];
-        if x == 0 {
-            return false;
-        }
-        if x == b'/' {
-            return false;
-        }
-    }
-    true
+    name.iter().all(|&x| x != 0 && x != b'/')
 }
 
-#[tactic(auto, using(crate::proofs::NoNameLaws::too_long))]
+#[tactic(auto, using(crate::proofs::TestLaws::legal_listed))]
 pub fn legal_name(name: &[u8]) -> bool
     ensures { result ≡ legal_name name.now }
 {
-    let k = name.len();
-    if k < 1 {
-        return false;
-    }
-    if NAME_BYTES < k {
-        return false;
-    }
-    if !is_plain(name) {
-        return false;
-    }
-    !is_dots(name)
+    (1..=NAME_BYTES).contains(&name.len()) && is_plain(name) && !is_dots(name)
 }
 
 // The entry's name is `.` or `..`.
+#[tactic(auto, unfolding(crate::specs::Words::has_dots))]
 fn has_dots(entry: &[u8]) -> bool
     requires { entry_bytes ≤ length entry.now }
     ensures { result ≡ has_dots entry.now }
 {
-    if entry[NAME_AT] != b'.' {
-        return false;
-    }
-    if entry[NAME_AT + 1] == 0 {
-        return true;
-    }
-    if entry[NAME_AT + 1] != b'.' {
-        return false;
-    }
-    entry[NAME_AT + 2] == 0
+    matches!(&entry[NAME_AT..], [b'.', 0, ..] | [b'.', b'.', 0, ..])
 }
 
 // The entry holds a legal name, and zero bytes after it. The 14 bytes are looked at eight at once, some of them twice.
+#[tactic(auto, using(crate::proofs::LegalLaws::legal_runs))]
 pub fn legal_entry(entry: &[u8]) -> bool
     requires { entry_bytes ≤ length entry.now }
     ensures { result ≡ legal_entry entry.now }
 {
-    if entry[NAME_AT] == 0 {
-        return false;
-    }
-    if !octets::without(entry, NAME_AT, b'/') {
-        return false;
-    }
-    if !octets::without(entry, NAME_AT + 6, b'/') {
-        return false;
-    }
-    if !octets::zeros_last(entry, NAME_AT) {
-        return false;
-    }
-    if !octets::zeros_last(entry, NAME_AT + 5) {
-        return false;
-    }
-    !has_dots(entry)
+    entry[NAME_AT] != 0
+        && octets::without(entry, NAME_AT, b'/')
+        && octets::without(entry, NAME_AT + 6, b'/')
+        && octets::zeros_last(entry, NAME_AT)
+        && octets::zeros_last(entry, NAME_AT + 5)
+        && !has_dots(entry)
 }
 
 pub fn put_entry(entry: &mut [u8], inode: u16, name: &[u8])

@@ -4,3 +4,4 @@ pub mod WordLaws
 pub mod ZeroLaws
 pub mod FlagLaws
 pub mod OverlayLaws
+pub mod ListLaws

@@ -7,7 +7,7 @@ use native.Mathlib.Omega.{arith}
 use native.Mathlib.Nat.{add-zero}
 use native.Mathlib.Decide.{dec_lt}
 use native.Mathlib.Numerals.{add-one}
-use lib.ListN.{get_or, set, take, drop, length, replicate, length-set, length-take, length-drop, length-replicate, replicate-append-replicate, get_or-eq_default}
+use lib.ListN.{get_or, set, take, drop, length, replicate, length-set, length-take, length-drop, length-replicate, get_or-eq_default}
 use lib.Seq.{set_comm, set-set, sets, sets-eq, drop-drop, get_or-set_same, get_or-set_other, get_or-take, get_or-drop, ext_get_or, take-suc, take-add, drop-cons, take_all}
 use borrow.Rule.Slice.PartMut.{put_mid}
 use Rattle.octets.specs.Octets.{part, splice, Apart, Octets, zeroed, pasted}
@@ -197,15 +197,6 @@ length_zeroed s o k = length_splice s o (replicate k 0)
 pub length_copied : (d : List ℕ) (o : ℕ) (s : List ℕ) (p k : ℕ) → length (pasted d o s p k) ≡ length d
 unfolding pasted
 length_copied d o s p k = length_splice d o (part s p k)
-
-pub zeroed_none : (s : List ℕ) (o : ℕ) → s ≡ zeroed s o 0
-unfolding zeroed splice
-zeroed_none s o = refl
-
-pub zeroed_more : (s : List ℕ) (o k : ℕ) → set (zeroed s o k) (o + k) 0 ≡ zeroed s o (k + 1)
-unfolding zeroed
-zeroed_more s o k =
-    splice_snoc s o (replicate k 0) k 0 (length-replicate k 0) ∙ ap (splice s o) (replicate-append-replicate k 1 0)
 
 pub copied_none : (d : List ℕ) (o : ℕ) (s : List ℕ) (p : ℕ) → d ≡ pasted d o s p 0
 unfolding pasted part splice

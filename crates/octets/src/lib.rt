@@ -3,7 +3,7 @@
 
 ghost use Rattle.std.specs.Prelude.{◌≡◌, not, ◌||◌, ◌+◌, ◌*◌, ◌<◌, ◌≤◌, eqb, length, get_or};
 ghost use Rattle.bounded.specs.Below.{all_below};
-ghost use Rattle.octets.specs.Octets.{num_at, put_num, zeroed, pasted};
+ghost use Rattle.octets.specs.Octets.{part, splice, num_at, put_num, zeroed, pasted};
 ghost use Rattle.octets.specs.Flags.{flags};
 
 // Eight bytes, each 1, 127 or 128.
@@ -13,24 +13,16 @@ pub const LOWS: u64 = 0x7f7f_7f7f_7f7f_7f7f;
 
 pub const HIGHS: u64 = 0x8080_8080_8080_8080;
 
-fn wide_8(x: u8) -> u16
-    ensures { (result ≡ x) × (result < 256) }
+// The N bytes from o on.
+fn bytes<const N: usize>(s: &[u8], o: usize) -> [u8; N]
+    requires { o + N ≤ length s.now }
+    ensures { result ≡ part s.now o N }
 {
-    x as u16
+    *s[o..o + N].as_array().unwrap()
 }
 
-fn wide_16(x: u16) -> u32
-    ensures { (result ≡ x) × (result < 65536) }
-{
-    x as u32
-}
-
-fn wide_32(x: u32) -> u64
-    ensures { (result ≡ x) × (result < 4294967296) }
-{
-    x as u64
-}
-
+// ---- numbers, one function for each width as the library has from_le_bytes: a trait would need an impl for each, with
+// the same bodies, and a const width would have every caller cast an answer of 64 bits.
 pub fn get_8(s: &[u8], o: usize) -> u8
     requires { o + 1 ≤ length s.now }
     ensures { result ≡ num_at 1 s.now o }
@@ -42,28 +34,36 @@ pub fn get_16(s: &[u8], o: usize) -> u16
     requires { o + 2 ≤ length s.now }
     ensures { result ≡ num_at 2 s.now o }
 {
-    wide_8(s[o]) + 256 * wide_8(s[o + 1])
+    u16::from_le_bytes(bytes(s, o))
 }
 
 pub fn get_32(s: &[u8], o: usize) -> u32
     requires { o + 4 ≤ length s.now }
     ensures { result ≡ num_at 4 s.now o }
 {
-    wide_16(get_16(s, o)) + 65536 * wide_16(get_16(s, o + 2))
+    u32::from_le_bytes(bytes(s, o))
 }
 
 pub fn get_48(s: &[u8], o: usize) -> u64
     requires { o + 6 ≤ length s.now }
     ensures { result ≡ num_at 6 s.now o }
 {
-    wide_32(get_32(s, o)) + 4294967296 * wide_32(wide_16(get_16(s, o + 4)))
+    u64::from(get_32(s, o)) + 4294967296 * u64::from(get_16(s, o + 4))
 }
 
 pub fn get_64(s: &[u8], o: usize) -> u64
     requires { o + 8 ≤ length s.now }
     ensures { result ≡ num_at 8 s.now o }
 {
-    wide_32(get_32(s, o)) + 4294967296 * wide_32(get_32(s, o + 4))
+    u64::from_le_bytes(bytes(s, o))
+}
+
+// The bytes xs go to s, from o on.
+fn put_bytes(s: &mut [u8], o: usize, xs: &[u8])
+    requires { o + length xs.now ≤ length s.old }
+    ensures { s.new ≡ splice s.old o xs.now }
+{
+    s[o..o + xs.len()].copy_from_slice(xs);
 }
 
 pub fn put_8(s: &mut [u8], o: usize, v: u8)
@@ -77,36 +77,32 @@ pub fn put_16(s: &mut [u8], o: usize, v: u16)
     requires { o + 2 ≤ length s.old }
     ensures { s.new ≡ put_num 2 s.old o v }
 {
-    s[o] = (v % 256) as u8;
-    s[o + 1] = (v / 256) as u8;
+    put_bytes(s, o, &u16::to_le_bytes(v));
 }
 
 pub fn put_32(s: &mut [u8], o: usize, v: u32)
     requires { o + 4 ≤ length s.old }
     ensures { s.new ≡ put_num 4 s.old o v }
 {
-    put_16(&mut *s, o, (v % 65536) as u16);
-    put_16(&mut *s, o + 2, (v / 65536) as u16);
+    put_bytes(s, o, &u32::to_le_bytes(v));
 }
 
 pub fn put_64(s: &mut [u8], o: usize, v: u64)
     requires { o + 8 ≤ length s.old }
     ensures { s.new ≡ put_num 8 s.old o v }
 {
-    put_32(&mut *s, o, (v % 4294967296) as u32);
-    put_32(&mut *s, o + 4, (v / 4294967296) as u32);
+    put_bytes(s, o, &u64::to_le_bytes(v));
 }
 
 pub fn zero_range(s: &mut [u8], o: usize, k: usize)
     requires { o + k ≤ length s.old }
     ensures { s.new ≡ zeroed s.old o k }
 {
-    for j in 0..k {
-        s[o + j] = 0;
-    }
+    s[o..o + k].fill(0);
 }
 
 // ---- a range copied
+// By loops: the library's file may want no memmove from outside, which copy_from_slice compiles to.
 // The m words of eight bytes of s from p on go to d, from o on: each is read before it is written, so that no byte waits for another.
 fn copy_words(d: &mut [u8], o: usize, s: &[u8], p: usize, m: usize)
     requires { (o + 8 * m ≤ length d.old) × (p + 8 * m ≤ length s.now) }
@@ -137,7 +133,7 @@ pub fn copy_range(d: &mut [u8], o: usize, s: &[u8], p: usize, k: usize)
 }
 
 // ---- zero bytes
-// The m words of eight bytes from o on are 0.
+// The m words of eight bytes from o on are 0. By a loop: `(0..m).all(..)` takes 350 ns in place of 250 for 4,096 zero bytes.
 pub fn words_zero(s: &[u8], o: usize, m: usize) -> bool
     requires { o + 8 * m ≤ length s.now }
     ensures { result ≡ all_below (λ j. eqb (get_or s.now (o + j) 0) 0) (8 * m) }
@@ -150,28 +146,12 @@ pub fn words_zero(s: &[u8], o: usize, m: usize) -> bool
     true
 }
 
-// The k bytes from o on are 0, one by one.
-fn bytes_zero(s: &[u8], o: usize, k: usize) -> bool
-    requires { o + k ≤ length s.now }
-    ensures { result ≡ all_below (λ j. eqb (get_or s.now (o + j) 0) 0) k }
-{
-    for j in 0..k {
-        if s[o + j] != 0 {
-            return false;
-        }
-    }
-    true
-}
-
 // The k bytes from o on are 0: as words, then those that are left.
 pub fn all_zero(s: &[u8], o: usize, k: usize) -> bool
     requires { o + k ≤ length s.now }
     ensures { result ≡ all_below (λ j. eqb (get_or s.now (o + j) 0) 0) k }
 {
-    if !words_zero(s, o, k / 8) {
-        return false;
-    }
-    bytes_zero(s, o + 8 * (k / 8), k % 8)
+    words_zero(s, o, k / 8) && s[o + 8 * (k / 8)..o + k].iter().all(|b| *b == 0)
 }
 
 // ---- eight bytes at once
@@ -187,8 +167,7 @@ pub fn without(s: &[u8], o: usize, x: u8) -> bool
     requires { o + 8 ≤ length s.now }
     ensures { result ≡ all_below (λ j. not (eqb (get_or s.now (o + j) 0) x)) 8 }
 {
-    let y = wide_32(wide_16(wide_8(x)));
-    nonzero(get_64(s, o) ^ (ONES * y)) == HIGHS
+    nonzero(get_64(s, o) ^ (ONES * u64::from(x))) == HIGHS
 }
 
 // Where one of the eight bytes from o on is 0, the next is.

@@ -1,4 +1,5 @@
 -- What is free in a store: the lowest free inode and block, and the counts of them. n and b are the counts of inodes and blocks.
+use Rattle.std.specs.Prelude.{Some}
 use Prim.Native.Nat.{ℕ, ◌+◌, ◌-◌, ◌≤◌, ◌<◌}
 use mathlib.Core.Path.{◌≡◌, ap, subst}
 use mathlib.Core.Bool.{Bool, true, false, not}
@@ -7,7 +8,6 @@ use native.Mathlib.Omega.{arith}
 use borrow.Author.Tests.{eqb-true, not-true}
 use lib.Dec.{eqb}
 use Rattle.bounded.specs.Count.{count_to}
-use Rattle.bounded.specs.declared.Found.TheVariants.{At}
 use Rattle.bounded.proofs.CountLaws.{count_ext, count_le, count_pos, count_some}
 use Rattle.bounded.proofs.SearchLaws.{found_lowest, lowest_of, lowest_found}
 use Rattle.layout.specs.Sizes.{most_inodes, most_store_blocks}
@@ -24,7 +24,7 @@ pub record FreeInode (s : List ℕ) (n i : ℕ) : Type 0 where
   pub kind : kind_of s i ≡ free_kind
 
 -- the lowest one
-pub free_inode_lem : (s : List ℕ) (n i : ℕ) → free_inode s n ≡ At i → FreeInode s n i
+pub free_inode_lem : (s : List ℕ) (n i : ℕ) → free_inode s n ≡ Some i → FreeInode s n i
 unfolding free_inode
 free_inode_lem s n i e =
     let r = found_lowest (inode_free s) 1 n i e in
@@ -32,7 +32,7 @@ free_inode_lem s n i e =
     record { low = r.from; high = omega arith; kind = eqb-true (kind_of s i) free_kind r.holds }
 
 -- it is counted
-pub inode_counted : (s : List ℕ) (n i : ℕ) → free_inode s n ≡ At i → 1 ≤ count_to (inode_free s) n
+pub inode_counted : (s : List ℕ) (n i : ℕ) → free_inode s n ≡ Some i → 1 ≤ count_to (inode_free s) n
 unfolding free_inode
 inode_counted s n i e =
     let r = found_lowest (inode_free s) 1 n i e in
@@ -53,7 +53,7 @@ module _ (s : List ℕ) (n b : ℕ) where
     pub free : block_named s n c ≡ false
 
   -- the lowest one
-  pub free_block_lem : (c : ℕ) → free_block s n b ≡ At c → FreeBlock c
+  pub free_block_lem : (c : ℕ) → free_block s n b ≡ Some c → FreeBlock c
   unfolding lowest_by
   free_block_lem c e =
       let r = found_lowest (λ a. not (block_named s n a)) 1 b c e in
@@ -70,7 +70,7 @@ module _ (s : List ℕ) (n b : ℕ) where
       count_pos (λ k. block_free s n (k + 1)) b (c - 1) (omega arith) (rw u)
 
   -- and where one is counted, one is found
-  pub block_found : 1 ≤ count_to (block_free s n) b → (c : ℕ) × (free_block s n b ≡ At c)
+  pub block_found : 1 ≤ count_to (block_free s n) b → (c : ℕ) × (free_block s n b ≡ Some c)
   unfolding lowest_by
   block_found l =
       let f : ℕ → Bool = λ a. not (block_named s n a) in

@@ -1,9 +1,9 @@
 -- What the searches of a directory say of its places, and the entry that one has found. n is the inode count, d a directory with slot t.
+use Rattle.std.specs.Prelude.{None, Some}
 use Prim.Native.Nat.{ℕ, ◌≤◌, ◌<◌}
 use mathlib.Core.Path.{◌≡◌, refl, sym, ap, ◌∙◌, subst}
 use mathlib.Core.Bool.{true, false}
 use mathlib.Core.List.{List}
-use Rattle.bounded.specs.declared.Found.TheVariants.{At, Absent}
 use Rattle.bounded.proofs.BoolLaws.{clash, fails}
 use Rattle.layout.specs.Sizes.{root_inode}
 use Rattle.layout.specs.Inode.{kind_of, free_kind, is_directory}
@@ -21,14 +21,14 @@ use Rattle.preservation.proofs.EntryWriteLaws.{SlotIn, slot_in, place_below}
 
 module _ (s : List ℕ) (n d : ℕ) (name : List ℕ) where
   -- a name that is found stands in a slot that is not empty
-  pub found_full : (t : ℕ) → legal_name name ≡ true → find_slot s n d name ≡ At t → slot_empty s n d t ≡ false
+  pub found_full : (t : ℕ) → legal_name name ≡ true → find_slot s n d name ≡ Some t → slot_empty s n d t ≡ false
   unfolding slot_empty
   found_full t g e =
       fails (is_empty (entry_of s n d t))
       (λ z. clash (same_name (entry_of s n d t) name) (find_named s n d name t e) (empty_not_named (entry_of s n d t) name z g))
 
   -- one that is absent is new at any place of the directory
-  pub absent_new : (t : ℕ) → 1 ≤ d → t < most_slots → find_slot s n d name ≡ Absent → NewName s n (place_of d t) name
+  pub absent_new : (t : ℕ) → 1 ≤ d → t < most_slots → find_slot s n d name ≡ None → NewName s n (place_of d t) name
   unfolding slot_has_name entry_at
   absent_new t l m e q b z h f =
       let k : dir_of q ≡ d = h ∙ place_dir d t l m in
@@ -75,5 +75,5 @@ entry_here {s} {n} h d t i dir inside full is =
     }
 
 -- the one that a search for a legal name found
-pub found_here : {s : List ℕ} {n b : ℕ} → SoundStore s n b → (d t : ℕ) (name : List ℕ) → is_directory s n d ≡ true → legal_name name ≡ true → find_slot s n d name ≡ At t → EntryHere s n d t (inode_at s n d t)
+pub found_here : {s : List ℕ} {n b : ℕ} → SoundStore s n b → (d t : ℕ) (name : List ℕ) → is_directory s n d ≡ true → legal_name name ≡ true → find_slot s n d name ≡ Some t → EntryHere s n d t (inode_at s n d t)
 found_here {s} {n} h d t name k l f = entry_here h d t (inode_at s n d t) k (find_below s n d name t f) (found_full s n d name t l f) refl

@@ -4,7 +4,7 @@ use mathlib.Core.Path.{◌≡◌, sym, ap, ◌∙◌, subst}
 use mathlib.Core.Logic.{◌≢◌}
 use native.Mathlib.Decide.{ℕ_discrete}
 use native.Mathlib.Omega.{arith}
-use Rattle.bounded.specs.Count.{one, tally}
+use Rattle.bounded.specs.Count.{tally}
 use Rattle.bounded.specs.Climb.{Leads}
 use Rattle.bounded.specs.Update.{upd}
 use Rattle.bounded.proofs.CountLaws.{met, met_at, met_once}

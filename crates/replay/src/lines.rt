@@ -1,10 +1,9 @@
 // Lines run on the three buffers, and their answers printed.
-ghost use Rattle.input.specs.Within.{Within};
 ghost use Rattle.replay.specs.Fit.{Inside};
 
-use crate::lengths::{Lengths, planned};
+use crate::lengths::{Lengths, Plan, planned};
 use checksum::checksum;
-use input::{Input, next_line};
+use input::each_line;
 use replay_commands::answer::put_line;
 use replay_commands::parse::{command, parse};
 use replay_commands::{Command, Reply, Sums};
@@ -54,77 +53,55 @@ fn respond(
     print(reply, &page, sums(store, image, desk));
 }
 
-// A name's buffers hold half the longest line: two digits of it are a byte.
-fn answer(
-    line: &[u8],
-    store: &mut [u8],
-    image: &mut [u8],
-    desk: &mut [u8],
-    kept: Lengths,
-) -> Lengths
-    requires { Inside kept store.old image.old desk.old }
-    ensures { Inside result store.old image.old desk.old }
-{
-    let mut name = [0u8; 32768];
-    let mut other = [0u8; 32768];
-    let asked = parse(command(line), &mut name, &mut other);
-    let room = Lengths {
-        store: store.len(),
-        image: image.len(),
-        desk: desk.len(),
-    };
-    let plan = planned(asked, kept, room);
-    let todo = plan.command;
-    let next = plan.lengths;
-    let s = next.store;
-    let i = next.image;
-    let d = next.desk;
-    respond(
-        todo,
-        &mut store[0..s],
-        &mut image[0..i],
-        &mut desk[0..d],
-        &name,
-        &other,
-    );
-    next
-}
-
-// A line that there was no room for is answered like an empty one; nothing after the last newline is no line.
-fn end_line(
-    line: &[u8; 65536],
-    input: Input,
-    store: &mut [u8],
-    image: &mut [u8],
-    desk: &mut [u8],
+// The program's arrays, and how many bytes of them are store, image and desk.
+#[derive(Drop)]
+pub struct Session<'a> {
+    store: &'a mut [u8],
+    image: &'a mut [u8],
+    desk: &'a mut [u8],
     lengths: Lengths,
-) -> Lengths
-    requires { Within input × Inside lengths store.old image.old desk.old }
-    ensures { Inside result store.old image.old desk.old }
-{
-    let used = input.used;
-    if used == 0 && !input.open {
-        return lengths;
-    }
-    let whole = &line[..];
-    let end = input.taken();
-    answer(&whole[0..end], store, image, desk, lengths)
+    ghost inside: { Inside lengths store.now image.now desk.now },
 }
 
-// The whole input; its lines are counted down from a number that no run uses up.
-pub fn replay(stdin: &mut Stdin, store: &mut [u8], image: &mut [u8], desk: &mut [u8]) {
-    let mut piece = io::large_buffer();
-    let mut line = io::large_buffer();
-    let mut input = Input::new();
-    let mut lengths = Lengths {
-        store: 0,
-        image: 0,
-        desk: 0,
-    };
-    let mut turns = u64::MAX;
-    while turns > 0 && input.open {
-        input = next_line(&mut *stdin, &mut piece, &mut line, input);
-        lengths = end_line(&line, input, &mut *store, &mut *image, &mut *desk, lengths);
-        turns -= 1;
+impl<'a> Session<'a> {
+    pub fn new(store: &'a mut [u8], image: &'a mut [u8], desk: &'a mut [u8]) -> Session<'a> {
+        let lengths = Lengths {
+            store: 0,
+            image: 0,
+            desk: 0,
+        };
+        Session {
+            store,
+            image,
+            desk,
+            lengths,
+        }
+    }
+
+    // A name's buffers hold half the longest line: two digits of it are a byte.
+    fn answer(&mut self, line: &[u8]) {
+        let mut name = [0u8; 32768];
+        let mut other = [0u8; 32768];
+        let asked = parse(command(line), &mut name, &mut other);
+        let room = Lengths {
+            store: self.store.len(),
+            image: self.image.len(),
+            desk: self.desk.len(),
+        };
+        let Plan { command, lengths } = planned(asked, self.lengths, room);
+        self.lengths = lengths;
+        respond(
+            command,
+            &mut self.store[..lengths.store],
+            &mut self.image[..lengths.image],
+            &mut self.desk[..lengths.desk],
+            &name,
+            &other,
+        );
+    }
+
+    // The whole input, line by line.
+    pub fn replay(&mut self, stdin: &mut Stdin) {
+        each_line(stdin, |line: &[u8]| self.answer(line));
     }
 }

@@ -6,6 +6,7 @@ mod lines;
 
 use desk::{DESK_HEADER_BYTES, DESK_INODE_BYTES};
 use layout::sizes::{BLOCK_BYTES, HEADER_BYTES, INODE_BYTES, MOST_IMAGE_BLOCKS, MOST_STORE_BLOCKS};
+use lines::Session;
 
 // Room for more than is allowed: some inodes, and one block.
 const INODES: usize = 300;
@@ -24,5 +25,5 @@ fn main(rt: HostRuntime) {
     let mut store = [0u8; STORE_BYTES];
     let mut image = [0u8; IMAGE_BYTES];
     let mut desk = [0u8; DESK_BYTES];
-    lines::replay(&mut rt.stdin(), &mut store, &mut image, &mut desk);
+    Session::new(&mut store, &mut image, &mut desk).replay(&mut rt.stdin());
 }

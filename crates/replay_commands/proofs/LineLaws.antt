@@ -1,47 +1,44 @@
 -- Laws of an answer's line.
+use Rattle.std.specs.Prelude.{Ok, Err}
 use Prim.Native.Nat.{ℕ}
-use mathlib.Core.Path.{◌≡◌, refl, sym}
-use mathlib.Core.List.{List, ◌++◌, append-nil}
-use borrow.Author.Tests.{eq-eqb, ne_eqb}
-use lib.ListN.{take}
-use Rattle.bounded.specs.declared.Found.{Found}
-use Rattle.bounded.specs.declared.Found.TheVariants.{At, Absent}
+use mathlib.Core.Path.{◌≡◌, refl, sym, ap, ◌∙◌}
+use mathlib.Core.List.{List, ◌++◌}
 use Rattle.text.specs.Letters.{letters}
-use Rattle.text.specs.Put.{each}
+use Rattle.text.specs.Put.{Put}
+use Rattle.text.proofs.PutLaws.{put_same}
 use Rattle.answers.specs.Refusal.{refusal_number}
 use Rattle.answers.specs.declared.Refusal.{Refusal}
-use Rattle.answers.specs.declared.Answer.{Answer}
-use Rattle.answers.specs.declared.Answer.TheVariants as answer
-use Rattle.replay_commands.specs.Line.{reply_of, number_text, sums_text, shown_text, line_text}
+use Rattle.replay_commands.specs.Line.{reply_of, sums_text, line_text}
+use Rattle.replay_commands.specs.Said.{reply_text}
 use Rattle.replay_commands.specs.declared.Reply.{Reply}
-use Rattle.replay_commands.specs.declared.Reply.TheVariants.{Done, Refused}
+use Rattle.replay_commands.specs.declared.Reply.TheVariants.{Error, Plain, Yes, No, Done, Refused, Laid, Shown, Asked}
 use Rattle.replay_commands.specs.declared.Sums.{Sums}
-use Rattle.replay_commands.specs.Said.{word_at, said_text, Says}
+use Rattle.answers.specs.Told.{Answer}
 
 -- ---- a call's answer
-pub done_reply : (a : Answer) (n : ℕ) → a ≡ answer.Done n → Done n ≡ reply_of a
+pub done_reply : (a : Answer) (n : ℕ) → a ≡ Ok n → Done n ≡ reply_of a
 done_reply a n e = rw e refl
 
-pub refused_reply : (a : Answer) (e : Refusal) (n : ℕ) → a ≡ answer.Refused e → n ≡ refusal_number e → Refused n ≡ reply_of a
+pub refused_reply : (a : Answer) (e : Refusal) (n : ℕ) → a ≡ Err e → n ≡ refusal_number e → Refused n ≡ reply_of a
 refused_reply a e n p q = rw (p, q) refl
 
 -- ---- a reply in parts
-pub says : (r q : Reply) (w n : ℕ) (ns : List ℕ) (f : Found) → r ≡ q → Says q w n ns f → Says r w n ns f
-says r q w n ns f e h = rw e h
+pub put_reply : (r q : Reply) (page s t xs : List ℕ) (o e : ℕ) → r ≡ q → xs ≡ reply_text q page → Put s o xs e t → Put s o (reply_text r page) e t
+put_reply r q page s t xs o e h g p = put_same _ _ _ _ _ _ (g ∙ ap (λ (x : Reply). reply_text x page) (sym h)) p
 
-module _ (w n k : ℕ) (ns : List ℕ) (f : Found) (page : List ℕ) (e : k ≡ n) where
-  pub said_none : f ≡ Absent → word_at w ++ each number_text (take k ns) ≡ said_text w n ns f page
-  unfolding said_text
-  said_none h = rw (h, ← e) (sym (append-nil (word_at w ++ each number_text (take k ns))))
+-- a line whose answer is no error ends in the checksums
+pub said_line : (r : Reply) (page : List ℕ) (s : Sums) → (r ≡ Error → ⊥) → reply_text r page ++ sums_text s ≡ line_text r page s
+unfolding reply_text line_text
+said_line Error page s h = absurd (h refl)
+said_line Plain page s h = refl
+said_line Yes page s h = refl
+said_line No page s h = refl
+said_line (Done n) page s h = refl
+said_line (Refused n) page s h = refl
+said_line (Laid a d) page s h = refl
+said_line (Shown n k) page s h = refl
+said_line (Asked a l k) page s h = refl
 
-  pub said_shown : (m : ℕ) → f ≡ At m → (word_at w ++ each number_text (take k ns)) ++ shown_text (take m page) ≡ said_text w n ns f page
-  unfolding said_text
-  said_shown m h = rw (h, ← e) refl
-
--- the line of the parts, after `err` and after another word
-module _ (r : Reply) (w n : ℕ) (ns : List ℕ) (f : Found) (page : List ℕ) (s : Sums) (h : Says r w n ns f) where
-  pub error_line : w ≡ 0 → said_text w n ns f page ++ letters "\n" ≡ line_text r page s
-  error_line e = rw (eq-eqb w 0 e) at (h.line page s)
-
-  pub sums_line : (w ≡ 0 → ⊥) → said_text w n ns f page ++ sums_text s ≡ line_text r page s
-  sums_line e = rw (ne_eqb w 0 e) at (h.line page s)
+pub error_line : (r : Reply) (page : List ℕ) (s : Sums) → r ≡ Error → reply_text r page ++ letters "\n" ≡ line_text r page s
+unfolding reply_text line_text
+error_line r page s e = rw e refl

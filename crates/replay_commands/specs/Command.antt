@@ -1,16 +1,13 @@
 -- What a command line asks for. The command stands before ` => `, or is all of the line, and its fields are parted by single spaces.
-use Rattle.std.specs.Prelude.{ℕ, zero, suc, Bool, true, false, ◌&&◌, List, [], ◌∷◌, ◌++◌, eqb, length, take}
+use Rattle.std.specs.Prelude.{ℕ, zero, suc, Bool, true, false, ◌&&◌, List, [], ◌∷◌, ◌++◌, eqb, length, take, None, Option, Some}
 use Prim.Native.String.{String}
 use Rattle.bounded.specs.Below.{all_below}
 use Rattle.bounded.specs.Search.{pick, first, on_found}
-use Rattle.bounded.specs.declared.Found.{Found}
 use Rattle.octets.specs.Octets.{part}
 use Rattle.text.specs.Letters.{letters}
 use Rattle.text.specs.Pieces.{place_from, piece, pieces, is_word}
 use Rattle.text.specs.Number.{number_of, on_number}
 use Rattle.text.specs.Hex.{hex_count, take_hex}
-use Rattle.text.specs.declared.Number.{Number}
-use Rattle.text.specs.declared.Number.TheVariants.{Value, NoNumber}
 use Rattle.replay_commands.specs.declared.Command.{Command}
 use Rattle.replay_commands.specs.declared.Command.TheVariants.{New, PokeStore, PokeImage, PokeDesk, LayStore, LayDesk, CheckStore, CheckImage, Read, File, Start, Step, Burst, Ask, Bad}
 use Rattle.replay_commands.specs.declared.Call.TheVariants.{LookUp, CreateFile, CreateDirectory, Write, Shorten, Link, Unlink, Rename, RenameNew}
@@ -73,21 +70,21 @@ unfoldable pub command_in : List ℕ → List ℕ
 command_in s = take (place_from (is_arrow s) 0 (length s)) s
 
 -- what the field s is worth if it is to be p: its number, the count of its bytes, or 0 for a word; a and b are the rooms for bytes
-unfoldable pub field_value : List ℕ → List ℕ → ℕ → ℕ → Number
+unfoldable pub field_value : List ℕ → List ℕ → ℕ → ℕ → Option ℕ
 field_value p s a b =
     pick (is_word p (letters "#")) (number_of s)
     (pick (is_word p (letters "*")) (hex_count s a)
-    (pick (is_word p (letters "+")) (hex_count s b) (pick (is_word s p) (Value 0) NoNumber)))
+    (pick (is_word p (letters "+")) (hex_count s b) (pick (is_word s p) (Some 0) None)))
 
-unfoldable pub value_at : List ℕ → List ℕ → ℕ → ℕ → ℕ → Number
+unfoldable pub value_at : List ℕ → List ℕ → ℕ → ℕ → ℕ → Option ℕ
 value_at form cmd a b k = field_value (piece form 32 k) (piece cmd 32 k) a b
 
 unfoldable pub worth : List ℕ → List ℕ → ℕ → ℕ → ℕ → ℕ
 worth form cmd a b k = on_number (value_at form cmd a b k) (λ n. n) 0
 
-abbrev pub has_value : Number → Bool
-has_value (Value n) = true
-has_value NoNumber = false
+abbrev pub has_value : Option ℕ → Bool
+has_value (Some n) = true
+has_value None = false
 
 -- as many fields, each worth something
 unfoldable pub fits : List ℕ → List ℕ → ℕ → ℕ → Bool
@@ -107,7 +104,7 @@ abbrev pub parsed : Command → List ℕ → List ℕ → Parsed
 parsed r b o = record { command = r; name = b; other = o }
 
 -- the first form that the command fits
-unfoldable pub form_of : List ℕ → List ℕ → ℕ → ℕ → Found
+unfoldable pub form_of : List ℕ → List ℕ → ℕ → ℕ → Option ℕ
 form_of lines cmd a b = first (λ j. fits (piece lines 10 j) cmd a b) (pieces lines 10)
 
 unfoldable pub asked_by : ℕ → List ℕ → List ℕ → ℕ → ℕ → Command

@@ -1,7 +1,5 @@
 -- The line that answers a command: the answer, ` | ` and three checksums.
-use Rattle.std.specs.Prelude.{ℕ, ◌+◌, List, [], ◌∷◌, ◌++◌, take}
-use Rattle.answers.specs.declared.Answer.{Answer}
-use Rattle.answers.specs.declared.Answer.TheVariants as answer
+use Rattle.std.specs.Prelude.{ℕ, List, [], ◌∷◌, ◌++◌, take, Ok, Err}
 use Rattle.answers.specs.Refusal.{refusal_number}
 use Rattle.io.specs.Digits.{last_digits}
 use Rattle.text.specs.Letters.{letters}
@@ -9,11 +7,12 @@ use Rattle.text.specs.Put.{decimal_text, each, bytes_text}
 use Rattle.replay_commands.specs.declared.Reply.{Reply}
 use Rattle.replay_commands.specs.declared.Reply.TheVariants.{Error, Plain, Yes, No, Done, Refused, Laid, Shown, Asked}
 use Rattle.replay_commands.specs.declared.Sums.{Sums}
+use Rattle.answers.specs.Told.{Answer}
 
 -- "`ok` and the answer's numbers, or `no` and the number"
 abbrev pub reply_of : Answer → Reply
-reply_of (answer.Done n) = Done n
-reply_of (answer.Refused e) = Refused (refusal_number e)
+reply_of (Ok n) = Done n
+reply_of (Err e) = Refused (refusal_number e)
 
 -- a checksum in 16 hex digits
 abbrev sum_text : ℕ → List ℕ

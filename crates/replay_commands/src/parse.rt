@@ -3,8 +3,6 @@ ghost use Rattle.std.specs.Prelude.{◌≡◌};
 ghost use Rattle.replay_commands.specs.Command.{command_in, value_at, worth, fits, form_of, bytes_at, asked, parsed, parse_command};
 
 use crate::{Call, Command};
-use bounded::Found;
-use text::Number;
 use text::hex::{hex_count, take_hex};
 use text::numbers::number;
 use text::pieces::{front, is_word, piece, pieces};
@@ -17,16 +15,14 @@ const SPACE: u8 = 32;
 pub fn command(s: &[u8]) -> &[u8]
     ensures { result.now ≡ command_in s.now }
 {
-    for k in 0..s.len() {
-        if is_word(front(&s[k..], 4), b" => ") {
-            return &s[0..k];
-        }
+    match (0..s.len()).find(|&k| is_word(front(&s[k..], 4), b" => ")) {
+        Some(k) => &s[..k],
+        None => s,
     }
-    s
 }
 
 // What field k of the command is worth if it is to be that of the form; a and b are the rooms for bytes.
-fn value_at(form: &[u8], cmd: &[u8], a: usize, b: usize, k: usize) -> Number
+fn value_at(form: &[u8], cmd: &[u8], a: usize, b: usize, k: usize) -> Option<usize>
     ensures { result ≡ value_at form.now cmd.now a b k }
 {
     let p = piece(form, SPACE, k);
@@ -40,19 +36,13 @@ fn value_at(form: &[u8], cmd: &[u8], a: usize, b: usize, k: usize) -> Number
     if is_word(p, b"+") {
         return hex_count(s, b);
     }
-    if is_word(s, p) {
-        return Number::Value(0);
-    }
-    Number::NoNumber
+    is_word(s, p).then_some(0)
 }
 
 fn worth(form: &[u8], cmd: &[u8], a: usize, b: usize, k: usize) -> usize
     ensures { result ≡ worth form.now cmd.now a b k }
 {
-    match value_at(form, cmd, a, b, k) {
-        Number::Value(n) => n,
-        Number::NoNumber => 0,
-    }
+    value_at(form, cmd, a, b, k).unwrap_or(0)
 }
 
 // As many fields, each worth something.
@@ -60,38 +50,23 @@ fn fits(form: &[u8], cmd: &[u8], a: usize, b: usize) -> bool
     ensures { result ≡ fits form.now cmd.now a b }
 {
     let n = pieces(form, SPACE);
-    if pieces(cmd, SPACE) != n {
-        return false;
-    }
-    for k in 0..n {
-        let Number::Value(_) = value_at(form, cmd, a, b, k) else {
-            return false;
-        };
-    }
-    true
+    pieces(cmd, SPACE) == n && (0..n).all(|k| value_at(form, cmd, a, b, k).is_some())
 }
 
-fn form_of(forms: &[u8], cmd: &[u8], a: usize, b: usize) -> Found
+fn form_of(forms: &[u8], cmd: &[u8], a: usize, b: usize) -> Option<usize>
     ensures { result ≡ form_of forms.now cmd.now a b }
 {
-    for j in 0..pieces(forms, NEWLINE) {
-        if fits(piece(forms, NEWLINE, j), cmd, a, b) {
-            return Found::At(j);
-        }
-    }
-    Found::Absent
+    (0..pieces(forms, NEWLINE)).find(|&j| fits(piece(forms, NEWLINE, j), cmd, a, b))
 }
 
 // The command's field that is to be p; empty if there is none.
 fn bytes_at<'a, 'b>(form: &'b [u8], p: &'b [u8], cmd: &'a [u8]) -> &'a [u8]
     ensures { result.now ≡ bytes_at form.now p.now cmd.now }
 {
-    for k in 0..pieces(form, SPACE) {
-        if is_word(piece(form, SPACE, k), p) {
-            return piece(cmd, SPACE, k);
-        }
+    match (0..pieces(form, SPACE)).find(|&k| is_word(piece(form, SPACE, k), p)) {
+        Some(k) => piece(cmd, SPACE, k),
+        None => &[],
     }
-    &cmd[0..0]
 }
 
 // What form j asks for, by what its fields 1 to 4 are worth.
@@ -134,7 +109,7 @@ pub fn parse(cmd: &[u8], name: &mut [u8], other: &mut [u8]) -> Command
         b"new # # #\npoke store # #\npoke image # #\npoke desk # #\nlay store # #\nlay desk #\nchk store\nchk image\nlk # *\nmk # * f\nmk # * d\nrd # # #\nwr # # *\nsh # #\nln # * #\nrm # *\nmv # * # +\nmvo # * # +\ngo\nst\nbu #\nask";
     let a = name.len();
     let b = other.len();
-    let Found::At(j) = form_of(forms, cmd, a, b) else {
+    let Some(j) = form_of(forms, cmd, a, b) else {
         return Command::Bad;
     };
     let form = piece(forms, NEWLINE, j);

@@ -1,29 +1,27 @@
 // The commands that lay buffers out, poke them or check them.
-use answers::told_number;
 use replay_commands::answer::reply;
 use replay_commands::{Command, Reply};
-use watch::Form;
+use watch::{Answer, Form};
+
+// The number that the vectors have for an answer of a layout call: 0, or its refusal's.
+fn laid(answer: Answer) -> usize {
+    answer.map_or_else(usize::from, |_| 0)
+}
 
 // Zeroed buffers, and the two layout calls.
 pub fn fresh(store: &mut [u8], image: &mut [u8], desk: &mut [u8], n: usize, b: usize) -> Reply {
-    let s = store.len();
-    let i = image.len();
-    let d = desk.len();
-    octets::zero_range(&mut *store, 0, s);
-    octets::zero_range(image, 0, i);
-    octets::zero_range(&mut *desk, 0, d);
-    let laid = told_number(watch::lay_out_store(store, n, b));
-    Reply::Laid(laid, told_number(watch::lay_out_desk(desk, n)))
+    store.fill(0);
+    image.fill(0);
+    desk.fill(0);
+    let of_store = laid(watch::lay_out_store(store, n, b));
+    Reply::Laid(of_store, laid(watch::lay_out_desk(desk, n)))
 }
 
 fn poke(buffer: &mut [u8], offset: usize, byte: usize) -> Reply {
-    if buffer.len() <= offset {
+    let (Some(place), Ok(byte)) = (buffer.get_mut(offset), u8::try_from(byte)) else {
         return Reply::Error;
-    }
-    if 255 < byte {
-        return Reply::Error;
-    }
-    buffer[offset] = byte as u8;
+    };
+    *place = byte;
     Reply::Plain
 }
 

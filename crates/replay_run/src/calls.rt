@@ -1,30 +1,27 @@
 // The calls: each answers what the library's does.
-use answers::refusal_number;
 use replay_commands::{Call, Reply};
 use text::pieces::front;
-use watch::{Answer, Kind, Status};
+use watch::{Answer, Kind};
 
 // The page is the out-buffer; a read that wants more than it holds is no command.
 pub fn read(store: &[u8], inode: usize, offset: usize, length: usize, page: &mut [u8]) -> Reply {
-    if page.len() < length {
+    let Some(page) = page.get_mut(..length) else {
         return Reply::Error;
-    }
-    match watch::read(store, inode, offset, &mut page[0..length]) {
-        Answer::Done(n) => Reply::Shown(n, length),
-        Answer::Refused(e) => Reply::Refused(refusal_number(e)),
+    };
+    match watch::read(store, inode, offset, page) {
+        Ok(n) => Reply::Shown(n, length),
+        Err(e) => Reply::Refused(usize::from(e)),
     }
 }
 
 pub fn state(store: &[u8], image: &[u8], desk: &[u8]) -> Reply {
     match watch::state(store, image, desk) {
-        Status::Is(state, locked, steps) => {
-            Reply::Asked(state as usize, locked as usize, steps as usize)
-        }
-        Status::NoStatus(e) => Reply::Refused(refusal_number(e)),
+        Ok(s) => Reply::Asked(s.state as usize, s.locked as usize, s.steps as usize),
+        Err(e) => Reply::Refused(usize::from(e)),
     }
 }
 
-// The names and bytes stand at the front of name and other.
+// A call has the counts of its names or bytes, as the definition `parse_command` says of it; they stand at the front of name and other.
 pub fn call(
     call: Call,
     store: &mut [u8],

@@ -10,7 +10,6 @@ use Rattle.text.specs.Put.{Put}
 use Rattle.text.proofs.PutLaws.{put_length}
 use Rattle.sound.specs.Sound.{Sound, inodes_in}
 use Rattle.sound.specs.declared.Form.TheVariants.{Image}
-use Rattle.answers.specs.declared.Answer.{Answer}
 use Rattle.format.specs.Format.{LaidOut, laid_out, lay_out_store, lay_out_desk}
 use Rattle.script_listing.specs.Listing.{printed_text, most_printed, Listable}
 use Rattle.checkpoint.specs.Live.{World, world}
@@ -18,14 +17,15 @@ use Rattle.script_run.specs.Reply.{Ran, ran, line_runs, world_after}
 use Rattle.script_run.specs.Script.{printed, lines_run, FinishesSound, script_inodes, script_blocks, fresh}
 use Rattle.script_run.specs.declared.Reply.{Reply}
 use Rattle.script_run.proofs.PrintLaws.{printed_short}
+use Rattle.answers.specs.Told.{Answer}
 
 pub after_line : (l : List ℕ) (w : World) (r : Reply) (s m d : List ℕ) → ran r (world s m d) ≡ line_runs l w → world s m d ≡ world_after l w
 after_line l w r s m d e = ap (λ (x : Ran). world x.store x.image x.desk) e
 
 -- the text of what was run
-pub printed_line : (l : List ℕ) (w : World) (r : Reply) (s m d : List ℕ) → ran r (world s m d) ≡ line_runs l w → printed_text r.ok r.number r.finished m d ≡ printed l w
+pub printed_line : (l : List ℕ) (w : World) (r : Reply) (s m d : List ℕ) → ran r (world s m d) ≡ line_runs l w → printed_text r.answer r.finished m d ≡ printed l w
 unfolding printed
-printed_line l w r s m d e = ap (λ (x : Ran). printed_text x.reply.ok x.reply.number x.reply.finished x.image x.desk) e
+printed_line l w r s m d e = ap (λ (x : Ran). printed_text x.reply.answer x.reply.finished x.image x.desk) e
 
 -- the front of a buffer into which a line's text was put, up to where it ends, has the text's length
 pub front_length : (l : List ℕ) (w : World) (s t u : List ℕ) (e : ℕ) → FinishesSound w → most_printed script_inodes ≤ length s → Put s 0 (printed l w) e t → u ≡ take e t → length u ≡ length (printed l w)

@@ -19,7 +19,7 @@ pub fn run(script: &[u8], store: &mut [u8], image: &mut [u8], desk: &mut [u8]) -
     let mut bytes = 0;
     while r.at < script.len() {
         let b = print::line(line(r), &mut *store, &mut *image, &mut *desk);
-        bytes = bytes + b;
+        bytes += b;
         r = after(r);
     }
     bytes

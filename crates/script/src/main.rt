@@ -26,8 +26,8 @@ fn main() {
     let mut store = [0u8; STORE_BYTES];
     let mut image = [0u8; IMAGE_BYTES];
     let mut desk = [0u8; DESK_BYTES];
-    watch::lay_out_store(&mut store, INODES, BLOCKS);
-    watch::lay_out_desk(&mut desk, INODES);
+    let _ = watch::lay_out_store(&mut store, INODES, BLOCKS);
+    let _ = watch::lay_out_desk(&mut desk, INODES);
     let mut script = io::large_buffer();
     let n = io::read_full(STDIN_FILENO, &mut script);
     lines_of::run(&script[..n], &mut store, &mut image, &mut desk);

@@ -30,7 +30,7 @@ fn put_line(
     ensures put { Put out.old 0 (printed line.now (world store.old image.old desk.old)) result out.new }
 {
     let r = script_run::run::run(line, &mut *store, &mut *image, &mut *desk);
-    put_printed(out, r.ok, r.number, r.finished, &*image, &*desk)
+    put_printed(out, r.answer, r.finished, &*image, &*desk)
 }
 
 // Runs a line, and writes what it prints; how many bytes that is.

@@ -1,17 +1,17 @@
 -- What a line asks for. "Fields are parted by one space and not empty; numbers are 1 to 5 digits; text is the rest of the line".
-use Rattle.std.specs.Prelude.{ℕ, zero, suc, Bool, true, false, ◌&&◌, ◌||◌, List, [], ◌∷◌, ◌++◌, eqb, leb, ltb, length}
+use Rattle.std.specs.Prelude.{ℕ, Bool, true, false, ◌&&◌, ◌||◌, List, [], ◌∷◌, eqb, leb, ltb, length, None, Option, Some, find}
+use Rattle.std.specs.Option.{unwrap_or}
 use Prim.Native.String.{String}
 use Rattle.bounded.specs.Below.{all_below}
-use Rattle.bounded.specs.Search.{pick, first, on_found}
-use Rattle.bounded.specs.declared.Found.{Found}
+use Rattle.bounded.specs.Search.{pick}
 use Rattle.text.specs.Letters.{letters}
 use Rattle.text.specs.Pieces.{piece, rest, pieces, is_word}
-use Rattle.text.specs.Number.{number_of, on_number}
-use Rattle.text.specs.declared.Number.{Number}
-use Rattle.text.specs.declared.Number.TheVariants.{Value, NoNumber}
+use Rattle.text.specs.Number.{number_of}
 use Rattle.entries.specs.declared.Kind.TheVariants.{File, Directory}
 use Rattle.files.specs.Effect.{create, write, shorten, link, unlink, rename}
 use Rattle.checkpoint.specs.List.{Event, call, starts}
+use Rattle.script_lines.specs.declared.forms.Form.{Form}
+use Rattle.script_lines.specs.declared.forms.Form.TheVariants.{CreateFile, CreateDirectory, Write, Shorten, Link, Unlink, Rename, Start, Step}
 
 -- an event of a list: a file call or a start; single steps; nothing that the paper has
 pub data Ask : Type 0 where
@@ -34,50 +34,45 @@ text_from l k = rest l space k
 abbrev pub most_digits : ℕ
 most_digits = 5
 
-unfoldable pub short_number : List ℕ → Number
-short_number s = pick (leb (length s) most_digits) (number_of s) NoNumber
+unfoldable pub short_number : List ℕ → Option ℕ
+short_number s = pick (leb (length s) most_digits) (number_of s) None
 
-abbrev pub is_value : Number → Bool
-is_value (Value n) = true
-is_value NoNumber = false
+abbrev pub is_value : Option ℕ → Bool
+is_value (Some n) = true
+is_value None = false
 
 -- the number that field k is
 unfoldable pub num : List ℕ → ℕ → ℕ
-num l k = on_number (short_number (field l k)) (λ n. n) 0
+num l k = unwrap_or (short_number (field l k)) 0
 
 -- ---- The forms: `#` is a number, `*` a name, `~` text; any other field is itself
-pub record Form : Type 0 where
-  pub form : String
-  pub asks : List ℕ → Ask
-
-abbrev row : String → (List ℕ → Ask) → Form
-row t f = record { form = t; asks = f }
-
 -- "`mk dir name f|d`, `wr inode offset text`, `sh inode length`, `ln dir name inode`, `rm dir name`, `mv dir name dir name`, `go`, `st count`"
-unfoldable pub forms : List Form
-forms =
-    row "mk # * f" (λ l. event (call (create (num l 1) (field l 2) File)))
-    ∷ row "mk # * d" (λ l. event (call (create (num l 1) (field l 2) Directory)))
-    ∷ row "wr # # ~" (λ l. event (call (write (num l 1) (num l 2) (text_from l 3))))
-    ∷ row "sh # #" (λ l. event (call (shorten (num l 1) (num l 2))))
-    ∷ row "ln # * #" (λ l. event (call (link (num l 1) (field l 2) (num l 3))))
-    ∷ row "rm # *" (λ l. event (call (unlink (num l 1) (field l 2))))
-    ∷ row "mv # * # *" (λ l. event (call (rename (num l 1) (field l 2) (num l 3) (field l 4))))
-    ∷ row "go" (λ l. event starts)
-    ∷ row "st #" (λ l. stepping (num l 1))
-    ∷ []
+abbrev pub form_text : Form → String
+form_text CreateFile = "mk # * f"
+form_text CreateDirectory = "mk # * d"
+form_text Write = "wr # # ~"
+form_text Shorten = "sh # #"
+form_text Link = "ln # * #"
+form_text Unlink = "rm # *"
+form_text Rename = "mv # * # *"
+form_text Start = "go"
+form_text Step = "st #"
 
--- the forms as one text, a form a line
-abbrev pub text_of : List Form → List ℕ
-text_of [] = []
-text_of (f ∷ []) = letters f.form
-text_of (f ∷ (g ∷ fs)) = letters f.form ++ (10 ∷ text_of (g ∷ fs))
+-- what a line of the form asks for
+abbrev pub asked : Form → List ℕ → Ask
+asked CreateFile l = event (call (create (num l 1) (field l 2) File))
+asked CreateDirectory l = event (call (create (num l 1) (field l 2) Directory))
+asked Write l = event (call (write (num l 1) (num l 2) (text_from l 3)))
+asked Shorten l = event (call (shorten (num l 1) (num l 2)))
+asked Link l = event (call (link (num l 1) (field l 2) (num l 3)))
+asked Unlink l = event (call (unlink (num l 1) (field l 2)))
+asked Rename l = event (call (rename (num l 1) (field l 2) (num l 3) (field l 4)))
+asked Start l = event starts
+asked Step l = stepping (num l 1)
 
--- what row j asks for
-abbrev pub asked_in : List Form → ℕ → List ℕ → Ask
-asked_in [] j l = none
-asked_in (f ∷ fs) zero l = f.asks l
-asked_in (f ∷ fs) (suc j) l = asked_in fs j l
+-- all of them, in the order in which a line is held against them
+abbrev pub forms : List Form
+forms = CreateFile ∷ CreateDirectory ∷ Write ∷ Shorten ∷ Link ∷ Unlink ∷ Rename ∷ Start ∷ Step ∷ []
 
 -- ---- A line and a form
 -- "not empty"
@@ -98,16 +93,14 @@ end_fits form l = is_word (piece form space 3) (letters "~") || eqb (pieces l sp
 unfoldable pub fits : List ℕ → List ℕ → Bool
 fits form l = end_fits form l && all_below (λ k. field_fits (piece form space k) l k) (pieces form space)
 
--- the first form that the line fits
-unfoldable pub form_of : List ℕ → List ℕ → Found
-form_of lines l = first (λ j. fits (piece lines 10 j) l) (pieces lines 10)
-
 -- ---- What a line asks for
-unfoldable pub form_in : List ℕ → Found
-form_in l = form_of (text_of forms) l
+-- the first form that it fits
+unfoldable pub form_in : List ℕ → Option Form
+form_in l = find (λ f. fits (letters (form_text f)) l) forms
 
-unfoldable pub asked : ℕ → List ℕ → Ask
-asked j l = asked_in forms j l
+abbrev pub asked_by : Option Form → List ℕ → Ask
+asked_by (Some f) l = asked f l
+asked_by None l = none
 
 unfoldable pub ask_of : List ℕ → Ask
-ask_of l = on_found (form_in l) (λ j. asked j l) none
+ask_of l = asked_by (form_in l) l

@@ -1,13 +1,9 @@
 // What a line asks for: the first of the forms that it fits, and its fields.
 ghost use Rattle.std.specs.Prelude.{◌≡◌};
-ghost use Rattle.script_lines.specs.Ask.{field, text_from, short_number, is_value, num, field_fits, end_fits, fits, form_of, form_in};
+ghost use Rattle.script_lines.specs.Ask.{field, text_from, short_number, is_value, num, field_fits, end_fits, fits, form_in};
 
-use bounded::Found;
-use text::Number;
 use text::numbers::number;
 use text::pieces::{is_word, piece, pieces, rest};
-
-const NEWLINE: u8 = 10;
 
 const SPACE: u8 = 32;
 
@@ -16,8 +12,53 @@ const MOST_DIGITS: usize = 5;
 // The field of a form that is text, where it has one.
 const TEXT_FIELD: usize = 3;
 
-// The row of `st`, the last of the forms; those before it are one call each.
-pub const STEPPING: usize = 8;
+#[derive(Clone, Copy, PartialEq, Eq, Debug)]
+pub enum Form {
+    CreateFile,
+    CreateDirectory,
+    Write,
+    Shorten,
+    Link,
+    Unlink,
+    Rename,
+    Start,
+    Step,
+}
+
+// All forms, in the order in which a line is held against them.
+const FORMS: [Form; 9] = [
+    Form::CreateFile,
+    Form::CreateDirectory,
+    Form::Write,
+    Form::Shorten,
+    Form::Link,
+    Form::Unlink,
+    Form::Rename,
+    Form::Start,
+    Form::Step,
+];
+
+impl Form {
+    ghost use Rattle.script_lines.specs.Ask.{form_text};
+    ghost use Rattle.text.specs.Letters.{letters};
+
+    // The form's words, parted by spaces: `#` is a number, `*` a name, `~` text; any other is itself.
+    fn text(self) -> &'static [u8]
+        ensures { result.now ≡ letters (form_text self) }
+    {
+        match self {
+            Form::CreateFile => b"mk # * f",
+            Form::CreateDirectory => b"mk # * d",
+            Form::Write => b"wr # # ~",
+            Form::Shorten => b"sh # #",
+            Form::Link => b"ln # * #",
+            Form::Unlink => b"rm # *",
+            Form::Rename => b"mv # * # *",
+            Form::Start => b"go",
+            Form::Step => b"st #",
+        }
+    }
+}
 
 pub fn field(line: &[u8], k: usize) -> &[u8]
     ensures { result.now ≡ field line.now k }
@@ -31,11 +72,11 @@ pub fn text_from(line: &[u8], k: usize) -> &[u8]
     rest(line, SPACE, k)
 }
 
-fn short_number(s: &[u8]) -> Number
+fn short_number(s: &[u8]) -> Option<usize>
     ensures { result ≡ short_number s.now }
 {
     if MOST_DIGITS < s.len() {
-        return Number::NoNumber;
+        return None;
     }
     number(s)
 }
@@ -43,20 +84,14 @@ fn short_number(s: &[u8]) -> Number
 fn is_number(s: &[u8]) -> bool
     ensures { result ≡ is_value (short_number s.now) }
 {
-    match short_number(s) {
-        Number::Value(_) => true,
-        Number::NoNumber => false,
-    }
+    short_number(s).is_some()
 }
 
-// The number that field k is.
+// The number that field k is; 0, as the definition `num` has it, where it is none, which no form asks for.
 pub fn num(line: &[u8], k: usize) -> usize
     ensures { result ≡ num line.now k }
 {
-    match short_number(field(line, k)) {
-        Number::Value(n) => n,
-        Number::NoNumber => 0,
-    }
+    short_number(field(line, k)).unwrap_or(0)
 }
 
 // Field k is what the form has there, p.
@@ -80,43 +115,19 @@ fn field_fits(p: &[u8], line: &[u8], k: usize) -> bool
 fn end_fits(form: &[u8], line: &[u8]) -> bool
     ensures { result ≡ end_fits form.now line.now }
 {
-    if is_word(piece(form, SPACE, TEXT_FIELD), b"~") {
-        return true;
-    }
-    pieces(line, SPACE) == pieces(form, SPACE)
+    is_word(piece(form, SPACE, TEXT_FIELD), b"~") || pieces(line, SPACE) == pieces(form, SPACE)
 }
 
 fn fits(form: &[u8], line: &[u8]) -> bool
     ensures { result ≡ fits form.now line.now }
 {
-    if !end_fits(form, line) {
-        return false;
-    }
-    for k in 0..pieces(form, SPACE) {
-        if !field_fits(piece(form, SPACE, k), line, k) {
-            return false;
-        }
-    }
-    true
+    end_fits(form, line)
+        && (0..pieces(form, SPACE)).all(|k| field_fits(piece(form, SPACE, k), line, k))
 }
 
-fn form_of(forms: &[u8], line: &[u8]) -> Found
-    ensures { result ≡ form_of forms.now line.now }
-{
-    for j in 0..pieces(forms, NEWLINE) {
-        if fits(piece(forms, NEWLINE, j), line) {
-            return Found::At(j);
-        }
-    }
-    Found::Absent
-}
-
-// The row of the form that the line fits.
-pub fn form(line: &[u8]) -> Found
+// The first form that the line fits.
+pub fn form_of(line: &[u8]) -> Option<Form>
     ensures { result ≡ form_in line.now }
 {
-    form_of(
-        b"mk # * f\nmk # * d\nwr # # ~\nsh # #\nln # * #\nrm # *\nmv # * # *\ngo\nst #",
-        line,
-    )
+    FORMS.iter().find(|f| fits(f.text(), line)).copied()
 }

@@ -10,6 +10,7 @@ use text::pieces::find;
 
 const NEWLINE: u8 = 10;
 
+// A struct and thin functions over those on a slice and a number: the form that the paper names (docs/MAP.md).
 #[derive(Clone, Copy)]
 pub struct Reader<'a> {
     pub script: &'a [u8],

@@ -1,6 +1,9 @@
 -- How long the texts of a line can be.
-use Prim.Native.Nat.{ℕ, zero, suc, ◌+◌, ◌*◌, ◌/◌, ◌%◌, ◌≤◌}
-use mathlib.Core.Path.{◌≡◌, refl, sym, ap, ◌∙◌}
+use Rattle.std.specs.Prelude.{None, Option, Some, Result, Ok, Err}
+use Rattle.std.specs.List.{AllWithin, HoldsAt}
+use Rattle.std.specs.Option.{MatchOption, unwrap_or}
+use Prim.Native.Nat.{ℕ, zero, suc, ◌+◌, ◌*◌, ◌/◌, ◌%◌, ◌≤◌, ◌<◌}
+use mathlib.Core.Path.{◌≡◌, refl, sym, ◌∙◌}
 use mathlib.Core.Bool.{Bool, true, false}
 use mathlib.Core.List.{List, [], ◌∷◌, ◌++◌}
 use native.Mathlib.Omega.{arith}
@@ -9,14 +12,13 @@ use lib.Dec.{eqb, ltb}
 use lib.ListN.{length, get_or, length-append}
 use Rattle.io.specs.Digits.{last_digits, hex_digit_ascii}
 use Rattle.bounded.specs.Search.{pick, first_from, first, on_found}
-use Rattle.bounded.specs.declared.Found.{Found}
-use Rattle.bounded.specs.declared.Found.TheVariants.{At, Absent}
 use Rattle.bounded.proofs.SearchLaws.{found_lowest}
 use Rattle.octets.specs.Octets.{part}
-use Rattle.octets.proofs.PartLaws.{length_part}
+use Rattle.octets.proofs.PartLaws.{length_part, length_inside, get_d_part}
 use Rattle.layout.specs.Header.{header_of}
 use Rattle.layout.specs.Inode.{kind_of, size_of, links_of, directory_kind}
-use Rattle.names.specs.Entry.{name_at, entry_inode, name_length, entry_name}
+use Rattle.names.specs.Entry.{entry_bytes, name_at, entry_inode, name_length, entry_name}
+use Rattle.names.proofs.EntryLaws.{length_of_lem}
 use Rattle.names.specs.Name.{name_bytes}
 use Rattle.desk.specs.Desk.{desk_of}
 use Rattle.directory.specs.Slot.{most_slots}
@@ -56,14 +58,14 @@ unfolding pair_text
 pair_most w a b = both (w ++ decimal_text a) (letters " " ++ decimal_text b) (length w + 20) 21 (after w a) (after (letters " ") b)
 
 -- ---- the answer
-word_most : (o : Bool) (v : ℕ) → length (word_text o v) ≤ 23
+word_most : (r : Result ℕ ℕ) → length (word_text r) ≤ 23
 unfolding word_text
-word_most true v = after (letters "ok ") v
-word_most false v = after (letters "no ") v
+word_most (Ok v) = after (letters "ok ") v
+word_most (Err v) = after (letters "no ") v
 
-pub reply_most : (o : Bool) (v : ℕ) → length (reply_text o v) ≤ most_reply
+pub reply_most : (r : Result ℕ ℕ) → length (reply_text r) ≤ most_reply
 unfolding reply_text
-reply_most o v = both (word_text o v) (letters "\n") 23 1 (word_most o v) (le_refl 1)
+reply_most r = both (word_text r) (letters "\n") 23 1 (word_most r) (le_refl 1)
 
 -- ---- the first line of a listing
 counts_most : (m : List ℕ) → length (counts_text m) ≤ 89
@@ -105,9 +107,32 @@ name_short : (e : List ℕ) → name_length e ≤ name_bytes
 unfolding name_length first
 name_short e = go (first_from (λ k. eqb (get_or e (name_at + k) 0) 0) 0 name_bytes) refl
   where
-    go : (g : Found) → first_from (λ k. eqb (get_or e (name_at + k) 0) 0) 0 name_bytes ≡ g → on_found g (λ k. k) name_bytes ≤ name_bytes
-    go (At k) q = let b = (found_lowest (λ k. eqb (get_or e (name_at + k) 0) 0) 0 name_bytes k q).below in omega arith
-    go Absent q = le_refl name_bytes
+    go : (g : Option ℕ) → first_from (λ k. eqb (get_or e (name_at + k) 0) 0) 0 name_bytes ≡ g → on_found g (λ k. k) name_bytes ≤ name_bytes
+    go (Some k) q = let b = (found_lowest (λ k. eqb (get_or e (name_at + k) 0) 0) 0 name_bytes k q).below in omega arith
+    go None q = le_refl name_bytes
+
+-- as the code finds it: the place of the first zero byte among the name's
+pub name_length_is : (e : List ℕ) → entry_bytes ≤ length e → (r : Option ℕ)
+    → MatchOption r (AllWithin (λ b. b ≡ 0 → ⊥) (part e name_at name_bytes) 0 (length (part e name_at name_bytes)))
+    (λ i. (i < length (part e name_at name_bytes)) × HoldsAt (λ b. b ≡ 0) (part e name_at name_bytes) i × AllWithin (λ b. b ≡ 0 → ⊥) (part e name_at name_bytes) 0 i)
+    → (unwrap_or r name_bytes ≡ name_length e) × (unwrap_or r name_bytes ≤ name_bytes)
+name_length_is e l r h = go r h
+  where
+    long : length (part e name_at name_bytes) ≡ name_bytes
+    long = length_inside e name_at name_bytes (omega arith)
+
+    at : (k : ℕ) → k < name_bytes → get_or (part e name_at name_bytes) k 0 ≡ get_or e (name_at + k) 0
+    at k m = get_d_part e name_at name_bytes k m
+
+    go : (r : Option ℕ)
+        → MatchOption r (AllWithin (λ b. b ≡ 0 → ⊥) (part e name_at name_bytes) 0 (length (part e name_at name_bytes)))
+        (λ i. (i < length (part e name_at name_bytes)) × HoldsAt (λ b. b ≡ 0) (part e name_at name_bytes) i × AllWithin (λ b. b ≡ 0 → ⊥) (part e name_at name_bytes) 0 i)
+        → (unwrap_or r name_bytes ≡ name_length e) × (unwrap_or r name_bytes ≤ name_bytes)
+    go None f = (sym (length_of_lem e name_bytes (le_refl name_bytes) (λ k m z. let a = long in f k 0 (omega arith) (omega arith) (at k m ∙ z)) (λ m. absurd (omega arith))), le_refl name_bytes)
+    go (Some i) f =
+        let a = long in
+        let b : i < name_bytes = omega (arith, f.0) in
+        (sym (length_of_lem e i (omega arith) (λ k m z. f.2 k 0 (omega arith) m (at k (omega arith) ∙ z)) (λ m. sym (at i m) ∙ f.1 0)), omega arith)
 
 name_length_lem : (e : List ℕ) → length (entry_name e) ≤ name_bytes
 unfolding entry_name
@@ -145,9 +170,9 @@ unfolding listing
 listing_most m d = both (head_text m d) (entries_from m (inodes_in m) 0 (most_slots * inodes_in m)) most_head (most_entry_text * (most_slots * inodes_in m)) (head_most m d) (entries_most m (inodes_in m) 0 (most_slots * inodes_in m))
 
 -- f is whether there is a listing, n then its image's inode count
-pub printed_most : (o : Bool) (v : ℕ) (f : Bool) (m d : List ℕ) (n : ℕ) → (f ≡ true → inodes_in m ≡ n) → length (printed_text o v f m d) ≤ most_printed n
+pub printed_most : (r : Result ℕ ℕ) (f : Bool) (m d : List ℕ) (n : ℕ) → (f ≡ true → inodes_in m ≡ n) → length (printed_text r f m d) ≤ most_printed n
 unfolding printed_text
-printed_most o v f m d n h = both (reply_text o v) (pick f (listing m d) []) most_reply (most_listing n) (reply_most o v) (go f h)
+printed_most r f m d n h = both (reply_text r) (pick f (listing m d) []) most_reply (most_listing n) (reply_most r) (go f h)
   where
     go : (b : Bool) → (b ≡ true → inodes_in m ≡ n) → length (pick b (listing m d) []) ≤ most_listing n
     go true h = let e = h refl in let l = listing_most m d in omega arith

@@ -1,8 +1,9 @@
 -- Laws of the text that a line prints: each branch's words are the definition's.
+use Rattle.std.specs.Prelude.{Result, Ok, Err}
 use Prim.Native.Nat.{ℕ, zero, suc, ◌+◌, ◌*◌}
 use mathlib.Core.Path.{◌≡◌, refl, sym, ap, ◌∙◌}
 use mathlib.Core.Bool.{Bool, true, false}
-use mathlib.Core.List.{List, [], ◌++◌, append_assoc, append-nil}
+use mathlib.Core.List.{List, ◌++◌, append_assoc, append-nil}
 use native.Mathlib.Omega.{arith}
 use borrow.Author.Tests.{eq-eqb, ne_eqb}
 use Rattle.octets.specs.Octets.{splice}
@@ -19,13 +20,13 @@ use Rattle.sound.specs.Place.{filled}
 use Rattle.text.specs.Put.{Put, decimal_text, pair_text}
 use Rattle.script_listing.specs.Listing.{word_text, reply_text, counts_text, head_text, kind_text, inode_text, name_text, entry_text, slot_text, entries_from, listing, printed_text}
 
-pub ok_word : (o : Bool) (v : ℕ) → o ≡ true → letters "ok " ++ decimal_text v ≡ word_text o v
+pub ok_word : (r : Result ℕ ℕ) (v : ℕ) → r ≡ Ok v → letters "ok " ++ decimal_text v ≡ word_text r
 unfolding word_text
-ok_word o v e = rw e refl
+ok_word r v e = rw e refl
 
-pub no_word : (o : Bool) (v : ℕ) → o ≡ false → letters "no " ++ decimal_text v ≡ word_text o v
+pub no_word : (r : Result ℕ ℕ) (v : ℕ) → r ≡ Err v → letters "no " ++ decimal_text v ≡ word_text r
 unfolding word_text
-no_word o v e = rw e refl
+no_word r v e = rw e refl
 
 pub counts_text_lem : (m : List ℕ) (h : Header) → h ≡ header_of m
     → pair_text (letters "image ") h.inodes h.blocks ++ pair_text (letters " ") h.free_inodes h.free_blocks ≡ counts_text m
@@ -87,10 +88,10 @@ pub listing_text : (m d : List ℕ) (n : ℕ) → n ≡ inodes_in m → head_tex
 unfolding listing
 listing_text m d n e = rw e refl
 
-pub printed_listed : (o : Bool) (v : ℕ) (f : Bool) (m d : List ℕ) → f ≡ true → reply_text o v ++ listing m d ≡ printed_text o v f m d
+pub printed_listed : (r : Result ℕ ℕ) (f : Bool) (m d : List ℕ) → f ≡ true → reply_text r ++ listing m d ≡ printed_text r f m d
 unfolding printed_text
-printed_listed o v f m d e = rw e refl
+printed_listed r f m d e = rw e refl
 
-pub printed_plain : (o : Bool) (v : ℕ) (f : Bool) (m d : List ℕ) → f ≡ false → reply_text o v ≡ printed_text o v f m d
+pub printed_plain : (r : Result ℕ ℕ) (f : Bool) (m d : List ℕ) → f ≡ false → reply_text r ≡ printed_text r f m d
 unfolding printed_text
-printed_plain o v f m d e = rw e (sym (append-nil (reply_text o v)))
+printed_plain r f m d e = rw e (sym (append-nil (reply_text r)))

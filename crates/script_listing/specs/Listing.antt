@@ -1,5 +1,5 @@
 -- What a line of a script prints: its answer, and the listing of a finished copy. m is the image, n the inode count, p a place of all slots in a row.
-use Rattle.std.specs.Prelude.{ℕ, zero, suc, ◌+◌, ◌*◌, ◌≤◌, Bool, List, [], ◌++◌, eqb, length}
+use Rattle.std.specs.Prelude.{ℕ, zero, suc, ◌+◌, ◌*◌, ◌≤◌, Bool, List, [], ◌++◌, eqb, length, Result, Ok, Err}
 use Rattle.bounded.specs.Search.{pick}
 use Rattle.layout.specs.Header.{header_of}
 use Rattle.layout.specs.Inode.{kind_of, size_of, links_of, directory_kind}
@@ -13,11 +13,12 @@ use Rattle.text.specs.Letters.{letters}
 use Rattle.text.specs.Put.{decimal_text, pair_text}
 
 -- "Each prints `ok` with the new inode, new size (`wr`, `sh`), steps so far (`st`) or 0; or `no` and the number."
-unfoldable pub word_text : Bool → ℕ → List ℕ
-word_text o v = pick o (letters "ok ") (letters "no ") ++ decimal_text v
+unfoldable pub word_text : Result ℕ ℕ → List ℕ
+word_text (Ok v) = letters "ok " ++ decimal_text v
+word_text (Err v) = letters "no " ++ decimal_text v
 
-unfoldable pub reply_text : Bool → ℕ → List ℕ
-reply_text o v = word_text o v ++ letters "\n"
+unfoldable pub reply_text : Result ℕ ℕ → List ℕ
+reply_text r = word_text r ++ letters "\n"
 
 -- "`image`, N, blocks, free inodes, free blocks, steps"
 unfoldable pub counts_text : List ℕ → List ℕ
@@ -56,9 +57,9 @@ entries_from m n p (suc k) = slot_text m n p ++ entries_from m n (suc p) k
 unfoldable pub listing : List ℕ → List ℕ → List ℕ
 listing m desk = head_text m desk ++ entries_from m (inodes_in m) 0 (most_slots * inodes_in m)
 
--- "The `st` line in which a copy finishes .. is followed by its listing": the answer o and v and, if f, the listing
-unfoldable pub printed_text : Bool → ℕ → Bool → List ℕ → List ℕ → List ℕ
-printed_text o v f m desk = reply_text o v ++ pick f (listing m desk) []
+-- "The `st` line in which a copy finishes .. is followed by its listing": the answer and, if f, the listing
+unfoldable pub printed_text : Result ℕ ℕ → Bool → List ℕ → List ℕ → List ℕ
+printed_text r f m desk = reply_text r ++ pick f (listing m desk) []
 
 -- ---- how long these texts can be: a number of 64 bits takes 20 digits, a name 14 bytes
 abbrev pub most_reply : ℕ

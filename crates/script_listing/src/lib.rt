@@ -1,4 +1,5 @@
 // The text that a line of a script prints: its answer, and the listing of a finished copy. m is the image, d the desk, n the count of inodes.
+// Text is put at o of out, and where it ends is answered, as by `text::put`: of a writer that holds the two, each clause would say `Put` of its fields.
 #![tactic(auto)]
 
 ghost use Rattle.std.specs.Prelude.{◌≡◌, true, ◌+◌, ◌*◌, ◌<◌, ◌≤◌, length};
@@ -9,7 +10,8 @@ ghost use Rattle.names.specs.Entry.{entry_bytes, name_length};
 ghost use Rattle.directory.specs.Slot.{most_slots};
 ghost use Rattle.desk.specs.Sizes.{desk_header_bytes};
 ghost use Rattle.sound.specs.Sound.{Sound, inodes_in};
-ghost use Rattle.sound.specs.Place.{filled};
+ghost use Rattle.sound.specs.Test.{is_sound};
+ghost use Rattle.sound.specs.Place.{is_slot, entry_at, filled};
 ghost use Rattle.sound.specs.declared.Form.TheVariants.{Image};
 ghost use Rattle.text.specs.Put.{Put};
 ghost use Rattle.script_listing.specs.Listing.{word_text, reply_text, counts_text, head_text, place_text, kind_text, inode_text, name_text, entry_text, slot_text, entries_from, listing, printed_text, most_reply, most_head, most_entry_text, most_listing, Listable};
@@ -22,23 +24,23 @@ use layout::sizes::DIRECTORY;
 use names::{ENTRY_BYTES, NAME_AT, NAME_BYTES};
 use text::put::{put, put_numbered, put_pair};
 
-fn put_word(out: &mut [u8], o: usize, ok: bool, n: usize) -> usize
+fn put_word(out: &mut [u8], o: usize, answer: Result<usize, usize>) -> usize
     requires { o + 23 ≤ length out.old }
-    ensures put { Put out.old o (word_text ok n) result out.new }
+    ensures put { Put out.old o (word_text answer) result out.new }
     ensures upper_bound { result ≤ o + 23 }
 {
-    if ok {
-        return put_numbered(out, o, b"ok ", n);
+    match answer {
+        Ok(n) => put_numbered(out, o, b"ok ", n),
+        Err(n) => put_numbered(out, o, b"no ", n),
     }
-    put_numbered(out, o, b"no ", n)
 }
 
 // The line's answer at o of out; where it ends.
-fn put_reply(out: &mut [u8], o: usize, ok: bool, n: usize) -> usize
+fn put_reply(out: &mut [u8], o: usize, answer: Result<usize, usize>) -> usize
     requires { o + most_reply ≤ length out.old }
-    ensures { Put out.old o (reply_text ok n) result out.new }
+    ensures { Put out.old o (reply_text answer) result out.new }
 {
-    let e = put_word(&mut *out, o, ok, n);
+    let e = put_word(&mut *out, o, answer);
     put(out, e, b"\n")
 }
 
@@ -84,9 +86,10 @@ fn put_kind(out: &mut [u8], o: usize, kind: u8) -> usize
     ensures upper_bound { result ≤ o + 2 }
 {
     if kind == DIRECTORY {
-        return put(out, o, b" d");
+        put(out, o, b" d")
+    } else {
+        put(out, o, b" f")
     }
-    put(out, o, b" f")
 }
 
 fn put_inode(out: &mut [u8], o: usize, m: &[u8], n: usize, i: usize) -> usize
@@ -105,12 +108,8 @@ fn name_length(entry: &[u8]) -> usize
     requires { entry_bytes ≤ length entry.now }
     ensures { (result ≡ name_length entry.now) × (result ≤ name_bytes) }
 {
-    for k in 0..NAME_BYTES {
-        if entry[NAME_AT + k] == 0 {
-            return k;
-        }
-    }
-    NAME_BYTES
+    let name = &entry[NAME_AT..NAME_AT + NAME_BYTES];
+    name.iter().position(|b| *b == 0).unwrap_or(NAME_BYTES)
 }
 
 fn put_name(out: &mut [u8], o: usize, entry: &[u8]) -> usize
@@ -123,57 +122,74 @@ fn put_name(out: &mut [u8], o: usize, entry: &[u8]) -> usize
     put(out, b, b"\n")
 }
 
-// An entry stands at place p of the image.
-fn is_filled(m: &[u8], n: usize, p: usize) -> bool
-    requires { Sound Image m.now × (n ≡ inodes_in m.now) × (p < most_slots * n) }
-    ensures { result ≡ filled m.now n p }
+// A finished image, and how many inodes it has.
+#[derive(Clone, Copy)]
+struct Finished<'a> {
+    m: &'a [u8],
+    n: usize,
+    ghost sound: { is_sound Image m.now ≡ true },
+    ghost counted: { n ≡ inodes_in m.now },
+}
+
+// The entry at place p of the image, which a directory's slot is.
+fn entry_at<'a>(image: Finished<'a>, p: usize) -> &'a [u8]
+    requires { (p < most_slots * image.n) × (is_slot image.m.now p ≡ true) }
+    ensures { (result.now ≡ entry_at image.entry.m.now image.entry.n p) × (length result.now ≡ entry_bytes) }
+{
+    let o = directory::slot_at(image.m, image.n, p / MOST_SLOTS + 1, p % MOST_SLOTS);
+    &image.m[o..o + ENTRY_BYTES]
+}
+
+// Place p is a directory's slot.
+fn is_slot(image: Finished, p: usize) -> bool
+    requires { p < most_slots * image.n }
+    ensures { result ≡ is_slot image.entry.m.now p }
 {
     let e = p / MOST_SLOTS + 1;
-    let t = p % MOST_SLOTS;
-    if inode::kind(m, n, e) != DIRECTORY {
-        return false;
-    }
-    if directory::slot_count(m, n, e) <= t {
-        return false;
-    }
-    let o = directory::slot_at(m, n, e, t);
-    !names::is_empty(&m[o..o + ENTRY_BYTES])
+    inode::kind(image.m, image.n, e) == DIRECTORY
+        && p % MOST_SLOTS < directory::slot_count(image.m, image.n, e)
+}
+
+// An entry stands at place p.
+fn is_filled(image: Finished, p: usize) -> bool
+    requires { p < most_slots * image.n }
+    ensures { result ≡ filled image.entry.m.now image.entry.n p }
+{
+    is_slot(image, p) && !names::is_empty(entry_at(image, p))
 }
 
 // The line of the entry that stands at place p.
-fn put_entry(out: &mut [u8], o: usize, m: &[u8], n: usize, p: usize) -> usize
-    requires { (o + most_entry_text ≤ length out.old) × Sound Image m.now × (n ≡ inodes_in m.now) × (p < most_slots * n) × (filled m.now n p ≡ true) }
-    ensures { Put out.old o (entry_text m.now n p) result out.new }
+fn put_entry(out: &mut [u8], o: usize, image: Finished, p: usize) -> usize
+    requires { (o + most_entry_text ≤ length out.old) × (p < most_slots * image.n) × (filled image.m.now image.n p ≡ true) }
+    ensures { Put out.old o (entry_text image.entry.m.now image.entry.n p) result out.new }
 {
-    let e = p / MOST_SLOTS + 1;
-    let t = p % MOST_SLOTS;
-    let at = directory::slot_at(m, n, e, t);
-    let entry = &m[at..at + ENTRY_BYTES];
+    let entry = entry_at(image, p);
     let i = names::entry_inode(entry) as usize;
-    let a = put_place(&mut *out, o, e, t, i);
-    let b = put_inode(&mut *out, a, m, n, i);
+    let a = put_place(&mut *out, o, p / MOST_SLOTS + 1, p % MOST_SLOTS, i);
+    let b = put_inode(&mut *out, a, image.m, image.n, i);
     put_name(out, b, entry)
 }
 
 // The line of place p, if an entry stands there.
-fn put_slot(out: &mut [u8], o: usize, m: &[u8], n: usize, p: usize) -> usize
-    requires { (o + most_entry_text ≤ length out.old) × Sound Image m.now × (n ≡ inodes_in m.now) × (p < most_slots * n) }
-    ensures { Put out.old o (slot_text m.now n p) result out.new }
+fn put_slot(out: &mut [u8], o: usize, image: Finished, p: usize) -> usize
+    requires { (o + most_entry_text ≤ length out.old) × (p < most_slots * image.n) }
+    ensures { Put out.old o (slot_text image.entry.m.now image.entry.n p) result out.new }
 {
-    if is_filled(m, n, p) {
-        return put_entry(out, o, m, n, p);
+    if is_filled(image, p) {
+        put_entry(out, o, image, p)
+    } else {
+        o
     }
-    o
 }
 
 // The lines of all entries, by directory and slot.
-fn put_entries(out: &mut [u8], o: usize, m: &[u8], n: usize) -> usize
-    requires { (o + most_entry_text * (most_slots * n) ≤ length out.old) × Sound Image m.now × (n ≡ inodes_in m.now) }
-    ensures { Put out.old o (entries_from m.now n 0 (most_slots * n)) result out.new }
+fn put_entries(out: &mut [u8], o: usize, image: Finished) -> usize
+    requires { o + most_entry_text * (most_slots * image.n) ≤ length out.old }
+    ensures { Put out.old o (entries_from image.entry.m.now image.entry.n 0 (most_slots * image.entry.n)) result out.new }
 {
     let mut e = o;
-    for p in 0..MOST_SLOTS * n {
-        e = put_slot(&mut *out, e, m, n, p);
+    for p in 0..MOST_SLOTS * image.n {
+        e = put_slot(&mut *out, e, image, p);
     }
     e
 }
@@ -182,24 +198,23 @@ fn put_listing(out: &mut [u8], o: usize, m: &[u8], d: &[u8]) -> usize
     requires { (o + most_listing (inodes_in m.now) ≤ length out.old) × Sound Image m.now × (header_bytes ≤ length m.now) × (desk_header_bytes ≤ length d.now) }
     ensures { Put out.old o (listing m.now d.now) result out.new }
 {
-    let h = Header::read(m);
     let e = put_head(&mut *out, o, m, d);
-    put_entries(out, e, m, h.inodes as usize)
+    let n = Header::read(m).inodes as usize;
+    put_entries(out, e, Finished { m, n })
 }
 
-// All that a line prints, at the start of out; where it ends.
+// All that a line prints, at the start of out; where it ends. An answer is `ok` or `no` and a number.
 pub fn put_printed(
     out: &mut [u8],
-    ok: bool,
-    number: usize,
+    answer: Result<usize, usize>,
     finished: bool,
     m: &[u8],
     d: &[u8],
 ) -> usize
     requires { (most_reply ≤ length out.old) × (finished ≡ true → Listable out.old m.now) × (header_bytes ≤ length m.now) × (desk_header_bytes ≤ length d.now) }
-    ensures { Put out.old 0 (printed_text ok number finished m.now d.now) result out.new }
+    ensures { Put out.old 0 (printed_text answer finished m.now d.now) result out.new }
 {
-    let e = put_reply(&mut *out, 0, ok, number);
+    let e = put_reply(&mut *out, 0, answer);
     if !finished {
         return e;
     }

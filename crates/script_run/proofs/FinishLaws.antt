@@ -1,4 +1,5 @@
 -- Whatever the lines of a script, a copy that a line finishes is sound and has the store's inode count, so that a listing always has what it asks for.
+use Rattle.std.specs.Prelude.{Err, Ok, Result}
 use Prim.Native.Nat.{ℕ, zero, suc, ◌≤◌}
 use mathlib.Core.Path.{◌≡◌, refl, sym, ap, ◌∙◌, subst}
 use mathlib.Core.Bool.{Bool, true, false, ◌||◌}
@@ -20,8 +21,6 @@ use Rattle.answers.specs.declared.Refusal.{Refusal}
 use Rattle.answers.specs.declared.Refusal.TheVariants.{WrongState}
 use Rattle.answers.specs.Told.{Told}
 use Rattle.answers.proofs.RefusalLaws.{not_none}
-use Rattle.files.specs.declared.Guard.{Guard}
-use Rattle.files.specs.declared.Guard.TheVariants.{Pass, Stop}
 use Rattle.files.specs.Guard.{on_guard}
 use Rattle.format.specs.Format.{fresh_desk, lay_out_desk}
 use Rattle.format.proofs.FreshLaws.{desk_fresh}
@@ -42,12 +41,13 @@ use Rattle.script_lines.specs.Ask.{Ask, event, stepping, none, ask_of}
 use Rattle.script_run.specs.Reply as the
 use Rattle.script_run.specs.Reply.{Ran, ran, reply, reply_to, answered, line_runs, world_after}
 use Rattle.script_run.specs.Script.{lines_run, FinishesSound, script_inodes, fresh}
+use Rattle.layout.specs.declared.header.Counts.{Counts}
 
 -- ---- where no copy runs, a step is refused and changes nothing
 module _ (w : World) (i : is_running w.desk ≡ false) where
-  refusing : (g : Guard) → (e : Refusal) × (on_guard {A = Outcome} g (λ n b. refuse WrongState w.store w.image w.desk) (λ e. refuse e w.store w.image w.desk) ≡ refuse e w.store w.image w.desk)
-  refusing (Pass n b) = (WrongState, refl)
-  refusing (Stop e) = (e, refl)
+  refusing : (g : Result Counts Refusal) → (e : Refusal) × (on_guard {A = Outcome} g (λ n b. refuse WrongState w.store w.image w.desk) (λ e. refuse e w.store w.image w.desk) ≡ refuse e w.store w.image w.desk)
+  refusing (Ok c) = (WrongState, refl)
+  refusing (Err e) = (e, refl)
 
   idle_step : (e : Refusal) × (outcome advances w ≡ (refuse e w.store w.image w.desk))
   unfolding outcome step
@@ -112,11 +112,7 @@ record Left (n : ℕ) (r : Ran) : Type 0 where
   reached : Reached n (record { store = r.store; image = r.image; desk = r.desk })
 
 never : (t : Told) → (reply_to t).finished ≡ true → ⊥
-never t e = go (eqb t.number 0) e
-  where
-    go : (b : Bool) → (pick b (reply true (the.value_in t.values) false) (reply false t.number false)).finished ≡ true → ⊥
-    go true e = clash false e refl
-    go false e = clash false e refl
+never t e = clash false e refl
 
 module _ (n : ℕ) where
   finishing : (w : World) → Reached n w → accepted advances w ≡ true → completes advances w ≡ true → Finished n (next advances w)
@@ -138,7 +134,7 @@ module _ (n : ℕ) where
   steps_left (suc k) w f h q = go (accepted advances w) refl (λ a. steps_left k (next advances w) (f || completes advances w) (reached_next n advances w h) (carried w f h q a))
     where
       go : (b : Bool) → accepted advances w ≡ b → (accepted advances w ≡ true → Left n (the.stepped k (next advances w) (f || completes advances w)))
-          → Left n (pick b (the.stepped k (next advances w) (f || completes advances w)) (ran (reply false (outcome advances w).answer.number f) (next advances w)))
+          → Left n (pick b (the.stepped k (next advances w) (f || completes advances w)) (ran (reply (Err (outcome advances w).answer.number) f) (next advances w)))
       go true a more = more a
       go false a more = record { copied = λ e. subst (λ (v : World). Copied n v.image) (sym (idle_same w (q e).idle)) (q e).copied; reached = reached_next n advances w h }
 

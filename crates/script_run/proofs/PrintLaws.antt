@@ -3,7 +3,7 @@ use Prim.Native.Nat.{ℕ, ◌≤◌, ◌<◌}
 use mathlib.Core.Path.{◌≡◌, refl}
 use mathlib.Core.List.{List, [], ◌++◌}
 use native.Mathlib.Omega.{arith}
-use lib.ListN.{length, take, drop, length-append}
+use lib.ListN.{length, drop, length-append}
 use lib.Seq.{take_all}
 use Rattle.bounded.specs.Search.{pick}
 use Rattle.text.specs.Letters.{letters}
@@ -19,15 +19,15 @@ pub printed_short : (l : List ℕ) (w : World) → FinishesSound w → length (p
 unfolding printed lines_run
 printed_short l w h =
     let r = line_runs l w in
-    printed_most r.reply.ok r.reply.number r.reply.finished r.image r.desk script_inodes (λ e. (h [] l e).1)
+    printed_most r.reply.answer r.reply.finished r.image r.desk script_inodes (λ e. (h [] l e).1)
 
 -- its answer ends a line, so no line prints nothing
 pub printed_some : (l : List ℕ) (w : World) → 0 < length (printed l w)
 unfolding printed printed_text reply_text
 printed_some l w =
     let r = line_runs l w in
-    let answer = length-append (word_text r.reply.ok r.reply.number) (letters "\n") in
-    let all = length-append (reply_text r.reply.ok r.reply.number) (pick r.reply.finished (listing r.image r.desk) []) in
+    let answer = length-append (word_text r.reply.answer) (letters "\n") in
+    let all = length-append (reply_text r.reply.answer) (pick r.reply.finished (listing r.image r.desk) []) in
     omega (arith, answer, all)
 
 -- ---- all that the lines from a place on print: at the start of a script that was read, the whole script's; then the line's text, and what is left behind it; at the end, nothing

@@ -1,17 +1,18 @@
 -- What a line of a script does to the three buffers, and what it is answered.
-use Rattle.std.specs.Prelude.{ℕ, zero, suc, ◌≡◌, Bool, true, false, ◌||◌, List, [], ◌∷◌, eqb}
+use Rattle.std.specs.Prelude.{ℕ, zero, suc, ◌≡◌, Bool, false, ◌||◌, List, [], ◌∷◌, eqb, Result, Ok, Err}
 use Rattle.bounded.specs.Search.{pick}
+use Rattle.answers.specs.declared.Refusal.{Refusal}
+use Rattle.answers.specs.Refusal.{refusal_number}
 use Rattle.answers.specs.Told.{Told}
 use Rattle.desk.specs.Desk.{desk_of}
 use Rattle.checkpoint.specs.Live.{World, world}
-use Rattle.checkpoint.specs.List.{Event, advances, asks, outcome, next, refusal_of, accepted, completes}
-use Rattle.script_lines.specs.Ask.{Ask, event, stepping, none, asked, ask_of}
+use Rattle.checkpoint.specs.List.{advances, outcome, next, refusal_of, accepted, completes}
+use Rattle.script_lines.specs.Ask.{Ask, event, stepping, none, ask_of}
 use Rattle.script_run.specs.declared.Reply.{Reply}
-use Rattle.script_run.specs.declared.Turn.{Turn}
 
 -- `ok` or `no`, its number, and whether a copy has finished in the line
-abbrev pub reply : Bool → ℕ → Bool → Reply
-reply o n f = record { ok = o; number = n; finished = f }
+abbrev pub reply : Result ℕ ℕ → Bool → Reply
+reply r f = record { answer = r; finished = f }
 
 -- the reply, and the content of each buffer
 pub record Ran : Type 0 where
@@ -30,19 +31,19 @@ value_in (x ∷ xs) = x
 
 -- what a call answers
 abbrev pub reply_to : Told → Reply
-reply_to t = pick (eqb t.number 0) (reply true (value_in t.values) false) (reply false t.number false)
+reply_to t = reply (pick (eqb t.number 0) (Ok (value_in t.values)) (Err t.number)) false
 
 -- "single steps; a refusal ends them and is printed": at most k more; f is whether a copy has finished in this line before
 unfoldable pub stepped : ℕ → World → Bool → Ran
-stepped zero w f = ran (reply true (desk_of w.desk).steps f) w
+stepped zero w f = ran (reply (Ok (desk_of w.desk).steps) f) w
 stepped (suc k) w f =
-    pick (accepted advances w) (stepped k (next advances w) (f || completes advances w)) (ran (reply false (refusal_of advances w) f) (next advances w))
+    pick (accepted advances w) (stepped k (next advances w) (f || completes advances w)) (ran (reply (Err (refusal_of advances w)) f) (next advances w))
 
 -- "Any other line prints `no 0`."
 abbrev pub answered : Ask → World → Ran
 answered (event e) w = ran (reply_to (outcome e w).answer) (next e w)
 answered (stepping k) w = stepped k w false
-answered none w = ran (reply false 0 false) w
+answered none w = ran (reply (Err 0) false) w
 
 unfoldable pub line_runs : List ℕ → World → Ran
 line_runs l w = answered (ask_of l) w
@@ -50,18 +51,17 @@ line_runs l w = answered (ask_of l) w
 abbrev pub world_after : List ℕ → World → World
 world_after l w = world (line_runs l w).store (line_runs l w).image (line_runs l w).desk
 
--- ---- what the code does one by one
--- the event of row j of the forms
-abbrev pub event_of : Ask → Event
-event_of (event e) = e
-event_of (stepping k) = asks
-event_of none = asks
+-- ---- a step by the code: its refusal, or whether it finished the copy
+abbrev pub number_in : Result Bool Refusal → ℕ
+number_in (Ok f) = 0
+number_in (Err e) = refusal_number e
 
-unfoldable pub event_in : ℕ → List ℕ → Event
-event_in j l = event_of (asked j l)
+abbrev pub finished_in : Result Bool Refusal → Bool
+finished_in (Ok f) = f
+finished_in (Err e) = false
 
 -- one step from w on left the image m and the desk
-pub record Turned (t : Turn) (w : World) (m desk : List ℕ) : Type 0 where
-  pub number : t.number ≡ refusal_of advances w
-  pub finished : t.finished ≡ completes advances w
+pub record Turned (t : Result Bool Refusal) (w : World) (m desk : List ℕ) : Type 0 where
+  pub number : number_in t ≡ refusal_of advances w
+  pub finished : finished_in t ≡ completes advances w
   pub after : next advances w ≡ world w.store m desk

@@ -14,7 +14,7 @@ use Rattle.script_run.specs.Reply.{line_runs, world_after}
 unfoldable pub printed : List ℕ → World → List ℕ
 printed l w =
     let r = line_runs l w in
-    printed_text r.reply.ok r.reply.number r.reply.finished r.image r.desk
+    printed_text r.reply.answer r.reply.finished r.image r.desk
 
 -- ---- a script, line by line: the buffers after it, and all that it prints
 unfoldable pub lines_run : List (List ℕ) → World → World

@@ -4,17 +4,9 @@
 mod calls;
 pub mod run;
 
-// `ok` or `no`, its number, and whether a copy has finished in the line.
-#[derive(Clone, Copy)]
+// `ok` or `no` with its number, which is 0 where the line is no command, and whether a copy has finished in the line.
+#[derive(Clone, Copy, PartialEq, Eq, Debug)]
 pub struct Reply {
-    pub ok: bool,
-    pub number: usize,
-    pub finished: bool,
-}
-
-// One step: 0 or its refusal's number, and whether it finished the copy.
-#[derive(Clone, Copy)]
-pub struct Turn {
-    pub number: usize,
+    pub answer: Result<usize, usize>,
     pub finished: bool,
 }

@@ -1,5 +1,5 @@
 // A line run on the three buffers.
-ghost use Rattle.std.specs.Prelude.{◌≡◌, false, ◌||◌, ◌≤◌, eqb, length};
+ghost use Rattle.std.specs.Prelude.{◌≡◌, false, ◌≤◌, eqb, length};
 ghost use Rattle.answers.specs.Told.{told};
 ghost use Rattle.layout.specs.Sizes.{header_bytes, is_complete};
 ghost use Rattle.layout.specs.Header.{header_of};
@@ -8,53 +8,35 @@ ghost use Rattle.desk.specs.Desk.{desk_of};
 ghost use Rattle.checkpoint.specs.Live.{world};
 ghost use Rattle.script_run.specs.Reply.{ran, reply_to, stepped, line_runs, Turned};
 
-use crate::{Reply, Turn, calls};
-use answers::{Answer, refusal_number};
-use bounded::Found;
+use crate::{Reply, calls};
+use answers::{Answer, Refusal};
 use desk::Desk;
+use entries::Kind;
 use layout::header::Header;
 use layout::sizes::COMPLETE;
-use script_lines::forms::{STEPPING, form, num};
+use script_lines::forms::{Form, form_of, num};
 
 fn is_complete(image: &[u8]) -> bool
     requires { header_bytes ≤ length image.now }
     ensures { result ≡ eqb (header_of image.now).complete is_complete }
 {
-    let h = Header::read(image);
-    h.complete == COMPLETE
+    Header::read(image).complete == COMPLETE
 }
 
-fn turn(store: &[u8], image: &mut [u8], desk: &mut [u8]) -> Turn
+// One step: whether it finished the copy, or its refusal.
+fn turn(store: &[u8], image: &mut [u8], desk: &mut [u8]) -> Result<bool, Refusal>
     requires { header_bytes ≤ length image.old }
     ensures { Turned result (world store.now image.old desk.old) image.new desk.new }
 {
-    match watch::step(store, &mut *image, &mut *desk) {
-        Answer::Done(_) => Turn {
-            number: 0,
-            finished: is_complete(&*image),
-        },
-        Answer::Refused(e) => Turn {
-            number: refusal_number(e),
-            finished: false,
-        },
-    }
-}
-
-fn either(a: bool, b: bool) -> bool
-    ensures { result ≡ (a || b) }
-{
-    if a {
-        return true;
-    }
-    b
+    watch::step(store, &mut *image, &mut *desk)?;
+    Ok(is_complete(&*image))
 }
 
 fn steps_so_far(desk: &[u8]) -> usize
     requires { desk_header_bytes ≤ length desk.now }
     ensures { result ≡ (desk_of desk.now).steps }
 {
-    let h = Desk::read(desk);
-    h.steps as usize
+    Desk::read(desk).steps as usize
 }
 
 // Single steps: as many as are asked for, or up to the first refusal.
@@ -65,40 +47,29 @@ fn take_steps(store: &[u8], image: &mut [u8], desk: &mut [u8], count: usize) -> 
 {
     let mut finished = false;
     for k in 0..count {
-        let t = turn(store, &mut *image, &mut *desk);
-        let number = t.number;
-        if number != 0 {
-            return Reply {
-                ok: false,
-                number,
-                finished,
-            };
+        match turn(store, &mut *image, &mut *desk) {
+            Ok(now) => finished |= now,
+            Err(e) => {
+                return Reply {
+                    answer: Err(usize::from(e)),
+                    finished,
+                };
+            }
         }
-        finished = either(finished, t.finished);
     }
-    let number = steps_so_far(&*desk);
     Reply {
-        ok: true,
-        number,
+        answer: Ok(steps_so_far(&*desk)),
         finished,
     }
 }
 
 // What a call answered.
-fn reply_to(a: Answer) -> Reply
-    ensures { result ≡ reply_to (told a) }
+fn reply_to(answer: Answer) -> Reply
+    ensures { result ≡ reply_to (told answer) }
 {
-    match a {
-        Answer::Done(n) => Reply {
-            ok: true,
-            number: n,
-            finished: false,
-        },
-        Answer::Refused(e) => Reply {
-            ok: false,
-            number: refusal_number(e),
-            finished: false,
-        },
+    Reply {
+        answer: answer.map_err(usize::from),
+        finished: false,
     }
 }
 
@@ -108,15 +79,21 @@ pub fn run(line: &[u8], store: &mut [u8], image: &mut [u8], desk: &mut [u8]) -> 
     ensures { ran result (world store.new image.new desk.new)
         ≡ line_runs line.now (world store.old image.old desk.old) }
 {
-    let Found::At(j) = form(line) else {
+    let Some(form) = form_of(line) else {
         return Reply {
-            ok: false,
-            number: 0,
+            answer: Err(0),
             finished: false,
         };
     };
-    if j == STEPPING {
-        return take_steps(store, image, desk, num(line, 1));
+    match form {
+        Form::CreateFile => reply_to(calls::create(Kind::File, line, store, image, desk)),
+        Form::CreateDirectory => reply_to(calls::create(Kind::Directory, line, store, image, desk)),
+        Form::Write => reply_to(calls::write(line, store, image, desk)),
+        Form::Shorten => reply_to(calls::shorten(line, store, image, desk)),
+        Form::Link => reply_to(calls::link(line, store, image, desk)),
+        Form::Unlink => reply_to(calls::unlink(line, store, image, desk)),
+        Form::Rename => reply_to(calls::rename(line, store, image, desk)),
+        Form::Start => reply_to(watch::start(store, image, desk)),
+        Form::Step => take_steps(store, image, desk, num(line, 1)),
     }
-    reply_to(calls::call(j, line, store, image, desk))
 }

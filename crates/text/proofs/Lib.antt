@@ -1,3 +1,4 @@
+pub mod ListLaws
 pub mod PieceLaws
 pub mod NumberLaws
 pub mod HexLaws

@@ -10,17 +10,17 @@ use borrow.Author.Tests.{lt-ltb, le-ltb}
 use lib.Dec.{ltb, lit<}
 use lib.ListN.{length, get_or, take, length-append}
 use lib.Seq.{take-suc, take-length}
+use borrow.Rule.Slice.PartMut.{put_mid}
 use Rattle.io.specs.Digits.{last_digits, IsDigitCount}
 use Rattle.bounded.specs.Search.{pick}
-use Rattle.octets.specs.Octets.{splice, pasted}
-use Rattle.octets.proofs.PartLaws.{part_all, splice_append, length_splice}
+use Rattle.octets.specs.Octets.{splice}
+use Rattle.octets.proofs.PartLaws.{lent, splice_append, length_splice}
 use Rattle.text.specs.Letters.{letters}
 use Rattle.text.specs.Put.{Put, places, decimal_text, each, bytes_text}
 
 -- ---- text
-pub put_copied_lem : (s : List ℕ) (o : ℕ) (xs t : List ℕ) → t ≡ pasted s o xs 0 (length xs) → Put s o xs (o + length xs) t
-unfolding pasted
-put_copied_lem s o xs t h = record { ends = refl; holds = h ∙ ap (splice s o) (part_all xs (length xs) refl) }
+pub put_lent : (s : List ℕ) (o : ℕ) (xs ys : List ℕ) → ys ≡ xs → o + length xs ≤ length s → Put s o xs (o + length xs) (put_mid o (o + length xs - o) s ys)
+put_lent s o xs ys e l = record { ends = refl; holds = lent s o (length xs) ys (ap length e) l ∙ ap (splice s o) e }
 
 -- one text after the other
 pub put_on : (s t u : List ℕ) (o e f : ℕ) (xs ys : List ℕ) → Put s o xs e t → Put t e ys f u → Put s o (xs ++ ys) f u

@@ -1,5 +1,5 @@
 -- Bytes in hex, `-` for none: two digits a byte, the high one first, in either case.
-use Rattle.std.specs.Prelude.{ℕ, ◌+◌, ◌-◌, ◌*◌, ◌/◌, ◌%◌, Bool, not, ◌&&◌, List, eqb, leb, length, get_or}
+use Rattle.std.specs.Prelude.{ℕ, ◌+◌, ◌-◌, ◌*◌, ◌/◌, ◌%◌, Bool, not, ◌&&◌, List, eqb, leb, length, get_or, None, Option, Some}
 use Rattle.bounded.specs.Search.{pick}
 use Rattle.bounded.specs.Below.{all_below}
 use Rattle.bounded.specs.Table.{table}
@@ -7,8 +7,6 @@ use Rattle.octets.specs.Octets.{splice}
 use Rattle.text.specs.Letters.{letters}
 use Rattle.text.specs.Number.{on_number}
 use Rattle.text.specs.Pieces.{is_word}
-use Rattle.text.specs.declared.Number.{Number}
-use Rattle.text.specs.declared.Number.TheVariants.{Value, NoNumber}
 
 abbrev pub between : ℕ → ℕ → ℕ → Bool
 between a x b = leb a x && leb x b
@@ -25,8 +23,8 @@ unfoldable pub is_hex : List ℕ → Bool
 is_hex s = leb 1 (length s) && (eqb (length s % 2) 0 && all_below (hex_digit s) (length s))
 
 -- how many bytes s is, if there is room for them
-unfoldable pub hex_count : List ℕ → ℕ → Number
-hex_count s room = pick (is_word s (letters "-")) (Value 0) (pick (is_hex s && leb (length s / 2) room) (Value (length s / 2)) NoNumber)
+unfoldable pub hex_count : List ℕ → ℕ → Option ℕ
+hex_count s room = pick (is_word s (letters "-")) (Some 0) (pick (is_hex s && leb (length s / 2) room) (Some (length s / 2)) None)
 
 -- the byte of the digits 2k and 2k + 1
 unfoldable pub hex_byte : List ℕ → ℕ → ℕ

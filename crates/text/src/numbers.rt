@@ -2,34 +2,21 @@
 ghost use Rattle.std.specs.Prelude.{◌≡◌};
 ghost use Rattle.text.specs.Number.{number_of};
 
-use crate::Number;
-
 const ZERO: u8 = 48;
 
-const NINE: u8 = 57;
-
 // The number that s is; the largest usize if that is less.
-pub fn number(s: &[u8]) -> Number
+pub fn number(s: &[u8]) -> Option<usize>
     ensures { result ≡ number_of s.now }
 {
-    if s.len() == 0 {
-        return Number::NoNumber;
+    if s.is_empty() {
+        return None;
     }
-    let mut v = 0;
-    for k in 0..s.len() {
-        let x = s[k];
-        if x < ZERO {
-            return Number::NoNumber;
+    let mut v: usize = 0;
+    for &x in s {
+        if !x.is_ascii_digit() {
+            return None;
         }
-        if NINE < x {
-            return Number::NoNumber;
-        }
-        let d = (x - ZERO) as usize;
-        if v <= (usize::MAX - d) / 10 {
-            v = 10 * v + d;
-        } else {
-            v = usize::MAX;
-        }
+        v = v.saturating_mul(10).saturating_add(usize::from(x - ZERO));
     }
-    Number::Value(v)
+    Some(v)
 }

@@ -1,17 +1,23 @@
 // A text taken apart into pieces that a byte parts: fields by a space, lines by a newline.
-ghost use Rattle.std.specs.Prelude.{◌≡◌, ◌≤◌, length, take};
+ghost use Rattle.std.specs.Prelude.{◌≡◌, ◌==◌, ◌≤◌, length, take, position};
 ghost use Rattle.text.specs.Pieces.{find_from, rest, piece, pieces, is_word};
+
+// The place of the first x.
+fn first(s: &[u8], x: u8) -> Option<usize>
+    ensures { result ≡ position (λ b. b == x) s.now }
+{
+    s.iter().position(|&b| b == x)
+}
 
 // The place of the first x from o on, or the end.
 pub fn find(s: &[u8], x: u8, o: usize) -> usize
     ensures { (result ≡ find_from s.now x o) × (result ≤ length s.now) }
 {
-    for k in o..s.len() {
-        if s[k] == x {
-            return k;
-        }
+    let from = o.min(s.len());
+    match first(&s[from..], x) {
+        Some(k) => from + k,
+        None => s.len(),
     }
-    s.len()
 }
 
 // All of s from piece k on, counted from 0; empty if there are fewer.
@@ -40,36 +46,19 @@ pub fn piece(s: &[u8], x: u8, k: usize) -> &[u8]
 pub fn pieces(s: &[u8], x: u8) -> usize
     ensures { result ≡ pieces s.now x }
 {
-    let mut n = 1;
-    for k in 0..s.len() {
-        if s[k] == x {
-            n += 1;
-        }
-    }
-    n
+    s.iter().filter(|&&b| b == x).count() + 1
 }
 
-// The same bytes.
+// The same bytes. Its callers give byte strings, which `==` takes only as `b"..".as_slice()`.
 pub fn is_word(s: &[u8], w: &[u8]) -> bool
     ensures { result ≡ is_word s.now w.now }
 {
-    if s.len() != w.len() {
-        return false;
-    }
-    for k in 0..w.len() {
-        if s[k] != w[k] {
-            return false;
-        }
-    }
-    true
+    s == w
 }
 
 // The first k bytes of s, or all.
 pub fn front(s: &[u8], k: usize) -> &[u8]
     ensures { result.now ≡ take k s.now }
 {
-    if s.len() < k {
-        return s;
-    }
-    &s[0..k]
+    &s[..k.min(s.len())]
 }

@@ -1,4 +1,5 @@
 // Text into a buffer: words, numbers and bytes.
+// Buffer and end stay apart: `Put` and the theorems on lines (`line_text`, `printed_text`) name both.
 ghost use Rattle.std.specs.Prelude.{◌≡◌, ◌++◌, ◌+◌, ◌*◌, ◌^◌, ◌<◌, ◌≤◌, length};
 ghost use Rattle.io.specs.Digits.{last_digits};
 ghost use Rattle.text.specs.Put.{Put, decimal_text, pair_text, bytes_text};
@@ -8,7 +9,7 @@ pub fn put(out: &mut [u8], o: usize, text: &[u8]) -> usize
     requires { o + length text.now ≤ length out.old }
     ensures { Put out.old o text.now result out.new }
 {
-    octets::copy_range(&mut *out, o, text, 0, text.len());
+    out[o..o + text.len()].copy_from_slice(text);
     o + text.len()
 }
 
@@ -51,12 +52,12 @@ pub fn put_bytes(out: &mut [u8], o: usize, bytes: &[u8]) -> usize
     ensures put { Put out.old o (bytes_text bytes.now) result out.new }
     ensures upper_bound { result ≤ o + 1 + 2 * length bytes.now }
 {
-    if bytes.len() == 0 {
+    if bytes.is_empty() {
         return put(out, o, b"-");
     }
     let mut e = o;
-    for k in 0..bytes.len() {
-        e = put_hex(&mut *out, e, bytes[k] as u64, 2);
+    for &x in bytes {
+        e = put_hex(&mut *out, e, u64::from(x), 2);
     }
     e
 }

@@ -1,12 +1,12 @@
 -- The block of a block step, as it is copied. s is the store, m the image, d the desk, n the inode count.
 use Prim.Native.Nat.{ℕ, ◌+◌, ◌*◌, ◌-◌, ◌≤◌, ◌<◌}
 use mathlib.Core.Path.{◌≡◌, refl, sym, ap, ◌∙◌}
-use mathlib.Core.Bool.{Bool, true, false, not, ◌&&◌}
+use mathlib.Core.Bool.{Bool, true, false, ◌&&◌}
 use mathlib.Core.List.{List}
 use native.Mathlib.Nat.{add-zero}
 use native.Mathlib.Numerals.{add-one}
 use native.Mathlib.Omega.{arith}
-use borrow.Author.Tests.{eq-eqb, ne_eqb, not-true, not-false}
+use borrow.Author.Tests.{eq-eqb, ne_eqb}
 use borrow.Rule.Slice.PartMut.{put_mid}
 use lib.Dec.{eqb}
 use lib.ListN.{length, take, drop, replicate, length-replicate}
@@ -27,24 +27,24 @@ use Rattle.checkpoint.proofs.Copy.NoteLaws.{length_copied_block}
 
 -- ---- the entries
 module _ (d : List ℕ) (n i k : ℕ) (x : List ℕ) (j : ℕ) (a : Bool) (e : a ≡ mark_of d n i (4 * k + j)) where
-  pub entry_unmarked : not a ≡ true → x ≡ copied_entry d n i k x j
+  pub entry_unmarked : a ≡ false → x ≡ copied_entry d n i k x j
   unfolding copied_entry
   entry_unmarked q =
-      sym (ap (λ (t : Bool). pick t (splice x (16 * j) (replicate 16 0)) x) (and_false_l (mark_of d n i (4 * k + j)) (is_copied d n (entry_inode (part x (16 * j) 16))) (sym e ∙ not-true a q)))
+      sym (ap (λ (t : Bool). pick t (splice x (16 * j) (replicate 16 0)) x) (and_false_l (mark_of d n i (4 * k + j)) (is_copied d n (entry_inode (part x (16 * j) 16))) (sym e ∙ q)))
 
   module _ (v : ℕ) (f : v ≡ entry_inode (take (16 * j + 16 - 16 * j) (drop (16 * j) x))) (c : Bool) (g : c ≡ is_copied d n v) where
     names_copied : is_copied d n (entry_inode (part x (16 * j) 16)) ≡ c
     names_copied = ap (λ (y : List ℕ). is_copied d n (entry_inode y)) (sym (cut x (16 * j) 16)) ∙ ap (is_copied d n) (sym f) ∙ sym g
 
-    pub entry_uncopied : not c ≡ true → x ≡ copied_entry d n i k x j
+    pub entry_uncopied : c ≡ false → x ≡ copied_entry d n i k x j
     unfolding copied_entry
     entry_uncopied q =
-        sym (ap (λ (t : Bool). pick t (splice x (16 * j) (replicate 16 0)) x) (and_false_r (mark_of d n i (4 * k + j)) (is_copied d n (entry_inode (part x (16 * j) 16))) (names_copied ∙ not-true c q)))
+        sym (ap (λ (t : Bool). pick t (splice x (16 * j) (replicate 16 0)) x) (and_false_r (mark_of d n i (4 * k + j)) (is_copied d n (entry_inode (part x (16 * j) 16))) (names_copied ∙ q)))
 
-    pub entry_zeroed : not a ≡ false → not c ≡ false → (y : List ℕ) → y ≡ zeroed x (16 * j) 16 → y ≡ copied_entry d n i k x j
+    pub entry_zeroed : a ≡ true → c ≡ true → (y : List ℕ) → y ≡ zeroed x (16 * j) 16 → y ≡ copied_entry d n i k x j
     unfolding copied_entry zeroed
     entry_zeroed p q y h =
-        h ∙ sym (ap (λ (t : Bool). pick t (splice x (16 * j) (replicate 16 0)) x) (and-true (mark_of d n i (4 * k + j)) (is_copied d n (entry_inode (part x (16 * j) 16))) (sym e ∙ not-false a p) (names_copied ∙ not-false c q)))
+        h ∙ sym (ap (λ (t : Bool). pick t (splice x (16 * j) (replicate 16 0)) x) (and-true (mark_of d n i (4 * k + j)) (is_copied d n (entry_inode (part x (16 * j) 16))) (sym e ∙ p) (names_copied ∙ q)))
 
 module _ (d : List ℕ) (n i k : ℕ) (x : List ℕ) where
   pub entries_none : x ≡ copied_entries d n i k x 0
@@ -59,17 +59,6 @@ module _ (d : List ℕ) (n i k : ℕ) (x : List ℕ) where
 -- 64 bytes written over 64
 pub covered : (x xs : List ℕ) → length x ≡ 64 → length xs ≡ 64 → splice x 0 xs ≡ xs
 covered x xs e f = sym (part_all (splice x 0 xs) 64 (length_splice x 0 xs ∙ e)) ∙ part_same x 0 xs 64 f (omega arith)
-
-module _ (s : List ℕ) (i k : ℕ) where
-  pub place_other : (k ≡ address_place → ⊥) → false ≡ is_long s i && eqb k address_place
-  place_other h = sym (and_false_r (is_long s i) (eqb k 11) (ne_eqb k 11 h))
-
-  pub place_same : (r : Bool) → k ≡ address_place → r ≡ is_long s i → r ≡ is_long s i && eqb k address_place
-  place_same r h e = e ∙ alone (is_long s i) ∙ sym (ap (λ (t : Bool). is_long s i && t) (eq-eqb k 11 h))
-    where
-      alone : (t : Bool) → t ≡ t && true
-      alone true = refl
-      alone false = refl
 
 module _ {s : List ℕ} {n : ℕ} (f : SoundStore s n (blocks_in s)) (i : ℕ) (low : 1 ≤ i) (high : i ≤ n) (k : ℕ) (used : k < blocks_used (size_of s i)) where
   pub block_here : (n ≤ most_inodes) × (1 ≤ kth_block s n i k) × (block_at n (kth_block s n i k) + 64 ≤ length s)

@@ -1,3 +1,4 @@
+pub mod ChainLaws
 pub mod BlockLaws
 pub mod PlainLaws
 pub mod NamedLaws

@@ -1,4 +1,5 @@
 -- Which image blocks are named: by the twelve addresses of each inode, and by those in address blocks. m is the image, n the inode count, long tells which inodes have an address block.
+use Rattle.std.specs.Prelude.{Option, Some}
 use Prim.Native.Nat.{ℕ, ◌+◌, ◌*◌, ◌-◌, ◌/◌, ◌%◌, ◌≤◌, ◌<◌}
 use mathlib.Core.Path.{◌≡◌, sym, ap, ◌∙◌}
 use mathlib.Core.Logic.{◌≢◌}
@@ -6,17 +7,15 @@ use mathlib.Core.Bool.{Bool, true, false, not, ◌&&◌}
 use mathlib.Core.List.{List}
 use native.Mathlib.Decide.{dec_lt}
 use native.Mathlib.Omega.{arith}
-use borrow.Author.Tests.{le-leb, lt-leb, ne_eqb}
+use borrow.Author.Tests.{le-leb, ne_eqb}
 use lib.Dec.{eqb, leb}
 use lib.ListN.{length}
 use Rattle.bounded.specs.Below.{some_below}
 use Rattle.bounded.specs.Search.{pick}
 use Rattle.bounded.specs.Count.{tally}
 use Rattle.bounded.specs.Reflect.{Reflects}
-use Rattle.bounded.specs.declared.Found.{Found}
-use Rattle.bounded.specs.declared.Found.TheVariants.{At}
 use Rattle.bounded.proofs.BelowLaws.{all_ext, none_some}
-use Rattle.bounded.proofs.BoolLaws.{chain_end, and_false_l}
+use Rattle.bounded.proofs.BoolLaws.{chain_end}
 use Rattle.bounded.proofs.CountLaws.{count_some_is, met, met_at}
 use Rattle.bounded.proofs.ReflectLaws.{r_eq, r_some, r_says, reflects_ext}
 use Rattle.layout.specs.Sizes.{address_count, further_count, address_place, block_bytes, most_inodes, most_image_blocks}
@@ -100,12 +99,6 @@ module _ (long : ℕ → Bool) (m : List ℕ) (n c : ℕ) where
     abbrev unnamed : Bool
     unnamed = leb 1 c && (leb c b && not (named_by long m n c))
 
-    pub own_low : c < 1 → false ≡ unnamed
-    own_low h = sym (and_false_l _ _ (lt-leb 1 c h))
-
-    pub own_high : 1 ≤ c → b < c → false ≡ unnamed
-    own_high l h = chain_end _ _ _ (le-leb 1 c l) (sym (and_false_l _ _ (lt-leb c b h)))
-
     own_by : (r : Bool) → 1 ≤ c → c ≤ b → r ≡ not (named_by long m n c) → r ≡ unnamed
     own_by r l h e = chain_end _ _ _ (le-leb 1 c l) (chain_end _ _ _ (le-leb c b h) e)
 
@@ -117,10 +110,10 @@ module _ (long : ℕ → Bool) (m : List ℕ) (n c : ℕ) where
       own_further q t f = own_by (not t) l h (ap not (f ∙ further_named (sym e ∙ q)))
 
     module _ (r : Bool) (e : r ≡ unnamed) where
-      pub target_own : r ≡ true → At c ≡ target_block long m n b c
+      pub target_own : r ≡ true → Some c ≡ target_block long m n b c
       unfolding target_block
-      target_own q = sym (ap (λ (t : Bool). pick t (At c) (lowest_by long m n b)) (sym e ∙ q))
+      target_own q = sym (ap (λ (t : Bool). pick t (Some c) (lowest_by long m n b)) (sym e ∙ q))
 
-      pub target_other : (f : Found) → r ≡ false → f ≡ lowest_by long m n b → f ≡ target_block long m n b c
+      pub target_other : (f : Option ℕ) → r ≡ false → f ≡ lowest_by long m n b → f ≡ target_block long m n b c
       unfolding target_block
-      target_other f q g = g ∙ sym (ap (λ (t : Bool). pick t (At c) (lowest_by long m n b)) (sym e ∙ q))
+      target_other f q g = g ∙ sym (ap (λ (t : Bool). pick t (Some c) (lowest_by long m n b)) (sym e ∙ q))

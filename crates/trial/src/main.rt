@@ -5,38 +5,28 @@
 mod print;
 
 use std::env::Env;
-use text::Number;
 use text::numbers::number;
 use text::pieces::front;
 use trial_events::print::difference;
-use trial_record::copy::MOMENTS_BYTES;
+use trial_record::copy::Record;
 use trial_record::list::run;
-use trial_record::tried::COUNTS;
 
 // Word k, or the number given where there is none.
 fn word(rt: &HostRuntime, k: usize, given: usize) -> usize {
     let mut text = [0u8; 20];
-    let n = match rt.arg(k, &mut text) {
-        Ok(n) => n,
-        Err(_) => 0,
-    };
-    match number(front(&text, n)) {
-        Number::Value(v) => v,
-        Number::NoNumber => given,
-    }
+    let n = rt.arg(k, &mut text).unwrap_or(0);
+    number(front(&text, n)).unwrap_or(given)
 }
 
 fn main(rt: HostRuntime) {
     let seed = word(&rt, 1, 1) as u64;
     let lists = word(&rt, 2, 1000) as u64;
-    let mut moments = [0u8; MOMENTS_BYTES];
-    let mut tried = [0u64; COUNTS];
+    let mut record = Record::new();
     for l in 0..lists {
-        let wrong = run(seed, l, &mut moments, &mut tried);
-        if wrong != 0 {
-            difference(seed, l, wrong);
+        if let Some(event) = run(seed, l, &mut record) {
+            difference(seed, l, event);
             return;
         }
     }
-    print::all(&tried);
+    print::all(&record.tried);
 }

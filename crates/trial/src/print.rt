@@ -1,9 +1,6 @@
 // What was tried.
 use trial_events::print::{number, word};
-use trial_record::tried::{
-    BLOCKS, BURST_FINISHES, BURST_STEPS, BURST_STOPS, COUNTS, CROSSED, ENTRIES, EVENTS, FINISHES,
-    INODES, LISTS, LONG, MOVES, REFILLED, REPLACED,
-};
+use trial_record::tried::Tried;
 
 fn row(what: &[u8], n: u64) {
     word(what);
@@ -11,29 +8,25 @@ fn row(what: &[u8], n: u64) {
     word(b"\n");
 }
 
-fn refused(tried: &[u64; COUNTS]) {
-    for k in 1..19 {
+pub fn all(tried: &Tried) {
+    row(b"lists", tried.lists);
+    row(b"events", tried.events);
+    row(b"copies finished", tried.finishes);
+    row(b"entries they owed", tried.entries);
+    row(b"moves during a copy", tried.moves);
+    row(b"entries replaced during a copy", tried.replaced);
+    row(b"places that the same call filled", tried.refilled);
+    row(b"inodes used again during a copy", tried.inodes);
+    row(b"blocks used again during a copy", tried.blocks);
+    row(b"files across 768 bytes during a copy", tried.crossed);
+    row(b"files above 768 bytes in copies", tried.long);
+    row(b"steps in bursts", tried.burst_steps);
+    row(b"copies finished by a burst", tried.burst_finishes);
+    row(b"copies stopped within a burst", tried.burst_stops);
+    row(b"accepted", tried.accepted);
+    for (refusal, count) in tried.refused.iter().enumerate().skip(1) {
         word(b"refused with");
-        number(k);
-        row(b":", tried[k]);
+        number(refusal);
+        row(b":", *count);
     }
-}
-
-pub fn all(tried: &[u64; COUNTS]) {
-    row(b"lists", tried[LISTS]);
-    row(b"events", tried[EVENTS]);
-    row(b"copies finished", tried[FINISHES]);
-    row(b"entries they owed", tried[ENTRIES]);
-    row(b"moves during a copy", tried[MOVES]);
-    row(b"entries replaced during a copy", tried[REPLACED]);
-    row(b"places that the same call filled", tried[REFILLED]);
-    row(b"inodes used again during a copy", tried[INODES]);
-    row(b"blocks used again during a copy", tried[BLOCKS]);
-    row(b"files across 768 bytes during a copy", tried[CROSSED]);
-    row(b"files above 768 bytes in copies", tried[LONG]);
-    row(b"steps in bursts", tried[BURST_STEPS]);
-    row(b"copies finished by a burst", tried[BURST_FINISHES]);
-    row(b"copies stopped within a burst", tried[BURST_STOPS]);
-    row(b"accepted", tried[0]);
-    refused(tried);
 }

@@ -1,106 +1,81 @@
 // An event done by the library, and by the plain store.
-use answers::{Answer, refusal_number};
+ghost use Rattle.std.specs.Prelude.{◌≤◌, length};
+
+use answers::Answer;
 use entries::Kind;
 use files::plain;
 use replay_commands::{Call, Command, Reply};
 use text::pieces::front;
-use trial_events::event;
-use trial_events::event::{Event, OUT_BYTES};
+use trial_events::event::{Event, OUT_BYTES, spell};
 
-// A refusal's number, 0 for none, and the value: of a state question the steps.
+// The value, of a state question the steps; or a refusal by its number, which is all that a reply has of it.
+pub type Got = Result<usize, usize>;
+
+// What is wrong of an event: which of these differs from what is done beside the library; or a
+// refusal out of its time, a start during a copy, a count of steps, a finished copy.
 #[derive(Clone, Copy)]
-pub struct Got {
-    pub number: usize,
-    pub value: usize,
+pub enum Wrong {
+    Answer,
+    Out,
+    Store,
+    Image,
+    Desk,
+    Refusal,
+    Start,
+    Steps,
+    Finish,
 }
 
-// What is done beside the library comes to the same; or the first of these differs.
-pub const ALIKE: usize = 0;
-
-pub const ANSWER: usize = 1;
-
-pub const OUT: usize = 2;
-
-pub const STORE: usize = 3;
-
-pub const IMAGE: usize = 4;
-
-pub const DESK: usize = 5;
-
-// What the library answered, and what differs.
-#[derive(Clone, Copy)]
-pub struct Both {
-    pub got: Got,
-    pub differs: usize,
-}
-
-pub fn same_answer(a: Got, b: Got) -> bool {
-    a.number == b.number && a.value == b.value
+pub fn wrong_unless(right: bool, wrong: Wrong) -> Result<(), Wrong> {
+    if right { Ok(()) } else { Err(wrong) }
 }
 
 pub fn told(a: Answer) -> Got {
-    match a {
-        Answer::Done(n) => Got {
-            number: 0,
-            value: n,
-        },
-        Answer::Refused(e) => Got {
-            number: refusal_number(e),
-            value: 0,
-        },
-    }
+    a.map_err(usize::from)
 }
 
 // No event has another reply.
 pub fn replied(r: Reply) -> Got {
     match r {
-        Reply::Done(n) => Got {
-            number: 0,
-            value: n,
-        },
-        Reply::Shown(n, _) => Got {
-            number: 0,
-            value: n,
-        },
-        Reply::Asked(_, _, steps) => Got {
-            number: 0,
-            value: steps,
-        },
-        Reply::Refused(n) => Got {
-            number: n,
-            value: 0,
-        },
-        _ => Got {
-            number: 0,
-            value: 0,
-        },
+        Reply::Done(n) => Ok(n),
+        Reply::Shown(n, _) => Ok(n),
+        Reply::Asked(_, _, steps) => Ok(steps),
+        Reply::Refused(number) => Err(number),
+        _ => Ok(0),
     }
 }
 
-// A file call but a read; the names have f and g bytes.
-pub fn call(e: Event, f: usize, g: usize) -> Call {
-    let what = e.what;
-    match what {
-        event::CREATE_FILE => Call::CreateFile(e.dir, f),
-        event::CREATE_DIRECTORY => Call::CreateDirectory(e.dir, f),
-        event::WRITE => Call::Write(e.inode, e.offset, f),
-        event::SHORTEN => Call::Shorten(e.inode, e.offset),
-        event::LINK => Call::Link(e.dir, f, e.inode),
-        event::UNLINK => Call::Unlink(e.dir, f),
-        event::RENAME => Call::Rename(e.dir, f, e.to, g),
-        event::RENAME_NEW => Call::RenameNew(e.dir, f, e.to, g),
-        _ => Call::LookUp(e.dir, f),
-    }
-}
-
-pub fn command(e: Event, f: usize, g: usize) -> Command {
-    let what = e.what;
-    match what {
-        event::READ => Command::Read(e.inode, e.offset, OUT_BYTES),
-        event::START => Command::Start,
-        event::ASK => Command::Ask,
-        event::STEP => Command::Step,
-        _ => Command::File(call(e, f, g)),
+// The command of an event, whose names are put at the front of name and other; the bytes that a write writes stand in name already.
+pub fn command(e: Event, name: &mut [u8], other: &mut [u8]) -> Command
+    requires { (2 ≤ length name.old) × (2 ≤ length other.old) }
+{
+    match e {
+        Event::CreateFile(at) => Command::File(Call::CreateFile(at.dir, spell(at.name, name))),
+        Event::CreateDirectory(at) => {
+            Command::File(Call::CreateDirectory(at.dir, spell(at.name, name)))
+        }
+        Event::Write {
+            inode,
+            offset,
+            length,
+        } => Command::File(Call::Write(inode, offset, length)),
+        Event::Shorten { inode, offset } => Command::File(Call::Shorten(inode, offset)),
+        Event::Link(at, inode) => Command::File(Call::Link(at.dir, spell(at.name, name), inode)),
+        Event::Unlink(at) => Command::File(Call::Unlink(at.dir, spell(at.name, name))),
+        Event::Rename(at, to) => {
+            let (n, m) = (spell(at.name, name), spell(to.name, other));
+            Command::File(Call::Rename(at.dir, n, to.dir, m))
+        }
+        Event::RenameNew(at, to) => {
+            let (n, m) = (spell(at.name, name), spell(to.name, other));
+            Command::File(Call::RenameNew(at.dir, n, to.dir, m))
+        }
+        Event::LookUp(at) => Command::File(Call::LookUp(at.dir, spell(at.name, name))),
+        Event::Read { inode, offset } => Command::Read(inode, offset, OUT_BYTES),
+        Event::Start => Command::Start,
+        Event::Ask => Command::Ask,
+        Event::Step => Command::Step,
+        Event::Burst(count) => Command::Burst(count),
     }
 }
 

@@ -1,6 +1,5 @@
 // A list as lines of `replay`.
-use crate::event;
-use crate::event::{Event, OUT_BYTES, spell};
+use crate::event::{Entry, Event, List, OUT_BYTES, spell};
 
 const STDOUT_FILENO: i32 = 1;
 
@@ -24,89 +23,84 @@ fn bytes(k: usize, fill: u64) {
     }
 }
 
-fn wide(x: u8) -> u64 {
-    x as u64
-}
-
-// A name in hex.
-fn name(k: usize) {
+// A directory, and a name in hex.
+fn entry(e: Entry) {
     let mut text = [0u8; 2];
-    let n = spell(k, &mut text);
+    let n = spell(e.name, &mut text);
+    number(e.dir);
     word(b" ");
-    io::print_hex(STDOUT_FILENO, wide(text[0]), 2);
-    if n == 2 {
-        io::print_hex(STDOUT_FILENO, wide(text[1]), 2);
+    for x in &text[..n] {
+        io::print_hex(STDOUT_FILENO, u64::from(*x), 2);
     }
 }
 
-fn entry_call(verb: &[u8], e: Event) {
+fn entry_call(verb: &[u8], e: Entry) {
     word(verb);
-    number(e.dir);
-    name(e.name);
+    entry(e);
 }
 
-fn rename_call(verb: &[u8], e: Event) {
+fn rename_call(verb: &[u8], e: Entry, to: Entry) {
     entry_call(verb, e);
-    number(e.to);
-    name(e.other);
+    entry(to);
 }
 
-fn content_call(verb: &[u8], e: Event) {
+fn content_call(verb: &[u8], inode: usize, offset: usize) {
     word(verb);
-    number(e.inode);
-    number(e.offset);
+    number(inode);
+    number(offset);
 }
 
 fn call(e: Event, fill: u64) {
-    let what = e.what;
-    match what {
-        event::CREATE_FILE => {
+    match e {
+        Event::CreateFile(e) => {
             entry_call(b"mk", e);
             word(b" f");
         }
-        event::CREATE_DIRECTORY => {
+        Event::CreateDirectory(e) => {
             entry_call(b"mk", e);
             word(b" d");
         }
-        event::WRITE => {
-            content_call(b"wr", e);
-            bytes(e.length, fill);
+        Event::Write {
+            inode,
+            offset,
+            length,
+        } => {
+            content_call(b"wr", inode, offset);
+            bytes(length, fill);
         }
-        event::SHORTEN => content_call(b"sh", e),
-        event::LINK => {
+        Event::Shorten { inode, offset } => content_call(b"sh", inode, offset),
+        Event::Link(e, inode) => {
             entry_call(b"ln", e);
-            number(e.inode);
+            number(inode);
         }
-        event::UNLINK => entry_call(b"rm", e),
-        event::RENAME => rename_call(b"mv", e),
-        event::RENAME_NEW => rename_call(b"mvo", e),
-        event::LOOK_UP => entry_call(b"lk", e),
-        event::READ => {
-            content_call(b"rd", e);
+        Event::Unlink(e) => entry_call(b"rm", e),
+        Event::Rename(e, to) => rename_call(b"mv", e, to),
+        Event::RenameNew(e, to) => rename_call(b"mvo", e, to),
+        Event::LookUp(e) => entry_call(b"lk", e),
+        Event::Read { inode, offset } => {
+            content_call(b"rd", inode, offset);
             number(OUT_BYTES);
         }
-        event::START => word(b"go"),
-        event::ASK => word(b"ask"),
-        event::BURST => {
+        Event::Start => word(b"go"),
+        Event::Ask => word(b"ask"),
+        Event::Step => word(b"st"),
+        Event::Burst(count) => {
             word(b"bu");
-            number(e.count);
+            number(count);
         }
-        _ => word(b"st"),
     }
     word(b"\n");
 }
 
 // The first events of a list, up to event k.
-pub fn list(seed: u64, list: u64, k: u64) {
-    let shape = event::shape_of(seed, list);
+fn events(list: List, k: u64) {
     word(b"new");
-    number(shape.inodes);
-    number(shape.blocks);
-    number(shape.image);
+    number(list.shape.inodes);
+    number(list.shape.blocks);
+    number(list.shape.image);
     word(b"\n");
-    for j in 0..k {
-        let m = j + 1;
-        call(event::nth_event(seed, list, m, shape), m % 251);
+    for j in 1..=k {
+        call(list.nth(j), j % 251);
     }
 }
 
@@ -115,5 +109,5 @@ pub fn difference(seed: u64, l: u64, event: u64) {
     word(b"a difference in the last line of list");
     number(l as usize);
     word(b"\n");
-    list(seed, l, event);
+    events(List::new(seed, l), event);
 }

@@ -1,11 +1,7 @@
-// Fields of a store or an image of n inodes, on any bytes. What lies past the end reads as 0. A place is a slot of a directory: 48 for each.
-ghost use Rattle.std.specs.Prelude.{◌≤◌, ◌≡◌};
+// Fields of a store or an image, on any bytes. What lies past the end reads as 0.
+ghost use Rattle.std.specs.Prelude.{◌*◌, ◌≡◌, ◌≤◌, ◌↔◌, IfSome, IsTrue, slice_index};
 
-pub const FILE: usize = 1;
-
-const DIRECTORY: usize = 2;
-
-pub const SLOTS: usize = 48;
+pub(crate) const SLOTS: usize = 48;
 
 // Addresses of an inode. The last one of a file above so many bytes names a block of further ones.
 const ADDRESSES: usize = 12;
@@ -13,151 +9,231 @@ const ADDRESSES: usize = 12;
 const MOST_DIRECT_BYTES: usize = 768;
 
 // Blocks of an inode at most, and those of them that have a file's bytes.
-pub const BLOCKS: usize = 44;
+pub(crate) const BLOCKS: usize = 44;
 
-pub const BYTES_BLOCKS: usize = 43;
+pub(crate) const BYTES_BLOCKS: usize = 43;
 
-fn wide(x: u8) -> usize
-    ensures { (result ≡ x) × (result ≤ 255) }
-{
-    x as usize
+#[derive(Clone, Copy, PartialEq, Eq)]
+pub enum Kind {
+    Free,
+    File,
+    Directory,
+    Other(u8),
 }
 
-pub fn byte(s: &[u8], o: usize) -> usize
-    ensures { result ≤ 255 }
-{
-    if o < s.len() {
-        return wide(s[o]);
-    }
-    0
+// The bytes of a store or an image, and how many inodes it has.
+#[derive(Clone, Copy)]
+pub struct Store<'a> {
+    pub bytes: &'a [u8],
+    pub inodes: usize,
+    ghost few: { inodes ≤ 256 },
 }
 
-pub fn one_if(so: bool) -> usize
-    ensures { result ≤ 1 }
-{
-    if so { 1 } else { 0 }
+#[derive(Clone, Copy)]
+pub struct Inode<'a> {
+    pub store: Store<'a>,
+    pub number: usize,
+    ghost some: { 1 ≤ number },
+    ghost few: { number ≤ 65535 },
 }
 
-// Two bytes, the low one first.
-pub fn pair(s: &[u8], o: usize) -> usize
-    requires { o ≤ 10000000 }
-    ensures { result ≤ 65535 }
-{
-    byte(s, o) + 256 * byte(s, o + 1)
+// A slot of a directory, by its number among all: 48 for each inode.
+#[derive(Clone, Copy)]
+pub(crate) struct Place<'a> {
+    pub store: Store<'a>,
+    pub number: usize,
+    ghost few: { number ≤ 20000 },
 }
 
-pub fn kind(s: &[u8], i: usize) -> usize
-    requires { i ≤ 65535 }
-{
-    byte(s, 8 + 8 * i)
+// A block, by its number.
+#[derive(Clone, Copy)]
+pub(crate) struct Block {
+    pub number: usize,
+    ghost some: { 1 ≤ number },
+    ghost few: { number ≤ 65535 },
 }
 
-pub fn links(s: &[u8], i: usize) -> usize
-    requires { i ≤ 65535 }
-    ensures { result ≤ 65535 }
+pub fn byte(s: &[u8], o: usize) -> u8
+    ensures { result ≡ slice_index s.now o }
 {
-    pair(s, 10 + 8 * i)
+    s.get(o).copied().unwrap_or(0)
 }
 
-pub fn size(s: &[u8], i: usize) -> usize
-    requires { i ≤ 65535 }
+// Whether a copy is finished, which its image says.
+pub fn is_finished(image: &[u8]) -> bool
+    ensures { IsTrue result ↔ (slice_index image.now 8 ≡ 1) }
 {
-    pair(s, 12 + 8 * i)
+    byte(image, 8) == 1
 }
 
-pub fn is_long(s: &[u8], i: usize) -> bool
-    requires { i ≤ 65535 }
-{
-    kind(s, i) == FILE && MOST_DIRECT_BYTES < size(s, i)
-}
-
-// Address k of inode i, 0 for none.
-fn address(s: &[u8], n: usize, i: usize, k: usize) -> usize
-    requires { (n ≤ 256) × (1 ≤ i) × (i ≤ 65535) × (k ≤ 12) }
-    ensures { result ≤ 65535 }
-{
-    pair(s, 16 + 8 * n + 24 * (i - 1) + 2 * k)
-}
-
-pub fn block_at(n: usize, a: usize) -> usize
-    requires { (n ≤ 256) × (1 ≤ a) × (a ≤ 65535) }
-    ensures { result ≤ 5000000 }
-{
-    16 + 32 * n + 64 * (a - 1)
-}
-
-// Number k in the block that the last address of inode i names, 0 for none.
-fn further(s: &[u8], n: usize, i: usize, k: usize) -> usize
-    requires { (n ≤ 256) × (1 ≤ i) × (i ≤ 65535) × (k ≤ 32) }
-    ensures { result ≤ 65535 }
-{
-    let a = address(s, n, i, ADDRESSES - 1);
-    if a == 0 {
-        return 0;
-    }
-    pair(s, block_at(n, a) + 2 * k)
-}
-
-// The k-th block of inode i, 0 for none: the twelfth of a long file has the numbers of those behind it.
-pub fn kth_block(s: &[u8], n: usize, i: usize, k: usize) -> usize
-    requires { (n ≤ 256) × (1 ≤ i) × (i ≤ 65535) × (k ≤ 44) }
-    ensures { result ≤ 65535 }
-{
-    if k < ADDRESSES {
-        return address(s, n, i, k);
-    }
-    if is_long(s, i) {
-        return further(s, n, i, k - ADDRESSES);
-    }
-    0
-}
-
-// The p-th block of a file's bytes, 0 for none.
-pub fn bytes_block(s: &[u8], n: usize, i: usize, p: usize) -> usize
-    requires { (n ≤ 256) × (1 ≤ i) × (i ≤ 65535) × (p ≤ 43) }
-    ensures { result ≤ 65535 }
-{
-    if ADDRESSES <= p + 1 && is_long(s, i) {
-        return kth_block(s, n, i, p + 1);
-    }
-    kth_block(s, n, i, p)
-}
-
-// Where slot p starts, 0 where its block is none.
-pub fn slot_at(s: &[u8], n: usize, p: usize) -> usize
-    requires { (n ≤ 256) × (p ≤ 20000) }
-    ensures { result ≤ 6000000 }
-{
-    let a = address(s, n, 1 + p / SLOTS, p % SLOTS / 4);
-    if a == 0 {
-        return 0;
-    }
-    block_at(n, a) + 16 * (p % 4)
-}
-
-// The inode that slot p names, 0 for none.
-pub fn names(s: &[u8], n: usize, p: usize) -> usize
-    requires { (n ≤ 256) × (p ≤ 20000) }
-    ensures { result ≤ 65535 }
-{
-    if kind(s, 1 + p / SLOTS) != DIRECTORY {
-        return 0;
-    }
-    let o = slot_at(s, n, p);
-    if o == 0 {
-        return 0;
-    }
-    pair(s, o)
-}
-
-// The k bytes of a from x on are those of b from y on.
-pub fn same_bytes(a: &[u8], x: usize, b: &[u8], y: usize, k: usize) -> bool
-    requires { (x ≤ 10000000) × (y ≤ 10000000) × (k ≤ 768) }
-{
-    for j in 0..k {
-        if byte(a, x + j) != byte(b, y + j) {
-            return false;
+impl<'a> Store<'a> {
+    // Other bytes, of a store with as many inodes.
+    pub fn at<'b>(self, bytes: &'b [u8]) -> Store<'b>
+        ensures { result.inodes ≡ self.entry.inodes }
+    {
+        Store {
+            bytes,
+            inodes: self.inodes,
         }
     }
-    true
+
+    pub fn inode(self, number: usize) -> Inode<'a>
+        requires { (1 ≤ number) × (number ≤ 65535) }
+        ensures { result.number ≡ number }
+    {
+        let store = self;
+        Inode { store, number }
+    }
+
+    // How many places there are.
+    pub(crate) fn places(self) -> usize
+        ensures { result ≡ 48 * self.entry.inodes }
+    {
+        SLOTS * self.inodes
+    }
+
+    pub(crate) fn place(self, number: usize) -> Place<'a>
+        requires { number ≤ 20000 }
+        ensures { (result.store.inodes ≡ self.entry.inodes) × (result.number ≡ number) }
+    {
+        let store = self;
+        Place { store, number }
+    }
+
+    // The bytes from o on.
+    fn rest(self, o: usize) -> &'a [u8] {
+        self.bytes.get(o..).unwrap_or(&[])
+    }
+
+    // Two bytes, the low one first.
+    pub(crate) fn pair(self, o: usize) -> usize
+        ensures { result ≤ 65535 }
+    {
+        let rest = self.rest(o);
+        usize::from(u16::from_le_bytes([byte(rest, 0), byte(rest, 1)]))
+    }
+
+    // The block whose number stands there.
+    fn block_named(self, o: usize) -> Option<Block> {
+        match self.pair(o) {
+            0 => None,
+            number => Some(Block { number }),
+        }
+    }
+
+    // Where a block starts.
+    fn start_of(self, block: Block) -> usize
+        ensures { result ≤ 5000000 }
+    {
+        16 + 32 * self.inodes + 64 * (block.number - 1)
+    }
+
+    // The k bytes from x on are those of the other from y on.
+    fn same_bytes(self, x: usize, other: Store, y: usize, k: usize) -> bool {
+        let (mine, theirs) = (self.rest(x), other.rest(y));
+        (0..k).all(|j| byte(mine, j) == byte(theirs, j))
+    }
+
+    // A block of it has the bytes of one of the other's.
+    pub(crate) fn same_block(self, block: Block, other: Store, theirs: Block) -> bool {
+        self.same_bytes(self.start_of(block), other, other.start_of(theirs), 64)
+    }
+}
+
+impl<'a> Inode<'a> {
+    pub fn kind(self) -> Kind {
+        match byte(self.store.bytes, 8 + 8 * self.number) {
+            0 => Kind::Free,
+            1 => Kind::File,
+            2 => Kind::Directory,
+            x => Kind::Other(x),
+        }
+    }
+
+    pub(crate) fn links(self) -> usize
+        ensures { result ≤ 65535 }
+    {
+        self.store.pair(10 + 8 * self.number)
+    }
+
+    pub(crate) fn size(self) -> usize {
+        self.store.pair(12 + 8 * self.number)
+    }
+
+    pub(crate) fn is_long(self) -> bool {
+        self.kind() == Kind::File && MOST_DIRECT_BYTES < self.size()
+    }
+
+    // The block of address k.
+    fn address(self, k: usize) -> Option<Block>
+        requires { k ≤ 12 }
+    {
+        let inodes = self.store.inodes;
+        self.store
+            .block_named(16 + 8 * inodes + 24 * (self.number - 1) + 2 * k)
+    }
+
+    // The block of number k in the block that the last address names.
+    fn further(self, k: usize) -> Option<Block>
+        requires { k ≤ 32 }
+    {
+        let numbers = self.address(ADDRESSES - 1)?;
+        self.store.block_named(self.store.start_of(numbers) + 2 * k)
+    }
+
+    // The k-th block: the twelfth of a long file has the numbers of those behind it.
+    pub(crate) fn block(self, k: usize) -> Option<Block>
+        requires { k ≤ 44 }
+    {
+        if k < ADDRESSES {
+            return self.address(k);
+        }
+        if self.is_long() {
+            return self.further(k - ADDRESSES);
+        }
+        None
+    }
+
+    // The p-th block of a file's bytes.
+    pub(crate) fn bytes_block(self, p: usize) -> Option<Block>
+        requires { p ≤ 43 }
+    {
+        if ADDRESSES <= p + 1 && self.is_long() {
+            return self.block(p + 1);
+        }
+        self.block(p)
+    }
+}
+
+impl<'a> Place<'a> {
+    pub(crate) fn directory(self) -> Inode<'a> {
+        self.store.inode(1 + self.number / SLOTS)
+    }
+
+    // Where the slot starts.
+    fn start(self) -> Option<usize> {
+        let block = self.directory().address(self.number % SLOTS / 4)?;
+        Some(self.store.start_of(block) + 16 * (self.number % 4))
+    }
+
+    // The inode that the slot names.
+    pub(crate) fn names(self) -> Option<usize>
+        ensures { IfSome result (λ i. i ≤ 65535) }
+    {
+        if self.directory().kind() != Kind::Directory {
+            return None;
+        }
+        match self.store.pair(self.start()?) {
+            0 => None,
+            i => Some(i),
+        }
+    }
+
+    // The slot has the bytes of another store's.
+    pub(crate) fn same_slot(self, other: Place) -> bool {
+        match (self.start(), other.start()) {
+            (Some(x), Some(y)) => self.store.same_bytes(x, other.store, y, 16),
+            _ => false,
+        }
+    }
 }

@@ -1,167 +1,106 @@
 // One list, event by event.
 ghost use Rattle.std.specs.Prelude.{◌+◌, ◌*◌, ◌≤◌, ◌≡◌};
-ghost use Rattle.trial_events.specs.Small.{Small};
 
-use crate::copy::{Copy, MOMENTS_BYTES, Next, follow};
-use crate::tried::{COUNTS, EVENTS, INODES, LISTS, MOVES, REFILLED, REPLACED, tally};
-use trial_compare::both::do_both;
-use trial_compare::calls::{ALIKE, Got};
-use trial_events::event;
-use trial_events::event::{DESK_BYTES, Event, IMAGE_BYTES, SLOTS, STORE_BYTES, Shape};
+use crate::copy::{Copy, Record};
+use crate::tried::{REFUSALS, Tried, tally};
+use trial_compare::both::{Sides, do_both};
+use trial_compare::calls::{Got, Wrong};
+use trial_events::event::{DESK_BYTES, Event, IMAGE_BYTES, List, STORE_BYTES};
 use trial_judge::again::{entries_taken, places_again};
-use trial_judge::copy::moment;
-use trial_judge::fields::kind;
+use trial_judge::fields::{Kind, Store};
 
 // Events of a list.
 const LENGTH: u64 = 400;
 
-// Made with an inode that was in use at the start.
-fn made_again(e: Event, a: Got, first: &[u8]) -> bool {
-    let i = a.value;
-    if event::CREATE_DIRECTORY < e.what {
-        return false;
-    }
-    if 256 < i {
-        return false;
-    }
-    kind(first, i) != 0
+// An inode that was in use at the start.
+fn was_used(first: Store, i: usize) -> bool {
+    1 <= i && i <= 256 && first.inode(i).kind() != Kind::Free
 }
 
 // An accepted rename during a copy, from the stores before and after it: a move takes out its own entry, and what else is taken out was
 // replaced.
-fn count_rename(e: Event, n: usize, before: &[u8], after: &[u8], tried: &mut [u64; COUNTS])
-    requires { n ≤ 8 }
-{
-    let out = entries_taken(before, after, n);
+fn count_rename(moved: bool, before: Store, after: Store, tried: &mut Tried) {
+    let out = entries_taken(before, after);
     if out == 0 {
         return;
     }
-    tally(&mut *tried, REFILLED, places_again(before, after, n));
-    if e.dir == e.to {
-        tally(&mut *tried, REPLACED, out);
-        return;
+    tally(&mut tried.refilled, places_again(before, after));
+    if moved {
+        tally(&mut tried.moves, 1);
+        tally(&mut tried.replaced, out - 1);
+    } else {
+        tally(&mut tried.replaced, out);
     }
-    tally(&mut *tried, MOVES, 1);
-    tally(&mut *tried, REPLACED, out - 1);
 }
 
 // An accepted call during a copy; the stores at its start, before the call and after it.
 fn count_live(
     e: Event,
-    a: Got,
-    n: usize,
-    first: &[u8],
-    before: &[u8],
-    after: &[u8],
-    tried: &mut [u64; COUNTS],
-)
-    requires { n ≤ 8 }
-{
-    if made_again(e, a, first) {
-        tally(&mut *tried, INODES, 1);
-    } else if e.what == event::RENAME || e.what == event::RENAME_NEW {
-        count_rename(e, n, before, after, tried);
+    value: usize,
+    first: Store,
+    before: Store,
+    after: Store,
+    tried: &mut Tried,
+) {
+    match e {
+        Event::CreateFile(_) | Event::CreateDirectory(_) => {
+            tally(&mut tried.inodes, usize::from(was_used(first, value)))
+        }
+        Event::Rename(at, to) => count_rename(at.dir != to.dir, before, after, tried),
+        Event::RenameNew(at, to) => count_rename(at.dir != to.dir, before, after, tried),
+        _ => {}
     }
 }
 
 // What is told of the trial at its end. The last moment is the store before the event.
-fn count(
-    e: Event,
-    a: Got,
-    m: usize,
-    n: usize,
-    store: &[u8],
-    moments: &[u8; MOMENTS_BYTES],
-    tried: &mut [u64; COUNTS],
-)
-    requires { n ≤ 8 }
-{
-    tally(&mut *tried, EVENTS, 1);
-    tally(&mut *tried, a.number, 1);
-    if 0 < m && a.number == 0 {
-        let first = moment(moments, 0);
-        let before = moment(moments, m - 1);
-        count_live(e, a, n, first, before, store, tried);
+fn count(e: Event, got: Got, store: Store, record: &mut Record) {
+    tally(&mut record.tried.events, 1);
+    match got {
+        Ok(value) => {
+            tally(&mut record.tried.accepted, 1);
+            let mut tried = record.tried;
+            let moments = record.seen();
+            if let (Some(first), Some(last)) = (moments.first(), moments.last()) {
+                count_live(e, value, store.at(first), store.at(last), store, &mut tried);
+            }
+            record.tried = tried;
+        }
+        Err(number) => {
+            if number < REFUSALS {
+                tally(&mut record.tried.refused[number], 1);
+            }
+        }
     }
 }
 
 // An event done by both, compared, and the copy followed.
-pub fn turn(
-    e: Event,
-    fill: u8,
-    n: usize,
-    copy: Copy,
-    store: &mut [u8],
-    image: &mut [u8],
-    desk: &mut [u8],
-    beside: &mut [u8],
-    moments: &mut [u8; MOMENTS_BYTES],
-    taken: &mut [u8; SLOTS],
-    tried: &mut [u64; COUNTS],
-) -> Next
-    requires { n ≤ 8 }
-{
-    let b = do_both(
-        e,
-        fill,
-        n,
-        &mut *store,
-        &mut *image,
-        desk,
-        beside,
-        &mut *taken,
-    );
-    let a = b.got;
-    if b.differs != ALIKE {
-        return Next {
-            copy,
-            wrong: b.differs,
-        };
-    }
-    count(e, a, copy.moments, n, &*store, &*moments, &mut *tried);
-    follow(e, a, copy, n, store, image, moments, taken, tried)
+pub fn turn(e: Event, fill: u8, sides: &mut Sides, record: &mut Record) -> Result<(), Wrong> {
+    let got = do_both(e, fill, &mut *sides, &mut record.taken)?;
+    count(e, got, sides.seen_store(), &mut *record);
+    record.follow(e, got, sides.seen_store(), sides.seen_image())
 }
 
-// The events of a list, on buffers laid out: 0, or the number of the event that shows a difference,
-// the first being 1.
-fn run_events(
-    seed: u64,
-    list: u64,
-    shape: Shape,
-    store: &mut [u8],
-    image: &mut [u8],
-    desk: &mut [u8],
-    beside: &mut [u8],
-    moments: &mut [u8; MOMENTS_BYTES],
-    taken: &mut [u8; SLOTS],
-    tried: &mut [u64; COUNTS],
-) -> u64
-    requires { Small shape }
-{
-    let mut copy = Copy {
-        moments: 0,
-        steps: 0,
-    };
+// The events of a list, on buffers laid out: the number of the event that shows a difference, the first being 1.
+fn run_events(list: List, sides: &mut Sides, record: &mut Record) -> Option<u64> {
+    // A `find` would change what it is asked of: the sides and the record.
     for k in 1..LENGTH {
-        let next = turn(
-            event::nth_event(seed, list, k, shape),
-            (k % 251) as u8,
-            shape.inodes,
-            copy,
-            &mut *store,
-            &mut *image,
-            &mut *desk,
-            &mut *beside,
-            &mut *moments,
-            &mut *taken,
-            &mut *tried,
-        );
-        if next.wrong != ALIKE {
-            return k;
+        if turn(list.nth(k), (k % 251) as u8, &mut *sides, &mut *record).is_err() {
+            return Some(k);
         }
-        copy = next.copy;
     }
-    0
+    None
+}
+
+// Lays the buffers out and runs the list.
+fn run_fresh(list: List, sides: &mut Sides, record: &mut Record) -> Option<u64> {
+    let n = list.shape.inodes;
+    let b = list.shape.blocks;
+    let _ = watch::lay_out_store(&mut *sides.store, n, b);
+    let _ = watch::lay_out_store(&mut *sides.beside, n, b);
+    let _ = watch::lay_out_desk(&mut *sides.desk, n);
+    record.copy = Copy::none();
+    tally(&mut record.tried.lists, 1);
+    run_events(list, sides, record)
 }
 
 // A store's or an image's length.
@@ -172,59 +111,23 @@ fn length_of(n: usize, b: usize) -> usize
     16 + 32 * n + 64 * b
 }
 
-// Lays the buffers out and runs the list.
-fn run_fresh(
-    seed: u64,
-    list: u64,
-    shape: Shape,
-    store: &mut [u8],
-    image: &mut [u8],
-    desk: &mut [u8],
-    beside: &mut [u8],
-    moments: &mut [u8; MOMENTS_BYTES],
-    taken: &mut [u8; SLOTS],
-    tried: &mut [u64; COUNTS],
-) -> u64
-    requires { Small shape }
-{
-    let n = shape.inodes;
-    let b = shape.blocks;
-    watch::lay_out_store(&mut *store, n, b);
-    watch::lay_out_store(&mut *beside, n, b);
-    watch::lay_out_desk(&mut *desk, n);
-    tally(&mut *tried, LISTS, 1);
-    run_events(
-        seed, list, shape, store, image, desk, beside, moments, taken, tried,
-    )
-}
-
 // Runs a list, and answers as above.
-pub fn run(
-    seed: u64,
-    list: u64,
-    moments: &mut [u8; MOMENTS_BYTES],
-    tried: &mut [u64; COUNTS],
-) -> u64 {
-    let shape = event::shape_of(seed, list);
-    let n = shape.inodes;
-    let s = length_of(n, shape.blocks);
-    let i = length_of(n, shape.image);
-    let d = 16 + 9 * n;
+pub fn run(seed: u64, list: u64, record: &mut Record) -> Option<u64> {
+    let list = List::new(seed, list);
+    let inodes = list.shape.inodes;
+    let s = length_of(inodes, list.shape.blocks);
+    let i = length_of(inodes, list.shape.image);
+    let d = 16 + 9 * inodes;
     let mut store = [0u8; STORE_BYTES];
     let mut image = [0u8; IMAGE_BYTES];
     let mut desk = [0u8; DESK_BYTES];
     let mut beside = [0u8; STORE_BYTES];
-    let mut taken = [0u8; SLOTS];
-    run_fresh(
-        seed,
-        list,
-        shape,
-        &mut store[0..s],
-        &mut image[0..i],
-        &mut desk[0..d],
-        &mut beside[0..s],
-        &mut *moments,
-        &mut taken,
-        tried,
-    )
+    let mut sides = Sides {
+        store: &mut store[..s],
+        image: &mut image[..i],
+        desk: &mut desk[..d],
+        beside: &mut beside[..s],
+        inodes,
+    };
+    run_fresh(list, &mut sides, record)
 }

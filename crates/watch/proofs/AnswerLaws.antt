@@ -1,4 +1,5 @@
 -- Each call's answer is by its table of conditions, on any world.
+use Rattle.std.specs.Prelude.{Err}
 use Prim.Native.Nat.{ℕ}
 use mathlib.Core.Path.{◌≡◌, refl, ap, ◌∙◌}
 use mathlib.Core.Bool.{Bool, true, false}
@@ -6,7 +7,6 @@ use mathlib.Core.List.{List, [], ◌∷◌}
 use lib.Dec.{eqb}
 use Rattle.bounded.specs.Search.{pick}
 use Rattle.bounded.proofs.BoolLaws.{or_r}
-use Rattle.answers.specs.declared.Answer.TheVariants.{Refused}
 use Rattle.answers.specs.Refusal.{refusal_number}
 use Rattle.answers.specs.Told.{Told, told}
 use Rattle.answers.proofs.RefusalLaws.{known}
@@ -30,7 +30,7 @@ by_first : (vs : List ℕ) (rs : List Row) → ByTable vs rs (first_of rs (recor
 by_first vs [] = result
 by_first vs (r ∷ rs) = go r.holds refl (by_first vs rs)
   where
-    go : (b : Bool) → r.holds ≡ b → ByTable vs rs (first_of rs (record { number = 0; values = vs })) → ByTable vs (r ∷ rs) (pick b (told (Refused r.refusal)) (first_of rs (record { number = 0; values = vs })))
+    go : (b : Bool) → r.holds ≡ b → ByTable vs rs (first_of rs (record { number = 0; values = vs })) → ByTable vs (r ∷ rs) (pick b (told (Err r.refusal)) (first_of rs (record { number = 0; values = vs })))
     go true h t = holds h
     go false h t = passes h t
 

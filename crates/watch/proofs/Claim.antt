@@ -1,4 +1,5 @@
 -- The demands are met by every list of calls, and the claim holds: the contracts make a list of calls on the code the run of its definitions (`made`).
+use Rattle.std.specs.Prelude.{Ok}
 use Prim.Native.Nat.{ℕ, suc, ◌+◌}
 use mathlib.Core.Path.{◌≡◌, refl, sym, ap, ◌∙◌}
 use mathlib.Core.Bool.{true, false}
@@ -7,7 +8,6 @@ use native.Mathlib.Omega.{arith}
 use borrow.Author.Tests.{eqb-true, eq-eqb}
 use Rattle.bounded.specs.Search.{pick}
 use Rattle.bounded.proofs.BoolLaws.{clash}
-use Rattle.answers.specs.declared.Answer.TheVariants.{Done}
 use Rattle.answers.specs.Told.{told}
 use Rattle.files.specs.Effect.{Call}
 use Rattle.files.specs.Plain.{Received, got}
@@ -118,11 +118,11 @@ module _ (k : ℕ) (w : World) where
   numbered : {o : Outcome} → burst k w ≡ o → (burst k w).answer.number ≡ 0 → o.answer.number ≡ 0
   numbered e h = sym (ap (λ (o : Outcome). o.answer.number) e) ∙ h
 
-  its_count : (burst k w).answer.number ≡ 0 → (burst k w).answer ≡ told (Done (accepted_steps (tries_of k w) w 0))
+  its_count : (burst k w).answer.number ≡ 0 → (burst k w).answer ≡ told (Ok (accepted_steps (tries_of k w) w 0))
   unfolding outcome
   its_count h = go (ends k w)
     where
-      go : Ends k w → (burst k w).answer ≡ told (Done (accepted_steps (tries_of k w) w 0))
+      go : Ends k w → (burst k w).answer ≡ told (Ok (accepted_steps (tries_of k w) w 0))
       go (lengths f e t) = absurd (omega (arith, numbered e h))
       go (number f a e t) = absurd (omega (arith, numbered e h))
       go (first f a r e t) = absurd (clash (accepted advances w) (eq-eqb _ 0 (numbered e h)) r)

@@ -1,4 +1,5 @@
 -- Demand 1 is met by every call as its contract promises it.
+use Rattle.std.specs.Prelude.{Err, Ok}
 use Prim.Native.Nat.{ℕ}
 use mathlib.Core.Path.{◌≡◌, refl, sym, ap, ◌∙◌}
 use mathlib.Core.Bool.{Bool, true, false, not, ◌&&◌}
@@ -13,10 +14,8 @@ use Rattle.bounded.specs.Search.{pick}
 use Rattle.bounded.specs.Table.{table}
 use Rattle.sound.proofs.SoundLaws.{is_sound_lem}
 use Rattle.answers.specs.declared.Refusal.TheVariants.{BadBuffer, BadTurn, BadTimes}
-use Rattle.answers.specs.declared.Answer.{Answer}
-use Rattle.answers.specs.declared.Answer.TheVariants.{Done, Refused}
 use Rattle.answers.specs.Refusal.{refusal_number}
-use Rattle.answers.specs.Told.{Told, told}
+use Rattle.answers.specs.Told.{Answer, Told, told}
 use Rattle.answers.specs.Order.{Row, row, first_by}
 use Rattle.answers.proofs.RefusalLaws.{looked_at_lem, not_none}
 use Rattle.format.specs.Format.{LaidOut, laid_out, fresh_store, fresh_desk, lay_out_store, lay_out_desk}
@@ -43,33 +42,33 @@ calls {x} {w} {v} {a} d =
     rw (h.world, h.got) (record { answered = answered w x; keeps = keeps w x; out = out_keeps w x; stops = stops w x })
 
 -- ---- a layout call: b says whether count and length are allowed, fresh is what it lays out
-lay_by : (b : Bool) (s fresh : List ℕ) (t : Told) → t ≡ (pick b (laid_out (Done 0) fresh) (laid_out (Refused BadBuffer) s)).answer → ByTable (0 ∷ []) (row (not b) BadBuffer ∷ []) t
+lay_by : (b : Bool) (s fresh : List ℕ) (t : Told) → t ≡ (pick b (laid_out (Ok 0) fresh) (laid_out (Err BadBuffer) s)).answer → ByTable (0 ∷ []) (row (not b) BadBuffer ∷ []) t
 lay_by true s fresh t h = rw h (passes refl result)
 lay_by false s fresh t h = rw h (holds refl)
 
-lay_keeps : (b : Bool) (s fresh t : List ℕ) (r : Answer) → laid_out r t ≡ pick b (laid_out (Done 0) fresh) (laid_out (Refused BadBuffer) s) → ((told r).number ≡ 0 → ⊥) → t ≡ s
+lay_keeps : (b : Bool) (s fresh t : List ℕ) (r : Answer) → laid_out r t ≡ pick b (laid_out (Ok 0) fresh) (laid_out (Err BadBuffer) s) → ((told r).number ≡ 0 → ⊥) → t ≡ s
 lay_keeps true s fresh t r h n = absurd (n (ap (λ (o : LaidOut). o.answer.number) h))
 lay_keeps false s fresh t r h n = ap (λ (o : LaidOut). o.buffer) h
 
-lay_gives : (b : Bool) (s fresh t : List ℕ) (r : Answer) → laid_out r t ≡ pick b (laid_out (Done 0) fresh) (laid_out (Refused BadBuffer) s) → (told r).number ≡ 0 → t ≡ fresh
+lay_gives : (b : Bool) (s fresh t : List ℕ) (r : Answer) → laid_out r t ≡ pick b (laid_out (Ok 0) fresh) (laid_out (Err BadBuffer) s) → (told r).number ≡ 0 → t ≡ fresh
 lay_gives true s fresh t r h n = ap (λ (o : LaidOut). o.buffer) h
 lay_gives false s fresh t r h n = let z : (told r).number ≡ 1 = ap (λ (o : LaidOut). o.answer.number) h in absurd (omega arith)
 
-lays : (b : Bool) (s fresh t : List ℕ) (r : Answer) → laid_out r t ≡ pick b (laid_out (Done 0) fresh) (laid_out (Refused BadBuffer) s) → LayAnswers (row (not b) BadBuffer ∷ []) s fresh r t
+lays : (b : Bool) (s fresh t : List ℕ) (r : Answer) → laid_out r t ≡ pick b (laid_out (Ok 0) fresh) (laid_out (Err BadBuffer) s) → LayAnswers (row (not b) BadBuffer ∷ []) s fresh r t
 lays b s fresh t r h =
     let p = lay_by b s fresh (told r) (ap (λ (o : LaidOut). o.answer) h) in
     record { answered = record { by = p; in_order = refl; known = known_by p }; lays = lay_gives b s fresh t r h; keeps = lay_keeps b s fresh t r h }
 
 -- ---- the dealer: b says whether steps and bay are allowed, t is what it then answers
-deal_by : (b : Bool) (x : ℕ) (cs none : List ℕ) (t : Told) → t ≡ (pick b (turn (Done x) cs) (turn (Refused BadTurn) none)).answer → ByTable (x ∷ []) (row (not b) BadTurn ∷ []) t
+deal_by : (b : Bool) (x : ℕ) (cs none : List ℕ) (t : Told) → t ≡ (pick b (turn (Ok x) cs) (turn (Err BadTurn) none)).answer → ByTable (x ∷ []) (row (not b) BadTurn ∷ []) t
 deal_by true x cs none t h = rw h (passes refl result)
 deal_by false x cs none t h = rw h (holds refl)
 
-deal_zeros : (b : Bool) (x : ℕ) (cs none counts : List ℕ) (r : Answer) → turn r counts ≡ pick b (turn (Done x) cs) (turn (Refused BadTurn) none) → ((told r).number ≡ 0 → ⊥) → counts ≡ none
+deal_zeros : (b : Bool) (x : ℕ) (cs none counts : List ℕ) (r : Answer) → turn r counts ≡ pick b (turn (Ok x) cs) (turn (Err BadTurn) none) → ((told r).number ≡ 0 → ⊥) → counts ≡ none
 deal_zeros true x cs none counts r h n = absurd (n (ap (λ (d : Dealt). d.answer.number) h))
 deal_zeros false x cs none counts r h n = ap (λ (d : Dealt). d.counts) h
 
-deal_gives : (b : Bool) (x : ℕ) (cs none counts : List ℕ) (r : Answer) → turn r counts ≡ pick b (turn (Done x) cs) (turn (Refused BadTurn) none) → (told r).number ≡ 0 → counts ≡ cs
+deal_gives : (b : Bool) (x : ℕ) (cs none counts : List ℕ) (r : Answer) → turn r counts ≡ pick b (turn (Ok x) cs) (turn (Err BadTurn) none) → (told r).number ≡ 0 → counts ≡ cs
 deal_gives true x cs none counts r h n = ap (λ (d : Dealt). d.counts) h
 deal_gives false x cs none counts r h n = let z : (told r).number ≡ 21 = ap (λ (d : Dealt). d.answer.number) h in absurd (omega arith)
 
@@ -79,7 +78,7 @@ abbrev laps_rows : Bool → Bool → List Row
 laps_rows a b = row (not a) BadTimes ∷ row (not b) BadBuffer ∷ []
 
 abbrev laps_left : Bool → Bool → ℕ → Lists → Lists → Left
-laps_left a b n o u = first_by (λ e. left (Refused e) o) (laps_rows a b) (left (Done n) u)
+laps_left a b n o u = first_by (λ e. left (Err e) o) (laps_rows a b) (left (Ok n) u)
 
 laps_by : (a b : Bool) (n : ℕ) (o u : Lists) (t : Told) → t ≡ (laps_left a b n o u).answer → ByTable (n ∷ []) (laps_rows a b) t
 laps_by true true n o u t h = rw h (passes refl (passes refl result))
@@ -108,14 +107,14 @@ matches {w} {m} {o} {v} r h =
 
 -- ---- which copies to keep: by any table rs, where n are kept and u is the list with the flags
 abbrev keep_left : List Row → ℕ → List ℕ → List ℕ → keeping.Left
-keep_left rs n o u = first_by (λ e. keeping.left (Refused e) o) rs (keeping.left (Done n) u)
+keep_left rs n o u = first_by (λ e. keeping.left (Err e) o) rs (keeping.left (Ok n) u)
 
 keep_by : (rs : List Row) (n : ℕ) (o u : List ℕ) → ByTable (n ∷ []) rs (keep_left rs n o u).answer
 keep_by [] n o u = result
 keep_by (r ∷ rs) n o u = go r.holds refl (keep_by rs n o u)
   where
     go : (b : Bool) → r.holds ≡ b → ByTable (n ∷ []) rs (keep_left rs n o u).answer
-        → ByTable (n ∷ []) (r ∷ rs) (pick b (keeping.left (Refused r.refusal) o) (keep_left rs n o u)).answer
+        → ByTable (n ∷ []) (r ∷ rs) (pick b (keeping.left (Err r.refusal) o) (keep_left rs n o u)).answer
     go true e t = holds e
     go false e t = passes e t
 
@@ -123,9 +122,9 @@ keep_keep : (rs : List Row) (n : ℕ) (o u : List ℕ) → ((keep_left rs n o u)
 keep_keep [] n o u c = absurd (c refl)
 keep_keep (r ∷ rs) n o u c = go r.holds c (keep_keep rs n o u)
   where
-    go : (b : Bool) → ((pick b (keeping.left (Refused r.refusal) o) (keep_left rs n o u)).answer.number ≡ 0 → ⊥)
+    go : (b : Bool) → ((pick b (keeping.left (Err r.refusal) o) (keep_left rs n o u)).answer.number ≡ 0 → ⊥)
         → (((keep_left rs n o u).answer.number ≡ 0 → ⊥) → (keep_left rs n o u).out ≡ o)
-        → (pick b (keeping.left (Refused r.refusal) o) (keep_left rs n o u)).out ≡ o
+        → (pick b (keeping.left (Err r.refusal) o) (keep_left rs n o u)).out ≡ o
     go true c t = refl
     go false c t = t c
 
@@ -133,9 +132,9 @@ keep_give : (rs : List Row) (n : ℕ) (o u : List ℕ) → (keep_left rs n o u).
 keep_give [] n o u c = refl
 keep_give (r ∷ rs) n o u c = go r.holds c (keep_give rs n o u)
   where
-    go : (b : Bool) → (pick b (keeping.left (Refused r.refusal) o) (keep_left rs n o u)).answer.number ≡ 0
+    go : (b : Bool) → (pick b (keeping.left (Err r.refusal) o) (keep_left rs n o u)).answer.number ≡ 0
         → ((keep_left rs n o u).answer.number ≡ 0 → (keep_left rs n o u).out ≡ u)
-        → (pick b (keeping.left (Refused r.refusal) o) (keep_left rs n o u)).out ≡ u
+        → (pick b (keeping.left (Err r.refusal) o) (keep_left rs n o u)).out ≡ u
     go true c t = absurd (eqb-false (refusal_number r.refusal) 0 (not_none r.refusal) c)
     go false c t = t c
 

@@ -1,4 +1,5 @@
 -- A burst as the next call of a list: by what the demands say of the step in its place.
+use Rattle.std.specs.Prelude.{Err, Ok}
 use Prim.Native.Nat.{ℕ, zero, suc, ◌+◌}
 use mathlib.Core.Path.{◌≡◌, refl, sym, ap, ◌∙◌, subst}
 use mathlib.Core.Bool.{Bool, true, false, not, ◌&&◌}
@@ -12,7 +13,6 @@ use Rattle.bounded.proofs.BoolLaws.{clash, never as impossible}
 use Rattle.desk.specs.Sizes.{running, finished, stopped}
 use Rattle.desk.specs.Desk.{desk_of}
 use Rattle.answers.specs.declared.Refusal.TheVariants.{WrongState, ImageFull, BadCount}
-use Rattle.answers.specs.declared.Answer.TheVariants.{Done, Refused}
 use Rattle.answers.specs.Refusal.{refusal_number}
 use Rattle.answers.specs.Told.{Told, told}
 use Rattle.checkpoint.specs.Fit.{is_running, both_framed}
@@ -105,10 +105,10 @@ module _ (es : List Event) (w : World) (ds : (fs : List Event) → OfEvents fs w
       go (first f a r e t) = n (sym (number_of e) ∙ h)
       go (counts f a r e) = z (sym h ∙ ap (λ (x : Told). x.number) e)
 
-  wrong : count_allowed k ≡ false → (burst k u).answer ≡ told (Refused BadCount)
+  wrong : count_allowed k ≡ false → (burst k u).answer ≡ told (Err BadCount)
   wrong c = go (ends k u)
     where
-      go : Ends k u → (burst k u).answer ≡ told (Refused BadCount)
+      go : Ends k u → (burst k u).answer ≡ told (Err BadCount)
       go (lengths f e t) = absurd (unframed f)
       go (number f a e t) = ap (λ (o : Outcome). o.answer) e
       go (first f a r e t) = absurd (clash (count_allowed k) a c)
@@ -132,17 +132,17 @@ module _ (es : List Event) (w : World) (ds : (fs : List Event) → OfEvents fs w
       go (first f a r e t) = no_count (sym (number_of e) ∙ h)
       go (counts f a r e) = let z : ◌≡◌ {A = ℕ} 0 17 = sym (ap (λ (x : Told). x.number) e) ∙ h in absurd (omega arith)
 
-  late : count_allowed k ≡ true → is_running u.desk ≡ false → (burst k u).answer ≡ told (Refused WrongState)
+  late : count_allowed k ≡ true → is_running u.desk ≡ false → (burst k u).answer ≡ told (Err WrongState)
   unfolding outcome
   late c i = go (ends k u)
     where
-      go : Ends k u → (burst k u).answer ≡ told (Refused WrongState)
+      go : Ends k u → (burst k u).answer ≡ told (Err WrongState)
       go (lengths f e t) = absurd (unframed f)
       go (number f a e t) = absurd (clash (count_allowed k) c a)
       go (first f a r e t) = ap (λ (o : Outcome). o.answer) e ∙ d.timing.late i
       go (counts f a r e) = absurd (clash (accepted advances u) r (ap (λ (x : Told). eqb x.number 0) (d.timing.late i)))
 
-  all : count_allowed k ≡ true → is_running (world_in (burst k u)).desk ≡ true → (burst k u).answer ≡ told (Done k)
+  all : count_allowed k ≡ true → is_running (world_in (burst k u)).desk ≡ true → (burst k u).answer ≡ told (Ok k)
   unfolding outcome tries_of
   all c i = go (ends k u)
     where
@@ -156,11 +156,11 @@ module _ (es : List Event) (w : World) (ds : (fs : List Event) → OfEvents fs w
       taken f = all_taken k 0 u laws_at (runs_on f) ∙ omega arith
 
       -- where the first is refused, the steps tried are fewer than were asked for
-      go : Ends k u → (burst k u).answer ≡ told (Done k)
+      go : Ends k u → (burst k u).answer ≡ told (Ok k)
       go (lengths f e t) = absurd (unframed f)
       go (number f a e t) = absurd (clash (count_allowed k) c a)
       go (first f a r e t) = absurd (none_taken k u a r (taken f))
-      go (counts f a r e) = e ∙ ap (λ (x : ℕ). told (Done x)) (ap (λ (b : Bool). accepted_steps (pick b (tries k u) []) u 0) (framed f) ∙ taken f)
+      go (counts f a r e) = e ∙ ap (λ (x : ℕ). told (Ok x)) (ap (λ (b : Bool). accepted_steps (pick b (tries k u) []) u 0) (framed f) ∙ taken f)
 
   pub next_burst : NextBurst k w u (burst k u).answer (world_in (burst k u))
   next_burst = record {

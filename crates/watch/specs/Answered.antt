@@ -14,10 +14,9 @@ use Rattle.octets.specs.Octets.{splice}
 use Rattle.sound.specs.declared.Form.{Form}
 use Rattle.sound.specs.Sound.{Sound, inodes_in}
 use Rattle.sound.specs.Test.{is_sound}
-use Rattle.answers.specs.declared.Answer.{Answer}
 use Rattle.answers.specs.declared.Refusal.TheVariants.{BadBuffer, ImageFull, BadTurn}
 use Rattle.answers.specs.Refusal.{refusal_number}
-use Rattle.answers.specs.Told.{Told, told}
+use Rattle.answers.specs.Told.{Answer, Told, told}
 use Rattle.answers.specs.Order.{Row, row, order, looked_at, numbers, among, is_in_order}
 use Rattle.format.specs.Format.{laid_out, fresh_store, fresh_desk, lay_out_store, lay_out_desk}
 use Rattle.files.specs.Effect.{look_up, read, create, write, shorten, link, unlink, rename, rename_new, given}

@@ -1,6 +1,5 @@
 -- The calls' code and the demands together: what is delivered by every list of calls made on the code after an accepted start. The quotes are the customer's.
-use Rattle.std.specs.Prelude.{ℕ, zero, suc, ◌≡◌, true, false, List, [], ◌∷◌, length}
-use Rattle.answers.specs.declared.Answer.TheVariants.{Done}
+use Rattle.std.specs.Prelude.{ℕ, zero, suc, ◌≡◌, true, false, List, [], ◌∷◌, length, Ok}
 use Rattle.answers.specs.Told.{told}
 use Rattle.files.specs.Plain.{Received, got}
 use Rattle.checkpoint.specs.Fit.{is_running, image_allowed, both_framed}
@@ -29,7 +28,7 @@ pub record BurstIsSteps (k : ℕ) (w : World) (a : Received) (v : World) : Type 
   -- where neither 1 nor 17 comes, they are those of k single steps: "does what that many single steps would"
   pub whole : both_framed w.store w.desk ≡ true → count_allowed k ≡ true → v ≡ run (that_many k) w
   -- it "reports how many were accepted"
-  pub count : a.answer.number ≡ 0 → a.answer ≡ told (Done (accepted_steps (tries_of k w) w 0))
+  pub count : a.answer.number ≡ 0 → a.answer ≡ told (Ok (accepted_steps (tries_of k w) w 0))
   -- "If the very first is refused, that refusal is the answer."
   pub first : (es : List Event) → tries_of k w ≡ advances ∷ es → accepted advances w ≡ false → a.answer ≡ (outcome advances w).answer
 

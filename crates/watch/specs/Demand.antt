@@ -1,7 +1,7 @@
 -- The demands (their quotes are the customer's) as one claim about lists: what a theorem is to inhabit.
 -- xs are the calls after an accepted start, which left the world w; rs is what their callers got, and u the world that they leave.
 -- "in demand 3's list the call stands for the single steps it tried": singles xs w is that list.
-use Rattle.std.specs.Prelude.{ℕ, ◌+◌, ◌*◌, ◌≤◌, ◌<◌, ◌≡◌, true, false, List, ◌++◌, ◌⊎◌, eqb}
+use Rattle.std.specs.Prelude.{ℕ, ◌+◌, ◌*◌, ◌≤◌, ◌<◌, ◌≡◌, true, false, List, ◌++◌, ◌⊎◌, eqb, Err, Ok}
 use Rattle.bounded.specs.Search.{pick}
 use Rattle.layout.specs.Sizes.{is_complete, not_complete}
 use Rattle.layout.specs.Header.{header_of}
@@ -10,12 +10,10 @@ use Rattle.desk.specs.Sizes.{running, finished, stopped, steps_an_inode}
 use Rattle.desk.specs.Desk.{desk_of}
 use Rattle.answers.specs.declared.Refusal.TheVariants.{BadBuffer, UnsoundStore, BadDesk, WrongState, ImageFull, BadCount}
 use Rattle.answers.specs.Refusal.{refusal_number}
-use Rattle.answers.specs.declared.Answer.TheVariants.{Done, Refused}
 use Rattle.answers.specs.Told.{Told, told}
 use Rattle.files.specs.Plain.{Received}
-use Rattle.checkpoint.specs.declared.Status.TheVariants.{Is}
 use Rattle.checkpoint.specs.Fit.{is_running}
-use Rattle.checkpoint.specs.Live.{World, world_in, told_status}
+use Rattle.checkpoint.specs.Live.{World, world_in, told_status, standing}
 use Rattle.checkpoint.specs.List.{Event, asks, starts, advances, outcome, next, refusal_of, accepted, run, Finish, accepted_steps, state_after, plain_run, plain_replies}
 use Rattle.checkpoint.specs.Burst.{count_allowed, burst, Act, singles}
 use Rattle.checkpoint.specs.Finished.{count_of, Finished}
@@ -24,7 +22,7 @@ use Rattle.watch.specs.Received.{received, steps_told, heard, replies, steps_ask
 
 -- "the copy's accepted steps are the number that the state question reports, and at most 14 times the inode count, plus 1" (F-1: 46 times); the state that it reports is the one that the answers tell, and so is byte 8
 pub record Reported (xs : List Act) (w : World) (rs : List Received) (u : World) : Type 0 where
-  pub reports : (outcome asks u).answer ≡ told_status (Is (state_after (singles xs w) w running) (desk_of u.desk).locked (steps_told xs rs 0))
+  pub reports : (outcome asks u).answer ≡ told_status (Ok (standing (state_after (singles xs w) w running) (desk_of u.desk).locked (steps_told xs rs 0)))
   -- these are the accepted ones among the single steps that the list stands for
   pub steps : steps_told xs rs 0 ≡ accepted_steps (singles xs w) w 0
   pub bound : steps_told xs rs 0 ≤ steps_an_inode * count_of w + 1
@@ -49,12 +47,12 @@ pub record NextBurst (k : ℕ) (w u : World) (a : Told) (v : World) : Type 0 whe
   pub store : a.number ≡ refusal_number UnsoundStore → ⊥
   pub desk : a.number ≡ refusal_number BadDesk → ⊥
   -- "17 when the number of steps is outside 1 to 64", and only then
-  pub wrong : count_allowed k ≡ false → a ≡ told (Refused BadCount)
+  pub wrong : count_allowed k ≡ false → a ≡ told (Err BadCount)
   pub allowed : count_allowed k ≡ true → a.number ≡ refusal_number BadCount → ⊥
   -- "15 .. step while not"
-  pub late : count_allowed k ≡ true → is_running u.desk ≡ false → a ≡ told (Refused WrongState)
+  pub late : count_allowed k ≡ true → is_running u.desk ≡ false → a ≡ told (Err WrongState)
   -- fewer steps than were asked for, or none, only where the copy runs no more
-  pub all : count_allowed k ≡ true → is_running v.desk ≡ true → a ≡ told (Done k)
+  pub all : count_allowed k ≡ true → is_running v.desk ≡ true → a ≡ told (Ok k)
   -- "With 12 × N image blocks or more, 16 never comes in a run." (F-1: 44 × N)
   pub never_full : Roomy w → a.number ≡ refusal_number ImageFull → ⊥
 
@@ -75,7 +73,7 @@ pub record Demand (xs : List Act) (w : World) (rs : List Received) (u : World) :
   pub progress : Progress u
   pub bursts : (k : ℕ) → NextBurst k w u (burst k u).answer (world_in (burst k u))
   -- "step the steps so far"
-  pub step_answer_lem : accepted advances u ≡ true → (outcome advances u).answer ≡ told (Done (steps_told xs rs 0 + 1))
+  pub step_answer_lem : accepted advances u ≡ true → (outcome advances u).answer ≡ told (Ok (steps_told xs rs 0 + 1))
   -- "With 12 × N image blocks or more, 16 never comes in a run." (F-1: 44 × N)
   pub never_full : Roomy w → refusal_of advances u ≡ refusal_number ImageFull → ⊥
 

@@ -1,13 +1,12 @@
 // A list of events from a laid-out store on, with a copy under way; the one behind it finishes the
 // copy.
 use crate::print;
-use trial_compare::calls::ALIKE;
-use trial_events::event;
-use trial_events::event::{DESK_BYTES, Event, SLOTS, STORE_BYTES};
+use trial_compare::both::Sides;
+use trial_compare::calls::Wrong;
+use trial_events::event::{DESK_BYTES, Entry, Event, STORE_BYTES};
 use trial_events::print::word;
-use trial_record::copy::{Copy, MOMENTS_BYTES};
+use trial_record::copy::{Copy, Record};
 use trial_record::list::turn;
-use trial_record::tried::COUNTS;
 
 pub const INODES: usize = 8;
 
@@ -15,61 +14,15 @@ pub const BLOCKS: usize = 59;
 
 const EVENTS: usize = 26;
 
-// A call on an entry; a link has an inode.
-pub fn on_entry(what: usize, dir: usize, name: usize, inode: usize) -> Event {
-    Event {
-        what,
-        dir,
-        name,
-        to: 0,
-        other: 0,
-        inode,
-        offset: 0,
-        length: 0,
-        count: 0,
-    }
+pub fn at(dir: usize, name: usize) -> Entry {
+    Entry { dir, name }
 }
 
-fn rename(dir: usize, name: usize, to: usize, other: usize) -> Event {
-    Event {
-        what: event::RENAME,
-        dir,
-        name,
-        to,
-        other,
-        inode: 0,
-        offset: 0,
-        length: 0,
-        count: 0,
-    }
-}
-
-// A read or a write.
-pub fn on_file(what: usize, inode: usize, offset: usize, length: usize) -> Event {
-    Event {
-        what,
-        dir: 0,
-        name: 0,
-        to: 0,
-        other: 0,
+pub fn write(inode: usize, offset: usize, length: usize) -> Event {
+    Event::Write {
         inode,
         offset,
         length,
-        count: 0,
-    }
-}
-
-pub fn steps(count: usize) -> Event {
-    Event {
-        what: event::BURST,
-        dir: 0,
-        name: 0,
-        to: 0,
-        other: 0,
-        inode: 0,
-        offset: 0,
-        length: 0,
-        count,
     }
 }
 
@@ -81,150 +34,93 @@ pub fn steps(count: usize) -> Event {
 // and the file is not.
 fn nth(k: usize) -> Event {
     match k {
-        0 => on_entry(event::CREATE_DIRECTORY, 1, 0, 0),
-        1 => on_entry(event::CREATE_FILE, 1, 1, 0),
-        2 => on_file(event::WRITE, 3, 0, 100),
-        3 => on_entry(event::CREATE_FILE, 2, 0, 0),
-        4 => on_file(event::WRITE, 4, 0, 1000),
-        5 => on_file(event::WRITE, 4, 800, 50),
-        6 => on_entry(event::LINK, 2, 1, 3),
-        7 => on_entry(event::CREATE_FILE, 1, 2, 0),
-        8 => on_entry(event::CREATE_FILE, 1, 3, 0),
-        9 => on_file(event::WRITE, 6, 0, 10),
-        10 => on_entry(event::CREATE_DIRECTORY, 2, 3, 0),
-        11 => on_entry(event::CREATE_FILE, 7, 0, 0),
-        12 => on_entry(event::LINK, 2, 4, 3),
-        13 => on_entry(event::START, 0, 0, 0),
-        14 => steps(3),
-        15 => on_entry(event::UNLINK, 1, 3, 0),
-        16 => rename(2, 3, 1, 3),
-        17 => on_entry(event::CREATE_FILE, 2, 2, 0),
-        18 => on_file(event::WRITE, 6, 0, 20),
-        19 => rename(1, 2, 1, 4),
-        20 => steps(3),
-        21 => rename(7, 0, 2, 4),
-        22 => steps(4),
-        23 => on_file(event::WRITE, 3, 0, 5),
-        24 => on_file(event::WRITE, 3, 70, 5),
-        25 => steps(10),
-        _ => steps(64),
+        0 => Event::CreateDirectory(at(1, 0)),
+        1 => Event::CreateFile(at(1, 1)),
+        2 => write(3, 0, 100),
+        3 => Event::CreateFile(at(2, 0)),
+        4 => write(4, 0, 1000),
+        5 => write(4, 800, 50),
+        6 => Event::Link(at(2, 1), 3),
+        7 => Event::CreateFile(at(1, 2)),
+        8 => Event::CreateFile(at(1, 3)),
+        9 => write(6, 0, 10),
+        10 => Event::CreateDirectory(at(2, 3)),
+        11 => Event::CreateFile(at(7, 0)),
+        12 => Event::Link(at(2, 4), 3),
+        13 => Event::Start,
+        14 => Event::Burst(3),
+        15 => Event::Unlink(at(1, 3)),
+        16 => Event::Rename(at(2, 3), at(1, 3)),
+        17 => Event::CreateFile(at(2, 2)),
+        18 => write(6, 0, 20),
+        19 => Event::Rename(at(1, 2), at(1, 4)),
+        20 => Event::Burst(3),
+        21 => Event::Rename(at(7, 0), at(2, 4)),
+        22 => Event::Burst(4),
+        23 => write(3, 0, 5),
+        24 => write(3, 70, 5),
+        25 => Event::Burst(10),
+        _ => Event::Burst(64),
     }
 }
 
-// The copy under way after the events; one with no moment where an event is not right.
-fn run_events(
-    store: &mut [u8],
-    image: &mut [u8],
-    desk: &mut [u8],
-    beside: &mut [u8],
-    moments: &mut [u8; MOMENTS_BYTES],
-    taken: &mut [u8; SLOTS],
-    tried: &mut [u64; COUNTS],
-) -> Copy {
-    let mut copy = Copy {
-        moments: 0,
-        steps: 0,
-    };
+// The events, up to one that is not right: then no copy is under way.
+fn run_events(sides: &mut Sides, record: &mut Record) {
     for k in 0..EVENTS {
-        let next = turn(
-            nth(k),
-            (k + 1) as u8,
-            INODES,
-            copy,
-            &mut *store,
-            &mut *image,
-            &mut *desk,
-            &mut *beside,
-            &mut *moments,
-            &mut *taken,
-            &mut *tried,
-        );
-        if next.wrong != ALIKE {
-            return Copy {
-                moments: 0,
-                steps: 0,
-            };
+        if turn(nth(k), (k + 1) as u8, &mut *sides, &mut *record).is_err() {
+            record.copy = Copy::none();
+            return;
         }
-        copy = next.copy;
     }
-    copy
 }
 
 // The bytes of one buffer, to another if it has room.
 pub fn refill(to: &mut [u8], from: &[u8]) {
-    if to.len() < from.len() {
-        return;
+    let k = from.len();
+    if k <= to.len() {
+        to[..k].copy_from_slice(from);
     }
-    octets::copy_range(to, 0, from, 0, from.len());
 }
 
 // The copy under way is finished in another image, on a copy of the desk; what is wrong of that
 // event.
-fn finish(
-    copy: Copy,
-    store: &mut [u8],
-    half: &[u8],
-    notes: &[u8],
-    whole: &mut [u8],
-    beside: &mut [u8],
-    moments: &mut [u8; MOMENTS_BYTES],
-    taken: &mut [u8; SLOTS],
-    tried: &mut [u64; COUNTS],
-) -> usize {
+fn finish(sides: &mut Sides, whole: &mut [u8], record: &mut Record) -> Result<(), Wrong> {
     let mut desk = [0u8; DESK_BYTES];
-    refill(&mut desk, notes);
-    refill(&mut *whole, half);
-    let next = turn(
-        nth(EVENTS),
-        0,
-        INODES,
-        copy,
-        store,
-        whole,
-        &mut desk,
-        beside,
-        moments,
-        taken,
-        tried,
-    );
-    next.wrong
+    refill(&mut desk, &*sides.desk);
+    refill(&mut *whole, &*sides.image);
+    let mut sides = Sides {
+        store: &mut *sides.store,
+        image: whole,
+        desk: &mut desk,
+        beside: &mut *sides.beside,
+        inodes: INODES,
+    };
+    turn(nth(EVENTS), 0, &mut sides, record)
 }
 
-// The list on buffers laid out; prints whether it is right, and answers the copy as it was before
+// The list on buffers laid out; prints whether it is right, and leaves the copy as it was before
 // its finish. The finished image is in whole; image and desk stay as they were before.
 pub fn run(
     store: &mut [u8],
     image: &mut [u8],
     desk: &mut [u8],
     whole: &mut [u8],
-    moments: &mut [u8; MOMENTS_BYTES],
-    taken: &mut [u8; SLOTS],
-) -> Copy {
+    record: &mut Record,
+) {
     let mut beside = [0u8; STORE_BYTES];
-    let mut tried = [0u64; COUNTS];
-    watch::lay_out_store(&mut beside, INODES, BLOCKS);
-    let copy = run_events(
-        &mut *store,
-        &mut *image,
-        &mut *desk,
-        &mut beside,
-        &mut *moments,
-        &mut *taken,
-        &mut tried,
-    );
-    let wrong = finish(
-        copy,
+    let _ = watch::lay_out_store(&mut beside, INODES, BLOCKS);
+    let mut sides = Sides {
         store,
         image,
         desk,
-        whole,
-        &mut beside,
-        moments,
-        taken,
-        &mut tried,
-    );
+        beside: &mut beside,
+        inodes: INODES,
+    };
+    run_events(&mut sides, &mut *record);
+    let copy = record.copy;
+    let finished = finish(&mut sides, whole, &mut *record);
+    record.copy = copy;
     word(b"the list:");
-    print::wrong(wrong);
+    print::verdict(finished);
     word(b"\n");
-    copy
 }

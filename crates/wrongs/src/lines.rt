@@ -1,9 +1,8 @@
 // The lines of the input.
 use crate::cases;
 use text::pieces::{is_word, piece, pieces};
-use trial_events::event::SLOTS;
 use trial_events::print::word;
-use trial_record::copy::{Copy, MOMENTS_BYTES};
+use trial_record::copy::{Copy, Record};
 
 const STDIN_FILENO: i32 = 0;
 
@@ -11,16 +10,17 @@ const NEWLINE: u8 = 10;
 
 const COLON: u8 = 58;
 
-fn line(
-    text: &[u8],
-    copy: Copy,
-    store: &[u8],
-    half: &[u8],
-    notes: &[u8],
-    whole: &[u8],
-    moments: &mut [u8; MOMENTS_BYTES],
-    taken: &mut [u8; SLOTS],
-) {
+// A copy under way, the store that it is of, its image and desk, and the image that it ends in.
+#[derive(Clone, Copy)]
+pub struct Halfway<'a> {
+    pub copy: Copy,
+    pub store: &'a [u8],
+    pub half: &'a [u8],
+    pub notes: &'a [u8],
+    pub whole: &'a [u8],
+}
+
+fn line(text: &[u8], at: Halfway, record: &mut Record) {
     let what = piece(text, COLON, 0);
     let how = piece(text, COLON, 2);
     word(what);
@@ -28,55 +28,29 @@ fn line(
     word(piece(text, COLON, 1));
     word(b":");
     if is_word(what, b"copy") {
-        cases::copy(how, copy, store, whole, moments, taken);
+        cases::copy(how, at.copy, at.store, at.whole, record);
     } else if is_word(what, b"plain") {
-        cases::plain(how, store, moments);
+        cases::plain(how, at.store, record);
     } else if is_word(what, b"burst") {
-        cases::burst(how, store, half, notes);
+        cases::burst(how, at.store, at.half, at.notes);
     } else {
-        cases::answer(how, store, half, moments, taken);
+        cases::answer(how, at.store, at.half, record);
     }
     word(b"\n");
 }
 
-fn each_line(
-    text: &[u8],
-    copy: Copy,
-    store: &[u8],
-    half: &[u8],
-    notes: &[u8],
-    whole: &[u8],
-    moments: &mut [u8; MOMENTS_BYTES],
-    taken: &mut [u8; SLOTS],
-) {
+fn each_line(text: &[u8], at: Halfway, record: &mut Record) {
     for k in 0..pieces(text, NEWLINE) {
         let next = piece(text, NEWLINE, k);
-        if next.len() != 0 {
-            line(
-                next,
-                copy,
-                store,
-                half,
-                notes,
-                whole,
-                &mut *moments,
-                &mut *taken,
-            );
+        if !next.is_empty() {
+            line(next, at, &mut *record);
         }
     }
 }
 
 // All lines of the input.
-pub fn all(
-    copy: Copy,
-    store: &[u8],
-    half: &[u8],
-    notes: &[u8],
-    whole: &[u8],
-    moments: &mut [u8; MOMENTS_BYTES],
-    taken: &mut [u8; SLOTS],
-) {
+pub fn all(at: Halfway, record: &mut Record) {
     let mut text = io::large_buffer();
     let n = io::read_full(STDIN_FILENO, &mut text);
-    each_line(&text[..n], copy, store, half, notes, whole, moments, taken);
+    each_line(&text[..n], at, record);
 }

@@ -9,9 +9,10 @@ mod history;
 mod lines;
 mod print;
 
-use trial_events::event::{DESK_BYTES, SLOTS, STORE_BYTES};
+use crate::lines::Halfway;
+use trial_events::event::{DESK_BYTES, STORE_BYTES};
 use trial_events::print::difference;
-use trial_record::copy::MOMENTS_BYTES;
+use trial_record::copy::Record;
 
 // The list that a difference is printed of, with renames of both kinds, up to an event that is a burst.
 const LIST: u64 = 5473;
@@ -23,26 +24,17 @@ fn main() {
     let mut image = [0u8; 4368];
     let mut desk = [0u8; DESK_BYTES];
     let mut whole = [0u8; 4368];
-    let mut moments = [0u8; MOMENTS_BYTES];
-    let mut taken = [0u8; SLOTS];
-    watch::lay_out_store(&mut store, history::INODES, history::BLOCKS);
-    watch::lay_out_desk(&mut desk, history::INODES);
-    let copy = history::run(
-        &mut store,
-        &mut image,
-        &mut desk,
-        &mut whole,
-        &mut moments,
-        &mut taken,
-    );
-    lines::all(
-        copy,
-        &store,
-        &image,
-        &desk,
-        &whole,
-        &mut moments,
-        &mut taken,
-    );
+    let mut record = Record::new();
+    let _ = watch::lay_out_store(&mut store, history::INODES, history::BLOCKS);
+    let _ = watch::lay_out_desk(&mut desk, history::INODES);
+    history::run(&mut store, &mut image, &mut desk, &mut whole, &mut record);
+    let at = Halfway {
+        copy: record.copy,
+        store: &store,
+        half: &image,
+        notes: &desk,
+        whole: &whole,
+    };
+    lines::all(at, &mut record);
     difference(1, LIST, EVENT);
 }

@@ -1,25 +1,23 @@
 // What was found, in words.
-use trial_compare::calls;
+use trial_compare::calls::Wrong;
 use trial_events::print::{number, word};
-use trial_record::copy;
+use trial_judge::copy::Entry;
 use trial_record::finished::Found;
 
-const SLOTS: usize = 48;
-
-// A finding about an inode; 0 for none.
-fn inode(what: &[u8], i: usize) {
-    if i != 0 {
+// A finding about an inode.
+fn inode(what: &[u8], i: Option<usize>) {
+    if let Some(i) = i {
         word(what);
         number(i);
     }
 }
 
-// A finding about an entry, told by its directory and slot; 0 for none.
-fn entry(what: &[u8], x: usize) {
-    if x != 0 {
+// A finding about an entry.
+fn entry(what: &[u8], e: Option<Entry>) {
+    if let Some(e) = e {
         word(what);
-        number(x / SLOTS);
-        number(x % SLOTS);
+        number(e.directory);
+        number(e.slot);
     }
 }
 
@@ -41,17 +39,17 @@ pub fn found(f: Found) {
 }
 
 // What is wrong of an event.
-pub fn wrong(what: usize) {
-    match what {
-        calls::ALIKE => word(b" right"),
-        calls::ANSWER => word(b" wrong answer"),
-        calls::OUT => word(b" wrong out-buffer"),
-        calls::STORE => word(b" wrong store"),
-        calls::IMAGE => word(b" wrong image"),
-        calls::DESK => word(b" wrong desk"),
-        copy::REFUSAL => word(b" wrong refusal"),
-        copy::START => word(b" wrong start"),
-        copy::STEPS => word(b" wrong steps"),
-        _ => word(b" wrong copy"),
+pub fn verdict<T: Drop>(of: Result<T, Wrong>) {
+    match of {
+        Ok(_) => word(b" right"),
+        Err(Wrong::Answer) => word(b" wrong answer"),
+        Err(Wrong::Out) => word(b" wrong out-buffer"),
+        Err(Wrong::Store) => word(b" wrong store"),
+        Err(Wrong::Image) => word(b" wrong image"),
+        Err(Wrong::Desk) => word(b" wrong desk"),
+        Err(Wrong::Refusal) => word(b" wrong refusal"),
+        Err(Wrong::Start) => word(b" wrong start"),
+        Err(Wrong::Steps) => word(b" wrong steps"),
+        Err(Wrong::Finish) => word(b" wrong copy"),
     }
 }

@@ -1,4 +1,4 @@
-use Rattle.bursts.proofs.TurnLaws.{burst_unframed, burst_count, burst_framed, burst_ready, burst_through, burst_stopped}
+use Rattle.bursts.proofs.TurnLaws.{burst_unframed, burst_count, burst_through, burst_stopped}
 use Rattle.bursts.proofs.burst.Goals as goal
 
 pub returns-then-not-both_framed : goal.returns-then-not-both_framed
@@ -11,22 +11,12 @@ returns-then-not-count_allowed c =
     let a = c.args in
     burst_count a.store.now a.image.now a.desk.now a.count _ c.both_framed.ensures c.if-not-both_framed.false-raw _ c.count_allowed.ensures c.if-not-count_allowed.true-raw
 
-pub after_lengths-requires : goal.after_lengths-requires
-after_lengths-requires c =
-    let a = c.args in
-    burst_framed a.store.now a.image.now a.desk.now a.count _ c.both_framed.ensures c.if-not-both_framed.false-raw
-
-pub go_on-requires : goal.go_on-requires
-go_on-requires c =
-    let a = c.args in
-    burst_ready a.store.now a.image.now a.desk.now a.count _ c.both_framed.ensures c.if-not-both_framed.false-raw _ c.count_allowed.ensures c.if-not-count_allowed.false-raw _ c.after_lengths.ensures c.in-Open.is
-
-pub returns-in-Open : goal.returns-in-Open
-returns-in-Open c =
+pub returns : goal.returns
+returns c =
     let a = c.args in
     burst_through a.store.now a.image.now a.desk.now a.count _ c.both_framed.ensures c.if-not-both_framed.false-raw _ c.count_allowed.ensures c.if-not-count_allowed.false-raw _ c.go_on.ensures
 
-pub returns-in-Shut : goal.returns-in-Shut
-returns-in-Shut c =
+pub returns-in_err-w : goal.returns-in_err-w
+returns-in_err-w c =
     let a = c.args in
-    burst_stopped a.store.now a.image.now a.desk.now a.count _ c.both_framed.ensures c.if-not-both_framed.false-raw _ c.count_allowed.ensures c.if-not-count_allowed.false-raw _ c.after_lengths.ensures _ c.in-Shut.is
+    burst_stopped a.store.now a.image.now a.desk.now a.count _ c.both_framed.ensures c.if-not-both_framed.false-raw _ c.count_allowed.ensures c.if-not-count_allowed.false-raw _ c.after_lengths.ensures _ _ c.from_residual.ensures.1 c.in_err-w.was

@@ -1,39 +1,20 @@
-use Rattle.std.proofs.Common.{◌≡◌, ℕ, ◌+◌, ◌*◌, ◌/◌, ◌%◌, sym, ap, ◌∙◌, arith}
+use Rattle.std.proofs.Common.{◌+◌, ◌*◌, ◌/◌, ◌%◌, sym, refl, ◌∙◌, arith, rules}
 use Rattle.blocks.specs.Map.{map_words}
-use Rattle.bounded.specs.Below.{all_to}
-use Rattle.bounded.proofs.BoolLaws.{chain_on, chain_off}
-use Rattle.bounded.proofs.BelowLaws.{all_none}
+use Rattle.bounded.specs.Below.{all_below}
+use Rattle.bounded.proofs.BoolLaws.{and_false_l, chain_end}
 use Rattle.check_inodes.specs.Pass.{blank_if_free_b}
-use Rattle.check_inodes.proofs.InodeLaws.{rows_more, rows_stop, rows_end}
+use Rattle.check_inodes.proofs.ChainLaws.{all_range}
+use Rattle.check_inodes.proofs.InodeLaws.{rows_are}
 use Rattle.check_inodes.proofs.blanks_right.Goals as goal
 
-pub loop-row-init : goal.loop-row-init
-loop-row-init c = (omega arith, all_none _)
+pub returns-then-all : goal.returns-then-all
+returns-then-all c =
+    let p = blank_if_free_b c.args.s.now c.args.n in
+    let full = all_range (λ row. all_below (λ k. p (map_words * row + k + 1)) map_words) (c.args.b / map_words) _ _ _ _ refl c.all.ensures.ran (λ x b q k. (search rules, λ l. search rules)) in
+    chain_end _ _ _ (sym full ∙ c.if-all.true) c.row_blank.ensures ∙ rows_are p (c.args.b / map_words) (c.args.b % map_words) c.args.b (omega arith)
 
-pub row_blank-requires : goal.row_blank-requires
-row_blank-requires c = let p = c.requires in (p.0, p.1, omega arith, omega arith)
-
-pub returns-then-not-row_blank : goal.returns-then-not-row_blank
-returns-then-not-row_blank c =
-    let i = c.loop-row in
-    let a = c.args in
-    rows_stop (blank_if_free_b a.s.now a.n) a.b i.row map_words i.invariant.1 (omega arith) (chain_off _ _ c.row_blank.ensures c.if-not-row_blank.true-raw)
-
-pub loop-row-preserved : goal.loop-row-preserved
-loop-row-preserved c =
-    let i = c.loop-row in
-    let a = c.args in
-    let e : map_words * i.row + map_words ≡ map_words * (i.row + 1) = omega arith in
-    let h = rows_more (blank_if_free_b a.s.now a.n) a.b i.row map_words i.invariant.1 (chain_on _ _ c.row_blank.ensures c.if-not-row_blank.false-raw) in
-    (omega arith, ap (all_to (blank_if_free_b a.s.now a.n)) (sym e) ∙ h)
-
-pub row_blank-requires-2 : goal.row_blank-requires-2
-row_blank-requires-2 c = let p = c.requires in (p.0, p.1, omega arith, omega arith)
-
-pub returns : goal.returns
-returns c =
-    let a = c.args in
-    let i = c.loop-row in
-    let q : a.b / 256 ≡ i.row = omega arith in
-    let p = blank_if_free_b a.s.now a.n in
-    rows_end p a.b (a.b / 256) (a.b % 256) (ap (λ (x : ℕ). all_to p (map_words * x)) q ∙ i.invariant.1) _ (omega arith) c.row_blank-2.ensures
+pub returns-else-all : goal.returns-else-all
+returns-else-all c =
+    let p = blank_if_free_b c.args.s.now c.args.n in
+    let full = all_range (λ row. all_below (λ k. p (map_words * row + k + 1)) map_words) (c.args.b / map_words) _ _ _ _ refl c.all.ensures.ran (λ x b q k. (search rules, λ l. search rules)) in
+    c.if-all.false ∙ sym (and_false_l _ _ (sym full ∙ c.if-all.false)) ∙ rows_are p (c.args.b / map_words) (c.args.b % map_words) c.args.b (omega arith)

@@ -1,7 +1,6 @@
 use Rattle.std.proofs.Common.{◌≡◌, ℕ, ◌+◌, ◌-◌, ◌*◌, ◌<◌, sym, refl, ap, ◌∙◌, arith}
-use borrow.Author.Tests.{not-false}
 use Rattle.bounded.proofs.BelowLaws.{all_stopped, all_none, all_more}
-use Rattle.bounded.proofs.BoolLaws.{chain_on, chain_off, never}
+use Rattle.bounded.proofs.BoolLaws.{never}
 use Rattle.layout.specs.Inode.{address_of}
 use Rattle.blocks.specs.Block.{kth_block}
 use Rattle.blocks.proofs.KthLaws.{kth_direct}
@@ -12,14 +11,11 @@ use Rattle.check_inodes.proofs.direct_right.Goals as goal
 pub loop-k-init : goal.loop-k-init
 loop-k-init c = (omega arith, all_none _, c.requires.3)
 
-pub shape_of-map-then-not-used_right : goal.shape_of-map-then-not-used_right
-shape_of-map-then-not-used_right c = omega (arith, c.used_right.auto.map, c.loop-k.invariant.2.long, c.requires.3.long)
-
 pub returns-then-not-used_right : goal.returns-then-not-used_right
 returns-then-not-used_right c =
     let i = c.loop-k in
     let p = c.requires in
-    (all_stopped _ _ i.k (omega (arith, p.2)) (chain_off _ _ (c.used_right.ensures.0 ∙ kth_used _ _ _ _ i.k _ _ refl c.kth_block.ensures p.1.low (omega (arith, p.2)) p.0.blocks _ i.invariant.2 (omega (arith, p.2))) c.if-not-used_right.true-raw), never)
+    (all_stopped _ _ i.k (omega (arith, p.2)) (sym (c.used_right.ensures.0 ∙ kth_used _ _ _ _ i.k _ _ refl c.kth_block.ensures p.1.low (omega (arith, p.2)) p.0.blocks _ i.invariant.2 (omega (arith, p.2))) ∙ c.if-not-used_right.true), never)
 
 pub loop-k-preserved : goal.loop-k-preserved
 loop-k-preserved c =
@@ -28,12 +24,9 @@ loop-k-preserved c =
     let y = c.used_right in
     let e = c.kth_block.ensures in (
       omega arith,
-      all_more _ _ i.invariant.1 (chain_on _ _ (y.ensures.0 ∙ kth_used _ _ _ _ i.k _ _ refl e p.1.low (omega (arith, p.2)) p.0.blocks _ i.invariant.2 (omega (arith, p.2))) c.if-not-used_right.false-raw),
-      map_as _ _ (omega arith) (kth_noted _ _ _ i.k _ e p.1.low (omega (arith, p.2)) _ _ i.invariant.2 (y.ensures.1 (not-false _ c.if-not-used_right.false-raw))),
+      all_more _ _ i.invariant.1 (sym (y.ensures.0 ∙ kth_used _ _ _ _ i.k _ _ refl e p.1.low (omega (arith, p.2)) p.0.blocks _ i.invariant.2 (omega (arith, p.2))) ∙ c.if-not-used_right.false),
+      map_as _ _ (omega arith) (kth_noted _ _ _ i.k _ e p.1.low (omega (arith, p.2)) _ _ i.invariant.2 (y.ensures.1 c.if-not-used_right.false)),
     )
-
-pub shape_of-map : goal.shape_of-map
-shape_of-map c = c.loop-k.invariant.2.long ∙ sym c.requires.3.long
 
 pub returns : goal.returns
 returns c =

@@ -1,7 +1,6 @@
 use Rattle.std.proofs.Common.{◌≡◌, ℕ, ◌+◌, ◌-◌, ◌<◌, sym, refl, ◌∙◌, arith}
-use borrow.Author.Tests.{not-false}
 use Rattle.bounded.proofs.BelowLaws.{all_stopped, all_none, all_more}
-use Rattle.bounded.proofs.BoolLaws.{chain_on, chain_off, never}
+use Rattle.bounded.proofs.BoolLaws.{never}
 use Rattle.blocks.specs.Block.{further_of, kth_block}
 use Rattle.blocks.proofs.KthLaws.{kth_direct}
 use Rattle.blocks.proofs.MapLaws.{map_as}
@@ -13,16 +12,13 @@ loop-j-init c =
     let p = c.requires in
     (omega arith, further_few _ _ _ p.i_value.0 p.sized.2, c.kth_block-a.ensures ∙ kth_direct _ _ _ _ 11 (omega arith), all_none _, p.sized.3)
 
-pub shape_of-map-then-not-used_right : goal.shape_of-map-then-not-used_right
-shape_of-map-then-not-used_right c = omega (arith, c.used_right.auto.map, c.loop-j.invariant.4.long, c.requires.sized.3.long)
-
 pub returns-then-not-used_right : goal.returns-then-not-used_right
 returns-then-not-used_right c =
     let i = c.loop-j in
     let p = c.requires in
     let u = i.invariant.1 in
     let e = further_is _ _ _ i.j _ _ _ p.i_value.0 refl p.i_value.1 i.invariant.2 c.further.ensures in
-    (all_stopped _ _ i.j (omega arith) (chain_off _ _ (c.used_right.ensures.0 ∙ kth_used _ _ _ _ (12 + i.j) _ _ refl e p.sized.1.low (omega arith) p.sized.0.blocks _ i.invariant.4 (omega (arith, p.sized.2))) c.if-not-used_right.true-raw), never)
+    (all_stopped _ _ i.j (omega arith) (sym (c.used_right.ensures.0 ∙ kth_used _ _ _ _ (12 + i.j) _ _ refl e p.sized.1.low (omega arith) p.sized.0.blocks _ i.invariant.4 (omega (arith, p.sized.2))) ∙ c.if-not-used_right.true), never)
 
 pub loop-j-preserved : goal.loop-j-preserved
 loop-j-preserved c =
@@ -34,12 +30,9 @@ loop-j-preserved c =
       omega arith,
       u,
       i.invariant.2,
-      all_more _ _ i.invariant.3 (chain_on _ _ (y.ensures.0 ∙ kth_used _ _ _ _ (12 + i.j) _ _ refl e p.sized.1.low (omega arith) p.sized.0.blocks _ i.invariant.4 (omega (arith, p.sized.2))) c.if-not-used_right.false-raw),
-      map_as _ _ (omega arith) (kth_noted _ _ _ (12 + i.j) _ e p.sized.1.low (omega arith) _ _ i.invariant.4 (y.ensures.1 (not-false _ c.if-not-used_right.false-raw))),
+      all_more _ _ i.invariant.3 (sym (y.ensures.0 ∙ kth_used _ _ _ _ (12 + i.j) _ _ refl e p.sized.1.low (omega arith) p.sized.0.blocks _ i.invariant.4 (omega (arith, p.sized.2))) ∙ c.if-not-used_right.false),
+      map_as _ _ (omega arith) (kth_noted _ _ _ (12 + i.j) _ e p.sized.1.low (omega arith) _ _ i.invariant.4 (y.ensures.1 c.if-not-used_right.false)),
     )
-
-pub shape_of-map : goal.shape_of-map
-shape_of-map c = c.loop-j.invariant.4.long ∙ sym c.requires.sized.3.long
 
 pub returns : goal.returns
 returns c =

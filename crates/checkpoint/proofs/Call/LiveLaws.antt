@@ -1,4 +1,5 @@
 -- What an accepted file call of the library does: its effect, with the laws that hold of it; and that a refused one leaves all as it was.
+use Rattle.std.specs.Prelude.{Ok}
 use Prim.Native.Nat.{ℕ, ◌*◌, ◌<◌}
 use mathlib.Core.Path.{◌≡◌, refl, sym, ap, ◌∙◌, subst}
 use mathlib.Core.Logic.{◌≢◌, ⊎_elim}
@@ -20,7 +21,6 @@ use Rattle.answers.specs.declared.Refusal.TheVariants.{Busy}
 use Rattle.answers.specs.Refusal.{refusal_number}
 use Rattle.answers.proofs.RefusalLaws.{not_none}
 use Rattle.preservation.proofs.StoreLaws.{sound_store}
-use Rattle.files.specs.declared.Guard.TheVariants.{Pass}
 use Rattle.files.specs.Guard.{guard_of, on_guard}
 use Rattle.files.specs.Effect.{Call, Entry, place_in, Effect, Planned, refused, does, on_planned, planned, plain_decision}
 use Rattle.files.proofs.Lawful.{Away, Lawful, Each}
@@ -31,6 +31,7 @@ use Rattle.checkpoint.specs.Busy.{any_locked, unless_busy}
 use Rattle.checkpoint.specs.Notes.{cut_entries, clear_marks, set_marks}
 use Rattle.checkpoint.specs.Live.{World, Outcome, three_guards, store_alone, decision, leaves_in, live}
 use Rattle.checkpoint.specs.List.{Ready, call, outcome, next, accepted, taken_from, any_at, takes}
+use Rattle.layout.specs.Header.{counts}
 
 pub ready_sound : (w : World) → Ready w → Sound Store w.store
 ready_sound w r = (is_sound_lem Store w.store).to r.sound
@@ -40,11 +41,11 @@ module _ (c : Call) (w : World) (r : Ready w) where
   abbrev plan : Planned
   plan = planned c w.store (inodes_in w.store) (blocks_in w.store)
 
-  passes : guard_of w.store ≡ Pass (inodes_in w.store) (blocks_in w.store)
+  passes : guard_of w.store ≡ Ok (counts (inodes_in w.store) (blocks_in w.store))
   unfolding guard_of
   passes = rw (r.framed, r.sound) refl
 
-  passes_three : three_guards w.store w.image w.desk ≡ Pass (inodes_in w.store) (blocks_in w.store)
+  passes_three : three_guards w.store w.image w.desk ≡ Ok (counts (inodes_in w.store) (blocks_in w.store))
   unfolding three_guards
   passes_three = rw (r.framed, r.desk, r.sound, r.notes) refl
 

@@ -1,4 +1,5 @@
 -- What two effects leave, one after another, is what their composition leaves; and the copy is in the way of one of them, or of none. d is the desk, m the image, n the inode count.
+use Rattle.std.specs.Prelude.{Ok}
 use Prim.Native.Nat.{ℕ}
 use mathlib.Core.Path.{◌≡◌, refl, sym, ap, ap₂, ◌∙◌}
 use mathlib.Core.Bool.{Bool, ◌||◌, or_assoc}
@@ -7,7 +8,6 @@ use Rattle.desk.specs.declared.Desk.{Desk}
 use Rattle.desk.specs.Desk.{desk_of}
 use Rattle.desk.specs.Next.{locks, locks_any}
 use Rattle.sound.specs.Sound.{inodes_in}
-use Rattle.answers.specs.declared.Answer.TheVariants.{Done}
 use Rattle.files.specs.Effect.{Entry, Effect, does, and_then}
 use Rattle.checkpoint.specs.Busy.{any_locked}
 use Rattle.checkpoint.specs.Notes.{note_taken, cuts_image, cut_image, cut_entries, clear_marks, set_marks}
@@ -55,7 +55,7 @@ leaves_then w x y none same =
     ∙ ap (λ (e : List ℕ). set_marks e n y.made) (clear_append d n x.taken y.taken)
     ∙ ap (λ (zs : List Entry). set_marks (clear_marks (set_marks cleared n zs) n y.taken) n y.made) (sym none)
     ∙ ap (λ (i : ℕ). set_marks (clear_marks noted i y.taken) i y.made) (sym same) in
-    ap₂ (left (Done y.answer) y.store) image desk
+    ap₂ (left (Ok y.answer) y.store) image desk
 
 -- ---- 14
 pub busy_then : (d is js : List ℕ) → any_locked d (is ++ js) ≡ any_locked d is || any_locked d js

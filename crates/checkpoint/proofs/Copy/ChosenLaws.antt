@@ -1,4 +1,5 @@
 -- Which of the five things a step does, with what is then known. s is the store, m the image, d the desk, n the inode count.
+use Rattle.std.specs.Prelude.{None, Option, Some}
 use Prim.Native.Nat.{ℕ, ◌*◌, ◌≤◌, ◌<◌}
 use mathlib.Core.Path.{◌≡◌, refl, ap}
 use mathlib.Core.Logic.{◌≢◌, ◌⊎◌, inl, inr}
@@ -8,8 +9,6 @@ use native.Mathlib.Omega.{arith}
 use borrow.Author.Tests.{eqb-true, eqb-false, ltb-true, ltb-false, not-true}
 use lib.Dec.{eqb, ltb}
 use Rattle.bounded.specs.Search.{pick, first_from, on_found}
-use Rattle.bounded.specs.declared.Found.{Found}
-use Rattle.bounded.specs.declared.Found.TheVariants.{At, Absent}
 use Rattle.bounded.proofs.BoolLaws.{clash, holds, and_left, and_right, and-true}
 use Rattle.bounded.specs.Reflect.{Reflects}
 use Rattle.bounded.proofs.ReflectLaws.{r_eq, r_some}
@@ -46,7 +45,7 @@ pub data Chosen (s m d : List ℕ) (n : ℕ) : Step → Type 0 where
       → ((l ≡ root_inode) ⊎ ((p : ℕ) × (p < most_slots * n) × (image_naming m n p ≡ l))) → Chosen s m d n (lock l)
   -- 3
   will_copy : (c : ℕ) → (desk_of d).locked ≢ 0 → (desk_of d).transferred < blocks_used (size_of s (desk_of d).locked)
-      → target_block (image_long s m d) m n (desk_of d).blocks (kth_block s n (desk_of d).locked (desk_of d).transferred) ≡ At c → Chosen s m d n (copy (desk_of d).locked (desk_of d).transferred c)
+      → target_block (image_long s m d) m n (desk_of d).blocks (kth_block s n (desk_of d).locked (desk_of d).transferred) ≡ Some c → Chosen s m d n (copy (desk_of d).locked (desk_of d).transferred c)
   -- 4
   will_close : (desk_of d).locked ≢ 0 → blocks_used (size_of s (desk_of d).locked) ≤ (desk_of d).transferred → Chosen s m d n (close (desk_of d).locked)
   -- 5
@@ -59,11 +58,11 @@ pub data Chosen (s m d : List ℕ) (n : ℕ) : Step → Type 0 where
 module _ (s m d : List ℕ) (n : ℕ) where
   -- ---- something is locked
   module _ (z : (desk_of d).locked ≢ 0) where
-    block : (desk_of d).transferred < blocks_used (size_of s (desk_of d).locked) → (r : Found)
+    block : (desk_of d).transferred < blocks_used (size_of s (desk_of d).locked) → (r : Option ℕ)
         → target_block (image_long s m d) m n (desk_of d).blocks (kth_block s n (desk_of d).locked (desk_of d).transferred) ≡ r
         → Chosen s m d n (on_found r (λ c. copy (desk_of d).locked (desk_of d).transferred c) full)
-    block l (At c) e = will_copy c z l e
-    block l Absent e = no_room z l (target_absent (image_long s m d) m n (desk_of d).blocks (kth_block s n (desk_of d).locked (desk_of d).transferred) e)
+    block l (Some c) e = will_copy c z l e
+    block l None e = no_room z l (target_absent (image_long s m d) m n (desk_of d).blocks (kth_block s n (desk_of d).locked (desk_of d).transferred) e)
 
     chosen_locked : Chosen s m d n (locked_step s m n (desk_of d).blocks (desk_of d).locked (desk_of d).transferred)
     unfolding locked_step
@@ -79,13 +78,13 @@ module _ (s m d : List ℕ) (n : ℕ) where
   wanted i = not (is_copied d n i) && inode_named m n i
 
   module _ (z : (desk_of d).locked ≡ 0) where
-    next : is_copied d n root_inode ≡ true → (r : Found) → first_from wanted 1 n ≡ r → Chosen s m d n (on_found r lock finish)
-    next c (At i) e =
+    next : is_copied d n root_inode ≡ true → (r : Option ℕ) → first_from wanted 1 n ≡ r → Chosen s m d n (on_found r lock finish)
+    next c (Some i) e =
         let w = found_lowest wanted 1 n i e in
         let k = w.below in
         let g : inode_named m n i ≡ true = and_right (not (is_copied d n i)) (inode_named m n i) w.holds in
         will_lock i z w.from (omega arith) (not-true (is_copied d n i) (and_left (not (is_copied d n i)) (inode_named m n i) w.holds)) (inr ((named_in_image m n i).to g))
-    next c Absent e =
+    next c None e =
         will_finish z c (λ p l a b.
         let i = image_naming m n p in
         let g : inode_named m n i ≡ true = (named_in_image m n i).from (p, l, refl) in

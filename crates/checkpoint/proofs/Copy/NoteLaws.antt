@@ -9,8 +9,6 @@ use lib.ListN.{length, replicate, length-replicate}
 use native.Mathlib.Omega.{arith}
 use Rattle.bounded.specs.Search.{pick}
 use Rattle.bounded.specs.Sum.{sum}
-use Rattle.bounded.specs.Reflect.{Reflects}
-use Rattle.bounded.proofs.ReflectLaws.{r_eq, r_le, r_and}
 use Rattle.octets.specs.Octets.{part, splice}
 use Rattle.octets.proofs.PartLaws.{length_splice}
 use Rattle.layout.specs.Sizes.{address_place, block_bytes}
@@ -19,7 +17,7 @@ use Rattle.blocks.specs.Block.{block_of, blocks_used, is_long, kth_block}
 use Rattle.names.specs.Entry.{entry_bytes, entry_inode}
 use Rattle.directory.specs.Slot.{slots_in_block}
 use Rattle.desk.specs.declared.Desk.{Desk}
-use Rattle.desk.specs.Desk.{put_desk, copied_of, mark_of, is_copied}
+use Rattle.desk.specs.Desk.{put_desk, mark_of, is_copied}
 use Rattle.desk.proofs.DeskLaws.{copied_put_desk, mark_put_desk}
 use Rattle.checkpoint.specs.Copier.{copied_entry, copied_entries, copied_block}
 use Rattle.checkpoint.proofs.Copy.Seen.{marked_at}

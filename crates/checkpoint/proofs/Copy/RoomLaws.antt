@@ -1,4 +1,5 @@
 -- With 44 image blocks for each inode a block step never finds every block named: the place that it is about to fill names none. m is the image, n and b the counts of inodes and blocks.
+use Rattle.std.specs.Prelude.{None, Option, Some}
 use Prim.Native.Nat.{ℕ, ◌+◌, ◌*◌, ◌-◌, ◌≤◌, ◌<◌}
 use mathlib.Core.Path.{◌≡◌, refl, ap, ◌∙◌}
 use mathlib.Core.Logic.{◌≢◌}
@@ -6,8 +7,6 @@ use mathlib.Core.Bool.{Bool, true}
 use mathlib.Core.List.{List}
 use native.Mathlib.Decide.{dec_lt}
 use native.Mathlib.Omega.{arith}
-use Rattle.bounded.specs.declared.Found.{Found}
-use Rattle.bounded.specs.declared.Found.TheVariants.{At, Absent}
 use Rattle.bounded.proofs.CountLaws.{pigeons}
 use Rattle.layout.specs.Sizes.{most_blocks}
 use Rattle.layout.specs.Inode.{size_of}
@@ -70,7 +69,7 @@ module _ (long : ℕ → Bool) (m : List ℕ) (n b x : ℕ) (l : x < most_blocks
 -- "With 44 × N image blocks or more, 16 never comes in a run."
 pub laid_room : {n b : ℕ} {s m d : List ℕ} → Laid n b s m d → Sound Store s → n ≡ inodes_in s
     → (desk_of d).locked ≢ 0 → (desk_of d).transferred < blocks_used (size_of s (desk_of d).locked) → most_blocks * n ≤ b
-    → (c : ℕ) × (target_block (image_long s m d) m n b (kth_block s n (desk_of d).locked (desk_of d).transferred) ≡ At c)
+    → (c : ℕ) × (target_block (image_long s m d) m n b (kth_block s n (desk_of d).locked (desk_of d).transferred) ≡ Some c)
 laid_room {n} {b} {s} {m} {d} h sound e lock more enough = go (target_block (image_long s m d) m n b (kth_block s n l k)) refl
   where
     l : ℕ
@@ -79,9 +78,9 @@ laid_room {n} {b} {s} {m} {d} h sound e lock more enough = go (target_block (ima
     k : ℕ
     k = (desk_of d).transferred
 
-    go : (r : Found) → target_block (image_long s m d) m n b (kth_block s n l k) ≡ r → (c : ℕ) × (target_block (image_long s m d) m n b (kth_block s n l k) ≡ At c)
-    go (At c) q = (c, q)
-    go Absent q =
+    go : (r : Option ℕ) → target_block (image_long s m d) m n b (kth_block s n l k) ≡ r → (c : ℕ) × (target_block (image_long s m d) m n b (kth_block s n l k) ≡ Some c)
+    go (Some c) q = (c, q)
+    go None q =
         let low : 1 ≤ l = omega arith in
         let high = h.desk.high in
         let w = (blocks_of_lem (sound_store sound e) l low high).few in

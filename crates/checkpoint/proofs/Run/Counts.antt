@@ -1,4 +1,5 @@
 -- Accepted steps, counted from the latest start, are those in the desk. n and b are the counts of inodes and image blocks.
+use Rattle.std.specs.Prelude.{Ok}
 use Prim.Native.Nat.{ℕ, suc, ◌+◌, ◌*◌, ◌≤◌}
 use mathlib.Core.Path.{◌≡◌, refl, sym, ap, ◌∙◌}
 use mathlib.Core.Bool.{Bool, true, false}
@@ -18,10 +19,9 @@ use Rattle.layout.specs.Header.{header_of}
 use Rattle.desk.specs.Sizes.{running, finished, stopped, steps_an_inode}
 use Rattle.sound.specs.Sound.{inodes_in}
 use Rattle.files.specs.Effect.{Call, Entry, Planned, does, refused}
-use Rattle.checkpoint.specs.declared.Status.TheVariants.{Is}
 use Rattle.checkpoint.specs.Fit.{is_running}
 use Rattle.checkpoint.specs.Notes.{note_made, note_taken, clear_marks, set_marks}
-use Rattle.checkpoint.specs.Live.{World, decision, leaves_in, live, Outcome, told_status}
+use Rattle.checkpoint.specs.Live.{World, decision, leaves_in, live, Outcome, told_status, standing}
 use Rattle.checkpoint.specs.List.{Event, call, advances, asks, starts, outcome, next, accepted, run, accepted_steps, refusal_of, completes, state_after}
 use Rattle.checkpoint.proofs.OfEvents.{Reported}
 use Rattle.checkpoint.proofs.Copy.FitLaws.{laid_steps, notes_fit_is, desk_fits_is}
@@ -169,7 +169,7 @@ reported n b es w g z q =
     let e = steps_counted n b es w 0 g z in
     let f = state_told n b es w running g q in
     record {
-      reports = asked n b (run es w) h ∙ ap (λ (x : ℕ). told_status (Is x (desk_of (run es w).desk).locked (desk_of (run es w).desk).steps)) f ∙ ap (λ (x : ℕ). told_status (Is (state_after es w running) (desk_of (run es w).desk).locked x)) e;
+      reports = asked n b (run es w) h ∙ ap (λ (x : ℕ). told_status (Ok (standing x (desk_of (run es w).desk).locked (desk_of (run es w).desk).steps))) f ∙ ap (λ (x : ℕ). told_status (Ok (standing (state_after es w running) (desk_of (run es w).desk).locked x))) e;
       bound = let l = bounded_steps n b (run es w) h in let c = counted g in omega arith;
       byte = byte_is n b (run es w) h ∙ ap (λ (x : ℕ). pick (eqb x finished) is_complete not_complete) f;
       count = sym (counted h) ∙ counted g;

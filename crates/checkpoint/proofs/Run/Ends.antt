@@ -1,4 +1,5 @@
 -- A copy that ends: by its last step, or by 16. n and b are the counts of inodes and image blocks.
+use Rattle.std.specs.Prelude.{Err, Ok}
 use Prim.Native.Nat.{ℕ, ◌+◌, ◌*◌, ◌≤◌}
 use mathlib.Core.Path.{◌≡◌, refl, sym, ap, ◌∙◌}
 use mathlib.Core.Logic.{◌⊎◌, inl, inr}
@@ -24,7 +25,6 @@ use Rattle.sound.specs.declared.Form.TheVariants.{Image}
 use Rattle.copy_theory.specs.Deed.{Quiet}
 use Rattle.copy_theory.proofs.EndLaws.{tidy_image}
 use Rattle.answers.specs.declared.Refusal.TheVariants.{ImageFull}
-use Rattle.answers.specs.declared.Answer.TheVariants.{Done, Refused}
 use Rattle.answers.specs.Told.{Told, told}
 use Rattle.checkpoint.specs.Fit.{desk_framed, desk_fits, blocks_fit, is_running, most_steps, notes_fit, image_fits}
 use Rattle.checkpoint.specs.Copier.{finish, full, finish_image}
@@ -165,7 +165,7 @@ module _ (n b : ℕ) (w : World) (r : Running n b w) where
     pub state : (desk_of (next advances w).desk).state ≡ finished
     pub locked : (desk_of (next advances w).desk).locked ≡ (desk_of w.desk).locked
     pub counts : (desk_of (next advances w).desk).steps ≡ (desk_of w.desk).steps + 1
-    pub answer : (outcome advances w).answer ≡ told (Done ((desk_of w.desk).steps + 1))
+    pub answer : (outcome advances w).answer ≡ told (Ok ((desk_of w.desk).steps + 1))
     pub sound : Sound Image (finish_image w.image n b)
     pub quiet : Quiet (seen_in n w) (seen_in n (next advances w))
 
@@ -215,7 +215,7 @@ module _ (n b : ℕ) (w : World) (r : Running n b w) where
     pub rest : Resting n b (next advances w)
     pub state : (desk_of (next advances w).desk).state ≡ stopped
     pub counts : (desk_of (next advances w).desk).steps ≡ (desk_of w.desk).steps
-    pub answer : (outcome advances w).answer ≡ told (Refused ImageFull)
+    pub answer : (outcome advances w).answer ≡ told (Err ImageFull)
 
   pub halted : Fills n b w → Halted
   halted f =

@@ -1,43 +1,31 @@
 -- Whom 14 meets: a call that touches the locked inode is one of those that the paper lists. s is the store.
+use Rattle.std.specs.Prelude.{Err, Ok, Result}
 use Prim.Native.Nat.{ℕ, ◌≤◌}
 use mathlib.Core.Path.{◌≡◌, refl, sym, ap, ◌∙◌, subst}
 use mathlib.Core.Logic.{inl, inr}
-use mathlib.Core.Bool.{Bool, true, false, ◌&&◌}
+use mathlib.Core.Bool.{Bool, true, false}
 use mathlib.Core.List.{List, [], ◌∷◌}
 use native.Mathlib.Omega.{arith}
 use borrow.Author.Tests.{eqb-true, eqb-false}
 use lib.Dec.{eqb}
 use lib.ListN.{length}
 use Rattle.bounded.specs.Search.{pick}
-use Rattle.bounded.proofs.SearchLaws.{pick_not, by_pick}
+use Rattle.bounded.proofs.SearchLaws.{by_pick}
 use Rattle.bounded.proofs.BoolLaws.{clash, and_left, and_right, or_cases}
 use Rattle.bounded.proofs.EachLaws.{Some}
 use Rattle.desk.specs.Desk.{desk_of}
 use Rattle.desk.specs.Next.{locks, locks_any}
 use Rattle.layout.specs.Inode.{file_kind, directory_kind, is_kind, is_directory}
-use Rattle.names.specs.Name.{legal_name}
 use Rattle.sound.specs.Sound.{Sound, inodes_in, blocks_in}
 use Rattle.sound.specs.declared.Form.TheVariants.{Store}
 use Rattle.answers.specs.declared.Refusal.{Refusal}
-use Rattle.answers.specs.declared.Refusal.TheVariants.{IllegalName, WrongInode, NameTaken}
+use Rattle.answers.specs.declared.Refusal.TheVariants.{NameTaken}
 use Rattle.answers.specs.Refusal.{refusal_number}
 use Rattle.layout.proofs.KindLaws.{kind_some}
 use Rattle.preservation.proofs.StoreLaws.{sound_store}
 use Rattle.preservation.proofs.SlotPlaceLaws.{found_here}
-use Rattle.content.specs.declared.NumberPlan.{NumberPlan}
-use Rattle.content.specs.declared.NumberPlan.TheVariants.{To, NoNumber}
 use Rattle.content.specs.Plan.{read_plan, write_plan, shorten_plan}
 use Rattle.entries.specs.declared.Kind.{Kind}
-use Rattle.entries.specs.declared.CreatePlan.{CreatePlan}
-use Rattle.entries.specs.declared.CreatePlan.TheVariants.{Make, NoCreate}
-use Rattle.entries.specs.declared.LinkPlan.{LinkPlan}
-use Rattle.entries.specs.declared.LinkPlan.TheVariants.{Add, NoLink}
-use Rattle.entries.specs.declared.UnlinkPlan.{UnlinkPlan}
-use Rattle.entries.specs.declared.UnlinkPlan.TheVariants.{Take, NoUnlink}
-use Rattle.entries.specs.declared.RenamePlan.{RenamePlan}
-use Rattle.entries.specs.declared.RenamePlan.TheVariants.{Rename, Move, NoRename}
-use Rattle.entries.specs.declared.OverPlan.{OverPlan}
-use Rattle.entries.specs.declared.OverPlan.TheVariants.{Over, Same, NoOver}
 use Rattle.entries.specs.Plan.{look_up_plan, create_plan, link_plan, unlink_plan, rename_new_plan, over_plan}
 use Rattle.content.proofs.PlanFacts.{shortens, writes}
 use Rattle.entries.proofs.PlanFacts.{FoundIn, looks_up, Onto, creates, links, unlinks, renames, moves, replaces, both_names}
@@ -48,6 +36,14 @@ use Rattle.checkpoint.specs.Fit.{is_running}
 use Rattle.checkpoint.specs.Busy.{any_locked}
 use Rattle.checkpoint.specs.Progress.{Renaming, app, recorder, Hinders}
 use Rattle.checkpoint.specs.Progress as paper
+use Rattle.answers.specs.Told.{Answer}
+use Rattle.entries.specs.declared.Room.{Room}
+use Rattle.entries.specs.declared.CreatePlan.{CreatePlan}
+use Rattle.entries.specs.declared.RenamePlan.{RenamePlan}
+use Rattle.entries.specs.declared.RenamePlan.TheVariants.{Move, Rename}
+use Rattle.entries.specs.declared.OverPlan.TheVariants.{Over, Same}
+use Rattle.entries.specs.declared.UnlinkPlan.{UnlinkPlan}
+use Rattle.entries.specs.declared.OverPlan.{OverPlan}
 
 -- 14 by one of the inodes
 pub locked_one : (d is : List ℕ) → any_locked d is ≡ true → (is_running d ≡ true) × Some (λ i. (desk_of d).locked ≡ i) is
@@ -75,54 +71,54 @@ module _ (s : List ℕ) (h : Sound Store s) where
   found_one : (d t i l : ℕ) (name : List ℕ) → FoundIn s n d name t i → l ≡ i → 1 ≤ l
   found_one d t i l name f e = let m = (found_here (sound_store h refl) d t name f.directory f.legal f.found).low in let q = f.inode in omega arith
 
-  look : (d : ℕ) (name : List ℕ) (p : NumberPlan) → Each (Touches (look_up d name)) (do_look_up s p)
-  look d name (To i) = λ l z. absurd z
-  look d name (NoNumber e) = tt
+  look : (d : ℕ) (name : List ℕ) (p : Answer) → Each (Touches (look_up d name)) (do_look_up s p)
+  look d name (Ok i) = λ l z. absurd z
+  look d name (Err e) = tt
 
-  reads : (i o : ℕ) (out : List ℕ) (p : NumberPlan) → Each (Touches (read i o out)) (do_read s n i o out p)
-  reads i o out (To k) = λ l z. absurd z
-  reads i o out (NoNumber e) = tt
+  reads : (i o : ℕ) (out : List ℕ) (p : Answer) → Each (Touches (read i o out)) (do_read s n i o out p)
+  reads i o out (Ok k) = λ l z. absurd z
+  reads i o out (Err e) = tt
 
-  makes : (d : ℕ) (name : List ℕ) (k : Kind) (p : CreatePlan) → create_plan s n b d name ≡ p → Each (Touches (create d name k)) (do_create s n d name k p)
-  makes d name k (NoCreate e) q = tt
-  makes d name k (Make i r) q = go
+  makes : (d : ℕ) (name : List ℕ) (k : Kind) (p : Result CreatePlan Refusal) → create_plan s n b d name ≡ p → Each (Touches (create d name k)) (do_create s n d name k p)
+  makes d name k (Err e) q = tt
+  makes d name k (Ok c) q = go
     where
       go : (l : ℕ) → Some (λ j. l ≡ j) (d ∷ []) → (1 ≤ l) × Hinders s l (create d name k)
-      go l (inl e) = (one_of directory_kind d l (creates s n b d name i r q).new.directory e, subst (λ (y : ℕ). Hinders s l (create y name k)) e paper.creates)
+      go l (inl e) = (one_of directory_kind d l (creates s n b d name c.inode c.room q).new.directory e, subst (λ (y : ℕ). Hinders s l (create y name k)) e paper.creates)
       go l (inr h) = elim h [ ]
 
-  puts : (i o : ℕ) (xs : List ℕ) (p : NumberPlan) → write_plan s n i o (length xs) ≡ p → Each (Touches (write i o xs)) (do_write s n b i o xs p)
-  puts i o xs (NoNumber e) q = tt
-  puts i o xs (To z) q = go
+  puts : (i o : ℕ) (xs : List ℕ) (p : Answer) → write_plan s n i o (length xs) ≡ p → Each (Touches (write i o xs)) (do_write s n b i o xs p)
+  puts i o xs (Err e) q = tt
+  puts i o xs (Ok z) q = go
     where
       go : (l : ℕ) → Some (λ j. l ≡ j) (i ∷ []) → (1 ≤ l) × Hinders s l (write i o xs)
       go l (inl e) = (one_of file_kind i l (writes s n i o (length xs) z q).file e, subst (λ (y : ℕ). Hinders s l (write y o xs)) e paper.writes)
       go l (inr h) = elim h [ ]
 
-  cuts : (i z : ℕ) (p : NumberPlan) → shorten_plan s n i z ≡ p → Each (Touches (shorten i z)) (do_shorten s n i p)
-  cuts i z (NoNumber e) q = tt
-  cuts i z (To y) q = go
+  cuts : (i z : ℕ) (p : Answer) → shorten_plan s n i z ≡ p → Each (Touches (shorten i z)) (do_shorten s n i p)
+  cuts i z (Err e) q = tt
+  cuts i z (Ok y) q = go
     where
       go : (l : ℕ) → Some (λ j. l ≡ j) (i ∷ []) → (1 ≤ l) × Hinders s l (shorten i z)
       go l (inl e) = (one_of file_kind i l (shortens s n i z y q).file e, subst (λ (y : ℕ). Hinders s l (shorten y z)) e paper.shortens)
       go l (inr h) = elim h [ ]
 
-  adds : (d : ℕ) (name : List ℕ) (i : ℕ) (p : LinkPlan) → link_plan s n b d name i ≡ p → Each (Touches (link d name i)) (do_link s n d name i p)
-  adds d name i (NoLink e) q = tt
-  adds d name i (Add r) q = go
+  adds : (d : ℕ) (name : List ℕ) (i : ℕ) (p : Result Room Refusal) → link_plan s n b d name i ≡ p → Each (Touches (link d name i)) (do_link s n d name i p)
+  adds d name i (Err e) q = tt
+  adds d name i (Ok r) q = go
     where
       go : (l : ℕ) → Some (λ j. l ≡ j) (d ∷ i ∷ []) → (1 ≤ l) × Hinders s l (link d name i)
       go l (inl e) = (one_of directory_kind d l (links s n b d name i r q).new.directory e, subst (λ (y : ℕ). Hinders s l (link y name i)) e paper.links)
       go l (inr (inl e)) = (one_of file_kind i l (links s n b d name i r q).file e, subst (λ (y : ℕ). Hinders s l (link d name y)) e paper.links_it)
       go l (inr (inr h)) = elim h [ ]
 
-  takes : (d : ℕ) (name : List ℕ) (p : UnlinkPlan) → unlink_plan s n d name ≡ p → Each (Touches (unlink d name)) (do_unlink s n d p)
-  takes d name (NoUnlink e) q = tt
-  takes d name (Take t i) q = go
+  takes : (d : ℕ) (name : List ℕ) (p : Result UnlinkPlan Refusal) → unlink_plan s n d name ≡ p → Each (Touches (unlink d name)) (do_unlink s n d p)
+  takes d name (Err e) q = tt
+  takes d name (Ok c) q = go
     where
-      go : (l : ℕ) → Some (λ j. l ≡ j) (d ∷ i ∷ []) → (1 ≤ l) × Hinders s l (unlink d name)
-      go l (inl e) = (one_of directory_kind d l (unlinks s n d name t i q).entry.directory e, subst (λ (y : ℕ). Hinders s l (unlink y name)) e paper.unlinks)
-      go l (inr (inl e)) = let f = (unlinks s n d name t i q).entry in (found_one d t i l name f e, paper.unlinks_it (looks_up s n d name t i f ∙ ap To (sym e)))
+      go : (l : ℕ) → Some (λ j. l ≡ j) (d ∷ c.inode ∷ []) → (1 ≤ l) × Hinders s l (unlink d name)
+      go l (inl e) = (one_of directory_kind d l (unlinks s n d name c.slot c.inode q).entry.directory e, subst (λ (y : ℕ). Hinders s l (unlink y name)) e paper.unlinks)
+      go l (inr (inl e)) = let f = (unlinks s n d name c.slot c.inode q).entry in (found_one d c.slot c.inode l name f e, paper.unlinks_it (looks_up s n d name c.slot c.inode f ∙ ap Ok (sym e)))
       go l (inr (inr h)) = elim h [ ]
 
   -- a rename, by whichever call: within a directory, and to another
@@ -134,7 +130,7 @@ module _ (s : List ℕ) (h : Sound Store s) where
     into_it k l q = (one_of directory_kind e l k q, paper.renames_to (subst (λ (y : ℕ). Renaming d name y other c) (sym q) r))
 
     of_it : (t i : ℕ) → FoundIn s n d name t i → (d ≡ e → ⊥) → (l : ℕ) → l ≡ i → (1 ≤ l) × Hinders s l c
-    of_it t i f o l q = (found_one d t i l name f q, paper.moves_it r o (looks_up s n d name t i f ∙ ap To (sym q)))
+    of_it t i f o l q = (found_one d t i l name f q, paper.moves_it r o (looks_up s n d name t i f ∙ ap Ok (sym q)))
 
     away : (t i : ℕ) → FoundIn s n d name t i → is_directory s n e ≡ true → (d ≡ e → ⊥) → (l : ℕ) → Some (λ j. l ≡ j) (d ∷ e ∷ i ∷ []) → (1 ≤ l) × Hinders s l c
     away t i f k o l (inl g) = in_it f.directory l g
@@ -150,14 +146,14 @@ module _ (s : List ℕ) (h : Sound Store s) where
         go true q (inr h) = elim h [ ]
         go false q g = away t i f k (eqb-false d e q) l g
 
-    moved : (p : RenamePlan) → rename_new_plan s n b d name e other ≡ p → Each (Touches c) (do_rename s n d e other p)
-    moved (NoRename f) q = tt
-    moved (Rename t i) q = go
+    moved : (p : Result RenamePlan Refusal) → rename_new_plan s n b d name e other ≡ p → Each (Touches c) (do_rename s n d e other p)
+    moved (Err f) q = tt
+    moved (Ok (Rename t i)) q = go
       where
         go : (l : ℕ) → Some (λ j. l ≡ j) (d ∷ []) → (1 ≤ l) × Hinders s l c
         go l (inl g) = in_it (renames s n b d name e other t i q).0.entry.directory l g
         go l (inr h) = elim h [ ]
-    moved (Move t i z) q = let m = moves s n b d name e other t i z q in away t i m.0.entry m.0.new.directory m.1.other
+    moved (Ok (Move t i z)) q = let m = moves s n b d name e other t i z q in away t i m.0.entry m.0.new.directory m.1.other
 
   -- onto a name that another entry has
   module _ (d : ℕ) (name : List ℕ) (e : ℕ) (other : List ℕ) where
@@ -165,17 +161,17 @@ module _ (s : List ℕ) (h : Sound Store s) where
     replacing i j p o xs z l (inl g) = into_it d name e other app (unlinks s n e other p.held j p.goes).entry.directory l g
     replacing i j p o xs z l (inr (inl g)) =
         let f = (unlinks s n e other p.held j p.goes).entry in
-        (found_one e p.held j l other f g, paper.replaces_it (looks_up s n d name p.slot i p.entry) (λ q. o (q ∙ g)) (looks_up s n e other p.held j f ∙ ap To (sym g)))
+        (found_one e p.held j l other f g, paper.replaces_it (looks_up s n d name p.slot i p.entry) (λ q. o (q ∙ g)) (looks_up s n e other p.held j f ∙ ap Ok (sym g)))
     replacing i j p o xs z l (inr (inr g)) =
         either d name e other app p.slot i p.entry (unlinks s n e other p.held j p.goes).entry.directory l (subst (Some (λ k. l ≡ k)) z g)
 
-    onto : (p : OverPlan) → over_plan s n d name e other ≡ p → Each (Touches (rename d name e other)) (do_over s n b d name e other (over_plan s n d name e other))
-    onto (NoOver f) q = subst (λ (p : OverPlan). Each (Touches (rename d name e other)) (do_over s n b d name e other p)) (sym q) tt
-    onto (Same i) q =
+    onto : (p : Result OverPlan Refusal) → over_plan s n d name e other ≡ p → Each (Touches (rename d name e other)) (do_over s n b d name e other (over_plan s n d name e other))
+    onto (Err f) q = subst (λ (p : Result OverPlan Refusal). Each (Touches (rename d name e other)) (do_over s n b d name e other p)) (sym q) tt
+    onto (Ok (Same i)) q =
         let p = both_names s n d name e other i q in
-        subst (λ (x : OverPlan). Each (Touches (rename d name e other)) (do_over s n b d name e other x)) (sym q)
+        subst (λ (x : Result OverPlan Refusal). Each (Touches (rename d name e other)) (do_over s n b d name e other x)) (sym q)
         (either d name e other app p.slot i p.entry (unlinks s n e other p.held i p.goes).entry.directory)
-    onto (Over i j) q =
+    onto (Ok (Over i j)) q =
         let r = replaced s n b d name e other i j (sound_store h refl) q in
         let p = replaces s n d name e other i j q in
         subst (Each (Touches (rename d name e other))) (sym (over_does s n b d name e other i j (sound_store h refl) q))

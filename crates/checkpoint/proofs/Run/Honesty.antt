@@ -15,7 +15,6 @@ use Rattle.sound.proofs.PlaceLaws.{naming_filled}
 use Rattle.copy_theory.specs.View.{View}
 use Rattle.copy_theory.specs.Deed.{Alike}
 use Rattle.copy_theory.specs.History.{Spell, Chain}
-use Rattle.copy_theory.specs.History as history
 use Rattle.copy_theory.proofs.HistoryLaws.{told_holds}
 use Rattle.copy_theory.proofs.EndLaws.{all_honest, kept_there, kept_body, kept_kind}
 use Rattle.checkpoint.specs.Live.{World}

@@ -1,4 +1,5 @@
 -- A list of events after an accepted start: at every moment the copy runs or rests. n and b are the counts of inodes and image blocks.
+use Rattle.std.specs.Prelude.{Ok}
 use Prim.Native.Nat.{ℕ}
 use mathlib.Core.Path.{◌≡◌, refl, sym, ap, ◌∙◌}
 use mathlib.Core.Bool.{true, false}
@@ -9,7 +10,6 @@ use Rattle.blocks.specs.Block.{Allowed}
 use Rattle.layout.specs.Sizes.{most_image_blocks}
 use Rattle.sound.specs.Sound.{inodes_in}
 use Rattle.sound.proofs.SoundLaws.{framed}
-use Rattle.answers.specs.declared.Answer.TheVariants.{Done}
 use Rattle.answers.specs.Told.{Told, told}
 use Rattle.checkpoint.specs.Fit.{image_allowed, is_running}
 use Rattle.checkpoint.specs.Live.{World, Outcome, started}
@@ -36,11 +36,11 @@ counted (runs r) = r.count
 counted (rests r) = r.count
 
 -- a start is accepted where the buffers fit and no copy runs
-pub start_accepts : (w : World) → Ready w → is_running w.desk ≡ false → image_allowed (inodes_in w.store) (length w.image) ≡ true → (outcome starts w).answer ≡ told (Done 0)
+pub start_accepts : (w : World) → Ready w → is_running w.desk ≡ false → image_allowed (inodes_in w.store) (length w.image) ≡ true → (outcome starts w).answer ≡ told (Ok 0)
 unfolding outcome started
 start_accepts w r i a = ap (λ (o : Outcome). o.answer) (start_passes w r a) ∙ rw i refl
 
-pub start_done : (n b : ℕ) (w : World) → Resting n b w → (outcome starts w).answer ≡ told (Done 0)
+pub start_done : (n b : ℕ) (w : World) → Resting n b w → (outcome starts w).answer ≡ told (Ok 0)
 start_done n b w r =
     let f = (framed Store w.store).to r.fit.framed in
     let c = r.count in

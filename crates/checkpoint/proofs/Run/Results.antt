@@ -1,4 +1,5 @@
 -- What an event answers at any moment of a list: a result, a refusal that changes nothing, or 16. n and b are the counts of inodes and image blocks.
+use Rattle.std.specs.Prelude.{Err, Ok}
 use Prim.Native.Nat.{ℕ}
 use mathlib.Core.Path.{◌≡◌, sym, ap, ◌∙◌, subst}
 use mathlib.Core.Logic.{◌≢◌}
@@ -8,14 +9,12 @@ use native.Mathlib.Decide.{ℕ_discrete}
 use Rattle.desk.specs.Desk.{desk_of}
 use Rattle.answers.specs.declared.Refusal.TheVariants.{BadBuffer, UnsoundStore, BadDesk, Busy, WrongState, ImageFull}
 use Rattle.answers.specs.Refusal.{refusal_number}
-use Rattle.answers.specs.declared.Answer.TheVariants.{Done, Refused}
 use Rattle.answers.specs.Told.{Told, told}
-use Rattle.checkpoint.specs.declared.Status.TheVariants.{Is}
 use Rattle.blocks.specs.Free.{named_by}
 use Rattle.checkpoint.specs.Fit.{image_long}
 use Rattle.files.specs.Effect.{Call}
 use Rattle.checkpoint.proofs.DecisionLaws.{status_is}
-use Rattle.checkpoint.specs.Live.{World, Outcome, refuse, live, told_status}
+use Rattle.checkpoint.specs.Live.{standing, World, Outcome, refuse, live, told_status}
 use Rattle.checkpoint.specs.List.{Event, call, advances, asks, starts, outcome, next, refusal_of}
 use Rattle.checkpoint.specs.Progress.{Refusals, ImageTaken, Stopped}
 use Rattle.checkpoint.proofs.PlainAnswers.{plain_never}
@@ -81,10 +80,10 @@ module _ (n b : ℕ) (w : World) where
   step_result r (halts f) = fills (number_is advances _ (halted n b w r f).answer) (stop_is r f) (taken_is r f)
 
   wrong : (e : Event) → outcome e w ≡ refuse WrongState w.store w.image w.desk → Result e w
-  wrong e h = let k = number_is e (told (Refused WrongState)) (ap (λ (o : Outcome). o.answer) h) in refuses (record { buffers = λ z. omega arith; store = λ z. omega arith; desk = λ z. omega arith; full = λ z. omega arith }) (next_is e w _ h)
+  wrong e h = let k = number_is e (told (Err WrongState)) (ap (λ (o : Outcome). o.answer) h) in refuses (record { buffers = λ z. omega arith; store = λ z. omega arith; desk = λ z. omega arith; full = λ z. omega arith }) (next_is e w _ h)
 
   -- the state question tells what the desk says
-  pub asked : Going n b w → (outcome asks w).answer ≡ told_status (Is (desk_of w.desk).state (desk_of w.desk).locked (desk_of w.desk).steps)
+  pub asked : Going n b w → (outcome asks w).answer ≡ told_status (Ok (standing (desk_of w.desk).state (desk_of w.desk).locked (desk_of w.desk).steps))
   unfolding outcome
   asked g = status_is w.store w.image w.desk ∙ ap (λ (o : Outcome). o.answer) (going.guards_pass w (fit g) _)
 
@@ -94,7 +93,7 @@ module _ (n b : ℕ) (w : World) where
   result advances (runs r) = step_result r (stepped n b w r)
   result advances (rests r) = wrong advances (step_idle n b w r)
   result starts (runs r) = wrong starts (start_busy n b w r)
-  result starts (rests r) = done (number_is starts (told (Done 0)) (start_done n b w r))
+  result starts (rests r) = done (number_is starts (told (Ok 0)) (start_done n b w r))
 
   -- ---- demand 1
   from_result : (e : Event) → Result e w → Refusals e w

@@ -1,4 +1,5 @@
 -- An accepted start: what it found, and that the copy runs after it.
+use Rattle.std.specs.Prelude.{Ok}
 use Prim.Native.Nat.{ℕ, ◌≤◌}
 use mathlib.Core.Path.{◌≡◌, refl, sym, ap, ◌∙◌, subst}
 use mathlib.Core.Bool.{Bool, true, false, not, ◌&&◌}
@@ -18,7 +19,6 @@ use Rattle.sound.specs.Sound.{Sound, inodes_in}
 use Rattle.sound.specs.declared.Form.TheVariants.{Store}
 use Rattle.sound.proofs.SoundLaws.{is_sound_lem}
 use Rattle.sound.specs.Test.{framed_b, is_sound}
-use Rattle.answers.specs.declared.Answer.TheVariants.{Done}
 use Rattle.answers.specs.declared.Refusal.TheVariants.{BadBuffer, UnsoundStore, BadDesk, WrongState}
 use Rattle.copy_theory.specs.View.{Tidy}
 use Rattle.copy_theory.specs.Holds.{Fresh}
@@ -64,7 +64,7 @@ opens v a =
     d = v.desk
 
     o : Outcome
-    o = left (Done 0) s (start_image (inodes_in s) (length m)) (start_desk d (inodes_in s) (image_blocks (inodes_in s) (length m)))
+    o = left (Ok 0) s (start_image (inodes_in s) (length m)) (start_desk d (inodes_in s) (image_blocks (inodes_in s) (length m)))
 
     tests : (f g i k n r : Bool) → Outcome
     tests f g i k n r =

@@ -1,4 +1,5 @@
 -- What each event does to a world in which a copy runs. n and b are the counts of inodes and image blocks.
+use Rattle.std.specs.Prelude.{Ok, Some}
 use Prim.Native.Nat.{ℕ, ◌+◌, ◌≤◌, ◌<◌}
 use mathlib.Core.Path.{◌≡◌, refl, sym, ap, ◌∙◌}
 use mathlib.Core.Logic.{◌≢◌}
@@ -21,12 +22,10 @@ use Rattle.copy_theory.specs.View.{Tidy}
 use Rattle.copy_theory.specs.Deed.{Deed, locks, closes, rests}
 use Rattle.copy_theory.specs.Holds.{Ended}
 use Rattle.copy_theory.proofs.HoldsLaws.{holds_does}
-use Rattle.answers.specs.declared.Answer.TheVariants.{Done}
 use Rattle.answers.specs.Told.{told}
 use Rattle.checkpoint.specs.Copier.{Step, lock, copy, close, finish, full, step_of, target_block}
 use Rattle.checkpoint.specs.Live.{World, do_step, Outcome}
 use Rattle.checkpoint.specs.List.{advances, outcome, next}
-use Rattle.bounded.specs.declared.Found.TheVariants.{At}
 use Rattle.checkpoint.proofs.Copy.Seen.{seen}
 use Rattle.checkpoint.proofs.Copy.Laid.{Laid}
 use Rattle.checkpoint.proofs.Copy.TidyLaws.{store_tidy}
@@ -58,7 +57,7 @@ pub record Goes (n b : ℕ) (w v : World) : Type 0 where
 
 -- a step: it goes on with one accepted, or it finishes, or 16
 pub data Stepped (n b : ℕ) (w : World) : Type 0 where
-  on : Goes n b w (next advances w) → (desk_of (next advances w).desk).steps ≡ (desk_of w.desk).steps + 1 → (outcome advances w).answer ≡ told (Done ((desk_of w.desk).steps + 1)) → Stepped n b w
+  on : Goes n b w (next advances w) → (desk_of (next advances w).desk).steps ≡ (desk_of w.desk).steps + 1 → (outcome advances w).answer ≡ told (Ok ((desk_of w.desk).steps + 1)) → Stepped n b w
   ends : Finishes n b w → Stepped n b w
   halts : Fills n b w → Stepped n b w
 
@@ -83,7 +82,7 @@ module _ (n b : ℕ) (w : World) (r : Running n b w) where
   }
 
   step_on : (p : Step) → step_of w.store w.image w.desk n ≡ p → Goes n b w (after p) → (desk_of (after p).desk).steps ≡ (desk_of w.desk).steps + 1
-      → (do_step w.store w.image w.desk n p).answer ≡ told (Done ((desk_of w.desk).steps + 1)) → Stepped n b w
+      → (do_step w.store w.image w.desk n p).answer ≡ told (Ok ((desk_of w.desk).steps + 1)) → Stepped n b w
   step_on p e g c a =
       let h : next advances w ≡ after p = next_is advances w _ (step_does r p e) in
       on (rw h g) (ap (λ (v : World). (desk_of v.desk).steps) h ∙ c) (ap (λ (o : Outcome). o.answer) (step_does r p e) ∙ a)
@@ -98,7 +97,7 @@ module _ (n b : ℕ) (w : World) (r : Running n b w) where
       (ap (λ (x : Desk). x.steps) (desk_put_desk w.desk (locking (desk_of w.desk) l) long))
       refl
   chose p e (will_copy c z l t) =
-      let g : target_block (image_long w.store w.image w.desk) w.image n b (kth_block w.store n (desk_of w.desk).locked (desk_of w.desk).transferred) ≡ At c
+      let g : target_block (image_long w.store w.image w.desk) w.image n b (kth_block w.store n (desk_of w.desk).locked (desk_of w.desk).transferred) ≡ Some c
       = ap (λ (x : ℕ). target_block (image_long w.store w.image w.desk) w.image n x (kth_block w.store n (desk_of w.desk).locked (desk_of w.desk).transferred)) (sym r.laid.desk.blocks) ∙ t in
       step_on (copy (desk_of w.desk).locked (desk_of w.desk).transferred c) e
       (goes (after (copy (desk_of w.desk).locked (desk_of w.desk).transferred c)) refl

@@ -28,7 +28,7 @@ use Rattle.checkpoint.proofs.Copy.LedgerLaws.{rows_named, rows_differ}
 use Rattle.checkpoint.proofs.Copy.Laid.{Frame, frame_kept, Fair, Laid, cost, cost_so_far}
 use Rattle.bounded.proofs.SumLaws.{sum_but}
 use Rattle.checkpoint.proofs.Step.PasteLaws.{pasted, pasted_either}
-use Rattle.checkpoint.proofs.Step.CloseFacts.{Closing, lock, low, high, full, desk_closed, copied_closed, desk_laid, in_inode, new_kind, new_size, close_row, entry_new, inodes_sound}
+use Rattle.checkpoint.proofs.Step.CloseFacts.{Closing, lock, high, full, desk_closed, copied_closed, desk_laid, in_inode, new_kind, new_size, close_row, entry_new, inodes_sound}
 use Rattle.checkpoint.proofs.Step.LockLaws.{locked_cost}
 
 module _ {n b : ℕ} {s m d : List ℕ} (c : Closing n b s m d) where

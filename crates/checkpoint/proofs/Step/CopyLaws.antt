@@ -1,4 +1,5 @@
 -- A block step: image and desk lie as they must, and the theory sees nothing of it. s is the store, m the image, d the desk, n and b the counts of inodes and image blocks, c the block that is taken.
+use Rattle.std.specs.Prelude.{Some}
 use Prim.Native.Nat.{ℕ, ◌+◌, ◌*◌, ◌/◌, ◌%◌, ◌≤◌, ◌<◌}
 use mathlib.Core.Path.{◌≡◌, refl, sym, ap, ◌∙◌, subst}
 use mathlib.Core.Logic.{◌≢◌}
@@ -7,7 +8,6 @@ use mathlib.Core.List.{List}
 use native.Mathlib.Decide.{ℕ_discrete}
 use native.Mathlib.Omega.{arith}
 use lib.ListN.{length, get_or}
-use Rattle.bounded.specs.declared.Found.TheVariants.{At}
 use Rattle.bounded.proofs.UpdateLaws.{upd_same, upd_other}
 use Rattle.octets.proofs.PartLaws.{length_inside}
 use Rattle.layout.specs.Sizes.{address_count, address_place, block_bytes, most_blocks}
@@ -49,7 +49,7 @@ use Rattle.checkpoint.proofs.Step.LockLaws.{put_read, desk_laid, locked_cost}
 
 module _ {n b : ℕ} {s m d : List ℕ} (h : Laid n b s m d) (sound : Sound Store s) (e : n ≡ inodes_in s)
     (lock : (desk_of d).locked ≢ 0) (more : (desk_of d).transferred < blocks_used (size_of s (desk_of d).locked)) (c : ℕ)
-    (goes : target_block (image_long s m d) m n b (kth_block s n (desk_of d).locked (desk_of d).transferred) ≡ At c) where
+    (goes : target_block (image_long s m d) m n b (kth_block s n (desk_of d).locked (desk_of d).transferred) ≡ Some c) where
   abbrev l : ℕ
   l = (desk_of d).locked
 

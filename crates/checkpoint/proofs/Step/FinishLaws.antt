@@ -6,7 +6,7 @@ use mathlib.Core.Bool.{true, false}
 use mathlib.Core.List.{List}
 use native.Mathlib.Omega.{arith}
 use lib.ListN.{get_or}
-use Rattle.bounded.specs.Count.{one, tally}
+use Rattle.bounded.specs.Count.{tally}
 use Rattle.bounded.specs.Climb.{Closed}
 use borrow.Author.Tests.{not-true}
 use Rattle.bounded.proofs.BoolLaws.{clash}

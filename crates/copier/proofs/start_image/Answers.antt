@@ -16,5 +16,5 @@ write-requires c = let p = c.requires in let a = image_room _ _ _ p.1 p.2 in let
 pub returns : goal.returns
 returns c = let a = c.args in
     c.write.ensures
-    ∙ ap (λ (t : List ℕ). put_header t (record { inodes = a.n; blocks = a.b; free_inodes = 0; free_blocks = 0; complete = not_complete; root = root_inode })) c.zero_range.ensures
+    ∙ ap (λ (t : List ℕ). put_header t (record { inodes = a.n; blocks = a.b; free_inodes = 0; free_blocks = 0; complete = not_complete; root = root_inode })) (c.fill.ensures.after (λ y e. e))
     ∙ image_done a.m.now a.n a.b c.requires.2

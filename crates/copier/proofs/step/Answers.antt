@@ -2,10 +2,10 @@ use Rattle.copier.proofs.StepLaws.{step_ready, step_stopped, step_through}
 use Rattle.copier.proofs.step.Goals as goal
 
 pub go_on-requires : goal.go_on-requires
-go_on-requires c = step_ready _ _ _ _ c.three_guards.ensures c.in-Open.is
+go_on-requires c = step_ready _ _ _ _ c.three_guards.ensures c.in_ok-w.was
 
-pub returns-in-Open : goal.returns-in-Open
-returns-in-Open c = step_through _ _ _ _ c.three_guards.ensures _ _ _ _ c.in-Open.is c.go_on.ensures
+pub returns : goal.returns
+returns c = step_through _ _ _ _ c.three_guards.ensures _ _ _ _ c.in_ok-w.was c.go_on.ensures
 
-pub returns-in-Shut : goal.returns-in-Shut
-returns-in-Shut c = step_stopped _ _ _ _ c.three_guards.ensures _ c.in-Shut.is
+pub returns-in_err-w : goal.returns-in_err-w
+returns-in_err-w c = step_stopped _ _ _ _ c.three_guards.ensures _ _ c.from_residual.ensures.1 c.in_err-w.was

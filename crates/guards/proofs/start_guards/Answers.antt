@@ -19,8 +19,5 @@ image_allowed-requires c = let f = framed_on Store _ (and_left _ _ (chain_on _ _
 pub returns-then-not-image_allowed : goal.returns-then-not-image_allowed
 returns-then-not-image_allowed c = start_no_image _ _ _ (chain_on _ _ c.both_framed.ensures c.if-not-both_framed.false-raw) (ap (λ (h : Header). h.inodes) c.read-h.ensures) (chain_off _ _ c.image_allowed.ensures c.if-not-image_allowed.true-raw)
 
-pub after_lengths-requires : goal.after_lengths-requires
-after_lengths-requires c = chain_on _ _ c.both_framed.ensures c.if-not-both_framed.false-raw
-
 pub returns : goal.returns
 returns c = start_framed _ _ _ (chain_on _ _ c.both_framed.ensures c.if-not-both_framed.false-raw) (ap (λ (h : Header). h.inodes) c.read-h.ensures) (chain_on _ _ c.image_allowed.ensures c.if-not-image_allowed.false-raw) _ c.after_lengths.ensures

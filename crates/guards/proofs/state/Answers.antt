@@ -1,8 +1,8 @@
 use Rattle.guards.proofs.GuardLaws.{state_through, state_stopped}
 use Rattle.guards.proofs.state.Goals as goal
 
-pub returns-in-Open : goal.returns-in-Open
-returns-in-Open c = state_through _ _ _ _ c.three_guards.ensures _ _ _ c.in-Open.is
+pub returns-in_err-h : goal.returns-in_err-h
+returns-in_err-h c = state_stopped _ _ _ _ c.three_guards.ensures _ _ c.from_residual.ensures.1 c.in_err-h.was
 
-pub returns-in-Shut : goal.returns-in-Shut
-returns-in-Shut c = state_stopped _ _ _ _ c.three_guards.ensures _ c.in-Shut.is
+pub returns : goal.returns
+returns c = state_through _ _ _ _ c.three_guards.ensures _ _ _ c.in_ok-h.was

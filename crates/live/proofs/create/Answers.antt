@@ -5,14 +5,14 @@ use Rattle.live.proofs.ReturnLaws.{call_through, call_stopped}
 use Rattle.live.proofs.create.Goals as goal
 
 pub create-requires : goal.create-requires
-create-requires c = (let_through _ _ _ _ c.three_guards.ensures c.in-Open.is).0
+create-requires c = (let_through _ _ _ _ c.three_guards.ensures c.in_ok-w.was).0
 
-pub returns-in-Open : goal.returns-in-Open
-returns-in-Open c =
+pub returns : goal.returns
+returns c =
     let a = c.args in
-    call_through (create a.dir a.name.now a.kind) refl _ _ _ _ c.three_guards.ensures _ _ _ _ c.in-Open.is (c.create.ensures _)
+    call_through (create a.dir a.name.now a.kind) refl _ _ _ _ c.three_guards.ensures _ _ _ _ c.in_ok-w.was (c.create.ensures _)
 
-pub returns-in-Shut : goal.returns-in-Shut
-returns-in-Shut c =
+pub returns-in_err-w : goal.returns-in_err-w
+returns-in_err-w c =
     let a = c.args in
-    call_stopped (create a.dir a.name.now a.kind) refl _ _ _ _ c.three_guards.ensures _ c.in-Shut.is
+    call_stopped (create a.dir a.name.now a.kind) refl _ _ _ _ c.three_guards.ensures _ _ c.from_residual.ensures.1 c.in_err-w.was

@@ -5,12 +5,6 @@ use Rattle.names.proofs.FoldLaws.{capitals_at, capitals_fit, low_fits}
 use borrow.Author.Rules.{rules}
 use Rattle.names.proofs.folded.Goals as goal
 
-pub overflow_add-capitals : goal.overflow_add-capitals
-overflow_add-capitals c = record { fits = low_fits _ _ (and_le_r c.args.w 9187201950435737471) (omega arith) }
-
-pub overflow_add-capitals-2 : goal.overflow_add-capitals-2
-overflow_add-capitals-2 c = record { fits = low_fits _ _ (and_le_r c.args.w 9187201950435737471) (omega arith) }
-
 pub overflow_add-result : goal.overflow_add-result
 overflow_add-result c = record { fits = capitals_fit c.args.w (search rules) _ refl }
 

@@ -1,12 +1,8 @@
-use mathlib.Core.Path.{refl}
-use native.Mathlib.Omega.{arith}
-use lib.ListN.{length-set}
-use Rattle.octets.specs.Octets.{splice, put_num, to_bytes}
+use Rattle.std.proofs.Common.{ap, ◌∙◌}
+use Rattle.octets.specs.Octets.{splice, put_num}
+use Rattle.octets.proofs.NumLaws.{le_num_2}
 use Rattle.octets.proofs.put_16.Goals as goal
 
-pub bounds-s-o-2 : goal.bounds-s-o-2
-bounds-s-o-2 c = simp length-set (omega arith)
-
 pub returns : goal.returns
-unfolding splice put_num to_bytes
-returns c = refl
+unfolding put_num
+returns c = let a = c.args in c.put_bytes.ensures ∙ ap (splice a.s.now a.o) (c.to_le_bytes.ensures ∙ le_num_2 a.v c.ranges.v.fits)

@@ -1,5 +1,8 @@
-use Rattle.octets.proofs.NumLaws.{put_join}
+use Rattle.std.proofs.Common.{ap, ◌∙◌}
+use Rattle.octets.specs.Octets.{splice, put_num}
+use Rattle.octets.proofs.NumLaws.{le_num_4}
 use Rattle.octets.proofs.put_32.Goals as goal
 
 pub returns : goal.returns
-returns c = let a = c.args in cc (put_join 1 1 a.s.now a.o a.v)
+unfolding put_num
+returns c = let a = c.args in c.put_bytes.ensures ∙ ap (splice a.s.now a.o) (c.to_le_bytes.ensures ∙ le_num_4 a.v c.ranges.v.fits)

@@ -10,7 +10,7 @@ use Rattle.octets.proofs.without.Goals as goal
 pub returns : goal.returns
 returns c =
     let a = c.args in
-    let y : c.wide_32-y.result ≡ a.x = c.wide_32-y.ensures.0 ∙ c.wide_16.ensures.0 ∙ c.wide_8.ensures.0 in
+    let y : c.from.result ≡ a.x = c.from.ensures in
     ap (λ (r : ℕ). eqb r (every 128 8))
     (c.nonzero.ensures ∙ ap (flags 8) (ap₂ bit_xor c.get_64.ensures (ap (λ (z : ℕ). 72340172838076673 * z) y ∙ every_ones a.x)))
     ∙ without_is a.s.now a.x (λ i. (c.type_inv.s i).fits) (search rules) 8 a.o

@@ -6,5 +6,5 @@ use Rattle.script_listing.proofs.put_kind.Goals as goal
 pub returns-then-kind-eq-DIRECTORY : goal.returns-then-kind-eq-DIRECTORY
 returns-then-kind-eq-DIRECTORY c = record { put = put_same _ _ _ _ _ _ (directory_text _ c.if-kind-eq-DIRECTORY.true) c.put.ensures; upper_bound = omega (arith, c.put.ensures.ends) }
 
-pub returns : goal.returns
-returns c = record { put = put_same _ _ _ _ _ _ (file_text _ c.if-kind-eq-DIRECTORY.false) c.put-2.ensures; upper_bound = omega (arith, c.put-2.ensures.ends) }
+pub returns-else-kind-eq-DIRECTORY : goal.returns-else-kind-eq-DIRECTORY
+returns-else-kind-eq-DIRECTORY c = record { put = put_same _ _ _ _ _ _ (file_text _ c.if-kind-eq-DIRECTORY.false) c.put-else-kind-eq-DIRECTORY.ensures; upper_bound = omega (arith, c.put-else-kind-eq-DIRECTORY.ensures.ends) }

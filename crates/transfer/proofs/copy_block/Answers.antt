@@ -18,21 +18,14 @@ block_at-requires c =
     let b = block_here p.1 a.i p.2 p.3 a.k p.4 in
     (b.0, omega (arith, b.1, c.kth_used-a.ensures), omega arith)
 
-pub copy_range-requires : goal.copy_range-requires
-copy_range-requires c =
-    let a = c.args in
-    let p = c.requires in
-    let b = block_here p.1 a.i p.2 p.3 a.k p.4 in
-    (omega (arith, p.0), omega (arith, b.2, c.kth_used-a.ensures, c.block_at.ensures))
-
 pub copy_entries-requires : goal.copy_entries-requires
 copy_entries-requires c =
     let a = c.args in
     let p = c.requires in
     (ap length c.copy_range.ensures ∙ length_copied a.x.now 0 a.s.now c.block_at.result 64 ∙ p.0, p.5, p.2, p.3, block_few p.1 a.i p.2 p.3 a.k p.4 (omega arith))
 
-pub returns : goal.returns
-returns c =
+pub returns-then-kind-eq-DIRECTORY : goal.returns-then-kind-eq-DIRECTORY
+returns-then-kind-eq-DIRECTORY c =
     let a = c.args in
     let p = c.requires in
     block_parted p.1 a.i p.2 p.3 a.k p.4 a.d.now _ c.is_address_block.ensures a.x.now p.0 c.if-is_address_block.false _ _ _ c.kth_used-a.ensures c.block_at.ensures c.copy_range.ensures _ c.kind.ensures (omega arith) _ c.copy_entries.ensures

@@ -1,29 +1,27 @@
-use Prim.Native.Nat.{ℕ, ◌+◌}
-use mathlib.Core.Path.{◌≡◌, sym, ap, ◌∙◌}
-use native.Mathlib.Omega.{arith}
-use Rattle.bounded.proofs.CountLaws.{tally_here, tally_else, tally_le, count_zero}
+use Rattle.std.proofs.Common.{eqb, ◌∙◌, arith, rules}
+use borrow.Author.Tests.{tests}
+use Rattle.std.specs.Int.{from_bool}
+use Rattle.std.specs.List.{range_with_len}
+use Rattle.std.proofs.lemmas.Iterator.{YieldsList-from_range, YieldsList-from_map}
+use Rattle.std.proofs.lemmas.Iterator.Consumers.{sum_by_from_yields_List, fits_by_from_yields_list}
+use Rattle.bounded.proofs.CountLaws.{tally_le}
 use Rattle.layout.specs.Sizes.{further_count}
 use Rattle.blocks.specs.Block.{further_of}
+use Rattle.transfer.proofs.ChainLaws.{times_listed}
 use Rattle.transfer.proofs.times_further.Goals as goal
-use Rattle.transfer.proofs.times_further.Goals.{then-further-c, else-further-c}
 
-pub loop-j-init : goal.loop-j-init
-loop-j-init c = (omega arith, count_zero _)
-
-pub overflow_add-times : goal.overflow_add-times
-overflow_add-times c =
-    let a = c.args in
-    let l = c.loop-j in
-    omega (arith, tally_le (further_of a.m.now a.n a.a) l.j a.c)
-
-pub loop-j-preserved : goal.loop-j-preserved
-loop-j-preserved c =
-    let l = c.loop-j in
-    let e = c.further.ensures in
-    elim c.if-further-c.branch [
-      | then-further-c w ↦ (omega arith, w.times-is ∙ ap (λ (y : ℕ). y + 1) l.invariant.1 ∙ sym (tally_here _ l.j _ (sym e ∙ w.if-further-c.true)))
-      | else-further-c w ↦ (omega arith, w.times-is ∙ l.invariant.1 ∙ sym (tally_else _ l.j _ (λ z. w.if-further-c.false (e ∙ z))))
-    ]
+pub sum-requires-clause-fits : goal.sum-requires-clause-fits
+sum-requires-clause-fits c =
+    let f = further_of c.args.m.now c.args.n c.args.a in
+    let k = further_count in
+    fits_by_from_yields_list (λ i. from_bool (eqb (f i) c.args.c)) (range_with_len 0 k) _ _
+    (YieldsList-from_map _ (λ i. from_bool (eqb (f i) c.args.c)) (YieldsList-from_range 0 k k (cc) (omega arith)) c.map.ensures.closure (λ x r q k. search (rules, tests)))
+    (omega (arith, c.requires.0, times_listed f c.args.c k, tally_le f k c.args.c))
 
 pub returns : goal.returns
-returns c = let e : c.loop-j.j ≡ further_count = omega arith in rw e at c.loop-j.invariant.1
+returns c =
+    let f = further_of c.args.m.now c.args.n c.args.a in
+    let k = further_count in
+    sum_by_from_yields_List (λ i. from_bool (eqb (f i) c.args.c)) (range_with_len 0 k) _ _ c.sum.ensures.ran
+    (YieldsList-from_map _ (λ i. from_bool (eqb (f i) c.args.c)) (YieldsList-from_range 0 k k (cc) (omega arith)) c.map.ensures.closure (λ x r q k. search (rules, tests)))
+    ∙ times_listed f c.args.c k

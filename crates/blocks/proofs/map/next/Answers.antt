@@ -1,17 +1,9 @@
-use mathlib.Core.Path.{refl, sym, ap, ◌∙◌}
-use mathlib.Core.Bool.{not}
-use native.Mathlib.Omega.{arith}
-use Rattle.bounded.proofs.SearchLaws.{first_turn, first_found, search_left}
+use Rattle.std.proofs.Common.{◌∙◌, sym}
+use Rattle.layout.proofs.RangeLaws.{some_found}
 use Rattle.blocks.proofs.map.next.Goals as goal
 
-pub loop-c-init : goal.loop-c-init
-loop-c-init c = (omega arith, search_left _ _ _ c.requires.3, refl)
-
-pub loop-c-preserved : goal.loop-c-preserved
-loop-c-preserved c =
-    let i = c.loop-c in
-    let e = i.invariant.2 ∙ first_turn _ i.c _ (omega arith) (ap not (sym c.has.ensures ∙ c.loop-c-test.true)) in
-    (omega arith, search_left _ _ _ (λ z. c.requires.3 (e ∙ z)), e)
+pub unwrap-requires : goal.unwrap-requires
+unwrap-requires c = some_found _ (λ z. c.requires.3 (sym c.lowest_from.ensures ∙ z))
 
 pub returns : goal.returns
-returns c = let i = c.loop-c in i.invariant.2 ∙ first_found _ i.c _ (omega arith) (ap not (sym c.has.ensures ∙ c.loop-c-test.false))
+returns c = sym c.lowest_from.ensures ∙ c.unwrap.ensures

@@ -31,22 +31,22 @@ pub standing-old-requires : goal.standing-old-requires
 standing-old-requires c =
     let a = c.args in
     let p = c.requires in
-    block_stands a.s.now a.m.now a.d.now a.n a.h p.0 p.2 a.map.now p.1 p.3 _ c.kth_used-own.ensures _ c.place.ensures c.in-At.c c.in-At.is
+    block_stands a.s.now a.m.now a.d.now a.n a.h p.0 p.2 a.map.now p.1 p.3 _ c.kth_used-own.ensures _ c.place.ensures c.in-Some.c c.in-Some.is
 
 pub copy-requires : goal.copy-requires
 copy-requires c =
     let a = c.args in
     let p = c.requires in
-    (going_held a.s.now a.m.now a.d.now a.n a.h p.0, going_locked a.s.now a.m.now a.d.now a.n a.h p.0 p.2, p.3, block_target a.s.now a.m.now a.d.now a.n a.h p.0 p.2 a.map.now p.1 p.3 _ c.kth_used-own.ensures _ c.place.ensures c.in-At.c c.in-At.is)
+    (going_held a.s.now a.m.now a.d.now a.n a.h p.0, going_locked a.s.now a.m.now a.d.now a.n a.h p.0 p.2, p.3, block_target a.s.now a.m.now a.d.now a.n a.h p.0 p.2 a.map.now p.1 p.3 _ c.kth_used-own.ensures _ c.place.ensures c.in-Some.c c.in-Some.is)
 
 pub renew-requires : goal.renew-requires
 renew-requires c =
     let a = c.args in
     let p = c.requires in
-    (block_rows a.s.now a.m.now a.d.now a.n a.h p.0 p.2 a.map.now p.1 p.3 _ c.kth_used-own.ensures _ c.place.ensures c.in-At.c c.in-At.is _ _ _ c.copy.ensures, going_area a.s.now a.m.now a.d.now a.n a.h p.0, (going_locked a.s.now a.m.now a.d.now a.n a.h p.0 p.2).high, (block_target a.s.now a.m.now a.d.now a.n a.h p.0 p.2 a.map.now p.1 p.3 _ c.kth_used-own.ensures _ c.place.ensures c.in-At.c c.in-At.is).most)
+    (block_rows a.s.now a.m.now a.d.now a.n a.h p.0 p.2 a.map.now p.1 p.3 _ c.kth_used-own.ensures _ c.place.ensures c.in-Some.c c.in-Some.is _ _ _ c.copy.ensures, going_area a.s.now a.m.now a.d.now a.n a.h p.0, (going_locked a.s.now a.m.now a.d.now a.n a.h p.0 p.2).high, (block_target a.s.now a.m.now a.d.now a.n a.h p.0 p.2 a.map.now p.1 p.3 _ c.kth_used-own.ensures _ c.place.ensures c.in-Some.c c.in-Some.is).most)
 
 pub returns : goal.returns
 returns c =
     let a = c.args in
     let p = c.requires in
-    block_goes a.s.now a.m.now a.d.now a.n a.h p.0 p.2 a.map.now p.1 p.3 _ c.kth_used-own.ensures _ c.place.ensures c.in-At.c c.in-At.is _ _ _ c.copy.ensures _ c.standing-old.ensures _ c.renew.ensures
+    block_goes a.s.now a.m.now a.d.now a.n a.h p.0 p.2 a.map.now p.1 p.3 _ c.kth_used-own.ensures _ c.place.ensures c.in-Some.c c.in-Some.is _ _ _ c.copy.ensures _ c.standing-old.ensures _ c.renew.ensures

@@ -1,8 +1,6 @@
 use Prim.Native.Nat.{◌≤◌}
-use mathlib.Core.Path.{◌≡◌, refl, sym, ◌∙◌}
+use mathlib.Core.Path.{◌≡◌, ◌∙◌}
 use native.Mathlib.Omega.{arith}
-use borrow.Author.Tests.{not-true, not-false}
-use Rattle.bounded.proofs.BoolLaws.{clash}
 use Rattle.blocks.specs.Block.{is_long, address_block}
 use Rattle.image.proofs.FitLaws.{entries_bare}
 use Rattle.bursts.proofs.KeptLaws.{twelfth, maps_bare}
@@ -22,14 +20,3 @@ further_fit-requires c =
     let e = c.kth_block-a.ensures ∙ twelfth a.m.now a.n a.i in
     let u : address_block a.m.now a.n a.i ≤ a.b = p.2 in
     (p.0, p.1, e, omega arith, omega arith)
-
-pub returns-then-not-further_fit : goal.returns-then-not-further_fit
-returns-then-not-further_fit c = (sym (not-true _ c.if-not-further_fit.true-raw) ∙ c.further_fit.ensures, λ q. absurd (clash _ q refl))
-
-pub map_of-requires : goal.map_of-requires
-map_of-requires c =
-    let p = c.requires in
-    (p.3 (sym c.further_fit.ensures ∙ not-false _ c.if-not-further_fit.false-raw), p.0.area, p.0.high)
-
-pub returns : goal.returns
-returns c = (sym (not-false _ c.if-not-further_fit.false-raw) ∙ c.further_fit.ensures, λ _ _. c.map_of.ensures)

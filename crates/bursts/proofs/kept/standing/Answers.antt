@@ -19,7 +19,7 @@ further-requires c =
     let w = q.1 in
     (p.0.few, omega arith, omega arith, omega arith, omega arith)
 
-pub returns : goal.returns
-returns c =
+pub returns-else-k-lt-ADDRESS_COUNT : goal.returns-else-k-lt-ADDRESS_COUNT
+returns-else-k-lt-ADDRESS_COUNT c =
     let a = c.args in
     stands_further a.m.now a.n a.i a.k _ c.if-k-lt-ADDRESS_COUNT.false _ c.kth_block-a.ensures c.further.ensures

@@ -8,7 +8,7 @@ use Rattle.checker.specs.Pass.{Passed}
 use Rattle.checker.proofs.entries.directory_right.Given as goal
 
 abbrev pub invariant-loop-k : goal.invariant-loop-k
-invariant-loop-k l = (l.k ≤ l.blocks) × (all_below (λ t. entry_b l.s l.n (place_of l.d t)) (4 * l.k) ≡ true) × Passed l.s l.n l.d (4 * l.k) (place_of l.d (4 * l.k)) l.low l.high l.counts
+invariant-loop-k l = (l.k ≤ l.blocks) × (all_below (λ t. entry_b l.s l.n (place_of l.d t)) (4 * l.k) ≡ true) × Passed l.s l.n l.d (4 * l.k) (place_of l.d (4 * l.k)) l.names l.counts
 
 abbrev pub decreases-loop-k : goal.decreases-loop-k
 decreases-loop-k l = l.blocks - l.k

@@ -1,5 +1,6 @@
+use mathlib.Core.Path.{sym, ◌∙◌}
 use native.Mathlib.Omega.{arith}
-use Rattle.checker.proofs.EntryLaws.{cut_fits, illegal, nameless, past_inodes, free_named, root_named, file_named, dir_named}
+use Rattle.checker.proofs.EntryLaws.{cut_fits, barred, free_named, file_named, dir_named}
 use Rattle.checker.proofs.entries.entry_named.Goals as goal
 
 pub overflow_add-e : goal.overflow_add-e
@@ -11,40 +12,23 @@ slice_bounds-e-end c = let a = c.args in omega (arith, cut_fits a.s.now a.n a.d 
 pub returns-then-not-legal_entry : goal.returns-then-not-legal_entry
 returns-then-not-legal_entry c =
     let a = c.args in
-    illegal a.s.now a.n a.d a.t a.o c.requires _ _ c.entry_inode-i.ensures c.legal_entry.ensures c.if-not-legal_entry.true-raw
+    barred a.s.now a.n a.d a.t a.o c.requires _ _ (c.from-i.ensures ∙ c.entry_inode.ensures) c.legal_entry.ensures c.then-not-legal_entry.either
 
-pub returns-then-i-lt1 : goal.returns-then-i-lt1
-returns-then-i-lt1 c =
+pub returns-in-0 : goal.returns-in-0
+returns-in-0 c =
     let a = c.args in
-    nameless a.s.now a.n a.d a.t a.o c.requires _ _ c.entry_inode-i.ensures c.legal_entry.ensures c.if-i-lt1.true
+    free_named a.s.now a.n a.d a.t a.o c.requires _ _ (c.from-i.ensures ∙ c.entry_inode.ensures) c.legal_entry.ensures (sym c.kind.ensures ∙ c.in-0.is)
 
-pub returns-then-n-i : goal.returns-then-n-i
-returns-then-n-i c =
+pub returns-in-2 : goal.returns-in-2
+returns-in-2 c =
     let a = c.args in
-    past_inodes a.s.now a.n a.d a.t a.o c.requires _ _ c.entry_inode-i.ensures c.legal_entry.ensures c.if-n-i.true
+    dir_named a.s.now a.n a.d a.t a.o c.requires _ _ (c.from-i.ensures ∙ c.entry_inode.ensures) c.legal_entry.ensures
+    c.if-not-legal_entry.false c.if-i-lt1.false c.if-n-i.false c.if-i-eq-ROOT.false
+    _ (c.from.ensures ∙ c.parent.ensures) (sym c.kind.ensures ∙ c.in-2.is)
 
-pub returns-then-kind-eq-FREE : goal.returns-then-kind-eq-FREE
-returns-then-kind-eq-FREE c =
+pub returns-in_default : goal.returns-in_default
+returns-in_default c =
     let a = c.args in
-    free_named a.s.now a.n a.d a.t a.o c.requires _ _ c.entry_inode-i.ensures c.legal_entry.ensures
-    _ c.kind-kind.ensures c.if-kind-eq-FREE.true
-
-pub returns-then-i-eq-ROOT : goal.returns-then-i-eq-ROOT
-returns-then-i-eq-ROOT c =
-    let a = c.args in
-    root_named a.s.now a.n a.d a.t a.o c.requires _ _ c.entry_inode-i.ensures c.legal_entry.ensures
-    _ c.kind-kind.ensures c.if-i-eq-ROOT.true
-
-pub returns-then-kind-ne-DIRECTORY : goal.returns-then-kind-ne-DIRECTORY
-returns-then-kind-ne-DIRECTORY c =
-    let a = c.args in
-    file_named a.s.now a.n a.d a.t a.o c.requires _ _ c.entry_inode-i.ensures c.legal_entry.ensures
-    _ c.kind-kind.ensures c.if-not-legal_entry.false-raw c.if-i-lt1.false c.if-n-i.false
-    c.if-kind-eq-FREE.false c.if-i-eq-ROOT.false c.if-kind-ne-DIRECTORY.true
-
-pub returns : goal.returns
-returns c =
-    let a = c.args in
-    dir_named a.s.now a.n a.d a.t a.o c.requires _ _ c.entry_inode-i.ensures c.legal_entry.ensures
-    _ c.kind-kind.ensures c.if-not-legal_entry.false-raw c.if-i-lt1.false c.if-n-i.false
-    c.if-kind-eq-FREE.false c.if-i-eq-ROOT.false _ c.parent.ensures c.if-kind-ne-DIRECTORY.false
+    file_named a.s.now a.n a.d a.t a.o c.requires _ _ (c.from-i.ensures ∙ c.entry_inode.ensures) c.legal_entry.ensures
+    c.if-not-legal_entry.false c.if-i-lt1.false c.if-n-i.false c.if-i-eq-ROOT.false
+    (λ e. omega (arith, c.kind.ensures)) (λ e. omega (arith, c.kind.ensures))

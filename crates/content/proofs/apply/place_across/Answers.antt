@@ -1,15 +1,12 @@
-use borrow.Author.Tests.{not-true, not-false}
-use Rattle.content.proofs.RowLaws.{place_across_not, place_across_back, place_across_front, place_across_else}
+use native.Mathlib.Omega.{arith}
+use Rattle.content.proofs.RowLaws.{place_across_back, place_across_front, place_across_else}
 use Rattle.content.proofs.apply.place_across.Goals as goal
 
-pub returns-then-not-crosses : goal.returns-then-not-crosses
-returns-then-not-crosses c = place_across_not c.args.crosses _ (not-true _ c.if-not-crosses.true-raw)
+pub returns-in-11 : goal.returns-in-11
+returns-in-11 c = place_across_back c.args.crosses c.args.k c.if-not-crosses.false c.in-11.is
 
-pub returns-then-k-eq-ADDRESS_PLACE : goal.returns-then-k-eq-ADDRESS_PLACE
-returns-then-k-eq-ADDRESS_PLACE c = place_across_back c.args.crosses c.args.k (not-false _ c.if-not-crosses.false-raw) c.if-k-eq-ADDRESS_PLACE.true
+pub returns-in-12 : goal.returns-in-12
+returns-in-12 c = place_across_front c.args.crosses c.args.k c.if-not-crosses.false c.in-12.is
 
-pub returns-then-k-eq-ADDRESS_COUNT : goal.returns-then-k-eq-ADDRESS_COUNT
-returns-then-k-eq-ADDRESS_COUNT c = place_across_front c.args.crosses c.args.k (not-false _ c.if-not-crosses.false-raw) c.if-k-eq-ADDRESS_COUNT.true
-
-pub returns : goal.returns
-returns c = place_across_else c.args.crosses c.args.k (not-false _ c.if-not-crosses.false-raw) c.if-k-eq-ADDRESS_PLACE.false c.if-k-eq-ADDRESS_COUNT.false
+pub returns-in_default : goal.returns-in_default
+returns-in_default c = place_across_else c.args.crosses c.args.k c.if-not-crosses.false (λ e. omega arith) (λ e. omega arith)

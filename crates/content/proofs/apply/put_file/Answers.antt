@@ -38,9 +38,6 @@ copy_range-requires c =
     let l = c.loop-j in
     ((let w = byte_inside ((let h : let a = c.args in FileFits c.loop-j.s a.n a.i (a.o + length a.xs.now) = let l = c.loop-j in let a = c.args in subst (λ (t : List ℕ). FileFits t a.n a.i (a.o + length a.xs.now)) (sym l.invariant.1) (put_fits _ _ _ _ _ c.requires l.j l.invariant.0) in h)) (a.o + l.j) (omega arith) c.run-count.result (omega arith) in omega arith), omega arith)
 
-pub loop-j-smaller : goal.loop-j-smaller
-loop-j-smaller c = let r = c.run-count.ensures in search rules
-
 pub loop-j-preserved : goal.loop-j-preserved
 loop-j-preserved c =
     let l = c.loop-j in
@@ -48,9 +45,6 @@ loop-j-preserved c =
     let e = c.byte_at-p.ensures in
     let q = c.copy_range.ensures in
     (omega arith, q ∙ rw (e, l.invariant.1) (put_turn _ _ _ _ _ c.requires l.j l.invariant.0 _ (omega arith) (omega arith)), ap length q ∙ length_copied _ _ _ _ _ ∙ l.invariant.2)
-
-pub shape_of-s : goal.shape_of-s
-shape_of-s c = c.loop-j.invariant.2
 
 pub returns : goal.returns
 returns c = c.loop-j.invariant.1 ∙ put_end _ _ _ _ _ _ (omega arith)

@@ -18,8 +18,8 @@ locked_step-requires c =
     let a = c.args in
     (ready_held a.s.now a.m.now a.d.now a.n c.requires.1 c.requires.2 c.requires.3 _ c.requires.0, ready_locked a.s.now a.m.now a.d.now a.n c.requires.1 c.requires.2 c.requires.3 _ c.requires.0 c.if-h-eq0.false, ready_open a.s.now a.m.now a.d.now a.n c.requires.1 c.requires.2 c.requires.3 _ c.requires.0 c.if-h-eq0.false)
 
-pub returns : goal.returns
-returns c =
+pub returns-else-h-eq0 : goal.returns-else-h-eq0
+returns-else-h-eq0 c =
     let a = c.args in
     let h = a.h in
     does_same a.s.now a.m.now a.d.now a.n (step_of a.s.now a.m.now a.d.now a.n) (locked_step a.s.now a.m.now a.n h.blocks h.locked h.transferred) (step_locked a.s.now a.m.now a.d.now a.n _ c.requires.0 c.if-h-eq0.false) _ c.locked_step.ensures

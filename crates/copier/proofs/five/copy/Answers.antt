@@ -18,17 +18,11 @@ put_kth-requires c =
     let v = block_long l.store a.h.locked l.low l.high a.h.transferred c.requires.2 a.d.now in
     (address_fits t l.low l.high _ _ v w, locked_few l c.requires.2, further_fits t l.low l.high _ _ v w)
 
-pub read-requires : goal.read-requires
-read-requires c = omega (arith, c.requires.0.long)
-
 -- what is read is the header that came in
 pub copied_one_more-grown-requires : goal.copied_one_more-grown-requires
 copied_one_more-grown-requires c =
     let w = locked_few c.requires.1 c.requires.2 in
     rw (c.read.ensures ∙ sym c.requires.0.read) (omega arith, c.requires.0.steps)
-
-pub write-requires : goal.write-requires
-write-requires c = omega (arith, c.requires.0.long)
 
 pub returns : goal.returns
 returns c =

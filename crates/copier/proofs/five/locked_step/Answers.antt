@@ -1,9 +1,7 @@
-use mathlib.Core.Path.{sym, ap, ◌∙◌, subst}
-use mathlib.Core.Bool.{Bool}
+use Rattle.std.specs.Prelude.{Err}
+use mathlib.Core.Path.{ap, ◌∙◌}
 use native.Mathlib.Omega.{arith}
 use Rattle.blocks.specs.Block.{blocks_used}
-use Rattle.blocks.specs.Free.{long_but}
-use Rattle.blocks.specs.Fits.{RowsFit}
 use Rattle.checkpoint.specs.Copier.{close, copy, locked_step}
 use Rattle.copier.proofs.FiveLaws.{locked_close, locked_copy, locked_full, does_same, does_full, target_inside}
 use Rattle.copier.proofs.five.locked_step.Goals as goal
@@ -15,36 +13,23 @@ returns-then-blocks_used-k c =
     let u = c.blocks_used.ensures ∙ ap blocks_used c.size.ensures in
     does_same a.s.now a.m.now a.d.now a.n (locked_step a.s.now a.m.now a.n h.blocks h.locked h.transferred) (close h.locked) (locked_close a.s.now a.m.now a.n h.blocks h.locked h.transferred _ u c.if-blocks_used-k.true) _ c.close.ensures
 
-pub kth_used-own-requires : goal.kth_used-own-requires
-kth_used-own-requires c =
-    let a = c.args in
-    let h = a.h in
-    let u = c.blocks_used.ensures ∙ ap blocks_used c.size.ensures in
-    let l = c.requires.1 in
-    (l.store, l.low, l.high, omega arith)
-
-pub target_block-requires : goal.target_block-requires
-target_block-requires c =
-    let a = c.args in
-    (subst (λ (x : Bool). RowsFit (long_but a.m.now a.h.locked x) a.m.now a.n) (sym c.is_long-long.ensures) c.requires.2.rows, c.requires.2.sized.blocks)
-
 pub returns-in_default : goal.returns-in_default
 returns-in_default c =
     let a = c.args in
     let h = a.h in
     let u = c.blocks_used.ensures ∙ ap blocks_used c.size.ensures in
-    does_full a.s.now a.m.now a.d.now a.n (locked_step a.s.now a.m.now a.n h.blocks h.locked h.transferred) (locked_full a.s.now a.m.now a.n h.blocks h.locked h.transferred _ u (omega arith) _ c.is_long-long.ensures _ c.kth_used-own.ensures _ c.target_block.ensures c.in_default.is) _ _ c.stop.ensures.0 c.stop.ensures.1
+    does_full a.s.now a.m.now a.d.now a.n (locked_step a.s.now a.m.now a.n h.blocks h.locked h.transferred) (locked_full a.s.now a.m.now a.n h.blocks h.locked h.transferred _ u (omega arith) _ c.is_long-long.ensures _ c.kth_used-own.ensures _ c.target_block.ensures c.in_default.is) _ _ (ap Err c.stop.ensures.0) c.stop.ensures.1
 
 pub copy-requires : goal.copy-requires
 copy-requires c =
     let a = c.args in
     let h = a.h in
     let u = c.blocks_used.ensures ∙ ap blocks_used c.size.ensures in
-    (c.requires.0, c.requires.1, omega arith, target_inside c.requires.1 c.requires.2 (omega arith) _ _ c.in-At.c _ c.target_block.ensures c.in-At.is)
+    (c.requires.0, c.requires.1, omega arith, target_inside c.requires.1 c.requires.2 (omega arith) _ _ c.in-Some.c _ c.target_block.ensures c.in-Some.is)
 
 pub returns : goal.returns
 returns c =
     let a = c.args in
     let h = a.h in
     let u = c.blocks_used.ensures ∙ ap blocks_used c.size.ensures in
-    does_same a.s.now a.m.now a.d.now a.n (locked_step a.s.now a.m.now a.n h.blocks h.locked h.transferred) (copy h.locked h.transferred c.in-At.c) (locked_copy a.s.now a.m.now a.n h.blocks h.locked h.transferred _ u (omega (arith, c.if-blocks_used-k.false)) _ c.is_long-long.ensures _ c.kth_used-own.ensures _ c.target_block.ensures c.in-At.c c.in-At.is) _ c.copy.ensures
+    does_same a.s.now a.m.now a.d.now a.n (locked_step a.s.now a.m.now a.n h.blocks h.locked h.transferred) (copy h.locked h.transferred c.in-Some.c) (locked_copy a.s.now a.m.now a.n h.blocks h.locked h.transferred _ u (omega (arith, c.if-blocks_used-k.false)) _ c.is_long-long.ensures _ c.kth_used-own.ensures _ c.target_block.ensures c.in-Some.c c.in-Some.is) _ c.copy.ensures

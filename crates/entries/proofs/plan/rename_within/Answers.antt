@@ -7,4 +7,4 @@ pub returns-in_default : goal.returns-in_default
 returns-in_default c = within_new _ _ _ _ _ _ (sym c.find_slot.ensures ∙ c.in_default.is)
 
 pub returns : goal.returns
-returns c = within_taken _ _ _ _ _ _ _ (sym c.find_slot.ensures ∙ c.in-At.is) (omega arith)
+returns c = within_taken _ _ _ _ _ _ _ (sym c.find_slot.ensures ∙ c.in-Some.is) (omega arith)

@@ -1,21 +1,19 @@
-use native.Mathlib.Omega.{arith}
-use Rattle.bounded.proofs.BoolLaws.{chain_on, chain_off}
-use Rattle.bounded.proofs.BelowLaws.{all_none, all_more, all_stopped, all_done}
+use Rattle.std.proofs.Common.{ℕ, refl, ◌+◌, ◌∙◌, arith, rules}
+use Rattle.std.proofs.lemmas.Iterator.{YieldsList-from_range, serves_from_Range}
+use Rattle.std.proofs.lemmas.Iterator.Search.{all_from_yields_List}
+use borrow.Author.Tests.{tests}
+use Rattle.blocks.specs.Free.{long_but}
+use Rattle.image.specs.Fit.{further_right_of}
+use Rattle.image.proofs.ChainLaws.{each_listed}
 use Rattle.image.proofs.FitLaws.{direct_place}
 use Rattle.image.proofs.fit.further_fit.Goals as goal
 
-pub loop-k-init : goal.loop-k-init
-loop-k-init c = (omega arith, all_none _)
-
-pub further_fit_of-requires : goal.further_fit_of-requires
-further_fit_of-requires c =
-    (c.requires.0, omega arith, omega arith, direct_place _ _ _ c.requires.1 c.loop-k.k (omega arith))
-
-pub returns-then-not-further_fit_of : goal.returns-then-not-further_fit_of
-returns-then-not-further_fit_of c = all_stopped _ _ c.loop-k.k (omega arith) (chain_off _ _ c.further_fit_of.ensures c.if-not-further_fit_of.true-raw)
-
-pub loop-k-preserved : goal.loop-k-preserved
-loop-k-preserved c = (omega arith, all_more _ c.loop-k.k c.loop-k.invariant.1 (chain_on _ _ c.further_fit_of.ensures c.if-not-further_fit_of.false-raw))
+pub all-requires-clause-callable : goal.all-requires-clause-callable
+all-requires-clause-callable c = serves_from_Range (λ x q k. search (rules, tests)) (λ i low high. let z = direct_place c.args.m.now c.args.n c.args.b c.requires.1 i low (omega arith) in search rules)
 
 pub returns : goal.returns
-returns c = all_done _ _ c.loop-k.k (omega arith) (omega arith) c.loop-k.invariant.1
+returns c =
+    let a = c.args in
+    let p = λ (i : ℕ). further_right_of (long_but a.m.now a.l a.long i) a.m.now a.n a.b i in
+    all_from_yields_List p _ _ _ c.all.ensures.ran (YieldsList-from_range 1 (a.n + 1) a.n refl (omega arith)) (λ x b q k. search (rules, tests))
+    ∙ each_listed p a.n

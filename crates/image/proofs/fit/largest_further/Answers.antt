@@ -1,22 +1,17 @@
-use mathlib.Core.Path.{◌≡◌, ap, ◌∙◌}
-use native.Mathlib.Omega.{arith}
-use Rattle.bounded.specs.Most.{most}
-use Rattle.bounded.proofs.MostLaws.{most_none, most_more}
+use Rattle.std.proofs.Common.{refl, max, ◌∙◌, arith, rules}
+use Rattle.std.proofs.lemmas.Iterator.{YieldsList-from_range}
+use Rattle.std.proofs.lemmas.Iterator.Consumers.{fold_from_yields_List}
+use borrow.Author.Tests.{tests}
 use Rattle.layout.specs.Sizes.{further_count}
 use Rattle.blocks.specs.Block.{further_of}
+use Rattle.image.proofs.ChainLaws.{most_listed}
 use Rattle.image.proofs.fit.largest_further.Goals as goal
-
-pub loop-j-init : goal.loop-j-init
-loop-j-init c = (omega arith, most_none _, omega arith)
-
-pub loop-j-preserved : goal.loop-j-preserved
-loop-j-preserved c =
-    let l = c.loop-j in
-    (omega arith, c.larger-most.ensures.0 ∙ most_more _ l.j _ _ l.invariant.1 c.further.ensures, c.larger-most.ensures.1)
 
 pub returns : goal.returns
 returns c =
-    let l = c.loop-j in
-    let a = c.args in
-    let e : l.j ≡ further_count = omega arith in
-    (l.invariant.1 ∙ ap (most (further_of a.m.now a.n a.a)) e, l.invariant.2)
+    let f = further_of c.args.m.now c.args.n c.args.a in (
+      fold_from_yields_List _ (λ m x. max m (f x)) 0 _ c.fold.ensures.ran (YieldsList-from_range 0 further_count further_count refl (omega arith))
+          (λ a x b q k. search (rules, tests))
+          ∙ most_listed f further_count,
+      omega arith,
+    )

@@ -1,37 +1,16 @@
-use native.Mathlib.Nat.{add-zero}
 use Rattle.image.proofs.NamingLaws.{block_inside, entry_names, empty_block}
 use Prim.Native.Nat.{◌+◌, ◌*◌}
-use mathlib.Core.Path.{◌≡◌, sym, ◌∙◌}
+use mathlib.Core.Path.{◌≡◌}
 use native.Mathlib.Omega.{arith}
 use Rattle.bounded.proofs.CountLaws.{tallied_le, tallied_as}
 use Rattle.sound.specs.Place.{place_of}
 use Rattle.image.proofs.naming.count_block.Goals as goal
 
-pub kth_block-a-requires : goal.kth_block-a-requires
-kth_block-a-requires c =
-    let p = c.requires in
-    (record { low = p.1; high = p.2; few = p.0.few; area = p.0.area }, p.3)
-
-pub returns-then-a-lt1 : goal.returns-then-a-lt1
-returns-then-a-lt1 c =
+pub returns-then-a-eq0 : goal.returns-then-a-eq0
+returns-then-a-eq0 c =
     let a = c.args in
     let p = c.requires in
     empty_block a.m.now a.n a.e a.k p.1 p.3 a.counts.now (omega (arith, c.kth_block-a.ensures)) p.5
-
-pub block_at-o-requires : goal.block_at-o-requires
-block_at-o-requires c =
-    let a = c.args in
-    let p = c.requires in
-    (p.0.few, omega arith, omega (arith, c.kth_block-a.ensures, block_inside a.m.now a.n a.e a.k p.0 p.1 p.2 p.3))
-
-pub loop-j-init : goal.loop-j-init
-loop-j-init c = (omega arith, tallied_as _ _ _ _ (sym (add-zero _)) c.requires.5)
-
-pub overflow_add-o : goal.overflow_add-o
-overflow_add-o c =
-    let a = c.args in
-    let p = c.requires in
-    omega (arith, c.block_at-o.ensures, c.kth_block-a.ensures, block_inside a.m.now a.n a.e a.k p.0 p.1 p.2 p.3)
 
 pub count_entry-requires : goal.count_entry-requires
 count_entry-requires c =
@@ -49,14 +28,5 @@ loop-j-preserved c =
     let w : place_of a.e (4 * a.k) + c.loop-j.j + 1 ≡ place_of a.e (4 * a.k) + (c.loop-j.j + 1) = omega arith in (
       omega arith,
       tallied_as _ _ _ _ w (c.count_entry.ensures _ (place_of a.e (4 * a.k) + c.loop-j.j)
-          (entry_names a.m.now a.n a.e a.k p.1 p.3 _ _ c.loop-j.j c.kth_block-a.ensures (omega (arith, c.if-a-lt1.false)) c.block_at-o.ensures (omega arith) p.4) c.loop-j.invariant.1),
+          (entry_names a.m.now a.n a.e a.k p.1 p.3 _ _ c.loop-j.j c.kth_block-a.ensures (omega (arith, c.if-a-eq0.false)) c.block_at-o.ensures (omega arith) p.4) c.loop-j.invariant.1),
     )
-
-pub shape_of-counts : goal.shape_of-counts
-shape_of-counts c = c.loop-j.invariant.1.long ∙ sym c.requires.5.long
-
-pub returns : goal.returns
-returns c =
-    let a = c.args in
-    let w : place_of a.e (4 * a.k) + c.loop-j.j ≡ place_of a.e (4 * (a.k + 1)) = omega arith in
-    tallied_as _ _ _ _ w c.loop-j.invariant.1

@@ -14,27 +14,27 @@ returns-then-first-free c =
     let l = c.args.terms.now in
     let i = c.loop-t in
     let e : free_from l i.t ≡ i.free = sym i.invariant.1 in
-    let f = c.wide-first.ensures in
+    let f = c.from-first.ensures in
     all_stopped (neat l) (term_count l) i.t (omega arith) (not_free l i.t (omega arith)) ∙ neat_tells l
 
 pub returns-then-last-first : goal.returns-then-last-first
 returns-then-last-first c =
     let l = c.args.terms.now in
     let i = c.loop-t in
-    let f = c.wide-first.ensures in
-    let g = c.wide-last.ensures in
+    let f = c.from-first.ensures in
+    let g = c.from-last.ensures in
     all_stopped (neat l) (term_count l) i.t (omega arith) (not_ended l i.t (omega arith)) ∙ neat_tells l
 
 pub overflow_add-free : goal.overflow_add-free
-overflow_add-free c = let g = c.wide-last.ensures in let k = c.type_inv.terms (2 * c.loop-t.t + 1) in omega arith
+overflow_add-free c = let g = c.from-last.ensures in let k = c.type_inv.terms (2 * c.loop-t.t + 1) in omega arith
 
 pub loop-t-preserved : goal.loop-t-preserved
 loop-t-preserved c =
     let l = c.args.terms.now in
     let i = c.loop-t in
     let e : free_from l i.t ≡ i.free = sym i.invariant.1 in
-    let f = c.wide-first.ensures in
-    let g = c.wide-last.ensures in
+    let f = c.from-first.ensures in
+    let g = c.from-last.ensures in
     (omega arith, ap (◌+ 1) g ∙ sym (free_next l i.t), all_more (neat l) i.t i.invariant.2 (is_neat l i.t (omega arith) (omega arith)))
 
 pub returns : goal.returns

@@ -31,7 +31,7 @@ loop-i-preserved c =
     let a = c.args in
     let i = c.loop-i in
     let l = a.dates.now in
-    let r = reckoned_day (get_or l i.i 0) c.in-Day.day (sym c.reckon.ensures ∙ c.in-Day.is) in
+    let r = reckoned_day (get_or l i.i 0) c.in-Some.day (sym c.reckon.ensures ∙ c.in-Some.is) in
     (omega arith, all_more (dated l) i.i i.invariant.1 r.0, filled_more (day_at l) (length a.days.now) i.i _ i.days (omega arith) r.1 i.invariant.2)
 
 pub shape_of-days : goal.shape_of-days

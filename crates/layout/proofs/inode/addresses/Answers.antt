@@ -1,15 +1,9 @@
-use native.Mathlib.Omega.{arith}
-use Rattle.bounded.proofs.TableLaws.{filled_none, filled_more, filled_all}
-use Rattle.layout.specs.Inode.{addresses_of}
-use borrow.Author.Rules.{rules}
+use Rattle.std.proofs.Common.{rules}
+use borrow.Author.Tests.{tests}
+use Rattle.layout.specs.Inode.{address_of, address_index, addresses_of}
+use Rattle.layout.proofs.RangeLaws.{made_table}
 use Rattle.layout.proofs.inode.addresses.Goals as goal
-
-pub loop-k-init : goal.loop-k-init
-loop-k-init c = (omega arith, filled_none _ 12 _ (search rules))
-
-pub loop-k-preserved : goal.loop-k-preserved
-loop-k-preserved c = let i = c.loop-k in (omega arith, filled_more _ 12 i.k _ _ (omega arith) c.address.ensures i.invariant.1)
 
 pub returns : goal.returns
 unfolding addresses_of
-returns c = filled_all _ 12 c.loop-k.k _ (omega arith) c.loop-k.invariant.1
+returns c = let a = c.args in made_table _ _ (λ k. address_of a.s.now a.n (address_index a.i k)) _ (λ x r q k. search (rules, tests)) 12 c.from_fn.ensures.items

@@ -1,19 +1,14 @@
-use mathlib.Core.Path.{sym, ◌∙◌}
-use native.Mathlib.Omega.{arith}
-use borrow.Author.Tests.{eq-eqb, ne_eqb}
-use Rattle.bounded.proofs.SearchLaws.{first_of_begin, first_turn, first_found, first_end}
-use Rattle.layout.specs.Inode.{free_inode}
+use Rattle.std.proofs.Common.{refl, ◌+◌, arith, rules}
+use borrow.Author.Tests.{tests}
+use Rattle.std.proofs.lemmas.Iterator.{YieldsList-from_range}
+use Rattle.std.proofs.lemmas.Iterator.Search.{find_from_yields_List}
+use Rattle.layout.specs.Inode.{free_inode, inode_free}
+use Rattle.layout.proofs.RangeLaws.{found_listed}
 use Rattle.layout.proofs.inode.free_inode.Goals as goal
 
-pub loop-i-init : goal.loop-i-init
-unfolding free_inode
-loop-i-init c = (omega arith, omega arith, first_of_begin _ 1 _ _ (omega arith))
-
-pub returns-then-kind-eq-FREE : goal.returns-then-kind-eq-FREE
-returns-then-kind-eq-FREE c = let i = c.loop-i in sym (i.invariant.2 ∙ first_found _ i.i _ (omega arith) (eq-eqb _ 0 (sym c.kind.ensures ∙ c.if-kind-eq-FREE.true)))
-
-pub loop-i-preserved : goal.loop-i-preserved
-loop-i-preserved c = let i = c.loop-i in (omega arith, omega arith, i.invariant.2 ∙ first_turn _ i.i _ (omega arith) (ne_eqb _ 0 (λ z. c.if-kind-eq-FREE.false (c.kind.ensures ∙ z))))
-
 pub returns : goal.returns
-returns c = let i = c.loop-i in sym (i.invariant.2 ∙ first_end _ i.i _ (omega arith))
+unfolding free_inode
+returns c =
+    found_listed (inode_free c.args.s.now) 1 c.args.n _
+    (find_from_yields_List (inode_free c.args.s.now) _ _ c.find.result c.find.ensures.ran (YieldsList-from_range 1 (c.args.n + 1) c.args.n refl (omega arith))
+    (λ x b q k. search (rules, tests)))

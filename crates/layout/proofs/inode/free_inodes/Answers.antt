@@ -1,29 +1,24 @@
-use Prim.Native.Nat.{ℕ, ◌+◌}
-use mathlib.Core.Path.{◌≡◌, sym, ap, ◌∙◌}
-use native.Mathlib.Omega.{arith}
-use borrow.Author.Tests.{eq-eqb, ne_eqb}
+use Rattle.std.proofs.Common.{refl, ◌+◌, ◌∙◌, arith, rules, of_calls}
+use borrow.Author.Tests.{tests}
+use Rattle.std.specs.List.{range_with_len}
+use Rattle.std.proofs.lemmas.Iterator.{YieldsList-from_range, YieldsList-from_map}
+use Rattle.std.proofs.lemmas.Iterator.Consumers.{sum_by_from_yields_List, fits_by_from_yields_list}
+use Rattle.std.specs.Int.{from_bool}
+use Rattle.bounded.proofs.CountLaws.{count_le}
 use Rattle.layout.specs.Inode.{inode_free}
-use Rattle.bounded.proofs.CountLaws.{count_hit, count_miss, count_le, count_zero}
+use Rattle.layout.proofs.RangeLaws.{count_listed}
 use Rattle.layout.proofs.inode.free_inodes.Goals as goal
-use Rattle.layout.proofs.inode.free_inodes.Goals.{then-kind-eq-FREE, else-kind-eq-FREE}
 
-pub loop-k-init : goal.loop-k-init
-loop-k-init c = (omega arith, count_zero _)
-
-pub overflow_add-free : goal.overflow_add-free
-overflow_add-free c = omega (arith, count_le (λ k. inode_free c.args.s.now (k + 1)) c.loop-k.k)
-
-pub loop-k-preserved : goal.loop-k-preserved
-loop-k-preserved c =
-    let i = c.loop-k in
-    let e = c.kind.ensures in
-    elim c.if-kind-eq-FREE.branch [
-      | then-kind-eq-FREE w ↦ (omega arith, w.free-is ∙ ap (λ (x : ℕ). x + 1) i.invariant.1 ∙ sym (count_hit _ i.k (eq-eqb _ 0 (sym e ∙ w.if-kind-eq-FREE.true))))
-      | else-kind-eq-FREE w ↦ (omega arith, w.free-is ∙ i.invariant.1 ∙ sym (count_miss _ i.k (ne_eqb _ 0 (λ z. w.if-kind-eq-FREE.false (e ∙ z)))))
-    ]
-
-pub overflow_cast-result : goal.overflow_cast-result
-overflow_cast-result c = omega (arith, count_le (λ k. inode_free c.args.s.now (k + 1)) c.loop-k.k)
+pub sum-free-requires-clause-fits : goal.sum-free-requires-clause-fits
+sum-free-requires-clause-fits c =
+    let p = inode_free c.args.s.now in
+    fits_by_from_yields_list (λ i. from_bool (p i)) (range_with_len 1 c.args.n) _ _
+    (YieldsList-from_map _ (λ i. from_bool (p i)) (YieldsList-from_range 1 (c.args.n + 1) c.args.n (cc) (omega arith)) c.map.ensures.closure (λ x r q k. search (rules, tests)))
+    (omega (arith, count_listed p c.args.n, count_le (λ k. p (k + 1)) c.args.n))
 
 pub returns : goal.returns
-returns c = let e : c.loop-k.k ≡ c.args.n = omega arith in rw e at c.loop-k.invariant.1
+returns c =
+    let p = inode_free c.args.s.now in
+    c.from.ensures ∙ sum_by_from_yields_List (λ i. from_bool (p i)) (range_with_len 1 c.args.n) _ _ c.sum-free.ensures.ran
+    (YieldsList-from_map _ (λ i. from_bool (p i)) (YieldsList-from_range 1 (c.args.n + 1) c.args.n (cc) (omega arith)) c.map.ensures.closure (λ x r q k. search (rules, tests)))
+    ∙ count_listed p c.args.n

@@ -12,6 +12,3 @@ loop-k-init c = (omega arith, search rules, refl, refl)
 
 pub loop-k-preserved : goal.loop-k-preserved
 loop-k-preserved c = let i = c.loop-k in let a = c.args in (omega arith, i.invariant.1, cc (words_more a.s.now a.o a.a i.k (omega arith)), omega arith)
-
-pub returns : goal.returns
-returns c = let i = c.loop-k in let k : i.k ≡ 12 = omega arith in let a = c.args in i.invariant.2 ∙ rw (k, take_all 12 a.a (omega arith)) refl

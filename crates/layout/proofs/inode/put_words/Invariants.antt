@@ -5,7 +5,4 @@ use Rattle.octets.specs.Octets.{splice, word_bytes}
 use Rattle.layout.proofs.inode.put_words.Given as goal
 
 abbrev pub invariant-loop-k : goal.invariant-loop-k
-invariant-loop-k l = (l.k ≤ 12) × (length l.a ≡ 12) × (l.s ≡ splice l.initial.s l.o (word_bytes (take l.k l.a))) × (length l.s ≡ length l.initial.s)
-
-abbrev pub decreases-loop-k : goal.decreases-loop-k
-decreases-loop-k l = 12 - l.k
+invariant-loop-k l = (l.k ≤ 12) × (length l.v-items ≡ 12) × (l.s ≡ splice l.initial.s l.o (word_bytes (take l.k l.v-items))) × (length l.s ≡ length l.initial.s)

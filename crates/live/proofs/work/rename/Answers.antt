@@ -1,3 +1,4 @@
+use Rattle.answers.proofs.RefusalLaws.{is_taken}
 use mathlib.Core.Path.{sym, ◌∙◌, subst}
 use Rattle.entries.specs.Plan.{over_plan}
 use Rattle.files.specs.Effect.{do_rename_new, do_over}
@@ -11,21 +12,21 @@ pub over-requires : goal.over-requires
 over-requires c =
     let a = c.args in
     let u = c.rename_new-answer in
-    subst (λ (y : World). Fits y.store y.desk a.h a.n a.b × Readable y.image a.h a.n)
-    (sym (taken_stays (world a.s.now a.m.now a.d.now) (world u.new.s u.new.m u.new.d) (do_rename_new a.s.now a.n a.b a.from a.name.now a.to a.other.now) u.result u.ensures (sym c.refused_with.ensures ∙ c.if-refused_with.true))) c.requires
+    subst (λ (y : World). Fits y.store y.desk a.w.desk a.w.inodes a.w.blocks × Readable y.image a.w.desk a.w.inodes)
+    (sym (taken_stays (world a.s.now a.m.now a.d.now) (world u.new.s u.new.m u.new.d) (do_rename_new a.s.now a.w.inodes a.w.blocks a.from a.name.now a.to a.other.now) u.result u.ensures (sym (is_taken _) ∙ sym c.eq.ensures ∙ c.if-eq.true))) c.requires
 
-pub returns-then-refused_with : goal.returns-then-refused_with
-returns-then-refused_with c =
+pub returns-then-eq : goal.returns-then-eq
+returns-then-eq c =
     let a = c.args in
     let u = c.rename_new-answer in
-    taken_goes_on (world a.s.now a.m.now a.d.now) (world u.new.s u.new.m u.new.d) (do_rename_new a.s.now a.n a.b a.from a.name.now a.to a.other.now) u.result u.ensures
-    (λ v. do_over v a.n a.b a.from a.name.now a.to a.other.now (over_plan v a.n a.from a.name.now a.to a.other.now)) _
-    (sym c.refused_with.ensures ∙ c.if-refused_with.true) c.over.ensures
+    taken_goes_on (world a.s.now a.m.now a.d.now) (world u.new.s u.new.m u.new.d) (do_rename_new a.s.now a.w.inodes a.w.blocks a.from a.name.now a.to a.other.now) u.result u.ensures
+    (λ v. do_over v a.w.inodes a.w.blocks a.from a.name.now a.to a.other.now (over_plan v a.w.inodes a.from a.name.now a.to a.other.now)) _
+    (sym (is_taken _) ∙ sym c.eq.ensures ∙ c.if-eq.true) c.over.ensures
 
 pub returns : goal.returns
 returns c =
     let a = c.args in
     let u = c.rename_new-answer in
-    untaken_ends (world a.s.now a.m.now a.d.now) (world u.new.s u.new.m u.new.d) (do_rename_new a.s.now a.n a.b a.from a.name.now a.to a.other.now) u.result u.ensures
-    (do_over a.s.now a.n a.b a.from a.name.now a.to a.other.now (over_plan a.s.now a.n a.from a.name.now a.to a.other.now))
-    (sym c.refused_with.ensures ∙ c.if-refused_with.false)
+    untaken_ends (world a.s.now a.m.now a.d.now) (world u.new.s u.new.m u.new.d) (do_rename_new a.s.now a.w.inodes a.w.blocks a.from a.name.now a.to a.other.now) u.result u.ensures
+    (do_over a.s.now a.w.inodes a.w.blocks a.from a.name.now a.to a.other.now (over_plan a.s.now a.w.inodes a.from a.name.now a.to a.other.now))
+    (sym (is_taken _) ∙ sym c.eq.ensures ∙ c.if-eq.false)

@@ -1,3 +1,4 @@
+use Rattle.preservation.proofs.StoreLaws.{uncounted}
 use mathlib.Core.Path.{refl, sym, ap, ◌∙◌}
 use native.Mathlib.Omega.{arith}
 use Rattle.content.proofs.PlanFacts.{shortens}
@@ -6,25 +7,25 @@ use Rattle.checkpoint.specs.Notes.{cut_entries, clear_marks, set_marks}
 use Rattle.live.proofs.CallLaws.{ends_refused, ends_busy, ends_done}
 use Rattle.live.proofs.work.shorten.Goals as goal
 
-pub returns-then-locks_any : goal.returns-then-locks_any
-returns-then-locks_any c =
+pub returns-in_err-unlocked : goal.returns-in_err-unlocked
+returns-in_err-unlocked c =
     let a = c.args in
-    λ m d e. ends_busy _ _ _ (ap (do_shorten a.s.now a.n a.i) (sym c.in-To.is ∙ c.shorten_plan.ensures)) _ e _ c.locks_any.ensures c.if-locks_any.true
+    λ m d e. ends_busy _ _ _ (ap (do_shorten a.s.now a.w.inodes a.i) (sym c.in_ok-y.was ∙ c.shorten_plan.ensures)) _ e _ c.unlocked.ensures _ c.in_err-unlocked.was _ c.from_residual-in_err-unlocked.ensures.1
 
 pub shorten_file-requires : goal.shorten_file-requires
 shorten_file-requires c =
-    let f = shortens _ _ _ _ _ (sym c.shorten_plan.ensures ∙ c.in-To.is) in
+    let f = shortens _ _ _ _ _ (sym c.shorten_plan.ensures ∙ c.in_ok-y.was) in
     let l = f.inside in
     let g = f.size in
-    (c.requires, f.file, omega arith)
+    (uncounted c.requires, f.file, omega arith)
 
-pub returns-else-locks_any : goal.returns-else-locks_any
+pub returns : goal.returns
 unfolding cut_entries clear_marks set_marks
-returns-else-locks_any c =
+returns c =
     let a = c.args in
-    λ m d e. ends_done _ _ _ (ap (do_shorten a.s.now a.n a.i) (sym c.in-To.is ∙ c.shorten_plan.ensures)) _ e _ c.locks_any.ensures c.if-locks_any.false _ c.requires.inodes _ _ _ c.shorten_file.ensures refl refl
+    λ m d e. ends_done _ _ _ (ap (do_shorten a.s.now a.w.inodes a.i) (sym c.in_ok-y.was ∙ c.shorten_plan.ensures)) _ e _ c.unlocked.ensures _ c.in_ok-unlocked.was _ c.requires.inodes _ _ _ c.shorten_file.ensures refl refl
 
-pub returns-in-NoNumber : goal.returns-in-NoNumber
-returns-in-NoNumber c =
+pub returns-in_err-y : goal.returns-in_err-y
+returns-in_err-y c =
     let a = c.args in
-    λ m d e. ends_refused _ _ _ (ap (do_shorten a.s.now a.n a.i) (sym c.in-NoNumber.is ∙ c.shorten_plan.ensures))
+    λ m d e. ends_refused _ _ _ _ c.from_residual.ensures.1 (ap (do_shorten a.s.now a.w.inodes a.i) (sym c.in_err-y.was ∙ c.shorten_plan.ensures))

@@ -4,22 +4,22 @@ use Rattle.checkpoint.specs.Notes.{cut_entries, clear_marks, set_marks}
 use Rattle.live.proofs.CallLaws.{ends_refused, ends_busy, ends_done}
 use Rattle.live.proofs.work.write.Goals as goal
 
-pub returns-then-locks_any : goal.returns-then-locks_any
-returns-then-locks_any c =
+pub returns-in_err-unlocked : goal.returns-in_err-unlocked
+returns-in_err-unlocked c =
     let a = c.args in
-    λ m d e. ends_busy _ _ _ (ap (do_write a.s.now a.n a.b a.i a.o a.xs.now) (sym c.in-To.is ∙ c.write_plan.ensures)) _ e _ c.locks_any.ensures c.if-locks_any.true
+    λ m d e. ends_busy _ _ _ (ap (do_write a.s.now a.w.inodes a.w.blocks a.i a.o a.xs.now) (sym c.in_ok-z.was ∙ c.write_plan.ensures)) _ e _ c.unlocked.ensures _ c.in_err-unlocked.was _ c.from_residual-in_err-unlocked.ensures.1
 
 pub write_file-requires : goal.write_file-requires
 write_file-requires c =
-    (c.requires, sym c.write_plan.ensures ∙ c.in-To.is)
+    (c.requires, sym c.write_plan.ensures ∙ c.in_ok-z.was)
 
-pub returns-else-locks_any : goal.returns-else-locks_any
+pub returns : goal.returns
 unfolding cut_entries clear_marks set_marks
-returns-else-locks_any c =
+returns c =
     let a = c.args in
-    λ m d e. ends_done _ _ _ (ap (do_write a.s.now a.n a.b a.i a.o a.xs.now) (sym c.in-To.is ∙ c.write_plan.ensures)) _ e _ c.locks_any.ensures c.if-locks_any.false _ c.requires.inodes _ _ _ c.write_file.ensures refl refl
+    λ m d e. ends_done _ _ _ (ap (do_write a.s.now a.w.inodes a.w.blocks a.i a.o a.xs.now) (sym c.in_ok-z.was ∙ c.write_plan.ensures)) _ e _ c.unlocked.ensures _ c.in_ok-unlocked.was _ c.requires.inodes _ _ _ c.write_file.ensures refl refl
 
-pub returns-in-NoNumber : goal.returns-in-NoNumber
-returns-in-NoNumber c =
+pub returns-in_err-z : goal.returns-in_err-z
+returns-in_err-z c =
     let a = c.args in
-    λ m d e. ends_refused _ _ _ (ap (do_write a.s.now a.n a.b a.i a.o a.xs.now) (sym c.in-NoNumber.is ∙ c.write_plan.ensures))
+    λ m d e. ends_refused _ _ _ _ c.from_residual.ensures.1 (ap (do_write a.s.now a.w.inodes a.w.blocks a.i a.o a.xs.now) (sym c.in_err-z.was ∙ c.write_plan.ensures))

@@ -2,5 +2,5 @@
 use Rattle.std.proofs.Common.{◌≤◌, ◌+◌, ◌*◌}
 use Rattle.matched.proofs.print.put_times.Given as goal
 
-abbrev pub invariant-loop-k : goal.invariant-loop-k
-invariant-loop-k l = l.e ≤ l.o + 21 * l.k
+abbrev pub invariant-loop-time : goal.invariant-loop-time
+invariant-loop-time l = l.e ≤ l.o + 21 * l.time-index

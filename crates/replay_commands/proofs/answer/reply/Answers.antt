@@ -1,8 +1,8 @@
 use Rattle.replay_commands.proofs.LineLaws.{done_reply, refused_reply}
 use Rattle.replay_commands.proofs.answer.reply.Goals as goal
 
-pub returns-in-Done : goal.returns-in-Done
-returns-in-Done c = done_reply _ _ c.in-Done.is
+pub returns-in-Ok : goal.returns-in-Ok
+returns-in-Ok c = done_reply _ _ c.in-Ok.is
 
-pub returns-in-Refused : goal.returns-in-Refused
-returns-in-Refused c = refused_reply _ _ _ c.in-Refused.is c.refusal_number.ensures
+pub returns-in-Err : goal.returns-in-Err
+returns-in-Err c = refused_reply _ _ _ c.in-Err.is c.from.ensures

@@ -1,17 +1,22 @@
-use Rattle.replay_commands.proofs.CommandLaws.{word_field, bytes_found, bytes_none}
-use Rattle.bounded.proofs.SearchLaws.{first_turn, first_found, first_end, search_begin}
-use mathlib.Core.Path.{◌∙◌}
-use native.Mathlib.Omega.{arith}
+use Rattle.text.proofs.ListLaws.{find_range}
+use Rattle.replay_commands.proofs.CommandLaws.{bytes_found, bytes_none}
+use Rattle.bounded.specs.Search.{first}
+use Rattle.text.specs.Pieces.{piece, is_word}
+use Rattle.std.proofs.Common.{rules, tests, refl, sym, ap, ◌∙◌, ◌-◌}
+use Rattle.std.proofs.lemmas.Iterator.{YieldsList-from_range}
+use Rattle.std.proofs.lemmas.Iterator.Search.{find_from_yields_List}
 use Rattle.replay_commands.proofs.parse.bytes_at.Goals as goal
 
-pub loop-k-init : goal.loop-k-init
-loop-k-init c = search_begin _ _ _ c.pieces-k-end.ensures
+pub returns-in-Some : goal.returns-in-Some
+returns-in-Some c =
+    let a = c.args in
+    let n = c.pieces.result in
+    let e = find_from_yields_List (λ j. is_word (piece a.form.now 32 j) a.p.now) _ _ c.find.result c.find.ensures.ran (YieldsList-from_range 0 n (n - 0) refl refl) (λ x b q k. search (rules, tests)) in
+    c.piece.ensures ∙ bytes_found a.form.now a.p.now a.cmd.now c.in-Some.k (sym (find_range _ n c.find.result e ∙ ap (first (λ j. is_word (piece a.form.now 32 j) a.p.now)) c.pieces.ensures) ∙ c.in-Some.is)
 
-pub returns-then-is_word : goal.returns-then-is_word
-returns-then-is_word c = let i = c.loop-k in c.piece-then-is_word.ensures ∙ bytes_found _ _ _ i.k (i.invariant ∙ first_found _ i.k _ (omega arith) (word_field _ _ _ i.k _ _ c.piece.ensures c.is_word.ensures c.if-is_word.true))
-
-pub loop-k-preserved : goal.loop-k-preserved
-loop-k-preserved c = let i = c.loop-k in i.invariant ∙ first_turn _ i.k _ (omega arith) (word_field _ _ _ i.k _ _ c.piece.ensures c.is_word.ensures c.if-is_word.false)
-
-pub returns : goal.returns
-returns c = let i = c.loop-k in bytes_none _ _ _ (i.invariant ∙ first_end _ i.k _ (omega arith))
+pub returns-in-None : goal.returns-in-None
+returns-in-None c =
+    let a = c.args in
+    let n = c.pieces.result in
+    let e = find_from_yields_List (λ j. is_word (piece a.form.now 32 j) a.p.now) _ _ c.find.result c.find.ensures.ran (YieldsList-from_range 0 n (n - 0) refl refl) (λ x b q k. search (rules, tests)) in
+    bytes_none a.form.now a.p.now a.cmd.now (sym (find_range _ n c.find.result e ∙ ap (first (λ j. is_word (piece a.form.now 32 j) a.p.now)) c.pieces.ensures) ∙ c.in-None.is)

@@ -1,17 +1,27 @@
-use Rattle.replay_commands.proofs.CommandLaws.{arrow_at, command_part, command_all}
-use Rattle.text.proofs.PieceLaws.{place_found, place_turn, place_end}
-use mathlib.Core.Path.{refl, sym, ◌∙◌}
-use native.Mathlib.Omega.{arith}
+use Rattle.text.proofs.ListLaws.{find_range}
+use Rattle.replay_commands.proofs.CommandLaws.{cut_arrow, command_part, command_all, command_within}
+use Rattle.std.proofs.Common.{rules, tests, refl, length, ◌-◌}
+use Rattle.std.proofs.lemmas.Iterator.{YieldsList-from_range}
+use Rattle.std.proofs.lemmas.Iterator.Search.{find_from_yields_List}
 use Rattle.replay_commands.proofs.parse.command.Goals as goal
 
-pub loop-k-init : goal.loop-k-init
-loop-k-init c = (omega arith, refl)
+pub slice_bounds-result-end : goal.slice_bounds-result-end
+slice_bounds-result-end c =
+    let s = c.args.s.now in
+    let n = length s in
+    let e = find_from_yields_List (cut_arrow s) _ _ c.find.result c.find.ensures.ran (YieldsList-from_range 0 n (n - 0) refl refl) (λ x b q k. search (rules, tests)) in
+    command_within s c.find.result (find_range (cut_arrow s) n c.find.result e) c.in-Some.k c.in-Some.is
 
-pub returns-then-is_word : goal.returns-then-is_word
-returns-then-is_word c = let i = c.loop-k in command_part _ i.k (i.invariant.1 ∙ place_found _ i.k _ (omega arith) (sym (arrow_at _ _ i.k _ _ refl c.front.ensures c.is_word.ensures) ∙ c.if-is_word.true))
+pub returns-in-Some : goal.returns-in-Some
+returns-in-Some c =
+    let s = c.args.s.now in
+    let n = length s in
+    let e = find_from_yields_List (cut_arrow s) _ _ c.find.result c.find.ensures.ran (YieldsList-from_range 0 n (n - 0) refl refl) (λ x b q k. search (rules, tests)) in
+    command_part s c.find.result (find_range (cut_arrow s) n c.find.result e) c.in-Some.k c.in-Some.is
 
-pub loop-k-preserved : goal.loop-k-preserved
-loop-k-preserved c = let i = c.loop-k in (omega arith, i.invariant.1 ∙ place_turn _ i.k _ (omega arith) (sym (arrow_at _ _ i.k _ _ refl c.front.ensures c.is_word.ensures) ∙ c.if-is_word.false))
-
-pub returns : goal.returns
-returns c = let i = c.loop-k in command_all _ (i.invariant.1 ∙ place_end _ i.k _ (omega arith))
+pub returns-in-None : goal.returns-in-None
+returns-in-None c =
+    let s = c.args.s.now in
+    let n = length s in
+    let e = find_from_yields_List (cut_arrow s) _ _ c.find.result c.find.ensures.ran (YieldsList-from_range 0 n (n - 0) refl refl) (λ x b q k. search (rules, tests)) in
+    command_all s c.find.result (find_range (cut_arrow s) n c.find.result e) c.in-None.is

@@ -1,26 +1,20 @@
-use Rattle.replay_commands.proofs.CommandLaws.{has_value_lem, has_none}
-use Rattle.replay_commands.specs.Command.{fits}
-use Rattle.bounded.proofs.BelowLaws.{all_none, all_more, all_stopped, all_done}
-use Rattle.bounded.proofs.BoolLaws.{and_false_l, chain_end}
-use borrow.Author.Tests.{eq-eqb, ne_eqb}
-use mathlib.Core.Path.{sym, ◌∙◌}
-use native.Mathlib.Omega.{arith}
+use Rattle.text.proofs.ListLaws.{all_range}
+use Rattle.replay_commands.proofs.CommandLaws.{has_value_is, fits_all, fits_not}
+use Rattle.replay_commands.specs.Command.{value_at, has_value}
+use Rattle.std.proofs.Common.{rules, tests, refl, sym, ◌∙◌, ◌-◌}
+use Rattle.std.proofs.lemmas.Iterator.{YieldsList-from_range}
+use Rattle.std.proofs.lemmas.Iterator.Search.{all_from_yields_List}
+use borrow.Author.Tests.{ne_eqb}
 use Rattle.replay_commands.proofs.parse.fits.Goals as goal
 
 pub returns-then-pieces-n : goal.returns-then-pieces-n
-unfolding fits
-returns-then-pieces-n c = sym (and_false_l _ _ (ne_eqb _ _ (λ q. c.if-pieces-n.true (c.pieces.ensures ∙ q ∙ sym c.pieces-n.ensures))))
+returns-then-pieces-n c =
+    let a = c.args in
+    let n = c.pieces-n.result in
+    let e = all_from_yields_List (λ k. has_value (value_at a.form.now a.cmd.now a.a a.b k)) _ _ c.all.result c.all.ensures.ran (YieldsList-from_range 0 n (n - 0) refl refl) (λ x b q k. search (rules, tests, has_value_is)) in
+    fits_all _ _ _ _ n _ c.pieces-n.ensures (sym c.pieces.ensures ∙ c.if-pieces-n.true) (all_range _ n _ e)
 
-pub loop-k-init : goal.loop-k-init
-loop-k-init c = (omega arith, c.pieces-n.ensures, sym c.pieces.ensures ∙ c.if-pieces-n.false ∙ c.pieces-n.ensures, all_none _)
-
-pub returns-in_default : goal.returns-in_default
-unfolding fits
-returns-in_default c = let i = c.loop-k in chain_end _ _ _ (eq-eqb _ _ i.invariant.2) (all_stopped _ _ i.k (omega arith) (has_none _ _ _ _ i.k _ c.value_at.ensures c.in_default.is))
-
-pub loop-k-preserved : goal.loop-k-preserved
-loop-k-preserved c = let i = c.loop-k in (omega arith, i.invariant.1, i.invariant.2, all_more _ i.k i.invariant.3 (has_value_lem _ _ _ _ i.k _ c.value_at.ensures _ c.in-Value.is))
-
-pub returns : goal.returns
-unfolding fits
-returns c = let i = c.loop-k in chain_end _ _ _ (eq-eqb _ _ i.invariant.2) (all_done _ _ i.k (omega arith) (omega arith) i.invariant.3)
+pub returns-else-pieces-n : goal.returns-else-pieces-n
+returns-else-pieces-n c =
+    let a = c.args in
+    ne_eqb _ _ c.if-pieces-n.false ∙ fits_not a.form.now a.cmd.now a.a a.b (λ e. c.if-pieces-n.false (c.pieces.ensures ∙ e ∙ sym c.pieces-n.ensures))

@@ -1,19 +1,16 @@
-use Rattle.replay_commands.proofs.CommandLaws.{fits_line}
-use Rattle.replay_commands.specs.Command.{form_of}
-use Rattle.bounded.proofs.SearchLaws.{first_turn, first_found, first_end, search_begin}
-use mathlib.Core.Path.{sym, ◌∙◌}
-use native.Mathlib.Omega.{arith}
+use Rattle.text.proofs.ListLaws.{find_range}
+use Rattle.replay_commands.specs.Command.{form_of, fits}
+use Rattle.bounded.specs.Search.{first}
+use Rattle.text.specs.Pieces.{piece}
+use Rattle.std.proofs.Common.{rules, tests, refl, ap, ◌∙◌, ◌-◌}
+use Rattle.std.proofs.lemmas.Iterator.{YieldsList-from_range}
+use Rattle.std.proofs.lemmas.Iterator.Search.{find_from_yields_List}
 use Rattle.replay_commands.proofs.parse.form_of.Goals as goal
 
-pub loop-j-init : goal.loop-j-init
-unfolding form_of
-loop-j-init c = search_begin _ _ _ c.pieces-j-end.ensures
-
-pub returns-then-fits : goal.returns-then-fits
-returns-then-fits c = let i = c.loop-j in sym (i.invariant ∙ first_found _ i.j _ (omega arith) (fits_line _ _ _ _ _ i.j _ _ c.piece.ensures c.fits.ensures c.if-fits.true))
-
-pub loop-j-preserved : goal.loop-j-preserved
-loop-j-preserved c = let i = c.loop-j in i.invariant ∙ first_turn _ i.j _ (omega arith) (fits_line _ _ _ _ _ i.j _ _ c.piece.ensures c.fits.ensures c.if-fits.false)
-
 pub returns : goal.returns
-returns c = let i = c.loop-j in sym (i.invariant ∙ first_end _ i.j _ (omega arith))
+unfolding form_of
+returns c =
+    let a = c.args in
+    let n = c.pieces.result in
+    let e = find_from_yields_List (λ j. fits (piece a.forms.now 10 j) a.cmd.now a.a a.b) _ _ c.find.result c.find.ensures.ran (YieldsList-from_range 0 n (n - 0) refl refl) (λ x b q k. search (rules, tests)) in
+    find_range _ n c.find.result e ∙ ap (first (λ j. fits (piece a.forms.now 10 j) a.cmd.now a.a a.b)) c.pieces.ensures

@@ -8,4 +8,4 @@ returns-in_default c = parsed_none _ _ _ _ _ c.form_of.ensures c.in_default.is
 
 pub returns : goal.returns
 unfolding parse_command forms
-returns c = parsed_at _ _ _ _ _ c.form_of.ensures _ _ _ _ _ _ _ c.in-At.is c.piece-form.ensures c.bytes_at.ensures c.take_hex.ensures c.bytes_at-2.ensures c.take_hex-2.ensures (asked_all _ _ _ _ _ _ _ _ _ _ c.worth-x.ensures c.worth-y.ensures c.worth-z.ensures c.worth.ensures c.asked.ensures)
+returns c = parsed_at _ _ _ _ _ c.form_of.ensures _ _ _ _ _ _ _ c.in-Some.is c.piece-form.ensures c.bytes_at.ensures c.take_hex.ensures c.bytes_at-2.ensures c.take_hex-2.ensures (asked_all _ _ _ _ _ _ _ _ _ _ c.worth-x.ensures c.worth-y.ensures c.worth-z.ensures c.worth.ensures c.asked.ensures)

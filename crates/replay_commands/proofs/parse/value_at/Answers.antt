@@ -1,5 +1,6 @@
-use Rattle.replay_commands.proofs.CommandLaws.{value_number, value_name, value_other, value_word, value_none, value_at_lem}
-use mathlib.Core.Path.{sym, ◌∙◌}
+use Rattle.replay_commands.proofs.CommandLaws.{value_number, value_name, value_other, value_word, value_at_lem}
+use Rattle.std.proofs.Common.{Bool, ap, sym, ◌∙◌}
+use Rattle.std.specs.Bool.{then_some}
 use Rattle.replay_commands.proofs.parse.value_at.Goals as goal
 
 pub returns-then-is_word : goal.returns-then-is_word
@@ -11,8 +12,5 @@ returns-then-is_word-2 c = value_at_lem _ _ _ _ _ _ _ _ c.piece-p.ensures c.piec
 pub returns-then-is_word-3 : goal.returns-then-is_word-3
 returns-then-is_word-3 c = value_at_lem _ _ _ _ _ _ _ _ c.piece-p.ensures c.piece-s.ensures (value_other _ _ _ _ _ (sym c.is_word.ensures ∙ c.if-is_word.false) (sym c.is_word-2.ensures ∙ c.if-is_word-2.false) (sym c.is_word-3.ensures ∙ c.if-is_word-3.true) c.hex_count-then-is_word-3.ensures)
 
-pub returns-then-is_word-4 : goal.returns-then-is_word-4
-returns-then-is_word-4 c = value_at_lem _ _ _ _ _ _ _ _ c.piece-p.ensures c.piece-s.ensures (value_word _ _ _ _ (sym c.is_word.ensures ∙ c.if-is_word.false) (sym c.is_word-2.ensures ∙ c.if-is_word-2.false) (sym c.is_word-3.ensures ∙ c.if-is_word-3.false) (sym c.is_word-4.ensures ∙ c.if-is_word-4.true))
-
 pub returns : goal.returns
-returns c = value_at_lem _ _ _ _ _ _ _ _ c.piece-p.ensures c.piece-s.ensures (value_none _ _ _ _ (sym c.is_word.ensures ∙ c.if-is_word.false) (sym c.is_word-2.ensures ∙ c.if-is_word-2.false) (sym c.is_word-3.ensures ∙ c.if-is_word-3.false) (sym c.is_word-4.ensures ∙ c.if-is_word-4.false))
+returns c = value_at_lem _ _ _ _ _ _ _ _ c.piece-p.ensures c.piece-s.ensures (value_word _ _ _ _ (sym c.is_word.ensures ∙ c.if-is_word.false) (sym c.is_word-2.ensures ∙ c.if-is_word-2.false) (sym c.is_word-3.ensures ∙ c.if-is_word-3.false) _ (c.then_some.ensures ∙ ap (λ (t : Bool). then_some t 0) c.is_word-4.ensures))

@@ -1,9 +1,11 @@
-use Rattle.script_lines.proofs.AskLaws.{end_text, end_count}
-use mathlib.Core.Path.{refl, sym, ◌∙◌}
+use Rattle.std.proofs.Common.{rules}
+use Rattle.script_lines.specs.Ask.{end_fits}
 use Rattle.script_lines.proofs.forms.end_fits.Goals as goal
 
 pub returns-then-is_word : goal.returns-then-is_word
-returns-then-is_word c = end_text _ _ _ c.piece.ensures (sym c.is_word.ensures ∙ c.if-is_word.true)
+unfolding end_fits
+returns-then-is_word c = search rules
 
-pub returns : goal.returns
-returns c = end_count _ _ _ c.piece.ensures (sym c.is_word.ensures ∙ c.if-is_word.false) _ _ _ c.pieces.ensures c.pieces-2.ensures refl
+pub returns-else-is_word : goal.returns-else-is_word
+unfolding end_fits
+returns-else-is_word c = search rules

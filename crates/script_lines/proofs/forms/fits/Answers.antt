@@ -1,24 +1,21 @@
-use native.Mathlib.Omega.{arith}
-use Rattle.script_lines.proofs.AskLaws.{field_turn}
-use Rattle.script_lines.specs.Ask.{fits}
-use Rattle.bounded.proofs.BelowLaws.{all_none, all_more, all_stopped, all_done}
-use Rattle.bounded.proofs.BoolLaws.{chain_stop, chain_on, chain_off, chain_end}
+use Rattle.std.proofs.Common.{rules, tests, refl, sym, ap, ◌∙◌, ◌-◌}
+use Rattle.std.proofs.lemmas.Iterator.{YieldsList-from_range}
+use Rattle.std.proofs.lemmas.Iterator.Search.{all_from_yields_List}
+use Rattle.bounded.specs.Below.{all_below}
+use Rattle.bounded.proofs.BoolLaws.{chain_end, and_false_l}
+use Rattle.text.specs.Pieces.{piece}
+use Rattle.script_lines.specs.Ask.{fits, field_fits}
+use Rattle.script_lines.proofs.RangeLaws.{all_range}
 use Rattle.script_lines.proofs.forms.fits.Goals as goal
 
-pub returns-then-not-end_fits : goal.returns-then-not-end_fits
+pub returns-then-end_fits : goal.returns-then-end_fits
 unfolding fits
-returns-then-not-end_fits c = chain_stop _ _ _ c.end_fits.ensures c.if-not-end_fits.true-raw
+returns-then-end_fits c =
+    let a = c.args in
+    let n = c.pieces.result in
+    let e = all_from_yields_List (λ k. field_fits (piece a.form.now 32 k) a.line.now k) _ _ c.all.result c.all.ensures.ran (YieldsList-from_range 0 n (n - 0) refl refl) (λ x b q k. search (rules, tests)) in
+    chain_end _ _ _ (sym c.end_fits.ensures ∙ c.if-end_fits.true) (all_range _ n _ e ∙ ap (all_below (λ k. field_fits (piece a.form.now 32 k) a.line.now k)) c.pieces.ensures)
 
-pub loop-k-init : goal.loop-k-init
-loop-k-init c = (omega arith, c.pieces-k-end.ensures, chain_on _ _ c.end_fits.ensures c.if-not-end_fits.false-raw, all_none _)
-
-pub returns-then-not-field_fits : goal.returns-then-not-field_fits
+pub returns-else-end_fits : goal.returns-else-end_fits
 unfolding fits
-returns-then-not-field_fits c = let i = c.loop-k in chain_end _ _ _ i.invariant.2 (all_stopped _ _ i.k (omega arith) (field_turn _ _ _ i.k _ c.piece.ensures (chain_off _ _ c.field_fits.ensures c.if-not-field_fits.true-raw)))
-
-pub loop-k-preserved : goal.loop-k-preserved
-loop-k-preserved c = let i = c.loop-k in (omega arith, i.invariant.1, i.invariant.2, all_more _ i.k i.invariant.3 (field_turn _ _ _ i.k _ c.piece.ensures (chain_on _ _ c.field_fits.ensures c.if-not-field_fits.false-raw)))
-
-pub returns : goal.returns
-unfolding fits
-returns c = let i = c.loop-k in chain_end _ _ _ i.invariant.2 (all_done _ _ i.k (omega arith) (omega arith) i.invariant.3)
+returns-else-end_fits c = c.if-end_fits.false ∙ sym (and_false_l _ _ (sym c.end_fits.ensures ∙ c.if-end_fits.false))

@@ -1,25 +1,24 @@
-use Rattle.text.proofs.NumberLaws.{decimal_more, is_digit_lem, low_no_digit, high_no_digit, none_empty, none_stopped, value_done}
+use Rattle.text.proofs.NumberLaws.{decimal_more, digit_is, none_empty, none_stopped, value_done}
 use Rattle.text.specs.Number.{decimal}
 use Rattle.bounded.proofs.BelowLaws.{all_none, all_more}
-use native.Mathlib.Omega.{arith}
+use Rattle.std.proofs.Common.{arith, rules, ◌∙◌}
 use Rattle.text.proofs.numbers.number.Goals as goal
-use Rattle.text.proofs.numbers.number.Goals.{then-v-d, else-v-d}
 
-pub returns-then-s-eq0 : goal.returns-then-s-eq0
-returns-then-s-eq0 c = none_empty _ c.if-s-eq0.true
+pub returns-then-is_empty : goal.returns-then-is_empty
+returns-then-is_empty c = none_empty _ (search rules)
 
-pub loop-k-init : goal.loop-k-init
+pub loop-x-init : goal.loop-x-init
 unfolding decimal
-loop-k-init c = (omega arith, omega arith, all_none _, omega arith)
+loop-x-init c = (search rules, all_none _, omega arith)
 
-pub returns-then-x-lt-ZERO : goal.returns-then-x-lt-ZERO
-returns-then-x-lt-ZERO c = let i = c.loop-k in none_stopped _ i.k (omega arith) (low_no_digit _ _ c.if-x-lt-ZERO.true)
+pub returns-then-not-is_ascii_digit : goal.returns-then-not-is_ascii_digit
+returns-then-not-is_ascii_digit c = let i = c.loop-x in none_stopped _ i.x-index (omega arith) (digit_is _ i.x-index _ c.is_ascii_digit.ensures.value ∙ c.if-not-is_ascii_digit.true)
 
-pub returns-then-x-gt-NINE : goal.returns-then-x-gt-NINE
-returns-then-x-gt-NINE c = let i = c.loop-k in none_stopped _ i.k (omega arith) (high_no_digit _ _ c.if-x-gt-NINE.true)
-
-pub loop-k-preserved : goal.loop-k-preserved
-loop-k-preserved c = let i = c.loop-k in (omega arith, omega arith, all_more _ i.k i.invariant.2 (is_digit_lem _ i.k (omega arith) (omega arith)), elim c.if-v-d.branch [ then-v-d w ↦ decimal_more _ i.k i.v _ i.invariant.3 (omega arith) | else-v-d w ↦ decimal_more _ i.k i.v _ i.invariant.3 (omega arith) ])
+pub loop-x-preserved : goal.loop-x-preserved
+loop-x-preserved c =
+    let i = c.loop-x in
+    let d = digit_is _ i.x-index _ c.is_ascii_digit.ensures.value ∙ c.if-not-is_ascii_digit.false in
+    (omega arith, all_more _ i.x-index i.invariant.1 d, decimal_more _ i.x-index i.v _ i.invariant.2 (omega arith))
 
 pub returns : goal.returns
-returns c = let i = c.loop-k in value_done _ i.k i.v i.invariant.1 (omega arith) i.invariant.2 i.invariant.3
+returns c = let i = c.loop-x in value_done _ i.x-index i.v i.invariant.0 (omega arith) i.invariant.1 i.invariant.2

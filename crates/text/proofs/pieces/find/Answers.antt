@@ -1,21 +1,9 @@
-use Rattle.text.proofs.PieceLaws.{place_found, place_turn, place_end}
-use Rattle.text.specs.Pieces.{find_from}
-use borrow.Author.Tests.{eq-eqb, ne_eqb}
-use native.Mathlib.Omega.{arith}
-use mathlib.Core.Path.{refl, sym, ◌∙◌}
+use Rattle.std.proofs.Common.{arith}
+use Rattle.text.proofs.ListLaws.{find_found, find_missed}
 use Rattle.text.proofs.pieces.find.Goals as goal
 
-pub loop-k-init : goal.loop-k-init
-loop-k-init c = refl
+pub returns-in-Some : goal.returns-in-Some
+returns-in-Some c = find_found _ _ _ _ _ c.min-from.ensures c.first.ensures _ c.in-Some.is
 
-pub returns-then-s-k : goal.returns-then-s-k
-unfolding find_from
-returns-then-s-k c = let i = c.loop-k in (sym (i.invariant ∙ place_found _ i.k _ (omega arith) (eq-eqb _ _ c.if-s-k.true)), omega arith)
-
-pub loop-k-preserved : goal.loop-k-preserved
-unfolding find_from
-loop-k-preserved c = let i = c.loop-k in i.invariant ∙ place_turn _ i.k _ (omega arith) (ne_eqb _ _ c.if-s-k.false)
-
-pub returns : goal.returns
-unfolding find_from
-returns c = let i = c.loop-k in (sym (i.invariant ∙ place_end _ i.k _ (omega arith)), omega arith)
+pub returns-in-None : goal.returns-in-None
+returns-in-None c = (find_missed _ _ _ _ _ c.min-from.ensures c.first.ensures c.in-None.is, omega arith)

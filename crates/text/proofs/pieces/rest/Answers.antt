@@ -7,9 +7,6 @@ use Rattle.text.proofs.pieces.rest.Goals as goal
 pub loop-j-init : goal.loop-j-init
 loop-j-init c = (omega arith, start_none _ _)
 
-pub find-o-requires : goal.find-o-requires
-find-o-requires c = tt
-
 pub loop-j-preserved : goal.loop-j-preserved
 loop-j-preserved c = let i = c.loop-j in (omega arith, start_more _ _ i.j i.o _ i.invariant.1 c.find-o.ensures.0)
 

@@ -1,5 +1,6 @@
-use Rattle.text.proofs.PutLaws.{put_copied_lem}
+use Rattle.text.proofs.PutLaws.{put_lent}
+use Rattle.std.proofs.Common.{arith}
 use Rattle.text.proofs.put.put.Goals as goal
 
 pub returns : goal.returns
-returns c = put_copied_lem _ _ _ _ c.copy_range.ensures
+returns c = put_lent _ _ _ _ c.copy_from_slice.ensures.after (omega arith)

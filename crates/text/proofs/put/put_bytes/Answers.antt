@@ -1,31 +1,25 @@
 use Rattle.text.proofs.PutLaws.{put_same, put_length, put_none, put_more, no_bytes, some_bytes}
 use Rattle.io.specs.Digits.{last_digits}
+use Rattle.std.proofs.Common.{rules, ℕ, ap}
 use native.Mathlib.Omega.{arith}
 use mathlib.Core.Path.{refl, ◌∙◌}
 use Rattle.text.proofs.put.put_bytes.Goals as goal
 
-pub returns-then-bytes-eq0 : goal.returns-then-bytes-eq0
-returns-then-bytes-eq0 c = record { put = put_same _ _ _ _ _ _ (no_bytes c.args.bytes.now c.if-bytes-eq0.true) c.put.ensures; upper_bound = omega (arith, c.put.ensures.ends) }
+pub returns-then-is_empty : goal.returns-then-is_empty
+returns-then-is_empty c = record { put = put_same _ _ _ _ _ _ (no_bytes c.args.bytes.now (search rules)) c.put.ensures; upper_bound = omega (arith, c.put.ensures.ends) }
 
-pub loop-k-init : goal.loop-k-init
-loop-k-init c = (omega arith, omega arith, refl, put_none (last_digits 16 2) _ _ c.args.bytes.now)
-
-pub overflow_cast-bytes : goal.overflow_cast-bytes
-overflow_cast-bytes c = omega (arith, c.type_inv.bytes c.loop-k.k)
+pub loop-x-init : goal.loop-x-init
+loop-x-init c = (omega arith, refl, put_none (last_digits 16 2) _ _ c.args.bytes.now)
 
 pub put_hex-e-requires : goal.put_hex-e-requires
-put_hex-e-requires c = (omega arith, omega arith, omega arith, omega (arith, c.type_inv.bytes c.loop-k.k))
+put_hex-e-requires c = (omega arith, omega arith, omega arith, omega (arith, c.type_inv.bytes c.loop-x.x-index, c.from.ensures))
 
-pub loop-k-preserved : goal.loop-k-preserved
-loop-k-preserved c = let i = c.loop-k in (
-  omega arith,
+pub loop-x-preserved : goal.loop-x-preserved
+loop-x-preserved c = let i = c.loop-x in (
   omega (arith, c.put_hex-e.ensures.value),
-  put_length _ _ _ _ _ c.put_hex-e.ensures.put ∙ i.invariant.2,
-  put_more (last_digits 16 2) _ _ _ _ _ _ i.k c.args.bytes.now (omega arith) i.invariant.3 c.put_hex-e.ensures.put,
+  put_length _ _ _ _ _ c.put_hex-e.ensures.put ∙ i.invariant.1,
+  put_more (last_digits 16 2) _ _ _ _ _ _ i.x-index c.args.bytes.now (omega arith) i.invariant.2 (put_same _ _ _ _ _ _ (ap (λ (n : ℕ). last_digits 16 2 n) c.from.ensures) c.put_hex-e.ensures.put),
 )
 
-pub shape_of-out : goal.shape_of-out
-shape_of-out c = c.loop-k.invariant.2
-
 pub returns : goal.returns
-returns c = let i = c.loop-k in record { put = put_same _ _ _ _ _ _ (some_bytes c.args.bytes.now i.k c.if-bytes-eq0.false (omega arith)) i.invariant.3; upper_bound = omega arith }
+returns c = let i = c.loop-x in record { put = put_same _ _ _ _ _ _ (some_bytes c.args.bytes.now i.x-index (search rules) (omega arith)) i.invariant.2; upper_bound = omega arith }

@@ -2,5 +2,5 @@
 use Rattle.std.proofs.Common.{◌≤◌, ◌+◌, ◌*◌}
 use Rattle.turns.proofs.answer.put_counts.Given as goal
 
-abbrev pub invariant-loop-b : goal.invariant-loop-b
-invariant-loop-b l = l.e ≤ 2 + 21 * l.b
+abbrev pub invariant-loop-count : goal.invariant-loop-count
+invariant-loop-count l = l.e ≤ 2 + 21 * l.count-index

@@ -1,2 +1,0 @@
--- What lists keep to.
-pub mod Small
