@@ -4,6 +4,7 @@ ghost use Rattle.std.specs.Prelude.{◌≡◌, List, ℕ, length};
 ghost use Rattle.desk.specs.Desk.{desk_of};
 ghost use Rattle.desk.specs.Next.{locks_any};
 ghost use Rattle.sound.specs.Counted.{SoundStore};
+ghost use Rattle.sound.specs.Sound.{blocks_in};
 ghost use Rattle.content.specs.Plan.{write_plan, shorten_plan};
 ghost use Rattle.entries.specs.Plan.{create_plan, link_plan, unlink_plan, over_plan};
 ghost use Rattle.files.specs.Effect.{rename, do_create, do_write, do_shorten, do_link, do_unlink, do_rename_new, watched, do_over, planned};
@@ -65,7 +66,7 @@ pub fn write(s: &mut [u8], w: Watched, i: usize, o: usize, xs: &[u8]) -> Answer
 }
 
 pub fn shorten(s: &mut [u8], w: Watched, i: usize, z: usize) -> Answer
-    requires { SoundStore s.old w.inodes w.blocks }
+    requires { SoundStore s.old w.inodes (blocks_in s.old) }
     ensures { (m d : List ℕ) → w.desk ≡ desk_of d → left result s.new m d ≡ leaves_in (world s.old m d) (unless_busy d (do_shorten s.old w.inodes i (shorten_plan s.old w.inodes i z))) }
 {
     let y = content::plan::shorten_plan(s, w.inodes, i, z)?;
@@ -83,7 +84,7 @@ pub fn unlink(
     dir: usize,
     name: &[u8],
 ) -> Answer
-    requires { Fits s.old d.old w.desk w.inodes w.blocks × Readable m.old w.desk w.inodes }
+    requires { Fits s.old d.old w.desk w.inodes (blocks_in s.old) × Readable m.old w.desk w.inodes }
     ensures { left result s.new m.new d.new
         ≡ leaves_in (world s.old m.old d.old) (unless_busy d.old (do_unlink s.old w.inodes dir (unlink_plan s.old w.inodes dir name.now))) }
 {

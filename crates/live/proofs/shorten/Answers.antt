@@ -1,11 +1,12 @@
 use mathlib.Core.Path.{refl}
+use Rattle.preservation.proofs.StoreLaws.{uncounted}
 use Rattle.files.specs.Effect.{shorten}
 use Rattle.live.proofs.CallLaws.{let_through}
 use Rattle.live.proofs.ReturnLaws.{call_through, call_stopped}
 use Rattle.live.proofs.shorten.Goals as goal
 
 pub shorten-requires : goal.shorten-requires
-shorten-requires c = (let_through _ _ _ _ c.three_guards.ensures c.in_ok-w.was).0.sound
+shorten-requires c = uncounted (let_through _ _ _ _ c.three_guards.ensures c.in_ok-w.was).0.sound
 
 pub returns : goal.returns
 returns c =

@@ -1,11 +1,11 @@
 use mathlib.Core.Path.{refl}
 use Rattle.files.specs.Effect.{unlink}
-use Rattle.live.proofs.CallLaws.{let_through}
+use Rattle.live.proofs.CallLaws.{let_through, uncounted_fits}
 use Rattle.live.proofs.ReturnLaws.{call_through, call_stopped}
 use Rattle.live.proofs.unlink.Goals as goal
 
 pub unlink-requires : goal.unlink-requires
-unlink-requires c = let_through _ _ _ _ c.three_guards.ensures c.in_ok-w.was
+unlink-requires c = let p = let_through _ _ _ _ c.three_guards.ensures c.in_ok-w.was in (uncounted_fits p.0, p.1)
 
 pub returns : goal.returns
 returns c =

@@ -1,4 +1,3 @@
-use Rattle.preservation.proofs.StoreLaws.{uncounted}
 use mathlib.Core.Path.{refl, sym, ap, ◌∙◌}
 use native.Mathlib.Omega.{arith}
 use Rattle.content.proofs.PlanFacts.{shortens}
@@ -17,7 +16,7 @@ shorten_file-requires c =
     let f = shortens _ _ _ _ _ (sym c.shorten_plan.ensures ∙ c.in_ok-y.was) in
     let l = f.inside in
     let g = f.size in
-    (uncounted c.requires, f.file, omega arith)
+    (c.requires, f.file, omega arith)
 
 pub returns : goal.returns
 unfolding cut_entries clear_marks set_marks

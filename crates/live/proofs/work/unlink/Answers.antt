@@ -1,4 +1,3 @@
-use Rattle.preservation.proofs.StoreLaws.{uncounted}
 use mathlib.Core.Path.{sym, ap, ◌∙◌}
 use native.Mathlib.Omega.{arith}
 use Rattle.directory.proofs.SlotLaws.{find_below}
@@ -21,7 +20,7 @@ unlink-requires c =
     let e = f.inode in
     let l = (found_here p.sound _ _ _ f.directory f.legal f.found).low in
     let m = (found_here p.sound _ _ _ f.directory f.legal f.found).high in
-    (uncounted p.sound, f.directory, find_below _ _ _ _ _ f.found, omega arith, omega arith)
+    (p.sound, f.directory, find_below _ _ _ _ _ f.found, omega arith, omega arith)
 
 pub cut_image-requires : goal.cut_image-requires
 cut_image-requires c =

@@ -5,7 +5,7 @@ use Rattle.bounded.specs.Below.{all_below}
 use Rattle.bounded.proofs.BoolLaws.{chain_end, and_false_l}
 use Rattle.text.specs.Pieces.{piece}
 use Rattle.script_lines.specs.Ask.{fits, field_fits}
-use Rattle.script_lines.proofs.RangeLaws.{all_range}
+use Rattle.text.proofs.ListLaws.{all_range}
 use Rattle.script_lines.proofs.forms.fits.Goals as goal
 
 pub returns-then-end_fits : goal.returns-then-end_fits
