@@ -1,7 +1,7 @@
 -- The numbers of the refusals are those that are looked at, in the order of looking; none is 0, and each fits a byte.
 use Rattle.std.specs.Prelude.{Result, Ok, Err}
 use Prim.Native.Nat.{ℕ, ◌≤◌}
-use mathlib.Core.Path.{◌≡◌, refl, ap, ◌∙◌}
+use mathlib.Core.Path.{◌≡◌, refl, sym, ap, ◌∙◌}
 use Rattle.std.specs.Result.{IsErrAnd, result_eq}
 use Rattle.answers.specs.contracts.RefusalPartialEq.TheImpl.{eq-value}
 use Rattle.std.proofs.lemmas.Result.{err_from_is_err_and}
@@ -10,10 +10,13 @@ use mathlib.Core.List.{List, [], ◌∷◌}
 use native.Mathlib.Omega.{arith}
 use borrow.Author.Tests.{eqb-true, ne_eqb}
 use lib.Dec.{eqb, leb}
+use lib.ListN.{get_or}
+use denote.Enum.Bare.{same_true, true_same}
 use mathlib.Core.Logic.{⊎_elim}
 use Rattle.bounded.proofs.BoolLaws.{never, and_left, and_right, or_cases}
-use Rattle.bounded.proofs.ReflectLaws.{r_and, r_le}
+use Rattle.bounded.proofs.ReflectLaws.{r_and, r_le, r_eq, reflects_ext}
 use Rattle.answers.specs.declared.Refusal.{Refusal}
+use Rattle.answers.specs.contracts.Refusal.{the_type}
 use Rattle.answers.specs.declared.Refusal.TheVariants.{BadBuffer, UnsoundStore, BadDesk, IllegalName, WrongInode, NameAbsent, NameTaken, NotEmpty, PastEnd, IntoItself, NoInode, NoBlocks, NoSlot, Busy, WrongState, ImageFull, BadCount, KindsDiffer, BadTurn, NoDate, BadTerms, AfterAsked, BadTimes}
 use Rattle.answers.specs.Refusal.{refusal_number}
 use Rattle.answers.specs.Told.{Answer, told}
@@ -76,29 +79,47 @@ number_range f = among_small looked_at (refusal_number f) refl (known f)
 pub not_none : (f : Refusal) → eqb (refusal_number f) 0 ≡ false
 not_none f = let k = number_range f in ne_eqb (refusal_number f) 0 (λ e. omega arith)
 
--- an answer is compared with 7 by its number
+-- ---- two refusals are one exactly if their numbers are
+abbrev by_number : ℕ → Refusal
+by_number k = get_or (BadBuffer ∷ BadBuffer ∷ UnsoundStore ∷ BadDesk ∷ IllegalName ∷ WrongInode ∷ NameAbsent ∷ NameTaken ∷ NotEmpty ∷ PastEnd ∷ IntoItself ∷ NoInode ∷ NoBlocks ∷ NoSlot ∷ Busy ∷ WrongState ∷ ImageFull ∷ BadCount ∷ KindsDiffer ∷ BadBuffer ∷ BadBuffer ∷ BadTurn ∷ BadBuffer ∷ NoDate ∷ BadTerms ∷ AfterAsked ∷ BadTimes ∷ []) k BadBuffer
+
+by_number_lem : (f : Refusal) → by_number (refusal_number f) ≡ f
+by_number_lem BadBuffer = refl
+by_number_lem UnsoundStore = refl
+by_number_lem BadDesk = refl
+by_number_lem IllegalName = refl
+by_number_lem WrongInode = refl
+by_number_lem NameAbsent = refl
+by_number_lem NameTaken = refl
+by_number_lem NotEmpty = refl
+by_number_lem PastEnd = refl
+by_number_lem IntoItself = refl
+by_number_lem NoInode = refl
+by_number_lem NoBlocks = refl
+by_number_lem NoSlot = refl
+by_number_lem Busy = refl
+by_number_lem WrongState = refl
+by_number_lem ImageFull = refl
+by_number_lem BadCount = refl
+by_number_lem KindsDiffer = refl
+by_number_lem BadTurn = refl
+by_number_lem NoDate = refl
+by_number_lem BadTerms = refl
+by_number_lem AfterAsked = refl
+by_number_lem BadTimes = refl
+
+pub number_once : (f e : Refusal) → refusal_number f ≡ refusal_number e → f ≡ e
+number_once f e h = sym (by_number_lem f) ∙ ap by_number h ∙ by_number_lem e
+
+same_number : (f e : Refusal) → eq-value.it f e ≡ eqb (refusal_number f) (refusal_number e)
+same_number f e =
+    reflects_ext (record { to = same_true the_type tt f e; from = true_same the_type f e })
+    (record { to = λ h. number_once f e (eqb-true _ _ h); from = λ h. (r_eq (refusal_number f) (refusal_number e)).from (ap refusal_number h) })
+
+-- an answer is compared with a refusal by its number
+pub is_refusal : (a : Answer) (e : Refusal) → result_eq eqb eq-value.it a (Err e) ≡ eqb (told a).number (refusal_number e)
+is_refusal (Ok x) e = let k = number_range e in sym (ne_eqb 0 (refusal_number e) (λ h. omega arith))
+is_refusal (Err f) e = same_number f e
+
 pub is_taken : (a : Answer) → result_eq eqb eq-value.it a (Err NameTaken) ≡ eqb (told a).number (refusal_number NameTaken)
-is_taken (Ok x) = refl
-is_taken (Err BadBuffer) = refl
-is_taken (Err UnsoundStore) = refl
-is_taken (Err BadDesk) = refl
-is_taken (Err IllegalName) = refl
-is_taken (Err WrongInode) = refl
-is_taken (Err NameAbsent) = refl
-is_taken (Err NameTaken) = refl
-is_taken (Err NotEmpty) = refl
-is_taken (Err PastEnd) = refl
-is_taken (Err IntoItself) = refl
-is_taken (Err NoInode) = refl
-is_taken (Err NoBlocks) = refl
-is_taken (Err NoSlot) = refl
-is_taken (Err Busy) = refl
-is_taken (Err WrongState) = refl
-is_taken (Err ImageFull) = refl
-is_taken (Err BadCount) = refl
-is_taken (Err KindsDiffer) = refl
-is_taken (Err BadTurn) = refl
-is_taken (Err NoDate) = refl
-is_taken (Err BadTerms) = refl
-is_taken (Err AfterAsked) = refl
-is_taken (Err BadTimes) = refl
+is_taken a = is_refusal a NameTaken

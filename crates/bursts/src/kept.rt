@@ -209,16 +209,17 @@ pub fn free_step(
     d: &mut [u8],
     h: Desk,
     n: usize,
-    named: &mut Named,
+    map: &mut [u16; MAP_WORDS],
+    counts: &[u16; INODE_PLACES],
 ) -> Result<Turn, Refusal>
-    requires { Going (world s.now m.old d.old) n h × Kept (world s.now m.old d.old) n named.old.map named.old.counts × (h.locked ≡ 0) }
-    ensures { Took result (world s.now m.old d.old) n m.new d.new named.new.map named.new.counts }
+    requires { Going (world s.now m.old d.old) n h × Kept (world s.now m.old d.old) n map.old counts.now × (h.locked ≡ 0) }
+    ensures { Took result (world s.now m.old d.old) n m.new d.new map.new counts.now }
 {
-    let Some(i) = next_lock(&*d, n, &named.counts) else {
-        five::finish(&mut *m, &mut *d, h, n, &named.map, &named.counts);
+    let Some(i) = next_lock(&*d, n, counts) else {
+        five::finish(&mut *m, &mut *d, h, n, &*map, counts);
         return Ok(Turn::Ends);
     };
-    let holds = may_hold(s, &*m, n, h.blocks as usize, i, &mut named.map);
+    let holds = may_hold(s, &*m, n, h.blocks as usize, i, &mut *map);
     five::lock(&mut *d, h, i);
     if holds {
         return Ok(Turn::Goes);

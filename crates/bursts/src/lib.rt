@@ -45,7 +45,7 @@ fn take_one(
         return Err(Refusal::BadDesk);
     }
     if h.locked == 0 {
-        kept::free_step(s, &mut *m, &mut *d, h, n, &mut *named)
+        kept::free_step(s, &mut *m, &mut *d, h, n, &mut named.map, &named.counts)
     } else {
         kept::locked_step(s, &mut *m, &mut *d, h, n, &mut *named)
     }

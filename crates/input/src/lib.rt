@@ -1,7 +1,7 @@
 // Standard input, line by line.
 #![tactic(auto)]
 
-ghost use Rattle.std.specs.Prelude.{◌≤◌};
+ghost use Rattle.std.specs.Prelude.{◌≤◌, length};
 ghost use Rattle.std.specs.Option.{unwrap_or};
 
 use std::io::{Read, Stdin};
@@ -12,7 +12,7 @@ const ROOM: usize = 65536;
 
 // What came of a line: how many bytes, none if there was no room for all, and these bytes.
 #[derive(Drop)]
-struct Line {
+pub struct Line {
     length: Option<usize>,
     bytes: [u8; ROOM],
     ghost within: { unwrap_or length 0 ≤ 65536 },
@@ -46,7 +46,9 @@ impl Line {
     }
 
     // What is looked at: nothing of a line that there was no room for.
-    fn text(&self) -> &[u8] {
+    pub fn text(&self) -> &[u8]
+        ensures { length result.now ≤ 65536 }
+    {
         let n = self.length.unwrap_or(0);
         &self.bytes[..n]
     }
@@ -55,7 +57,7 @@ impl Line {
 // Each line goes to `answer` as soon as it is there, without its newline; one that there was no room
 // for as an empty one. Nothing after the last newline is no line. A read that fails counts as the
 // end. Nothing says that an input ends, so the reads are counted up to a number that no run reaches.
-pub fn each_line<F: FnMut(&[u8])>(stdin: &mut Stdin, mut answer: F)
+pub fn each_line<F: FnMut(&Line)>(stdin: &mut Stdin, mut answer: F)
     requires { F.IsAlwaysCallable answer }
 {
     let mut piece = [0u8; ROOM];
@@ -67,7 +69,7 @@ pub fn each_line<F: FnMut(&[u8])>(stdin: &mut Stdin, mut answer: F)
         }
         for &b in &piece[..n] {
             if b == NEWLINE {
-                answer(line.text());
+                answer(&line);
                 line.clear();
             } else {
                 line.push(b);
@@ -75,6 +77,6 @@ pub fn each_line<F: FnMut(&[u8])>(stdin: &mut Stdin, mut answer: F)
         }
     }
     if !line.is_empty() {
-        answer(line.text());
+        answer(&line);
     }
 }

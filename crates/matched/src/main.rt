@@ -60,5 +60,5 @@ fn answer(line: &[u8]) {
 }
 
 fn main(rt: HostRuntime) {
-    each_line(&mut rt.stdin(), |line| answer(line));
+    each_line(&mut rt.stdin(), |line| answer(line.text()));
 }

@@ -3,7 +3,7 @@ ghost use Rattle.replay.specs.Fit.{Inside};
 
 use crate::lengths::{Lengths, Plan, planned};
 use checksum::checksum;
-use input::each_line;
+use input::{Line, each_line};
 use replay_commands::answer::put_line;
 use replay_commands::parse::{command, parse};
 use replay_commands::{Command, Reply, Sums};
@@ -102,6 +102,6 @@ impl<'a> Session<'a> {
 
     // The whole input, line by line.
     pub fn replay(&mut self, stdin: &mut Stdin) {
-        each_line(stdin, |line: &[u8]| self.answer(line));
+        each_line(stdin, |line: &Line| self.answer(line.text()));
     }
 }
