@@ -72,7 +72,7 @@ abbrev pub blanks_right : Form → List ℕ → ℕ → ℕ → Bool
 blanks_right f s n b = not (blank_of f) || all_to (blank_if_free_b s n) b
 
 -- the passes in the code's order
-abbrev body_as : Form → List ℕ → ℕ → ℕ → Bool
+abbrev pub body_as : Form → List ℕ → ℕ → ℕ → Bool
 body_as f s n b =
     header_b s
     && ((inodes_right s n b && differ_b (row_of s n) (most_blocks * n))
@@ -82,16 +82,20 @@ body_as f s n b =
     && (free_counts_b s
     && blanks_right f s n b)))))
 
+pub body_as_lem : (f : Form) (s : List ℕ) {n b : ℕ} → n ≡ inodes_in s → b ≡ blocks_in s → body_as f s n b ≡ body_b f s
+unfolding body_b blanks_b
+body_as_lem f s {n} {b} e g =
+    ap₂ (body_as f s) e g
+    ∙ ap (λ (y : Bool). header_b s && y)
+    (and_assoc (inodes_right s (inodes_in s) (blocks_in s)) (differ_b (row_of s (inodes_in s)) (most_blocks * inodes_in s)) _)
+
 -- where all passes but the last find nothing, the last one's answer is the test's
 pub body_all : (f : Form) (s : List ℕ) {n b : ℕ} → n ≡ inodes_in s → b ≡ blocks_in s → header_b s ≡ true →
     inodes_right s n b && differ_b (row_of s n) (most_blocks * n) ≡ true → entries_right s n ≡ true → links_right s n ≡ true → all_to (lead_b s n) n ≡ true → free_counts_b s ≡ true →
     (x : Bool) → x ≡ blanks_right f s n b → x ≡ body_b f s
-unfolding body_b blanks_b
 body_all f s {n} {b} e g h i j k l m x q =
     chain_end _ _ _ h (chain_end _ _ _ i (chain_end _ _ _ j (chain_end _ _ _ k (chain_end _ _ _ l (chain_end _ _ _ m q)))))
-    ∙ ap₂ (body_as f s) e g
-    ∙ ap (λ (y : Bool). header_b s && y)
-    (and_assoc (inodes_right s (inodes_in s) (blocks_in s)) (differ_b (row_of s (inodes_in s)) (most_blocks * inodes_in s)) _)
+    ∙ body_as_lem f s e g
 
 -- ---- what the passes need of each other
 module _ (s : List ℕ) {n b : ℕ} (f : Framed Image s) (e : n ≡ inodes_in s) (g : b ≡ blocks_in s) where

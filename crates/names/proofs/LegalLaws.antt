@@ -27,7 +27,7 @@ use Rattle.names.specs.Words.{has_dots}
 abbrev Dotted : List ℕ → Type 0
 Dotted e = (get_or e name_at 0 ≡ dot) × ((get_or e (name_at + 1) 0 ≡ 0) ⊎ ((get_or e (name_at + 1) 0 ≡ dot) × (get_or e (name_at + 2) 0 ≡ 0)))
 
-dotted : (e : List ℕ) → Reflects (has_dots e) (Dotted e)
+pub dotted : (e : List ℕ) → Reflects (has_dots e) (Dotted e)
 unfolding has_dots
 dotted e =
     r_and (r_eq (get_or e name_at 0) dot)
@@ -184,12 +184,12 @@ zeros_run_lem : (e : List ℕ) (o : ℕ) → Reflects (zeros_run e o) ((j : ℕ)
 zeros_run_lem e o = r_all 8 (λ j. r_imp (r_eq (get_or e (o + j) 0) 0) (r_eq (get_or e (o + 1 + j) 0) 0))
 
 module _ (e : List ℕ) where
-  proper_plain : Proper e → (o : ℕ) → name_at ≤ o → o + 8 ≤ entry_bytes → plain_run e o ≡ true
+  pub proper_plain : Proper e → (o : ℕ) → name_at ≤ o → o + 8 ≤ entry_bytes → plain_run e o ≡ true
   proper_plain p o a b =
       (plain_run_lem e o).from
       (λ j l z. let x : name_at + (o + j - name_at) ≡ o + j = omega arith in p.plain (o + j - name_at) (omega arith) (ap (λ (i : ℕ). get_or e i 0) x ∙ z))
 
-  proper_zeros : Proper e → (o : ℕ) → name_at ≤ o → o + 9 ≤ entry_bytes → zeros_run e o ≡ true
+  pub proper_zeros : Proper e → (o : ℕ) → name_at ≤ o → o + 9 ≤ entry_bytes → zeros_run e o ≡ true
   proper_zeros p o a b =
       (zeros_run_lem e o).from
       (λ j l z.

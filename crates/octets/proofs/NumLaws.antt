@@ -1,16 +1,16 @@
 -- Numbers low byte first, once over the width.
 use Prim.Native.Nat.{ℕ, zero, suc, ◌+◌, ◌*◌, ◌-◌, ◌/◌, ◌%◌, ◌^◌, ◌≤◌, ◌<◌}
 use mathlib.Core.Path.{◌≡◌, refl, sym, ap, ap₂, ◌∙◌}
-use mathlib.Core.List.{List, [], ◌∷◌}
+use mathlib.Core.List.{List, [], ◌∷◌, ◌++◌}
 use native.Mathlib.Omega.{arith}
-use native.Mathlib.Nat.{add-zero, zero-add, mul_assoc, pow-succ'}
+use native.Mathlib.Nat.{add-zero, zero-add, mul_assoc, pow-succ', one-le-pow, div-add-mod, mod-lt, mod-eq_of_lt, mul-add-mod_self_left, div-div-eq-div-mul}
 use native.Mathlib.Decide.{dec_lt}
 use lib.ListN.{get_or, length}
 use lib.Seq.{ext_get_or}
 use Rattle.std.specs.Int.{w16, w32, w64, from_le_bytes, to_le_bytes}
 use Rattle.bounded.proofs.CaseLaws.{each_suc}
 use Rattle.octets.specs.Octets.{part, splice, Apart, Octets, num_at, to_bytes, put_num, pasted}
-use Rattle.octets.proofs.PartLaws.{length_splice, length_inside, get_d_part, splice_out, splice_in, splice_twice, splice_comm, part_apart, copied_join}
+use Rattle.octets.proofs.PartLaws.{length_splice, length_inside, get_d_part, splice_out, splice_in, splice_twice, splice_comm, splice_append, part_apart, copied_join}
 
 -- a number of one byte more, whatever the width
 pub num_suc : (k : ℕ) (s : List ℕ) (o : ℕ) → num_at (suc k) s o ≡ get_or s o 0 + 256 * num_at k s (o + 1)
@@ -217,6 +217,34 @@ num_join (suc j) k s o =
     let g : o + suc j ≡ o + 1 + j = omega arith in
     let ih = num_join j k s (o + 1) in
     rw (e, g, num_suc (j + k) s o, num_suc j s o, pow-succ' 256 j, ih, mul_assoc 256 (256 ^ j) (num_at k s (o + 1 + j))) (omega arith)
+
+-- ---- and two that are written side by side
+mod_split : (b v : ℕ) → 0 < b → v % (256 * b) ≡ 256 * (v / 256 % b) + v % 256
+mod_split b v h =
+    let d : b * (v / 256 / b) + v / 256 % b ≡ v / 256 = div-add-mod (v / 256) b in
+    let l : v / 256 % b < b = mod-lt (v / 256) h in
+    let e : v ≡ 256 * (b * (v / 256 / b)) + (256 * (v / 256 % b) + v % 256) = omega arith in
+    let f : v ≡ 256 * b * (v / 256 / b) + (256 * (v / 256 % b) + v % 256) = e ∙ rw (← mul_assoc 256 b (v / 256 / b)) in
+    ap (λ (x : ℕ). x % (256 * b)) f ∙ mul-add-mod_self_left (256 * b) (v / 256 / b) (256 * (v / 256 % b) + v % 256) ∙ mod-eq_of_lt (omega arith)
+
+bytes_join : (j m v : ℕ) → to_bytes (suc j) (v % 256 ^ suc j) ++ to_bytes (suc m) (v / 256 ^ suc j) ≡ to_bytes (suc j + suc m) v
+unfolding to_bytes
+bytes_join zero m v = let e : 1 + suc m ≡ suc (suc m) = omega arith in rw e
+bytes_join (suc j) m v =
+    let e : suc (suc j) + suc m ≡ suc (suc (suc j + m)) = omega arith in
+    let g : suc j + suc m ≡ suc (suc j + m) = omega arith in
+    let q : v % (256 * 256 ^ suc j) ≡ 256 * (v / 256 % 256 ^ suc j) + v % 256 = mod_split (256 ^ suc j) v (one-le-pow (suc j) 256 (omega arith)) in
+    let lo : v % (256 * 256 ^ suc j) % 256 ≡ v % 256 = omega arith in
+    let hi : v % (256 * 256 ^ suc j) / 256 ≡ v / 256 % 256 ^ suc j = omega arith in
+    let ih = bytes_join j m (v / 256) in
+    rw (e, pow-succ' 256 (suc j), lo, hi, ← div-div-eq-div-mul v 256 (256 ^ suc j)) (ap (λ (l : List ℕ). v % 256 ∷ l) (rw g at ih))
+
+pub put_join : (j m : ℕ) (s : List ℕ) (o v : ℕ) → put_num (suc m) (put_num (suc j) s o (v % 256 ^ suc j)) (o + suc j) (v / 256 ^ suc j) ≡ put_num (suc j + suc m) s o v
+unfolding put_num
+put_join j m s o v =
+    ap (λ (p : ℕ). splice (splice s o (to_bytes (suc j) (v % 256 ^ suc j))) (o + p) (to_bytes (suc m) (v / 256 ^ suc j))) (sym (length_to_bytes (suc j) (v % 256 ^ suc j)))
+    ∙ splice_append s o (to_bytes (suc j) (v % 256 ^ suc j)) (to_bytes (suc m) (v / 256 ^ suc j))
+    ∙ ap (splice s o) (bytes_join j m v)
 
 -- ---- the library's numbers of two, four and eight bytes
 num_part : (k : ℕ) (s : List ℕ) (o : ℕ) → num_at k (part s o k) 0 ≡ num_at k s o

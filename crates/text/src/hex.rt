@@ -40,7 +40,7 @@ pub fn hex_count(s: &[u8], room: usize) -> Option<usize>
         return Some(0);
     }
     let n = s.len() / 2;
-    if is_hex(s) && n <= room {
+    if n <= room && is_hex(s) {
         Some(n)
     } else {
         None

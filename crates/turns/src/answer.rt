@@ -2,7 +2,7 @@
 // and the refusal's number; `err` for any other line.
 ghost use Rattle.std.specs.Prelude.{◌≤◌};
 
-use crate::flags::flags;
+use crate::flags::flags_in;
 use dealer::{BAYS, Turn, deal};
 use replay_commands::parse::command;
 use text::fields::{field, number_at};
@@ -44,7 +44,7 @@ fn dealt(cmd: &[u8]) -> Option<Turn> {
     if pieces(cmd, SPACE) != 4 || !is_word(field(cmd, 0), b"deal") {
         return None;
     }
-    let running = flags(field(cmd, 1))?;
+    let running = flags_in(field(cmd, 1))?;
     Some(deal(running, number_at(cmd, 2)?, number_at(cmd, 3)?))
 }
 
