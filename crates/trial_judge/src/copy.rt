@@ -115,7 +115,8 @@ pub fn kept_entries(s: Store, copy: Store, taken: &[bool]) -> Owed
 {
     let missing = (0..s.places()).find(|&p| {
         let entry = s.place(p);
-        copy.place(p).names() != entry.names() && is_owed(entry, taken)
+        let i = entry.names();
+        i.is_some() && copy.place(p).names() != i && kept(entry, taken)
     });
     let end = missing.unwrap_or(s.places());
     Owed {
