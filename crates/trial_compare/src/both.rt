@@ -1,12 +1,12 @@
 // An event done by the library and, a file call that was not answered 14, by the plain store, a burst by single steps; what they answer and leave is compared.
-ghost use Rattle.std.specs.Prelude.{◌≡◌, ◌≤◌};
+ghost use Rattle.std.specs.Prelude.{◌≡◌, ◌≤◌, length};
 
 use crate::burst::do_burst;
 use crate::calls;
 use crate::calls::{Got, Wrong, told, wrong_unless};
 use files::plain;
 use replay_commands::Command;
-use trial_events::event::{Event, MOST_BYTES, OUT_BYTES, SLOTS};
+use trial_events::event::{Event, MOST_BYTES, OUT_BYTES, SLOTS, spell};
 use trial_judge::copy::note_taken;
 use trial_judge::fields::Store;
 
@@ -100,12 +100,31 @@ fn note(e: Event, got: Got, sides: &Sides, taken: &mut [bool; SLOTS]) {
     }
 }
 
+// An event's names, at the front of two buffers, and how many bytes they have; of a write how many it writes, which stand there already.
+fn put_names(e: Event, name: &mut [u8], other: &mut [u8]) -> (usize, usize)
+    requires { (2 ≤ length name.old) × (2 ≤ length other.old) }
+{
+    match e {
+        Event::CreateFile(at)
+        | Event::CreateDirectory(at)
+        | Event::Link(at, _)
+        | Event::Unlink(at)
+        | Event::LookUp(at) => (spell(at.name, name), 0),
+        Event::Rename(at, to) | Event::RenameNew(at, to) => {
+            (spell(at.name, name), spell(to.name, other))
+        }
+        Event::Write { length, .. } => (length, 0),
+        _ => (0, 0),
+    }
+}
+
 // The bytes that a write writes are all alike. The plain store is to hold the same after every event.
 fn do_call(e: Event, fill: u8, sides: &mut Sides, taken: &mut [bool; SLOTS]) -> Result<Got, Wrong> {
     let mut name = [fill; MOST_BYTES];
     let mut other = [0u8; 2];
     let mut out = [FILLER; OUT_BYTES];
-    let command = calls::command(e, &mut name, &mut other);
+    let (f, g) = put_names(e, &mut name, &mut other);
+    let command = calls::command(e, f, g);
     let reply = replay_run::run(
         command,
         &mut *sides.store,

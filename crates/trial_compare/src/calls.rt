@@ -1,12 +1,10 @@
 // An event done by the library, and by the plain store.
-ghost use Rattle.std.specs.Prelude.{◌≤◌, length};
-
 use answers::Answer;
 use entries::Kind;
 use files::plain;
 use replay_commands::{Call, Command, Reply};
 use text::pieces::front;
-use trial_events::event::{Event, OUT_BYTES, spell};
+use trial_events::event::{Event, OUT_BYTES};
 
 // The value, of a state question the steps; or a refusal by its number, which is all that a reply has of it.
 pub type Got = Result<usize, usize>;
@@ -45,32 +43,18 @@ pub fn replied(r: Reply) -> Got {
     }
 }
 
-// The command of an event, whose names are put at the front of name and other; the bytes that a write writes stand in name already.
-pub fn command(e: Event, name: &mut [u8], other: &mut [u8]) -> Command
-    requires { (2 ≤ length name.old) × (2 ≤ length other.old) }
-{
+// The command of an event; the names have f and g bytes, and a write writes f.
+pub fn command(e: Event, f: usize, g: usize) -> Command {
     match e {
-        Event::CreateFile(at) => Command::File(Call::CreateFile(at.dir, spell(at.name, name))),
-        Event::CreateDirectory(at) => {
-            Command::File(Call::CreateDirectory(at.dir, spell(at.name, name)))
-        }
-        Event::Write {
-            inode,
-            offset,
-            length,
-        } => Command::File(Call::Write(inode, offset, length)),
+        Event::CreateFile(at) => Command::File(Call::CreateFile(at.dir, f)),
+        Event::CreateDirectory(at) => Command::File(Call::CreateDirectory(at.dir, f)),
+        Event::Write { inode, offset, .. } => Command::File(Call::Write(inode, offset, f)),
         Event::Shorten { inode, offset } => Command::File(Call::Shorten(inode, offset)),
-        Event::Link(at, inode) => Command::File(Call::Link(at.dir, spell(at.name, name), inode)),
-        Event::Unlink(at) => Command::File(Call::Unlink(at.dir, spell(at.name, name))),
-        Event::Rename(at, to) => {
-            let (n, m) = (spell(at.name, name), spell(to.name, other));
-            Command::File(Call::Rename(at.dir, n, to.dir, m))
-        }
-        Event::RenameNew(at, to) => {
-            let (n, m) = (spell(at.name, name), spell(to.name, other));
-            Command::File(Call::RenameNew(at.dir, n, to.dir, m))
-        }
-        Event::LookUp(at) => Command::File(Call::LookUp(at.dir, spell(at.name, name))),
+        Event::Link(at, inode) => Command::File(Call::Link(at.dir, f, inode)),
+        Event::Unlink(at) => Command::File(Call::Unlink(at.dir, f)),
+        Event::Rename(at, to) => Command::File(Call::Rename(at.dir, f, to.dir, g)),
+        Event::RenameNew(at, to) => Command::File(Call::RenameNew(at.dir, f, to.dir, g)),
+        Event::LookUp(at) => Command::File(Call::LookUp(at.dir, f)),
         Event::Read { inode, offset } => Command::Read(inode, offset, OUT_BYTES),
         Event::Start => Command::Start,
         Event::Ask => Command::Ask,

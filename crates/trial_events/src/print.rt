@@ -93,7 +93,7 @@ fn call(e: Event, fill: u64) {
 }
 
 // The first events of a list, up to event k.
-fn events(list: List, k: u64) {
+pub fn list(list: List, k: u64) {
     word(b"new");
     number(list.shape.inodes);
     number(list.shape.blocks);
@@ -109,5 +109,5 @@ pub fn difference(seed: u64, l: u64, event: u64) {
     word(b"a difference in the last line of list");
     number(l as usize);
     word(b"\n");
-    events(List::new(seed, l), event);
+    list(List::new(seed, l), event);
 }

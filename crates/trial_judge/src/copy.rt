@@ -115,7 +115,8 @@ pub fn kept_entries(s: Store, copy: Store, taken: &[bool]) -> Owed
 {
     let missing = (0..s.places()).find(|&p| {
         let entry = s.place(p);
-        is_owed(entry, taken) && copy.place(p).names() != entry.names()
+        let i = entry.names();
+        i.is_some() && copy.place(p).names() != i && kept(entry, taken)
     });
     let end = missing.unwrap_or(s.places());
     Owed {
@@ -134,7 +135,7 @@ pub fn strange_entry(moments: &[Moment], copy: Store) -> Option<Entry> {
 }
 
 // The entry at the place was taken out: the place names another inode now, or none. Being replaced is being unlinked.
-pub(crate) fn is_taken(before: Place, after: Place) -> bool {
+pub fn is_taken(before: Place, after: Place) -> bool {
     let i = before.names();
     i.is_some() && after.names() != i
 }

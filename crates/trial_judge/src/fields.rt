@@ -1,7 +1,7 @@
 // Fields of a store or an image, on any bytes. What lies past the end reads as 0.
 ghost use Rattle.std.specs.Prelude.{◌*◌, ◌≡◌, ◌≤◌, ◌↔◌, IfSome, IsTrue, slice_index};
 
-pub(crate) const SLOTS: usize = 48;
+pub const SLOTS: usize = 48;
 
 // Addresses of an inode. The last one of a file above so many bytes names a block of further ones.
 const ADDRESSES: usize = 12;
@@ -9,9 +9,9 @@ const ADDRESSES: usize = 12;
 const MOST_DIRECT_BYTES: usize = 768;
 
 // Blocks of an inode at most, and those of them that have a file's bytes.
-pub(crate) const BLOCKS: usize = 44;
+pub const BLOCKS: usize = 44;
 
-pub(crate) const BYTES_BLOCKS: usize = 43;
+pub const BYTES_BLOCKS: usize = 43;
 
 #[derive(Clone, Copy, PartialEq, Eq)]
 pub enum Kind {
@@ -33,13 +33,12 @@ pub struct Store<'a> {
 pub struct Inode<'a> {
     pub store: Store<'a>,
     pub number: usize,
-    ghost some: { 1 ≤ number },
     ghost few: { number ≤ 65535 },
 }
 
 // A slot of a directory, by its number among all: 48 for each inode.
 #[derive(Clone, Copy)]
-pub(crate) struct Place<'a> {
+pub struct Place<'a> {
     pub store: Store<'a>,
     pub number: usize,
     ghost few: { number ≤ 20000 },
@@ -47,7 +46,7 @@ pub(crate) struct Place<'a> {
 
 // A block, by its number.
 #[derive(Clone, Copy)]
-pub(crate) struct Block {
+pub struct Block {
     pub number: usize,
     ghost some: { 1 ≤ number },
     ghost few: { number ≤ 65535 },
@@ -78,7 +77,7 @@ impl<'a> Store<'a> {
     }
 
     pub fn inode(self, number: usize) -> Inode<'a>
-        requires { (1 ≤ number) × (number ≤ 65535) }
+        requires { number ≤ 65535 }
         ensures { result.number ≡ number }
     {
         let store = self;
@@ -106,7 +105,7 @@ impl<'a> Store<'a> {
     }
 
     // Two bytes, the low one first.
-    pub(crate) fn pair(self, o: usize) -> usize
+    pub fn pair(self, o: usize) -> usize
         ensures { result ≤ 65535 }
     {
         let rest = self.rest(o);
@@ -122,14 +121,14 @@ impl<'a> Store<'a> {
     }
 
     // Where a block starts.
-    fn start_of(self, block: Block) -> usize
+    pub fn start_of(self, block: Block) -> usize
         ensures { result ≤ 5000000 }
     {
         16 + 32 * self.inodes + 64 * (block.number - 1)
     }
 
     // The k bytes from x on are those of the other from y on.
-    fn same_bytes(self, x: usize, other: Store, y: usize, k: usize) -> bool {
+    pub fn same_bytes(self, x: usize, other: Store, y: usize, k: usize) -> bool {
         let (mine, theirs) = (self.rest(x), other.rest(y));
         (0..k).all(|j| byte(mine, j) == byte(theirs, j))
     }
@@ -150,27 +149,28 @@ impl<'a> Inode<'a> {
         }
     }
 
-    pub(crate) fn links(self) -> usize
+    pub fn links(self) -> usize
         ensures { result ≤ 65535 }
     {
         self.store.pair(10 + 8 * self.number)
     }
 
-    pub(crate) fn size(self) -> usize {
+    pub fn size(self) -> usize {
         self.store.pair(12 + 8 * self.number)
     }
 
-    pub(crate) fn is_long(self) -> bool {
+    pub fn is_long(self) -> bool {
         self.kind() == Kind::File && MOST_DIRECT_BYTES < self.size()
     }
 
-    // The block of address k.
+    // The block of address k; inode 0 has no addresses.
     fn address(self, k: usize) -> Option<Block>
         requires { k ≤ 12 }
     {
+        let before = self.number.checked_sub(1)?;
         let inodes = self.store.inodes;
         self.store
-            .block_named(16 + 8 * inodes + 24 * (self.number - 1) + 2 * k)
+            .block_named(16 + 8 * inodes + 24 * before + 2 * k)
     }
 
     // The block of number k in the block that the last address names.
@@ -182,7 +182,7 @@ impl<'a> Inode<'a> {
     }
 
     // The k-th block: the twelfth of a long file has the numbers of those behind it.
-    pub(crate) fn block(self, k: usize) -> Option<Block>
+    pub fn block(self, k: usize) -> Option<Block>
         requires { k ≤ 44 }
     {
         if k < ADDRESSES {
@@ -195,7 +195,7 @@ impl<'a> Inode<'a> {
     }
 
     // The p-th block of a file's bytes.
-    pub(crate) fn bytes_block(self, p: usize) -> Option<Block>
+    pub fn bytes_block(self, p: usize) -> Option<Block>
         requires { p ≤ 43 }
     {
         if ADDRESSES <= p + 1 && self.is_long() {
@@ -211,13 +211,15 @@ impl<'a> Place<'a> {
     }
 
     // Where the slot starts.
-    fn start(self) -> Option<usize> {
+    pub fn start(self) -> Option<usize>
+        ensures { IfSome result (λ o. o ≤ 6000000) }
+    {
         let block = self.directory().address(self.number % SLOTS / 4)?;
         Some(self.store.start_of(block) + 16 * (self.number % 4))
     }
 
     // The inode that the slot names.
-    pub(crate) fn names(self) -> Option<usize>
+    pub fn names(self) -> Option<usize>
         ensures { IfSome result (λ i. i ≤ 65535) }
     {
         if self.directory().kind() != Kind::Directory {

@@ -1,5 +1,5 @@
 // The record of a copy under way, kept from answers and stores alone, and what is asked of it.
-ghost use Rattle.std.specs.Prelude.{◌≤◌, length};
+ghost use Rattle.std.specs.Prelude.{◌≡◌, ◌≤◌, length};
 
 use crate::finished::find;
 use crate::tried::{Tried, tally};
@@ -35,11 +35,12 @@ const MOST_STEPS: usize = 1000;
 pub struct Copy {
     pub moments: usize,
     pub steps: usize,
-    ghost few: { moments ≤ 512 },
 }
 
 impl Copy {
-    pub fn none() -> Copy {
+    pub fn none() -> Copy
+        ensures { result.moments ≡ 0 }
+    {
         Copy {
             moments: 0,
             steps: 0,
@@ -125,9 +126,9 @@ impl Record {
         }
     }
 
-    // The copy's moments.
+    // The copy's moments, of which the record has no more than it has room for.
     pub fn seen(&self) -> &[Moment] {
-        &self.moments[..self.copy.moments]
+        &self.moments[..self.copy.moments.min(MOST_MOMENTS)]
     }
 
     // The store is one more moment, if there is room.

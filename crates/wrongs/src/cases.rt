@@ -18,8 +18,6 @@ const SPACE: u8 = 32;
 
 const SEMICOLON: u8 = 59;
 
-const MOST_MOMENTS: usize = 512;
-
 fn is_made(r: Reply) -> bool {
     match r {
         Reply::Error => false,
@@ -185,7 +183,7 @@ pub fn answer(numbers: &[u8], store: &[u8], half: &[u8], record: &mut Record) {
         Err(refusal)
     };
     record.copy = Copy {
-        moments: nth_number(numbers, 3).min(MOST_MOMENTS),
+        moments: nth_number(numbers, 3),
         steps: nth_number(numbers, 4),
     };
     print::verdict(record.follow(e, got, of_list(store), of_list(half)));
