@@ -115,6 +115,13 @@ latest_folds cs end =
     one_more true m d = refl
     one_more false m d = omega arith
 
+-- the same without a branch: a day behind the end counts as 0
+pub latest_steps : (cs : List ℕ) (end : ℕ) → fold (λ m d. max m (pick (leb d end) d 0)) 0 cs ≡ latest_by cs end
+latest_steps cs end =
+    ap (λ (z : ℕ). fold (λ m d. max m (pick (leb d end) d 0)) z cs) (most_none (up_to cs end))
+    ∙ fold-steps (λ m d. max m (pick (leb d end) d 0)) (most (up_to cs end)) 0 cs
+    (λ k l. most_more (up_to cs end) k _ (most (up_to cs end) k) refl refl)
+
 pub byte_one : (b : Bool) → from_bool b ≡ one b
 byte_one true = refl
 byte_one false = refl

@@ -33,9 +33,10 @@ pub fn look_at(days: &[u16], map: &mut [u64; DAY_WORDS], out: &mut [u8])
 fn latest_by(days: &[u16], end: u16) -> u16
     ensures { result ≡ latest_by days.now end }
 {
-    days.iter()
-        .filter(|day| **day <= end)
-        .fold(0, |latest, day| latest.max(*day))
+    days.iter().fold(
+        0,
+        |latest, day| latest.max(if *day <= end { *day } else { 0 }),
+    )
 }
 
 // For each term the day of its last copy, if it has one. By places: over `chunks_exact(2).enumerate()` the proof stopped
