@@ -89,6 +89,10 @@ body_as_lem f s {n} {b} e g =
     ∙ ap (λ (y : Bool). header_b s && y)
     (and_assoc (inodes_right s (inodes_in s) (blocks_in s)) (differ_b (row_of s (inodes_in s)) (most_blocks * inodes_in s)) _)
 
+pub body_headless : (f : Form) (s : List ℕ) {n b : ℕ} → n ≡ inodes_in s → b ≡ blocks_in s → header_b s ≡ false → false ≡ body_b f s
+body_headless f s {n} {b} e g h =
+    rw h (λ i. false) ∙ body_as_lem f s e g
+
 -- where all passes but the last find nothing, the last one's answer is the test's
 pub body_all : (f : Form) (s : List ℕ) {n b : ℕ} → n ≡ inodes_in s → b ≡ blocks_in s → header_b s ≡ true →
     inodes_right s n b && differ_b (row_of s n) (most_blocks * n) ≡ true → entries_right s n ≡ true → links_right s n ≡ true → all_to (lead_b s n) n ≡ true → free_counts_b s ≡ true →

@@ -77,10 +77,13 @@ pub fn body_right(form: Form, s: &[u8], n: usize, b: usize) -> bool
     requires { Framed Image s.now × (n ≡ inodes_in s.now) × (b ≡ blocks_in s.now) }
     ensures { result ≡ body_b form s.now }
 {
+    // before anything is laid out: bytes whose header is wrong are told at once
+    if !header_right(s, n) {
+        return false;
+    }
     let mut map = [0u16; MAP_WORDS];
     let mut counts = [0u16; INODE_PLACES];
-    header_right(s, n)
-        && check_inodes::inodes_right(s, n, b, &mut map)
+    check_inodes::inodes_right(s, n, b, &mut map)
         && entries::entries_right(s, n, &mut counts)
         && links::links_right(s, n, &counts)
         && links::parents_right(s, n)

@@ -2,7 +2,7 @@
 use Rattle.std.specs.Prelude.{None, Some, Option}
 use Rattle.std.specs.List.{list_all, count_by, find, range_with_len, position, position_or_len}
 use Rattle.std.specs.Bool.{Decides}
-use Rattle.std.specs.Option.{option_map}
+use Rattle.std.specs.Option.{option_map, unwrap_or}
 use Rattle.std.specs.Str.{bytes_eq}
 use Rattle.std.proofs.lemmas.Bool.Decides.{Decides-eqb}
 use Rattle.std.proofs.lemmas.Slice.Eq.{slice_eq-Decides}
@@ -25,8 +25,8 @@ use Rattle.bounded.specs.Below.{all_below}
 use Rattle.bounded.specs.Count.{one, count}
 use Rattle.bounded.proofs.BoolLaws.{same_test, and-true, and_left, and_right}
 use Rattle.bounded.proofs.BelowLaws.{all_at, all_of, all_ext}
-use Rattle.bounded.proofs.SearchLaws.{absent_of, lowest_found}
-use Rattle.bounded.specs.Search.{pick, first, first_from}
+use Rattle.bounded.proofs.SearchLaws.{absent_of, lowest_found, found_lowest}
+use Rattle.bounded.specs.Search.{pick, first, first_from, on_found}
 use Rattle.text.specs.Pieces.{place_from, find_from, is_word}
 
 -- ---- a test of all
@@ -144,6 +144,21 @@ same None = refl
 pub find_range : (p : ℕ → Bool) (n : ℕ) (r : Option ℕ) → option_map (λ (x : ℕ). x) r ≡ find p (range_with_len 0 (n - 0)) → r ≡ first p n
 unfolding first
 find_range p n r e = let z : n - 0 ≡ n = omega arith in sym (same r) ∙ e ∙ rw z (find_from_is p 0 n)
+
+-- the place of the first x from o on, from a search of the places
+pub find_places : (s : List ℕ) (x o : ℕ) (r : Option ℕ) → option_map (λ (y : ℕ). y) r ≡ find (λ k. eqb (get_or s k 0) x) (range_with_len o (length s - o))
+    → (v : ℕ) → v ≡ unwrap_or r (length s) → (v ≡ find_from s x o) × (v ≤ length s)
+unfolding find_from place_from
+find_places s x o r e v h =
+    let w = at r (sym (same r) ∙ e ∙ find_from_is (λ k. eqb (get_or s k 0) x) o (length s - o)) in
+    (h ∙ w.0, let l = w.1 in omega arith)
+  where
+    at : (q : Option ℕ) → q ≡ first_from (λ k. eqb (get_or s k 0) x) o (length s - o)
+        → (unwrap_or q (length s) ≡ on_found (first_from (λ k. eqb (get_or s k 0) x) o (length s - o)) (λ t. t) (length s)) × (unwrap_or q (length s) ≤ length s)
+    at (Some t) h =
+        let l = found_lowest (λ k. eqb (get_or s k 0) x) o (length s - o) t (sym h) in
+        (rw (← h) refl, let b = l.below in omega arith)
+    at None h = (rw (← h) refl, omega arith)
 
 all_from_is : (p : ℕ → Bool) (i n : ℕ) → list_all p (range_with_len i n) ≡ all_below (λ k. p (i + k)) n
 unfolding all_below

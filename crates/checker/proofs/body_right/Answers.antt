@@ -4,9 +4,14 @@ use native.Mathlib.Omega.{arith}
 use Rattle.blocks.proofs.MapLaws.{map_none}
 use Rattle.sound.specs.declared.Form.{Form}
 use Rattle.sound.specs.Sound.{blank_of}
-use Rattle.checker.proofs.CheckLaws.{inodes_right, entries_right, links_right, body_all, frame_sized, dir_fits, parents_closed}
+use Rattle.checker.proofs.CheckLaws.{inodes_right, entries_right, links_right, body_all, body_headless, frame_sized, dir_fits, parents_closed}
 use Rattle.bounded.proofs.BoolLaws.{or_l, or_end}
 use Rattle.checker.proofs.body_right.Goals as goal
+
+pub returns-then-not-header_right : goal.returns-then-not-header_right
+returns-then-not-header_right c =
+    let p = c.requires in
+    body_headless c.args.form c.args.s.now p.1 p.2 (grind arith)
 
 pub inodes_right-requires : goal.inodes_right-requires
 inodes_right-requires c = let p = c.requires in (frame_sized _ p.0 p.1 p.2, map_none _)
