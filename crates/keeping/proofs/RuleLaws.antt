@@ -12,6 +12,7 @@ use lib.ListN.{length, get_or}
 use Rattle.bounded.specs.Below.{all_below, some_below}
 use Rattle.bounded.specs.Search.{pick}
 use Rattle.bounded.specs.Count.{one, count}
+use Rattle.bounded.specs.Table.{table}
 use Rattle.bounded.proofs.BelowLaws.{all_ext, some_of, some_at}
 use Rattle.bounded.proofs.BoolLaws.{same_test, and-true, and_left, and_right, and_false_l, holds_or_fails}
 use Rattle.bounded.proofs.CountLaws.{count_ext}
@@ -119,3 +120,8 @@ module _ (cs ts : List ℕ) where
               ∙ splice_twice out 0 (look_flags cs) (settled_flags cs ts today map latest first (copy_count cs)) (length_table _ (copy_count cs) ∙ sym (length_table _ (copy_count cs)))
               ∙ ap (splice out 0) (table_ext _ _ (copy_count cs) (λ i l. ap one (copy_is out i h l))),
         )
+
+-- of no copies none is kept, and nothing is written
+pub none_kept : (cs ts : List ℕ) (today : ℕ) (out : List ℕ) → length cs ≡ 0 → (0 ≡ kept_count cs ts today) × (out ≡ splice out 0 (flags cs ts today))
+unfolding flags splice count table
+none_kept cs ts today out e = rw e (refl, refl)

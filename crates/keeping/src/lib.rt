@@ -29,6 +29,10 @@ fn decide(days: &[u16], terms: &[u16], today: usize, out: &mut [u8]) -> usize
     ensures value { result ≡ kept_count days.now terms.now today }
     ensures out_after { out.new ≡ splice out.old 0 (flags days.now terms.now today) }
 {
+    // no copy to decide on, and no map to lay out
+    if days.is_empty() {
+        return 0;
+    }
     let mut map = [0u64; days::DAY_WORDS];
     rule::look_at(days, &mut map, out);
     let mut latest = [0u16; rule::MOST_TERMS];

@@ -2,7 +2,7 @@
 ghost use Rattle.std.specs.Prelude.{◌≡◌, ◌≤◌, length, take};
 ghost use Rattle.text.specs.Pieces.{find_from, rest, piece, pieces, is_word};
 
-// The place of the first x from o on, or the end. By places: over `s[o..]` and `position` short pieces cost
+// The place of the first x from o on, or the end. By places: over `s[o..]` and `position` empty pieces cost
 // nearly twice as much.
 pub fn find(s: &[u8], x: u8, o: usize) -> usize
     ensures { (result ≡ find_from s.now x o) × (result ≤ length s.now) }
