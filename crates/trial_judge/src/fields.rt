@@ -29,12 +29,19 @@ pub struct Store<'a> {
     ghost few: { inodes ≤ 256 },
 }
 
+// An inode by its number, which is LEAST or more. What is asked of an inode is asked of any number
+// too: what is told of 0, which no inode has, are bytes of the header.
 #[derive(Clone, Copy)]
-pub struct Inode<'a> {
+pub struct Numbered<'a, const LEAST: usize> {
     pub store: Store<'a>,
     pub number: usize,
+    ghost some: { LEAST ≤ number },
     ghost few: { number ≤ 65535 },
 }
+
+pub type Inode<'a> = Numbered<'a, 1>;
+
+pub type AnyInode<'a> = Numbered<'a, 0>;
 
 // A slot of a directory, by its number among all: 48 for each inode.
 #[derive(Clone, Copy)]
@@ -77,11 +84,23 @@ impl<'a> Store<'a> {
     }
 
     pub fn inode(self, number: usize) -> Inode<'a>
+        requires { (1 ≤ number) × (number ≤ 65535) }
+        ensures { result.number ≡ number }
+    {
+        let any = self.any_inode(number);
+        Inode {
+            store: any.store,
+            number: any.number,
+        }
+    }
+
+    // The same of any number, 0 too.
+    pub fn any_inode(self, number: usize) -> AnyInode<'a>
         requires { number ≤ 65535 }
         ensures { result.number ≡ number }
     {
         let store = self;
-        Inode { store, number }
+        AnyInode { store, number }
     }
 
     // How many places there are.
@@ -139,7 +158,7 @@ impl<'a> Store<'a> {
     }
 }
 
-impl<'a> Inode<'a> {
+impl<'a, const LEAST: usize> Numbered<'a, LEAST> {
     pub fn kind(self) -> Kind {
         match byte(self.store.bytes, 8 + 8 * self.number) {
             0 => Kind::Free,

@@ -26,22 +26,32 @@ const KINDS_DIFFER: usize = 18;
 
 const MOST_MOMENTS: usize = 512;
 
+const ANY_MOMENTS: usize = usize::MAX;
+
 // More than a copy of a list's store has.
 const MOST_STEPS: usize = 1000;
 
 // From a start to the finish: how many moments there were, none where no copy is under way; and accepted steps since the latest start.
 // No Option: the count is that of the moments at the front of the record, of which there are none then, and the steps are told even so.
+// It tells of MOST moments at most.
 #[derive(Clone, Copy)]
-pub struct Copy {
+pub struct CopyUpTo<const MOST: usize> {
     pub moments: usize,
     pub steps: usize,
+    ghost few: { moments ≤ MOST },
 }
 
-impl Copy {
-    pub fn none() -> Copy
+// A copy of which a record has all moments.
+pub type Copy = CopyUpTo<MOST_MOMENTS>;
+
+// A copy that may tell of more moments than a record has room for.
+pub type AnyCopy = CopyUpTo<ANY_MOMENTS>;
+
+impl<const MOST: usize> CopyUpTo<MOST> {
+    pub fn none() -> CopyUpTo<MOST>
         ensures { result.moments ≡ 0 }
     {
-        Copy {
+        CopyUpTo {
             moments: 0,
             steps: 0,
         }
@@ -54,12 +64,16 @@ impl Copy {
 
 // The copy, its moments at the front, the places whose entries were taken out since the first, and what was tried.
 #[derive(Drop)]
-pub struct Record {
-    pub copy: Copy,
+pub struct RecordUpTo<const MOST: usize> {
+    pub copy: CopyUpTo<MOST>,
     pub moments: [Moment; MOST_MOMENTS],
     pub taken: [bool; SLOTS],
     pub tried: Tried,
 }
+
+pub type Record = RecordUpTo<MOST_MOMENTS>;
+
+pub type AnyRecord = RecordUpTo<ANY_MOMENTS>;
 
 // A call that makes a new name, and replaces none.
 fn is_new(e: Event) -> bool {
@@ -116,10 +130,10 @@ fn put(moment: &mut Moment, store: &[u8])
     moment[..store.len()].copy_from_slice(store);
 }
 
-impl Record {
-    pub fn new() -> Record {
-        Record {
-            copy: Copy::none(),
+impl<const MOST: usize> RecordUpTo<MOST> {
+    pub fn new() -> RecordUpTo<MOST> {
+        RecordUpTo {
+            copy: CopyUpTo::none(),
             moments: [[0; MOMENT_BYTES]; MOST_MOMENTS],
             taken: [false; SLOTS],
             tried: Tried::new(),
@@ -135,7 +149,7 @@ impl Record {
     fn remember(&mut self, store: &[u8]) {
         let m = self.copy.moments;
         let k = store.len();
-        if MOST_MOMENTS <= m {
+        if MOST_MOMENTS.min(MOST) <= m {
             return;
         }
         self.copy.moments = m + 1;
@@ -148,7 +162,7 @@ impl Record {
     fn started(&mut self, store: &[u8]) -> Result<(), Wrong> {
         let right = !self.copy.is_running();
         self.taken.fill(false);
-        self.copy = Copy::none();
+        self.copy = CopyUpTo::none();
         self.remember(store);
         wrong_unless(right, Wrong::Start)
     }

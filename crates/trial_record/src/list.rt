@@ -1,7 +1,7 @@
 // One list, event by event.
 ghost use Rattle.std.specs.Prelude.{◌+◌, ◌*◌, ◌≤◌, ◌≡◌};
 
-use crate::copy::{Copy, Record};
+use crate::copy::{CopyUpTo, RecordUpTo};
 use crate::tried::{REFUSALS, Tried, tally};
 use trial_compare::both::{Sides, do_both};
 use trial_compare::calls::{Got, Wrong};
@@ -53,7 +53,7 @@ fn count_live(
 }
 
 // What is told of the trial at its end. The last moment is the store before the event.
-fn count(e: Event, got: Got, store: Store, record: &mut Record) {
+fn count<const MOST: usize>(e: Event, got: Got, store: Store, record: &mut RecordUpTo<MOST>) {
     tally(&mut record.tried.events, 1);
     match got {
         Ok(value) => {
@@ -74,14 +74,23 @@ fn count(e: Event, got: Got, store: Store, record: &mut Record) {
 }
 
 // An event done by both, compared, and the copy followed.
-pub fn turn(e: Event, fill: u8, sides: &mut Sides, record: &mut Record) -> Result<(), Wrong> {
+pub fn turn<const MOST: usize>(
+    e: Event,
+    fill: u8,
+    sides: &mut Sides,
+    record: &mut RecordUpTo<MOST>,
+) -> Result<(), Wrong> {
     let got = do_both(e, fill, &mut *sides, &mut record.taken)?;
     count(e, got, sides.seen_store(), &mut *record);
     record.follow(e, got, sides.seen_store(), sides.seen_image())
 }
 
 // The events of a list, on buffers laid out: the number of the event that shows a difference, the first being 1.
-fn run_events(list: List, sides: &mut Sides, record: &mut Record) -> Option<u64> {
+fn run_events<const MOST: usize>(
+    list: List,
+    sides: &mut Sides,
+    record: &mut RecordUpTo<MOST>,
+) -> Option<u64> {
     // A `find` would change what it is asked of: the sides and the record.
     for k in 1..LENGTH {
         if turn(list.nth(k), (k % 251) as u8, &mut *sides, &mut *record).is_err() {
@@ -92,13 +101,17 @@ fn run_events(list: List, sides: &mut Sides, record: &mut Record) -> Option<u64>
 }
 
 // Lays the buffers out and runs the list.
-fn run_fresh(list: List, sides: &mut Sides, record: &mut Record) -> Option<u64> {
+fn run_fresh<const MOST: usize>(
+    list: List,
+    sides: &mut Sides,
+    record: &mut RecordUpTo<MOST>,
+) -> Option<u64> {
     let n = list.shape.inodes;
     let b = list.shape.blocks;
     let _ = watch::lay_out_store(&mut *sides.store, n, b);
     let _ = watch::lay_out_store(&mut *sides.beside, n, b);
     let _ = watch::lay_out_desk(&mut *sides.desk, n);
-    record.copy = Copy::none();
+    record.copy = CopyUpTo::none();
     tally(&mut record.tried.lists, 1);
     run_events(list, sides, record)
 }
@@ -112,7 +125,7 @@ fn length_of(n: usize, b: usize) -> usize
 }
 
 // Runs a list, and answers as above.
-pub fn run(seed: u64, list: u64, record: &mut Record) -> Option<u64> {
+pub fn run<const MOST: usize>(seed: u64, list: u64, record: &mut RecordUpTo<MOST>) -> Option<u64> {
     let list = List::new(seed, list);
     let inodes = list.shape.inodes;
     let s = length_of(inodes, list.shape.blocks);

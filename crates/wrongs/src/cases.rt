@@ -10,7 +10,7 @@ use trial_compare::burst::compare;
 use trial_events::event::{DESK_BYTES, Event, MOST_BURST, STORE_BYTES};
 use trial_events::print::word;
 use trial_judge::fields::Store;
-use trial_record::copy::{Copy, Record};
+use trial_record::copy::{AnyCopy, AnyRecord};
 use trial_record::finished::find;
 use trial_record::list::turn;
 
@@ -60,7 +60,7 @@ fn of_list(bytes: &[u8]) -> Store {
 }
 
 // A finished copy is changed as if it were a store; the copy's last step is to have left it.
-pub fn copy(commands: &[u8], copy: Copy, store: &[u8], whole: &[u8], record: &mut Record) {
+pub fn copy(commands: &[u8], copy: AnyCopy, store: &[u8], whole: &[u8], record: &mut AnyRecord) {
     let mut wrong = [0u8; 4368];
     let mut image = [0u8; 16];
     let mut desk = [0u8; DESK_BYTES];
@@ -75,7 +75,7 @@ pub fn copy(commands: &[u8], copy: Copy, store: &[u8], whole: &[u8], record: &mu
 }
 
 // An event done by the library, and by a plain store that is wrong.
-fn beside_wrong(e: Event, commands: &[u8], store: &[u8], record: &mut Record) {
+fn beside_wrong(e: Event, commands: &[u8], store: &[u8], record: &mut AnyRecord) {
     let mut right = [0u8; STORE_BYTES];
     let mut wrong = [0u8; STORE_BYTES];
     let mut image = [0u8; 16];
@@ -92,12 +92,12 @@ fn beside_wrong(e: Event, commands: &[u8], store: &[u8], record: &mut Record) {
         inodes: INODES,
     };
     let taken = record.taken;
-    record.copy = Copy::none();
+    record.copy = AnyCopy::none();
     print::verdict(turn(e, 1, &mut sides, &mut *record));
     record.taken = taken;
 }
 
-pub fn plain(commands: &[u8], store: &[u8], record: &mut Record) {
+pub fn plain(commands: &[u8], store: &[u8], record: &mut AnyRecord) {
     let read = Event::Read {
         inode: 3,
         offset: 0,
@@ -173,7 +173,7 @@ fn numbered(k: usize, refused: bool) -> Event {
 
 // An answer, in numbers: of which event, the refusal or 0, the value; and how many moments and
 // steps the copy has had.
-pub fn answer(numbers: &[u8], store: &[u8], half: &[u8], record: &mut Record) {
+pub fn answer(numbers: &[u8], store: &[u8], half: &[u8], record: &mut AnyRecord) {
     let refusal = nth_number(numbers, 1);
     let value = nth_number(numbers, 2);
     let e = numbered(nth_number(numbers, 0), refusal != 0);
@@ -182,7 +182,7 @@ pub fn answer(numbers: &[u8], store: &[u8], half: &[u8], record: &mut Record) {
     } else {
         Err(refusal)
     };
-    record.copy = Copy {
+    record.copy = AnyCopy {
         moments: nth_number(numbers, 3),
         steps: nth_number(numbers, 4),
     };

@@ -5,7 +5,7 @@ use trial_compare::both::Sides;
 use trial_compare::calls::Wrong;
 use trial_events::event::{DESK_BYTES, Entry, Event, STORE_BYTES};
 use trial_events::print::word;
-use trial_record::copy::{Copy, Record};
+use trial_record::copy::{AnyCopy, AnyRecord};
 use trial_record::list::turn;
 
 pub const INODES: usize = 8;
@@ -65,10 +65,10 @@ fn nth(k: usize) -> Event {
 }
 
 // The events, up to one that is not right: then no copy is under way.
-fn run_events(sides: &mut Sides, record: &mut Record) {
+fn run_events(sides: &mut Sides, record: &mut AnyRecord) {
     for k in 0..EVENTS {
         if turn(nth(k), (k + 1) as u8, &mut *sides, &mut *record).is_err() {
-            record.copy = Copy::none();
+            record.copy = AnyCopy::none();
             return;
         }
     }
@@ -84,7 +84,7 @@ pub fn refill(to: &mut [u8], from: &[u8]) {
 
 // The copy under way is finished in another image, on a copy of the desk; what is wrong of that
 // event.
-fn finish(sides: &mut Sides, whole: &mut [u8], record: &mut Record) -> Result<(), Wrong> {
+fn finish(sides: &mut Sides, whole: &mut [u8], record: &mut AnyRecord) -> Result<(), Wrong> {
     let mut desk = [0u8; DESK_BYTES];
     refill(&mut desk, &*sides.desk);
     refill(&mut *whole, &*sides.image);
@@ -105,7 +105,7 @@ pub fn run(
     image: &mut [u8],
     desk: &mut [u8],
     whole: &mut [u8],
-    record: &mut Record,
+    record: &mut AnyRecord,
 ) {
     let mut beside = [0u8; STORE_BYTES];
     let _ = watch::lay_out_store(&mut beside, INODES, BLOCKS);

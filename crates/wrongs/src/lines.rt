@@ -2,7 +2,7 @@
 use crate::cases;
 use text::pieces::{is_word, piece, pieces};
 use trial_events::print::word;
-use trial_record::copy::{Copy, Record};
+use trial_record::copy::{AnyCopy, AnyRecord};
 
 const STDIN_FILENO: i32 = 0;
 
@@ -13,14 +13,14 @@ const COLON: u8 = 58;
 // A copy under way, the store that it is of, its image and desk, and the image that it ends in.
 #[derive(Clone, Copy)]
 pub struct Halfway<'a> {
-    pub copy: Copy,
+    pub copy: AnyCopy,
     pub store: &'a [u8],
     pub half: &'a [u8],
     pub notes: &'a [u8],
     pub whole: &'a [u8],
 }
 
-fn line(text: &[u8], at: Halfway, record: &mut Record) {
+fn line(text: &[u8], at: Halfway, record: &mut AnyRecord) {
     let what = piece(text, COLON, 0);
     let how = piece(text, COLON, 2);
     word(what);
@@ -39,7 +39,7 @@ fn line(text: &[u8], at: Halfway, record: &mut Record) {
     word(b"\n");
 }
 
-fn each_line(text: &[u8], at: Halfway, record: &mut Record) {
+fn each_line(text: &[u8], at: Halfway, record: &mut AnyRecord) {
     for k in 0..pieces(text, NEWLINE) {
         let next = piece(text, NEWLINE, k);
         if !next.is_empty() {
@@ -49,7 +49,7 @@ fn each_line(text: &[u8], at: Halfway, record: &mut Record) {
 }
 
 // All lines of the input.
-pub fn all(at: Halfway, record: &mut Record) {
+pub fn all(at: Halfway, record: &mut AnyRecord) {
     let mut text = io::large_buffer();
     let n = io::read_full(STDIN_FILENO, &mut text);
     each_line(&text[..n], at, record);

@@ -12,7 +12,7 @@ mod print;
 use crate::lines::Halfway;
 use trial_events::event::{DESK_BYTES, STORE_BYTES};
 use trial_events::print::difference;
-use trial_record::copy::Record;
+use trial_record::copy::AnyRecord;
 
 // The list that a difference is printed of, with renames of both kinds, up to an event that is a burst.
 const LIST: u64 = 5473;
@@ -24,7 +24,7 @@ fn main() {
     let mut image = [0u8; 4368];
     let mut desk = [0u8; DESK_BYTES];
     let mut whole = [0u8; 4368];
-    let mut record = Record::new();
+    let mut record = AnyRecord::new();
     let _ = watch::lay_out_store(&mut store, history::INODES, history::BLOCKS);
     let _ = watch::lay_out_desk(&mut desk, history::INODES);
     history::run(&mut store, &mut image, &mut desk, &mut whole, &mut record);
