@@ -145,7 +145,7 @@ impl<const MOST: usize> RecordUpTo<MOST> {
         &self.moments[..self.copy.moments.min(MOST_MOMENTS)]
     }
 
-    // The store is one more moment, if there is room.
+    // The store is one more moment, if the record has room and the copy may tell of it.
     fn remember(&mut self, store: &[u8]) {
         let m = self.copy.moments;
         let k = store.len();
